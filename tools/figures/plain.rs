@@ -2602,6 +2602,10 @@ impl Board {
 
 /// Runs a board with a worker for each CPU, and tells whether the journal stopped at its limit.
 fn run(board: Board) -> (Board, bool) {
+    match std::thread::Builder::new().spawn(|| {}) {
+        Ok(thread) => thread.join().unwrap(),
+        Err(_) => return run_alone(board),
+    }
     let numbers = board.numbers();
     let shared = Mutex::new((board, false));
     let work = |cpu: u8| loop {
@@ -2630,6 +2634,22 @@ fn run(board: Board) -> (Board, bool) {
         work(numbers[0]);
     });
     shared.into_inner().unwrap()
+}
+
+/// The same where no thread can be started: one goes on to the next CPU where nothing is due to one.
+fn run_alone(mut board: Board) -> (Board, bool) {
+    let numbers = board.numbers();
+    for &cpu in numbers.iter().cycle() {
+        loop {
+            match board.turn(cpu) {
+                Turn::Made => {}
+                Turn::NotNow => break,
+                Turn::Done => return (board, false),
+                Turn::Full => return (board, true),
+            }
+        }
+    }
+    (board, false)
 }
 
 // ---------------------------------------------------------------------------------------------------------

@@ -88,6 +88,7 @@ fn judge_entries(board: &mut Board, entries: &[Entry]) -> Result<Verdict, NoMemo
     // legal exactly where each entry is the one due; else the first that isn't, and what was due there
     ensures { IfOk result (Judges board.old.image entries.now) }
 {
+    board.reserve(entries.len())?;
     for (index, entry) in entries.iter().enumerate() {
         if let Compared::Differs { expected } = compare(board, entry)? {
             return Ok(Verdict::Illegal {

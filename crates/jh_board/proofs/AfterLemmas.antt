@@ -10,6 +10,7 @@ use Rattle.jh_cellcfg.specs.Lives.{has_id}
 use Rattle.jh_call.specs.declared.call.Call.{Call}
 use Rattle.jh_call.specs.declared.call.Call.TheVariants.{Create, Start, Loadable, Destroy, Info, State, CpuInfo, Unknown}
 use Rattle.jh_ivshmem.specs.Seen.{Seen}
+use Rattle.jh_shape.specs.Lives.{marked}
 use Rattle.jh_script.specs.declared.image.Image.{Image}
 use Rattle.jh_history.specs.declared.access.Reach.{Reach}
 use Rattle.jh_history.specs.declared.access.Reach.TheVariants.{Memory, Subpage, Config, Window, Nothing}
@@ -28,9 +29,11 @@ use Rattle.jh_history.specs.Devices.{specs_of}
 use Rattle.jh_history.specs.Endpoints.{endpoints_after, changing_by}
 use Rattle.jh_history.specs.History.{after, coming_of, call_after}
 use Rattle.jh_history.specs.Calls.{call_by}
-use Rattle.jh_history.specs.Commits.{marked, is_other, committed_cells, cells_by, created, created_at, created_by}
+use Rattle.jh_history.specs.Commits.{is_other, committed_cells, cells_by, created, created_at, created_by}
 use Rattle.jh_history.specs.DueFacts.{NamesCpu, MayLive, IsLive, HasPage, IsOfCells, ReachesCells, WritesCells}
 use Rattle.jh_board.specs.declared.held.Held.{Held}
+use Rattle.jh_board.specs.declared.indexed.FoundProgram.{FoundProgram}
+use Rattle.jh_board.specs.Indexed.{AreFound}
 use Rattle.jh_board.specs.Pages.{byte_of, HoldsComm, MayHold, MemoryView}
 use Rattle.jh_board.specs.Means.{Means, HoldsPageOf, HoldsWords, IsReady, IsReadyIn, IsReadyFor}
 use Rattle.jh_board.specs.Steps.{IsFree, MayWrite, MayWriteOf, MayJoin, IsPrepared}
@@ -225,7 +228,7 @@ all_made P call cells (Finish answer) h made = h
 -- ---- all of it
 
 -- what the last step of the entry leaves, the call and the cells
-pub record IsCalled (mid new : Held) (entry : Entry) (coming : Option CellConfig) : Type 0 where
+pub record IsCalled (image : Image) (mid new : Held) (entry : Entry) (coming : Option CellConfig) : Type 0 where
   pub memory : new.memory ≡ mid.memory
   pub cpus : new.cpus ≡ mid.cpus
   pub endpoints : new.endpoints ≡ mid.endpoints
@@ -233,6 +236,7 @@ pub record IsCalled (mid new : Held) (entry : Entry) (coming : Option CellConfig
   pub lives : new.cells.lives ≡ cells_by mid.call mid.cells.lives entry.act
   pub named : IfSome (created_by mid.call entry.act) NamesCpu
   pub call : new.call ≡ call_by mid.cells.lives coming mid.call entry entry.act
+  pub programs : (call : Option OpenCall) (lives : List Live) → AreFound image lives mid.programs → new.cells.lives ≡ cells_by call lives entry.act → AreFound image new.cells.lives new.programs
   pub ready : IsReady mid new.call → IsReady new new.call
 
 -- and the steps before it, memory, devices and CPUs
@@ -243,10 +247,11 @@ pub record IsWritten (image : Image) (old mid : Held) (f : Facts) (entry : Entry
   pub endpoints : mid.endpoints.list ≡ endpoints_after image f entry
   pub spare : changing_by f.cells f.call entry.act ≡ None → mid.endpoints.spare ≡ old.endpoints.spare
   pub cells : mid.cells ≡ old.cells
+  pub programs : mid.programs ≡ old.programs
   pub call : mid.call ≡ old.call
   pub index : mid.index ≡ old.index
 
-pub Means_made : (image : Image) (old mid new : Held) (f : Facts) (entry : Entry) (coming : Option CellConfig) → IsPrepared image old f entry coming → IsWritten image old mid f entry → IsCalled mid new entry coming
+pub Means_made : (image : Image) (old mid new : Held) (f : Facts) (entry : Entry) (coming : Option CellConfig) → IsPrepared image old f entry coming → IsWritten image old mid f entry → IsCalled image mid new entry coming
     → Means image new (after image f entry)
 unfolding after
 Means_made image old mid new f entry coming prepared written called =
@@ -256,13 +261,16 @@ Means_made image old mid new f entry coming prepared written called =
     let lives : mid.cells.lives ≡ f.cells = rw written.cells means.cells in
     let after-call : new.call ≡ call_after image f entry = called.call ∙ ap (λ (c : Option OpenCall). call_by mid.cells.lives coming c entry act) call ∙ ap (λ (cs : List Live). call_by cs coming f.call entry act) lives ∙ prepared.read in
     let pages : KeepsPages old.memory new.memory = λ q held. rw called.memory (written.pages q held) in
+    let living : new.cells.lives ≡ cells_by f.call f.cells act = called.lives ∙ ap (λ (c : Option OpenCall). cells_by c mid.cells.lives act) call ∙ ap (λ (cs : List Live). cells_by f.call cs act) lives in
+    let F : List FoundProgram → Type 0 = AreFound image f.cells in
+    let G : List Live → Type 0 = λ cs. AreFound image cs new.programs in
     let R : Option OpenCall → Type 0 = IsReady mid in
     let S : Option OpenCall → Type 0 = IsReady new in
     record {
       bytes = λ q. rw called.memory (written.bytes q);
       cpus = λ i lt. rw called.cpus (written.cpus i lt);
       system = called.system ∙ rw written.cells means.system;
-      cells = called.lives ∙ ap (λ (c : Option OpenCall). cells_by c mid.cells.lives act) call ∙ ap (λ (cs : List Live). cells_by f.call cs act) lives;
+      cells = living;
       endpoints = ap (λ (es : Seen). es.list) called.endpoints ∙ written.endpoints;
       call = after-call;
       pages = all_made (λ (config : CellConfig). HoldsComm new.memory.comms config.id) f.call f.cells act
@@ -276,5 +284,6 @@ Means_made image old mid new f entry coming prepared written called =
           words_kept old.memory new.memory (specs_of config) pages (ready_coming old f.call coming.begun config means.ready coming.is coming.phase).words));
       root_words = words_kept old.memory new.memory (specs_of image.system.root) pages means.root_words;
       named = all_made NamesCpu f.call f.cells act means.named (rw call at called.named);
+      programs = subst G living (called.programs f.call f.cells (subst F (sym written.programs) means.programs) living);
       ready = subst S after-call (called.ready (subst R (sym after-call) (ready_written old mid f.cells (coming_of image f) f.call entry act written.index written.cells written.spare written.pages prepared.ready)));
     }

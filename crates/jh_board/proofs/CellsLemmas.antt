@@ -18,9 +18,8 @@ use Rattle.jh_cellcfg.specs.Regions.{IsInRange}
 use Rattle.jh_shape.specs.Pages.{tables_of, pages_of, root_claims, cell_claims}
 use Rattle.jh_shape.proofs.PageLemmas.{tables_le}
 use Rattle.jh_life.specs.Lives.{has_config_id, new_live}
-use Rattle.jh_shape.specs.Lives.{configs_of}
-use Rattle.jh_life.specs.Changes.{marked as marked_of}
-use Rattle.jh_history.specs.Commits.{is_other, marked}
+use Rattle.jh_shape.specs.Lives.{configs_of, marked}
+use Rattle.jh_history.specs.Commits.{is_other}
 use Rattle.jh_history.specs.Lives.{live_in}
 use Rattle.jh_board.specs.Closed.{IsIndexOf, live_regions, all_regions, count_regions, AreInRange}
 
@@ -105,16 +104,6 @@ removed_none lives id is = filter_all (is_other id) lives (λ x k. ap not (find_
 
 pub marked_none : (lives : List Live) (id : ℕ) (on : Bool) → IsIndexOf lives id None → lives ≡ map (marked id on) lives
 marked_none lives id on is = map_all (marked id on) lives (λ x k. rw (find_None (has_id id) lives x is k) refl)
-
--- ---- a cell that does
-
-marked_by : (b on : Bool) (x : Live) → record { config = x.config; loadable = cond b on x.loadable } ≡ cond b (record { config = x.config; loadable = on }) x
-marked_by true on x = refl
-marked_by false on x = refl
-
-pub marked_same : (lives : List Live) (id : ℕ) (on : Bool) → map (marked_of id on) lives ≡ map (marked id on) lives
-marked_same [] id on = refl
-marked_same (x ∷ xs) id on = ap (λ (y : Live). y ∷ map (marked_of id on) xs) (marked_by (has_id id x) on x) ∙ ap (λ (l : List Live). marked id on x ∷ l) (marked_same xs id on)
 
 -- ---- one cell less, and one more
 

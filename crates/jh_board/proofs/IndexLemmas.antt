@@ -1,8 +1,9 @@
 -- Regions and programs by an index.
-use Rattle.std.proofs.Common.{◌≡◌, ℕ, ◌<◌, List, [], true, false, cond, Option, Some, None, refl, sym, ◌∙◌, ap, get_or}
-use Rattle.std.specs.Prelude.{slice_get, Contains, IfSome, IsTrue}
+use Rattle.std.proofs.Common.{◌≡◌, ◌≢◌, eqb, ℕ, ◌<◌, List, [], true, false, cond, Option, Some, None, refl, sym, ◌∙◌, ap, subst, get_or, length, arith}
+use Rattle.std.specs.Prelude.{slice_get, Contains, IfSome, IsTrue, All, find}
 use Rattle.std.specs.Option.{option_map_or}
-use Rattle.std.proofs.lemmas.Option.{none-some, same_Some}
+use Rattle.std.proofs.lemmas.Bool.{eq-eqb, ne_eqb}
+use Rattle.std.proofs.lemmas.Option.{none-some, same_Some, slice_get_past, slice_get_within, slice_get-get_or, get_or_from_slice_get}
 use Rattle.jh_num.proofs.Lists.{IsFound_from_find, find_None}
 use Rattle.jh_cellcfg.specs.Cells.{name_of}
 use Rattle.jh_cellcfg.specs.declared.region.Region.{Region}
@@ -11,13 +12,17 @@ use Rattle.jh_script.specs.declared.image.Image.{Image}
 use Rattle.jh_script.specs.declared.image.Program.{Program}
 use Rattle.jh_history.specs.declared.access.Access.{Access}
 use Rattle.jh_history.specs.Access.{gives, region_of}
-use Rattle.jh_history.specs.Lives.{program_of}
+use Rattle.jh_history.specs.Lives.{program_of, is_program_of, live_in, ops_in}
+use Rattle.jh_cellcfg.specs.declared.config.CellConfig.{CellConfig}
+use Rattle.jh_cellcfg.specs.declared.live.Live.{Live}
+use Rattle.jh_script.specs.Operations.{IsWellFormed}
 use Rattle.jh_cellcfg.specs.Regions.{has_address, IsInRange}
 use Rattle.std.proofs.lemmas.List.Elements.{All-contains}
 use Rattle.jh_history.specs.Admitted.{IsAdmitted}
 use Rattle.jh_history.proofs.AdmittedLemmas.{within}
 use Rattle.jh_history.proofs.GrantLemmas.{gives_has, has_some}
-use Rattle.jh_board.specs.Indexed.{AreRootPrograms}
+use Rattle.jh_board.specs.declared.indexed.FoundProgram.{FoundProgram}
+use Rattle.jh_board.specs.Indexed.{ops_at, AreRootPrograms, AreFound}
 
 giving_by : (regions : List Region) (access : Access) (at : ℕ) (c : Region) (o : Option Region) → region_of regions access at ≡ o → IsRegionAt regions at (Some c) → cond (gives access at c) (Some c) None ≡ o
 giving_by regions access at c None e is = let no : gives access at c ≡ false = find_None (gives access at) regions c e is.own in rw no refl
@@ -46,10 +51,46 @@ pub region_of_none : (regions : List Region) (access : Access) (at : ℕ) → Is
 region_of_none regions access at is = none_by regions access at (region_of regions access at) refl is
 
 -- the operations at a place are those of root's program
-pub root_ops_at : (image : Image) (places : List ℕ) (cpu : ℕ) (at : Option Program) → AreRootPrograms image places → cpu < 16 → at ≡ slice_get image.programs (get_or places cpu 0)
-    → option_map_or (λ (p : Program). p.ops) at [] ≡ program_of image (name_of image.system.root) cpu
+pub root_found : (image : Image) (lives : List Live) (places : List ℕ) (id cpu : ℕ) → AreRootPrograms image places → cpu < 16 → id ≡ image.system.root.id → ops_at image (get_or places cpu 0) ≡ ops_in image lives id cpu
 unfolding program_of
-root_ops_at image places cpu at are lt is = ap (λ (o : Option Program). option_map_or (λ (p : Program). p.ops) o []) (is ∙ sym (are cpu lt))
+root_found image lives places id cpu are lt is =
+    let root : eqb id image.system.root.id ≡ true = eq-eqb id image.system.root.id is in
+    rw root (ap (λ (o : Option Program). option_map_or (λ (p : Program). p.ops) o []) (sym (are cpu lt)))
+
+-- those of another cell's program
+pub cell_found : (image : Image) (lives : List Live) (id cpu at : ℕ) (config : CellConfig) → id ≢ image.system.root.id → live_in lives id ≡ Some config → find (is_program_of (name_of config) cpu) image.programs ≡ slice_get image.programs at
+    → ops_at image at ≡ ops_in image lives id cpu
+unfolding program_of
+cell_found image lives id cpu at config other is found =
+    let root : eqb id image.system.root.id ≡ false = ne_eqb id image.system.root.id other in
+    rw (root, is) (ap (λ (o : Option Program). option_map_or (λ (p : Program). p.ops) o []) (sym found))
+
+-- and none where no cell has the id
+pub none_found : (image : Image) (lives : List Live) (id cpu at : ℕ) → id ≢ image.system.root.id → live_in lives id ≡ None → at ≡ length image.programs → ops_at image at ≡ ops_in image lives id cpu
+none_found image lives id cpu at other is end =
+    let root : eqb id image.system.root.id ≡ false = ne_eqb id image.system.root.id other in
+    rw (root, is, slice_get_past image.programs at (omega arith)) refl
+
+-- each of 16 programs is found
+pub all_found : (image : Image) (lives : List Live) (found : List FoundProgram) → length found ≡ 16 → ((k : ℕ) (d : FoundProgram) → k < 16 → ops_at image (get_or found k d).index ≡ ops_in image lives (get_or found k d).owner k) → AreFound image lives found
+all_found image lives found all told = λ cpu p is.
+    let P : FoundProgram → Type 0 = λ x. ops_at image x.index ≡ ops_in image lives x.owner cpu in
+    let within = slice_get_within found cpu p is in
+    subst P (get_or_from_slice_get found cpu p p is) (told cpu p (omega arith))
+
+-- the program that was found for the cell is the cell's
+pub found_at : (image : Image) (lives : List Live) (found : List FoundProgram) (at cpu id : ℕ) (d : FoundProgram) → length found ≡ 16 → cpu < 16 → at ≡ cpu → (get_or found at d).owner ≡ id → AreFound image lives found
+    → ops_at image (get_or found at d).index ≡ ops_in image lives id cpu
+found_at image lives found at cpu id d all few same owner are =
+    let P : ℕ → Type 0 = λ k. slice_get found k ≡ Some (get_or found at d) in
+    let Q : ℕ → Type 0 = λ i. ops_at image (get_or found at d).index ≡ ops_in image lives i cpu in
+    subst Q owner (are cpu (get_or found at d) (subst P same (slice_get-get_or found at d (omega arith))))
+
+-- the operations of the program at a place are plain
+pub plain_at : (image : Image) (at : ℕ) (p : Program) → IsAdmitted image → slice_get image.programs at ≡ Some p → All IsWellFormed p.ops
+plain_at image at p admitted is =
+    let P : Program → Type 0 = λ program. All IsWellFormed program.ops in
+    subst P (get_or_from_slice_get image.programs at p p is) (admitted.programs at p (slice_get_within image.programs at p is)).plain
 
 -- a region of root that is found is in range
 found_in_range : (image : Image) (access : Access) (at : ℕ) (o : Option Region) → IsAdmitted image → region_of image.system.root.memory_regions access at ≡ o → IfSome o IsInRange

@@ -1,6 +1,6 @@
 -- What a board holds still stands for the facts where nothing of it changes but its memory, which keeps its pages, and the
 -- room for more endpoints.
-use Rattle.std.proofs.Common.{◌≡◌, ℕ, ◌<◌, ◌≤◌, List, Option, Some, None, ◌∙◌, ap, arith}
+use Rattle.std.proofs.Common.{◌≡◌, ℕ, ◌<◌, ◌≤◌, List, Option, Some, None, ◌∙◌, sym, ap, subst, arith}
 use Rattle.std.specs.Prelude.{slice_get, All}
 use Rattle.std.proofs.lemmas.List.Elements.{All-weaker}
 use Rattle.jh_cellcfg.specs.declared.config.CellConfig.{CellConfig}
@@ -18,6 +18,8 @@ use Rattle.jh_history.specs.Devices.{specs_of}
 use Rattle.jh_history.specs.Places.{places_in_row}
 use Rattle.jh_history.specs.Facts.{Facts}
 use Rattle.jh_board.specs.declared.held.Held.{Held}
+use Rattle.jh_board.specs.declared.indexed.FoundProgram.{FoundProgram}
+use Rattle.jh_board.specs.Indexed.{AreFound}
 use Rattle.jh_board.specs.Pages.{byte_of, HoldsComm, HoldsPlace, HoldsWord, MemoryView}
 use Rattle.jh_board.specs.Means.{Means, HoldsPageOf, HoldsWords, IsReadyFor, IsReadyIn, IsReady}
 
@@ -65,8 +67,8 @@ all_words_kept old new cells pages h =
     All-weaker (λ (live : Live). HoldsWords old live.config) (λ (live : Live). HoldsWords new live.config) (λ live. words_kept old.memory new.memory (specs_of live.config) pages) cells h
 
 pub Means_kept : (image : Image) (old new : Held) (f : Facts) → ((q : Place) → byte_of new.memory q ≡ byte_of old.memory q) → KeepsPages old.memory new.memory → new.cpus ≡ old.cpus
-    → new.cells.system ≡ old.cells.system → new.cells.lives ≡ old.cells.lives → new.endpoints.list ≡ old.endpoints.list → new.call ≡ old.call → IsReady new f.call → Means image old f → Means image new f
-Means_kept image old new f bytes pages cpus system lives endpoints call ready h = record {
+    → new.cells.system ≡ old.cells.system → new.cells.lives ≡ old.cells.lives → new.programs ≡ old.programs → new.endpoints.list ≡ old.endpoints.list → new.call ≡ old.call → IsReady new f.call → Means image old f → Means image new f
+Means_kept image old new f bytes pages cpus system lives programs endpoints call ready h = record {
   bytes = λ q. bytes q ∙ h.bytes q;
   cpus = λ i lt. ap (λ (states : List Cpu). slice_get states i) cpus ∙ h.cpus i lt;
   system = system ∙ h.system;
@@ -77,5 +79,6 @@ Means_kept image old new f bytes pages cpus system lives endpoints call ready h 
   words = all_words_kept old new f.cells pages h.words;
   root_words = words_kept old.memory new.memory (specs_of image.system.root) pages h.root_words;
   named = h.named;
+  programs = let P : List FoundProgram → Type 0 = AreFound image f.cells in subst P (sym programs) h.programs;
   ready = ready;
 }

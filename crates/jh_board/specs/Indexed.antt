@@ -1,9 +1,22 @@
--- What is found once of an image: where root's programs are.
-use Rattle.std.specs.Prelude.{◌≡◌, ℕ, ◌<◌, List, find, slice_get, slice_index}
+-- What is found once of an image: where programs are.
+use Rattle.std.specs.Prelude.{◌≡◌, ℕ, ◌<◌, List, [], find, slice_get, slice_index, Some}
+use Rattle.std.specs.Option.{option_map_or}
 use Rattle.jh_cellcfg.specs.Cells.{name_of}
+use Rattle.jh_cellcfg.specs.declared.live.Live.{Live}
 use Rattle.jh_script.specs.declared.image.Image.{Image}
-use Rattle.jh_history.specs.Lives.{is_program_of}
+use Rattle.jh_script.specs.declared.image.Program.{Program}
+use Rattle.jh_script.specs.declared.op.Op.{Op}
+use Rattle.jh_history.specs.Lives.{is_program_of, ops_in}
+use Rattle.jh_board.specs.declared.indexed.FoundProgram.{FoundProgram}
 
 -- the indices are those of root's programs, one of each CPU
 abbrev pub AreRootPrograms : Image → List ℕ → Type 0
 AreRootPrograms image indices = (cpu : ℕ) → cpu < 16 → find (is_program_of (name_of image.system.root) cpu) image.programs ≡ slice_get image.programs (slice_index indices cpu)
+
+-- the operations of the program at the index, none where there is no such program
+abbrev pub ops_at : Image → ℕ → List Op
+ops_at image index = option_map_or (λ (p : Program). p.ops) (slice_get image.programs index) []
+
+-- the program of each CPU is where it was found, for the cell that it was found for
+abbrev pub AreFound : Image → List Live → List FoundProgram → Type 0
+AreFound image lives found = (cpu : ℕ) (p : FoundProgram) → slice_get found cpu ≡ Some p → ops_at image p.index ≡ ops_in image lives p.owner cpu

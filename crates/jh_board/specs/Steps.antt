@@ -25,9 +25,9 @@ use Rattle.jh_history.specs.Access.{slot_of_reach}
 use Rattle.jh_history.specs.Devices.{Devices, devices_in, specs_of}
 use Rattle.jh_history.specs.Endpoints.{endpoints_put, change_by, changing_by, MayChange}
 use Rattle.jh_history.specs.Places.{written}
-use Rattle.jh_shape.specs.Lives.{configs_of}
+use Rattle.jh_shape.specs.Lives.{configs_of, marked}
 use Rattle.jh_history.specs.Calls.{call_by}
-use Rattle.jh_history.specs.Commits.{marked, is_other}
+use Rattle.jh_history.specs.Commits.{is_other}
 use Rattle.jh_history.specs.DueFacts.{NamesCpu}
 use Rattle.jh_history.specs.Facts.{Facts}
 use Rattle.jh_history.specs.History.{call_after}
@@ -62,6 +62,11 @@ change_of_call call = Keep
 abbrev pub change_of_cells : Option OpenCall → Act → CellsChange
 change_of_cells call Commit = option_map_or (λ (o : OpenCall). change_of_call o.call) call Keep
 change_of_cells call act = Keep
+
+-- the act is a Commit, as no other act changes which cells live
+abbrev pub is_commit : Act → Bool
+is_commit Commit = true
+is_commit act = false
 
 -- the cells after the change
 abbrev pub changed_cells : CellsChange → List Live → List Live
@@ -132,6 +137,7 @@ MayCommit held act = IfSome (changing_by held.cells.lives held.call act) (MayCom
 pub record IsSameButDevices (old new : Held) : Type 0 where
   pub cpus : new.cpus ≡ old.cpus
   pub cells : new.cells ≡ old.cells
+  pub programs : new.programs ≡ old.programs
   pub call : new.call ≡ old.call
   pub index : new.index ≡ old.index
   pub pages : (q : Place) → HoldsPlace old.memory q → HoldsPlace new.memory q

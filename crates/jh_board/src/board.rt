@@ -16,7 +16,7 @@ ghost use Rattle.jh_board.specs.Turns.{Turns, Refuses, MakesDue, Advances};
 use crate::cells::LiveCells;
 use crate::devices::{change_devices, prepare_devices};
 use crate::held::Held;
-use crate::indexed::IndexedImage;
+use crate::indexed::{IndexedImage, opening_programs};
 use crate::memory::Memory;
 use crate::overview::{cell_at, map_of};
 use crate::state::{find_create, is_quiet, next_entry};
@@ -25,7 +25,7 @@ use crate::turn::{Turn, TurnFault};
 use jh_cellcfg::CellConfig;
 use jh_cpu::Cpu;
 use jh_history::{
-    DeviceChange, DueEntry, Entry, Journal, devices_may_change, legal_journals_are_sound,
+    DeviceChange, Entry, Journal, Reach, devices_may_change, legal_journals_are_sound,
 };
 use jh_ivshmem::Endpoints;
 use jh_map::Run;
@@ -58,15 +58,17 @@ impl Model for Board {
     ghost invariant = { IsSoundBoard };
 }
 
-/// Makes the entry that is due to the CPU, if any.
+/// Makes the entry that is due to the CPU, if any; `last` tells which CPU made the last one.
 fn advance(
     image: &IndexedImage,
     held: &mut Held,
     journal: &mut Journal,
     limit: u32,
+    last: &mut u8,
     cpu: u8,
 ) -> Result<Option<Entry>, TurnFault>
     requires cpu { cpu < 16 }
+    requires last { last.old < 16 }
     requires within { length journal.old.entries ≤ limit }
     requires means { Means image.now held.old (facts image.now journal.old.entries) }
     requires legal { IsLegal image.now journal.old.entries }
@@ -74,22 +76,28 @@ fn advance(
     ensures full { result ≡ Err TurnFault.Full → IsSome (due image.now journal.old.entries cpu) × (length journal.old.entries ≡ limit) }
     ensures err { OnErr result (journal.new.entries ≡ journal.old.entries) }
     ensures means { Means image.now held.new (facts image.now journal.new.entries) }
-    ensures cpu { IfOk result (λ made. IfSome made (λ entry. entry.cpu ≡ cpu)) }
+    ensures legal { IsLegal image.now journal.new.entries }
+    ensures within { length journal.new.entries ≤ limit }
+    ensures last { last.new < 16 }
 {
     image.has_few_cpus();
     legal_journals_are_sound();
-    let found = find_create(image, held, cpu)?;
-    let Some(due) = next_entry(image, held, &found, cpu)? else {
+    let mut found = None;
+    find_create(image, held, cpu, &mut found)?;
+    let mut reach = Reach::Nothing;
+    let Some(entry) = next_entry(image, held, &found, cpu, &mut reach)? else {
         return Ok(None);
     };
-    let DueEntry { entry, reach } = due;
     if journal.len() >= limit as usize {
         return Err(TurnFault::Full);
     }
     journal.reserve(1)?;
-    make(image, held, &entry, &reach, found)?;
+    make(image, held, &entry, &reach, &mut found)?;
     match journal.push(entry) {
-        Ok(()) => Ok(Some(entry)),
+        Ok(()) => {
+            *last = cpu;
+            Ok(Some(entry))
+        }
         // its room was reserved
         Err(_) => unreachable!(),
     }
@@ -123,6 +131,7 @@ fn held_at_opening(alloc: Global, image: &Image) -> Result<Held, NoMemory>
         memory,
         cpus: [Cpu::new(image.system.root.id); 16],
         cells,
+        programs: opening_programs(image),
         endpoints,
         call: None,
         index: None,
@@ -226,6 +235,13 @@ impl Board {
         self.image.pool_pages()
     }
 
+    /// Takes the memory for so many more entries of the journal at once, where it takes less than bit by bit.
+    pub fn reserve(&mut self, more: usize) -> Result<(), NoMemory>
+        ensures { self.new ≡ self.old }
+    {
+        self.journal.reserve(more)
+    }
+
     /// Makes the entry that is due to the CPU, if one is. Other CPUs are asked only where its call waits for a cell
     /// that says nothing.
     pub fn make_due(&mut self, cpu: u8) -> Result<Option<Entry>, TurnFault>
@@ -234,17 +250,14 @@ impl Board {
         ensures err { IfErr result (λ fault. Refuses self.old cpu fault self.new) }
     {
         self.image.has_few_cpus();
-        let made = advance(
+        advance(
             &self.image,
             &mut *self.held,
             &mut self.journal,
             self.limit,
+            &mut self.last,
             cpu,
-        )?;
-        if let Some(entry) = made {
-            self.last = entry.cpu;
-        }
-        Ok(made)
+        )
     }
 
     /// One turn of the CPU, which makes the entry that is due to it. `Full` is tested before the

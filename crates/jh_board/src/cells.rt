@@ -9,8 +9,8 @@ ghost use Rattle.jh_check.specs.Refusals.{is_known};
 ghost use Rattle.jh_shape.specs.Pages.{pages_of};
 ghost use Rattle.jh_mmio.specs.Index.{IsRegionAt, SharesNoAddress};
 ghost use Rattle.jh_life.specs.Lives.{has_config_id, new_live};
-ghost use Rattle.jh_shape.specs.Lives.{configs_of};
-ghost use Rattle.jh_history.specs.Commits.{is_other, marked};
+ghost use Rattle.jh_shape.specs.Lives.{configs_of, marked};
+ghost use Rattle.jh_history.specs.Commits.{is_other};
 ghost use Rattle.jh_history.specs.Lives.{live_in};
 ghost use Rattle.jh_board.specs.Closed.{is_closed_by, live_regions, AreInRange, IsIndexOf};
 

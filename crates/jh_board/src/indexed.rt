@@ -9,20 +9,26 @@ ghost use Rattle.jh_script.specs.Operations.{IsWellFormed};
 ghost use Rattle.jh_history.specs.Access.{region_of};
 ghost use Rattle.jh_history.specs.Admitted.{IsAdmitted, pool_pages};
 ghost use Rattle.jh_history.specs.Facts.{Facts};
-ghost use Rattle.jh_history.specs.Lives.{is_on_board, program_of, is_program_of, ops_in, op_at};
-ghost use Rattle.jh_board.specs.Indexed.{AreRootPrograms};
+ghost use Rattle.jh_history.specs.Lives.{is_on_board, is_program_of, ops_in, op_at};
+ghost use Rattle.jh_board.specs.Indexed.{ops_at, AreRootPrograms, AreFound};
 
 use crate::cells::LiveCells;
 use jh_cellcfg::{CellConfig, Region};
 use jh_cpu::Cpu;
 use jh_history::{
     Access, Grants, admitted_roots_are_sound, gives, is_on_board, is_program_of, pool_pages,
-    program_of,
 };
 use jh_mmio::RegionIndex;
 use jh_script::{Image, Op, Program};
 use std::alloc::Global;
 use std::marker::Model;
+
+/// Where the program of a CPU is: that of the cell with the id `owner` is at `index` among the programs.
+#[derive(Clone, Copy, PartialEq, Eq, Debug)]
+pub struct FoundProgram {
+    pub owner: u32,
+    pub index: usize,
+}
 
 /// An image. Contracts see it as the image alone.
 #[derive(Drop)]
@@ -68,6 +74,20 @@ fn root_programs(image: &Image) -> [usize; 16]
         indices[cpu as usize] = index_of_program(image.programs.as_slice(), name, cpu);
     }
     indices
+}
+
+/// Where the program of each CPU is while root alone lives.
+pub fn opening_programs(image: &Image) -> [FoundProgram; 16]
+    ensures { AreFound image.now [] result }
+{
+    let indices = root_programs(image);
+    let owner = image.system.root.id;
+    let mut found = [FoundProgram { owner, index: 0 }; 16];
+    for cpu in 0..16u8 {
+        let index = indices[usize::from(cpu)];
+        found[usize::from(cpu)] = FoundProgram { owner, index };
+    }
+    found
 }
 
 /// The region, where it gives the address with the right.
@@ -162,42 +182,73 @@ impl IndexedImage {
         is_on_board(&self.image, cpu)
     }
 
-    /// The operations of root's program on the CPU.
-    fn root_ops(&self, cpu: u8) -> &[Op]
-        requires { cpu < 16 }
-        ensures ops { result.now ≡ program_of self.now (name_of self.now.system.root) cpu }
+    /// The operations of the program at the index.
+    fn ops_at(&self, index: usize) -> &[Op]
+        ensures ops { result.now ≡ ops_at self.now index }
         ensures plain { All IsWellFormed result.now }
     {
-        match self.image.programs.get(self.programs[cpu as usize]) {
+        match self.image.programs.get(index) {
             Some(program) => program.ops.as_slice(),
             None => &[],
         }
     }
 
-    /// The operations of the CPU's program in the cell with the id, where these cells live besides root.
-    fn ops<'a>(&'a self, cells: &LiveCells, id: u32, cpu: u8) -> &'a [Op]
+    /// Where the CPU's program in the cell with the id is, where these cells live besides root.
+    fn find_program(&self, cells: &LiveCells, id: u32, cpu: u8) -> usize
         requires { cpu < 16 }
-        ensures ops { result.now ≡ ops_in self.now cells.now.lives id cpu }
-        ensures plain { All IsWellFormed result.now }
+        ensures { ops_at self.now result ≡ ops_in self.now cells.now.lives id cpu }
     {
         if id == self.image.system.root.id {
-            return self.root_ops(cpu);
+            return self.programs[usize::from(cpu)];
         }
+        let programs = self.image.programs.as_slice();
         match cells.live(u64::from(id)) {
-            Some(cell) => program_of(&self.image, cell.name(), cpu),
-            None => &[],
+            Some(cell) => index_of_program(programs, cell.name(), cpu),
+            None => programs.len(),
         }
     }
 
-    /// The operation that the CPU is at, in that state, where these cells live besides root.
-    pub fn operation(&self, cells: &LiveCells, cpu: u8, state: Cpu) -> Option<Op>
+    /// Where the programs of CPUs in these states are, where these cells live besides root.
+    pub fn find_programs(&self, cells: &LiveCells, cpus: &[Cpu; 16]) -> [FoundProgram; 16]
+        ensures { AreFound self.now cells.now.lives result }
+    {
+        let mut found = [FoundProgram { owner: 0, index: 0 }; 16];
+        for cpu in 0..16u8 {
+            let owner = cpus[usize::from(cpu)].owner;
+            let index = self.find_program(cells, owner, cpu);
+            found[usize::from(cpu)] = FoundProgram { owner, index };
+        }
+        found
+    }
+
+    /// Where the CPU's program in the cell with the id is: as it was found, or else as it is found now.
+    fn index_of(&self, cells: &LiveCells, found: &[FoundProgram; 16], id: u32, cpu: u8) -> usize
         requires { cpu < 16 }
-        ensures told { (f : Facts) → f.cells ≡ cells.now.lives → result ≡ op_at self.now f state cpu }
+        ensures { AreFound self.now cells.now.lives found.now → ops_at self.now result ≡ ops_in self.now cells.now.lives id cpu }
+    {
+        let program = found[usize::from(cpu)];
+        if program.owner == id {
+            program.index
+        } else {
+            self.find_program(cells, id, cpu)
+        }
+    }
+
+    /// The operation that the CPU is at, in that state, where these cells live besides root, and programs were found
+    /// there.
+    pub fn operation(
+        &self,
+        cells: &LiveCells,
+        found: &[FoundProgram; 16],
+        cpu: u8,
+        state: Cpu,
+    ) -> Option<Op>
+        requires { cpu < 16 }
+        ensures told { (f : Facts) → f.cells ≡ cells.now.lives → AreFound self.now cells.now.lives found.now → result ≡ op_at self.now f state cpu }
         ensures plain { IfSome result IsWellFormed }
     {
-        self.ops(cells, state.owner, cpu)
-            .get(state.position as usize)
-            .copied()
+        let index = self.index_of(cells, found, state.owner, cpu);
+        self.ops_at(index).get(state.position as usize).copied()
     }
 }
 

@@ -1,5 +1,6 @@
 //! What comes of a configuration that a create has read.
-ghost use Rattle.std.specs.Prelude.{◌≡◌, ℕ, ◌<◌, ◌==◌, ◌&&◌, Some, false, true, slice_get, slice_index_or, IfOk};
+ghost use Rattle.std.specs.Prelude.{◌≡◌, ℕ, ◌<◌, ◌==◌, ◌&&◌, Some, false, true, slice_get, IfOk};
+ghost use Rattle.jh_num.specs.Bits.{has_bit};
 ghost use Rattle.jh_script.specs.declared.image.Image.{Image};
 ghost use Rattle.jh_history.specs.Configs.{Reads};
 ghost use Rattle.jh_history.specs.Facts.{Facts};
@@ -9,30 +10,38 @@ ghost use Rattle.jh_board.specs.Means.{Means};
 
 use crate::held::Held;
 use crate::indexed::IndexedImage;
+use jh_check::with_bit;
 use jh_cpu::Cpu;
 use jh_history::{BoxedCell, Creation, unless_refused};
-use jh_life::{MOST_CELLS, mask_of};
-use jh_num::NoMemory;
+use jh_life::MOST_CELLS;
+use jh_num::{NoMemory, has_bit};
 
-/// Of each of the 16 CPUs, whether it is on the board and root's.
-fn cpus_of_root(image: &IndexedImage, cpus: &[Cpu; 16]) -> [bool; 16]
-    ensures { (f : Facts) → ((i : ℕ) → i < 16 → slice_get cpus.now i ≡ Some (f.cpu i)) → (cpu : ℕ) → slice_index_or result cpu false ≡ (is_on_board image.now cpu && ((f.cpu cpu).owner == image.now.system.root.id)) }
+/// Whether the CPU is on the board and root's.
+fn is_of_root(image: &IndexedImage, state: Cpu, cpu: u8) -> bool
+    ensures { result ≡ (is_on_board image.now cpu && (state.owner == image.now.system.root.id)) }
+{
+    image.has_cpu(cpu) && state.owner == image.root()
+}
+
+/// The CPUs on the board that are root's.
+fn cpus_of_root(image: &IndexedImage, cpus: &[Cpu; 16]) -> u16
+    ensures { (f : Facts) → ((i : ℕ) → i < 16 → slice_get cpus.now i ≡ Some (f.cpu i)) → (cpu : ℕ) → has_bit result cpu ≡ (is_on_board image.now cpu && ((f.cpu cpu).owner == image.now.system.root.id)) }
 {
     image.has_few_cpus();
-    let mut owned = [false; 16];
+    let mut owned = 0;
     for cpu in 0..16u8 {
-        let state = cpus[usize::from(cpu)];
-        owned[usize::from(cpu)] = image.has_cpu(cpu) && state.owner == image.root();
+        let index = usize::from(cpu);
+        owned = with_bit(owned, index, is_of_root(image, cpus[index], cpu));
     }
     owned
 }
 
 /// Whether another CPU than the caller is among these.
-fn has_another(owned: &[bool; 16], caller: u8) -> bool
-    ensures { result ≡ false → (cpu : ℕ) → slice_index_or owned.now cpu false ≡ true → cpu ≡ caller }
+fn has_another(owned: u16, caller: u8) -> bool
+    ensures { result ≡ false → (cpu : ℕ) → has_bit owned cpu ≡ true → cpu ≡ caller }
 {
     for cpu in 0..16u8 {
-        if owned[usize::from(cpu)] && cpu != caller {
+        if has_bit(owned, usize::from(cpu)) && cpu != caller {
             return true;
         }
     }
@@ -52,7 +61,7 @@ pub fn judge(
     let owned = cpus_of_root(image, &held.cpus);
     let cells = held.cells.cells();
     // Fifteen cells and the caller have a CPU each, so none is left to be given away.
-    if cells.list().len() == MOST_CELLS && has_another(&owned, caller) {
+    if cells.list().len() == MOST_CELLS && has_another(owned, caller) {
         return Err(NoMemory);
     }
     let refusal = cells.verdict(
@@ -60,7 +69,7 @@ pub fn judge(
         false,
         config.get(),
         caller,
-        mask_of(&owned),
+        owned,
         image.pool_pages(),
     )?;
     Ok(unless_refused(config, refusal))

@@ -1,5 +1,5 @@
 //! What a board holds, as what tells the facts of its journal.
-ghost use Rattle.std.specs.Prelude.{◌≡◌, ℕ, ◌<◌, ◌↔◌, None, IfSome, IfOk, IsTrue, option_map};
+ghost use Rattle.std.specs.Prelude.{◌≡◌, ℕ, ◌<◌, ◌↔◌, None, IfSome, IfOk, IsTrue};
 ghost use Rattle.jh_script.specs.declared.image.Image.{Image};
 ghost use Rattle.jh_history.specs.Due.{due_at};
 ghost use Rattle.jh_history.specs.Phases.{creation_of};
@@ -7,7 +7,6 @@ ghost use Rattle.jh_history.specs.Facts.{Facts};
 ghost use Rattle.jh_history.specs.Wants.{IsReachOfEntry};
 ghost use Rattle.jh_board.specs.Means.{Means};
 ghost use Rattle.jh_board.specs.Judged.{IsJudged};
-ghost use Rattle.jh_history.specs.declared.next.DueEntry.{DueEntry as TheDue};
 
 use crate::granted::{reach, row_of_root};
 use crate::held::Held;
@@ -17,7 +16,7 @@ use jh_call::Call;
 use jh_cellcfg::CellConfig;
 use jh_cpu::Cpu;
 use jh_history::{
-    Creation, DueEntry, Known, OpenCall, Phase, Places, Reach, RootBytes, Wanted, is_any_locked,
+    Creation, Entry, Known, OpenCall, Phase, Places, Reach, RootBytes, Wanted, is_any_locked,
     is_any_other_locked, is_due, next_of, none_due, read_config, rows_are_read_byte_by_byte,
 };
 use jh_ivshmem::Endpoints;
@@ -172,7 +171,8 @@ impl<'a> Known for State<'a> {
     }
 
     fn operation(&self, cpu: u8, state: Cpu) -> Option<Op> {
-        self.image.operation(&self.held.cells, cpu, state)
+        self.image
+            .operation(&self.held.cells, &self.held.programs, cpu, state)
     }
 
     fn reach(&self, cell: u32, wanted: &Wanted) -> Reach {
@@ -199,46 +199,66 @@ fn create_to_decide(held: &Held) -> Option<(u8, u64)> {
     }
 }
 
-/// What comes of the create that the CPU decides next.
+/// Finds what comes of the create by the caller, of the configuration at the address, where the CPU decides it next.
+#[inline(never)]
+fn find_create_by(
+    image: &IndexedImage,
+    held: &Held,
+    cpu: u8,
+    caller: u8,
+    at: u64,
+    found: &mut Option<JudgedCreate>,
+) -> Result<(), NoMemory>
+    requires cpu { cpu < 16 }
+    requires none { found.old ≡ None }
+    ensures { IfSome found.new (IsJudged image.now held.now) }
+{
+    let unknown = None;
+    let state = State::new(image, held, &unknown);
+    if caller == cpu && is_due(&state, cpu) {
+        let creation = state.creation(caller, at)?;
+        *found = Some(JudgedCreate {
+            caller,
+            at,
+            creation,
+        });
+    }
+    Ok(())
+}
+
+/// Finds what comes of the create that the CPU decides next, where it decides one.
 pub fn find_create(
     image: &IndexedImage,
     held: &Held,
     cpu: u8,
-) -> Result<Option<JudgedCreate>, NoMemory>
-    requires { cpu < 16 }
-    ensures { IfOk result (λ found. IfSome found (IsJudged image.now held.now)) }
+    found: &mut Option<JudgedCreate>,
+) -> Result<(), NoMemory>
+    requires cpu { cpu < 16 }
+    requires none { found.old ≡ None }
+    ensures { IfSome found.new (IsJudged image.now held.now) }
 {
-    let Some((caller, at)) = create_to_decide(held) else {
-        return Ok(None);
-    };
-    let unknown = None;
-    let state = State::new(image, held, &unknown);
-    if caller != cpu || !is_due(&state, cpu) {
-        return Ok(None);
+    match create_to_decide(held) {
+        Some((caller, at)) => find_create_by(image, held, cpu, caller, at, found),
+        None => Ok(()),
     }
-    let creation = state.creation(caller, at)?;
-    Ok(Some(JudgedCreate {
-        caller,
-        at,
-        creation,
-    }))
 }
 
-/// The entry that the CPU makes next, and what its access reaches, where this was found of a create. Only what a create
-/// reads takes memory.
+/// The entry that the CPU makes next, where this was found of a create. What its access reaches is put into `reach`. Only
+/// what a create reads takes memory.
 pub fn next_entry(
     image: &IndexedImage,
     held: &Held,
     found: &Option<JudgedCreate>,
     cpu: u8,
-) -> Result<Option<DueEntry>, NoMemory>
+    reach: &mut Reach,
+) -> Result<Option<Entry>, NoMemory>
     requires cpu { cpu < 16 }
     requires found { IfSome found.now (IsJudged image.now held.now) }
-    ensures due { (f : Facts) → Means image.now held.now f → IfOk result (λ due. option_map (λ (due : TheDue). due.entry) due ≡ due_at image.now f cpu) }
-    ensures reached { (f : Facts) → Means image.now held.now f → IfOk result (λ due. IfSome due (λ due. IsReachOfEntry image.now f due.entry due.reach)) }
-    ensures cpu { IfOk result (λ due. IfSome due (λ due. due.entry.cpu ≡ cpu)) }
+    ensures due { (f : Facts) → Means image.now held.now f → IfOk result (λ entry. entry ≡ due_at image.now f cpu) }
+    ensures reached { (f : Facts) → Means image.now held.now f → IfOk result (λ entry. IfSome entry (λ entry. IsReachOfEntry image.now f entry reach.new)) }
+    ensures cpu { IfOk result (λ entry. IfSome entry (λ entry. entry.cpu ≡ cpu)) }
 {
-    next_of(&State::new(image, held, found), cpu)
+    next_of(&State::new(image, held, found), cpu, reach)
 }
 
 /// What comes of a create by the caller, of the configuration at the address: as it was found, or else as it is

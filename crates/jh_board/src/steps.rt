@@ -1,5 +1,5 @@
 //! What an entry does to what a board holds.
-ghost use Rattle.std.specs.Prelude.{◌≡◌, ℕ, ◌<◌, ◌≤◌, All, AllPairs, OnOk, OnErr, IfOk, IfSome, Some, None, false, option_copied};
+ghost use Rattle.std.specs.Prelude.{◌≡◌, ℕ, ◌<◌, ◌≤◌, List, Option, All, AllPairs, OnOk, OnErr, IfOk, IfSome, Some, None, false, option_copied};
 ghost use Rattle.std.specs.Option.{option_map_or};
 ghost use Rattle.jh_cellcfg.specs.declared.config.CellConfig.{CellConfig as TheConfig};
 ghost use Rattle.jh_ivshmem.specs.Specs.{IsWithin};
@@ -8,6 +8,8 @@ ghost use Rattle.jh_script.specs.declared.image.Image.{Image};
 ghost use Rattle.jh_history.specs.declared.place.Place.{Place as ThePlace};
 ghost use Rattle.jh_history.specs.Access.{with_slot_if, slot_of_reach};
 ghost use Rattle.jh_history.specs.Devices.{specs_of, Devices as TheDevices};
+ghost use Rattle.jh_history.specs.declared.call.OpenCall.{OpenCall as TheOpenCall};
+ghost use Rattle.jh_cellcfg.specs.declared.live.Live.{Live as TheLive};
 ghost use Rattle.jh_history.specs.Endpoints.{endpoints_put, endpoints_changed, change_by, changing_by, specs_changing, with_words, HasGoodDevices};
 ghost use Rattle.jh_history.specs.Calls.{call_by};
 ghost use Rattle.jh_history.specs.Commits.{cells_by, created_by};
@@ -18,20 +20,22 @@ ghost use Rattle.jh_history.specs.Pages.{with_page_write};
 ghost use Rattle.jh_history.specs.Due.{due_at};
 ghost use Rattle.jh_history.specs.Wants.{IsReachOfEntry};
 ghost use Rattle.jh_board.specs.Pages.{byte_of, HoldsComm, HoldsPlace};
+ghost use Rattle.jh_board.specs.Indexed.{AreFound};
 ghost use Rattle.jh_board.specs.Judged.{IsJudged};
 ghost use Rattle.jh_board.specs.Means.{Means, IsReady, IsReadyFor};
-ghost use Rattle.jh_board.specs.Steps.{decides_to_go_on, create_of, change_of_call, change_of_cells, changed_cells, IsNext, IsRead, IsFree, WillBeReady, IsPrepared, MayWrite, MayWriteOf, MayWriteSlot, MayCommit, MayJoin, IsSameButDevices, joined_cells, devices_held, memory_written, memory_after, slot_after, endpoints_acted_by};
+ghost use Rattle.jh_board.specs.Steps.{decides_to_go_on, create_of, change_of_call, change_of_cells, changed_cells, is_commit, IsNext, IsRead, IsFree, WillBeReady, IsPrepared, MayWrite, MayWriteOf, MayWriteSlot, MayCommit, MayJoin, IsSameButDevices, joined_cells, devices_held, memory_written, memory_after, slot_after, endpoints_acted_by};
 
 use crate::cell_regions::CellRegions;
 use crate::cells::LiveCells;
 use crate::devices::{change_devices, prepare_devices, write_slot_if};
 use crate::granted::devices_of;
 use crate::held::Held;
-use crate::indexed::IndexedImage;
+use crate::indexed::{FoundProgram, IndexedImage};
 use crate::memory::Memory;
 use crate::state::{JudgedCreate, creation_by};
 use jh_call::Call;
 use jh_cellcfg::CellConfig;
+use jh_cpu::Cpu;
 use jh_history::{
     Act, BoxedCell, Called, Creation, DeviceChange, Entry, Known, OpenCall, PageWrite, Reach,
     a_cell_that_comes_may_live, call_after, changing_cell, count_entry, cpus_after,
@@ -110,10 +114,10 @@ fn coming_of(
     image: &IndexedImage,
     held: &Held,
     entry: &Entry,
-    found: Option<JudgedCreate>,
+    found: &mut Option<JudgedCreate>,
 ) -> Result<Option<BoxedCell>, NoMemory>
     requires next { IsNext image.now held.now entry.now }
-    requires found { IfSome found (IsJudged image.now held.now) }
+    requires found { IfSome found.old (IsJudged image.now held.now) }
     ensures read { (f : Facts) → Means image.now held.now f → due_at image.now f entry.now.cpu ≡ Some entry.now → IfOk result (IsRead image.now f entry.now) }
     ensures ready { (f : Facts) → Means image.now held.now f → due_at image.now f entry.now.cpu ≡ Some entry.now → IfOk result (WillBeReady image.now f entry.now) }
     ensures free { (f : Facts) → Means image.now held.now f → due_at image.now f entry.now.cpu ≡ Some entry.now → IfOk result (IsFree f) }
@@ -133,7 +137,7 @@ fn coming_of(
     decides_are_of_the_open_call();
     a_cell_that_comes_may_live();
     devices_may_change();
-    match creation_by(image, held, found, begun.caller, at)? {
+    match creation_by(image, held, found.take(), begun.caller, at)? {
         Creation::Comes { config } => Ok(Some(config)),
         // what comes of it is what the entry says
         Creation::Refused { .. } => unreachable!(),
@@ -160,10 +164,10 @@ fn prepare(
     image: &IndexedImage,
     held: &mut Held,
     entry: &Entry,
-    found: Option<JudgedCreate>,
+    found: &mut Option<JudgedCreate>,
 ) -> Result<Option<BoxedCell>, NoMemory>
     requires next { IsNext image.now held.old entry.now }
-    requires found { IfSome found (IsJudged image.now held.old) }
+    requires found { IfSome found.old (IsJudged image.now held.old) }
     ensures means { (f : Facts) → Means image.now held.old f → Means image.now held.new f }
     ensures ok { (f : Facts) → Means image.now held.old f → due_at image.now f entry.now.cpu ≡ Some entry.now → IfOk result (IsPrepared image.now held.new f entry.now) }
 {
@@ -307,6 +311,7 @@ fn make_call(held: &mut Held, entry: &Entry, coming: Option<BoxedCell>)
     ensures memory { held.new.memory ≡ held.old.memory }
     ensures cpus { held.new.cpus ≡ held.old.cpus }
     ensures endpoints { held.new.endpoints ≡ held.old.endpoints }
+    ensures programs { held.new.programs ≡ held.old.programs }
     ensures system { held.new.cells.system ≡ held.old.cells.system }
     ensures lives { held.new.cells.lives ≡ cells_by held.old.call held.old.cells.lives entry.now.act }
     ensures named { IfSome (created_by held.old.call entry.now.act) NamesCpu }
@@ -324,6 +329,29 @@ fn make_call(held: &mut Held, entry: &Entry, coming: Option<BoxedCell>)
     make_cells(&mut held.cells, &mut held.index, created, change);
 }
 
+/// Whether the act is a Commit. No other act changes which cells live.
+fn is_commit(act: &Act) -> bool
+    ensures { result ≡ is_commit act.now }
+{
+    matches!(act, Act::Commit)
+}
+
+/// Finds the programs of CPUs again, where the act changes which cells live.
+fn renew_programs(
+    image: &IndexedImage,
+    cells: &LiveCells,
+    cpus: &[Cpu; 16],
+    act: &Act,
+    programs: &mut [FoundProgram; 16],
+)
+    ensures { (call : Option TheOpenCall) (lives : List TheLive) → AreFound image.now lives programs.old → cells.now.lives ≡ cells_by call lives act.now → AreFound image.now cells.now.lives programs.new }
+{
+    if !is_commit(act) {
+        return;
+    }
+    *programs = image.find_programs(cells, cpus);
+}
+
 /// Makes the entry in what a board holds; `reach` is what its access reaches, where it makes one, and `found`
 /// what comes of the create that it decides.
 pub fn make(
@@ -331,10 +359,10 @@ pub fn make(
     held: &mut Held,
     entry: &Entry,
     reach: &Reach,
-    found: Option<JudgedCreate>,
+    found: &mut Option<JudgedCreate>,
 ) -> Result<(), NoMemory>
     requires next { IsNext image.now held.old entry.now }
-    requires found { IfSome found (IsJudged image.now held.old) }
+    requires found { IfSome found.old (IsJudged image.now held.old) }
     requires reached { (f : Facts) → Means image.now held.old f → IsReachOfEntry image.now f entry.now reach.now }
     ensures ok { OnOk result ((f : Facts) → Means image.now held.old f → due_at image.now f entry.now.cpu ≡ Some entry.now → Means image.now held.new (after image.now f entry.now)) }
     ensures err { OnErr result ((f : Facts) → Means image.now held.old f → Means image.now held.new f) }
@@ -358,5 +386,12 @@ pub fn make(
     );
     make_page(&mut held.memory, write);
     make_call(held, entry, coming);
+    renew_programs(
+        image,
+        &held.cells,
+        &held.cpus,
+        &entry.act,
+        &mut held.programs,
+    );
     Ok(())
 }

@@ -1,6 +1,6 @@
 -- What a new cell is refused for where no CPU may be given away: a cell without a CPU is invalid, whatever others
 -- there are.
-use Rattle.std.proofs.Common.{◌≡◌, ℕ, zero, suc, ◌+◌, Bool, true, false, List, [], ◌∷◌, ◌++◌, length, get_or, replicate, Some, refl, sym, subst, inl, inr, ◌∙◌, arith}
+use Rattle.std.proofs.Common.{◌≡◌, ℕ, zero, suc, ◌+◌, Bool, true, false, List, [], ◌∷◌, ◌++◌, length, Some, refl, sym, subst, inl, inr, ◌∙◌, arith}
 use Rattle.std.specs.List.{list_any}
 use Rattle.std.proofs.lemmas.Bool.{false≢true, cases_Bool, both_ways, eq-eqb, or_left, or_right}
 use Rattle.std.proofs.lemmas.List.Folds.{list_any-append}
@@ -29,12 +29,6 @@ idle_breaks set gives beyond idle =
           let some = (gives (bitmap_from set (λ breaks. false≢true (sym sound ∙ breaks)))).some in
           absurd (both_ways (names_beyond nobody set) idle (beyond (some.0, some.1, refl)))
     ]
-
--- none of so many is set
-pub none_set : (n i : ℕ) → get_or (replicate n false) i false ≡ false
-none_set zero i = refl
-none_set (suc n) zero = refl
-none_set (suc n) (suc i) = none_set n i
 
 -- an item by which something is found
 found_here : {X : Type 0} (found : ℕ → X → List Finding) (p : Finding → Bool) (n : ℕ) (xs : List X) (x : X) (ys : List X) → list_any p (found (n + length xs) x) ≡ true → list_any p (found_from found n (xs ++ x ∷ ys)) ≡ true

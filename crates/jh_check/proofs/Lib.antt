@@ -4,6 +4,7 @@ pub mod BreakLemmas
 pub mod SectionLemmas
 pub mod SpanLemmas
 pub mod ReachLemmas
+pub mod BlockLemmas
 pub mod RisingLemmas
 pub mod SoundLemmas
 pub mod BusLemmas
@@ -22,3 +23,4 @@ pub mod GivenLemmas
 pub mod RefusalLemmas
 pub mod CappedLemmas
 pub mod IdleLemmas
+pub mod MaskLemmas

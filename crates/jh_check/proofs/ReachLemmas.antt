@@ -1,5 +1,5 @@
 -- How far spans reach, one span after the other, and what is told by it.
-use Rattle.std.proofs.Common.{◌≡◌, ◌≢◌, ℕ, zero, suc, ◌+◌, ◌^◌, leb, take, drop, length-drop, ◌-◌, ◌<◌, ◌≤◌, Bool, true, false, ◌&&◌, not, ◌==◌, nat_lt, if◌then◌else◌, Some, None, IfSome, List, [], ◌∷◌, ◌++◌, length, get_or, refl, sym, ap, subst, ◌∙◌, inl, inr, arith}
+use Rattle.std.proofs.Common.{◌≡◌, ◌≢◌, ℕ, zero, suc, ◌+◌, ◌^◌, leb, take, drop, length-drop, ◌-◌, ◌<◌, ◌≤◌, Bool, true, false, ◌&&◌, not, ◌==◌, nat_lt, Some, None, IfSome, List, [], ◌∷◌, ◌++◌, length, get_or, refl, sym, ap, subst, ◌∙◌, inl, inr, arith}
 use Rattle.std.specs.List.{Contains, AllWithin}
 use Rattle.std.specs.List.Sorted.{IsNonDecreasingBy}
 use Rattle.std.proofs.lemmas.Bool.{false≢true, cases_Bool, ltb-true, ltb-false, leb-true, cases_eq, cases_lt, cases_order}
@@ -15,15 +15,14 @@ use Rattle.jh_check.specs.declared.spans.Span.{Span}
 use Rattle.jh_check.specs.declared.reach.Reach.{Reach}
 use Rattle.jh_check.specs.declared.reach.Reaches.{Reaches}
 use Rattle.jh_check.specs.declared.reach.Window.{Window}
-use Rattle.jh_check.specs.declared.gaps.Extents.{Extents}
 use Rattle.jh_check.specs.Regions.{Spot, pair_breaks, share_places, takes_pages, both_shared}
 use Rattle.jh_check.specs.Devices.{are_same_section}
 use Rattle.jh_check.specs.Spans.{joins, takes_part, span_of, is_within}
 use Rattle.jh_check.specs.Lists.{capped, found_from, only_if}
-use Rattle.jh_check.specs.Findings.{spot, beside, beside_at, between, between_at, finding_of}
-use Rattle.jh_check.specs.Private.Reaches.{passes_shared, may_follow, unshared_of, reaches_for, HasOthers, InOrder, IsRising, IsReached, TellsEach, TellsPairs, IsOwn, TellsOthers, AreOf, IsIn, HasHits, IsInside, AreExtents}
+use Rattle.jh_check.specs.Findings.{spot, beside, beside_at, finding_of}
+use Rattle.jh_check.specs.Private.Reaches.{passes_shared, may_follow, unshared_of, reaches_for, HasOthers, InOrder, IsRising, IsReached, TellsEach, TellsPairs, IsOwn, TellsOthers, AreOf, IsIn, HasHits}
 use Rattle.jh_check.proofs.BoolLemmas.{false_from_not, not_both, and_left, and_right, and_both}
-use Rattle.jh_check.proofs.ListLemmas.{append_nil, found_drop, found_end, found_none, found_none0}
+use Rattle.jh_check.proofs.ListLemmas.{append_nil, found_drop, found_end, found_none}
 use Rattle.jh_check.proofs.BreakLemmas.{pair_order, pair_joins, pair_takes_part, pair_second, pair_meets, beside_none, joins_same, two_parts, pages_parts, overlap_second, meet_swap}
 
 -- ---- one span after the other
@@ -417,18 +416,24 @@ window_hits rule one b other reaches window of own behind told = λ s d within s
       | inr w ↦ subst (λ n. IsIn window n) (r.1 w) (told w r.0.by r.0.is r.0.begins r.0.ends)
     ]
 
--- the items that are passed over give nothing
-pub found_skip : {X : Type 0} (found : ℕ → X → List Finding) (xs : List X) (n : ℕ) (d : X) → ((i : ℕ) → i < length xs → i < n → found i (get_or xs i d) ≡ []) → found_from found 0 xs ≡ found_from found n (drop n xs)
-found_skip found xs zero d h = refl
-found_skip found xs (suc n) d h =
-    let before : found_from found 0 xs ≡ found_from found n (drop n xs) = found_skip found xs n d (λ i within below. h i within (omega arith)) in
-    elim (cases_lt n (length xs)) [
+-- items that give nothing may be passed over
+pub found_pass : {X : Type 0} (found : ℕ → X → List Finding) (xs : List X) (n m : ℕ) (d : X) → ((i : ℕ) → i < length xs → n ≤ i → i < n + m → found i (get_or xs i d) ≡ []) → found_from found n (drop n xs) ≡ found_from found (n + m) (drop (n + m) xs)
+found_pass found xs n zero d h = ap (λ k. found_from found k (drop k xs)) (let e : n ≡ n + 0 = omega arith in e)
+found_pass found xs n (suc m) d h =
+    let before : found_from found n (drop n xs) ≡ found_from found (n + m) (drop (n + m) xs) = found_pass found xs n m d (λ i within low below. h i within low (omega arith)) in
+    let e : (n + m) + 1 ≡ n + suc m = omega arith in
+    elim (cases_lt (n + m) (length xs)) [
       | inl k ↦
-          let e : n + 1 ≡ suc n = omega arith in
-          let rest = found_from found (n + 1) (drop (n + 1) xs) in
-          before ∙ found_drop found xs n d k ∙ ap (λ ys. ys ++ rest) (h n k (omega arith)) ∙ ap (λ m. found_from found m (drop m xs)) e
-      | inr k ↦ before ∙ found_end found xs n k ∙ sym (found_end found xs (suc n) (omega arith))
+          let rest = found_from found ((n + m) + 1) (drop ((n + m) + 1) xs) in
+          before ∙ found_drop found xs (n + m) d k ∙ ap (λ ys. ys ++ rest) (h (n + m) k (omega arith) (omega arith)) ∙ ap (λ k. found_from found k (drop k xs)) e
+      | inr k ↦ before ∙ found_end found xs (n + m) k ∙ sym (found_end found xs (n + suc m) (omega arith))
     ]
+
+-- the first of them
+pub found_skip : {X : Type 0} (found : ℕ → X → List Finding) (xs : List X) (n : ℕ) (d : X) → ((i : ℕ) → i < length xs → i < n → found i (get_or xs i d) ≡ []) → found_from found 0 xs ≡ found_from found n (drop n xs)
+found_skip found xs n d h =
+    let e : 0 + n ≡ n = omega arith in
+    found_pass found xs 0 n d (λ i within low below. h i within (omega arith)) ∙ ap (λ k. found_from found k (drop k xs)) e
 
 -- and so do those from one on
 pub found_rest : {X : Type 0} (found : ℕ → X → List Finding) (xs : List X) (n : ℕ) (d : X) → ((i : ℕ) → i < length xs → n ≤ i → found i (get_or xs i d) ≡ []) → found_from found n (drop n xs) ≡ []
@@ -477,25 +482,3 @@ own_spot a one r d b other h same = λ e.
     let x = get_or one.memory_regions r d in
     let P : CellConfig → Type 0 = λ c. (r < length c.memory_regions) × (x ≡ get_or c.memory_regions r x) in
     subst P (same e) (h, get_or_default one.memory_regions r d x h)
-
--- what a span is reached by reaches into what has the span
-wider : (reaches : List Reach) (span extent : Span) → IsInside span extent → IsReached reaches span → IsReached reaches extent
-wider reaches span extent inside reached =
-    let low = inside.starts in
-    let high = inside.ends in
-    let a = reached.begins in
-    let b = reached.ends in
-    record { by = reached.by; is = reached.is; begins = omega arith; ends = omega arith }
-
-beyond_by : (b : Bool) (reaches : Reaches) (span : Span) (extents : Extents) → IsInside span (if b then extents.unshared else extents.any) → (IsReached reaches.any.items extents.any → ⊥) → (IsReached (unshared_of reaches) extents.unshared → ⊥) → IsReached (if b then unshared_of reaches else reaches.any.items) span → ⊥
-beyond_by true reaches span extents inside any unshared reached = unshared (wider (unshared_of reaches) span extents.unshared inside reached)
-beyond_by false reaches span extents inside any unshared reached = any (wider reaches.any.items span extents.any inside reached)
-
-pub between_beyond : (rule : Rule) (a : ℕ) (one : CellConfig) (b : ℕ) (other : CellConfig) (reaches : Reaches) (extents : Extents) → AreOf rule b other reaches → (a ≡ b → one ≡ other) → AreExtents rule one.memory_regions extents → (IsReached reaches.any.items extents.any → ⊥) → (IsReached (unshared_of reaches) extents.unshared → ⊥) → between rule a one b other ≡ []
-unfolding between
-between_beyond rule a one b other reaches extents of same wide any unshared =
-    let none : Region = record { phys_start = 0; virt_start = 0; size = 0; flags = 0 } in
-    found_none0 (between_at rule a one b other) one.memory_regions none (λ r h.
-    let x = get_or one.memory_regions r none in
-    beside_unreached rule (spot a one r x) b other reaches of (own_spot a one r none b other h same) (λ takes all reached.
-    beyond_by (passes_shared rule x) reaches (span_of rule r x) extents (wide r none h h takes) any unshared reached))

@@ -1,10 +1,11 @@
 -- Which CPUs a new cell names that it mustn't, and when it isn't refused.
-use Rattle.std.proofs.Common.{◌≡◌, ℕ, ◌+◌, ◌-◌, ◌*◌, ◌/◌, ◌<◌, ◌≤◌, Bool, true, false, ◌||◌, not, nat_lt, List, [], ◌∷◌, length, drop, get_or, zero, suc, Some, None, refl, sym, ap, subst, inl, inr, ◌∙◌, arith}
+use Rattle.std.proofs.Common.{◌≡◌, ℕ, ◌+◌, ◌-◌, ◌*◌, ◌/◌, ◌^◌, ◌<◌, ◌≤◌, Bool, true, false, ◌||◌, not, nat_lt, List, [], ◌∷◌, length, drop, get_or, zero, suc, Some, None, refl, sym, ap, subst, inl, inr, ◌∙◌, arith}
 use Rattle.std.specs.Prelude.{if◌then◌else◌, Option, ℤ}
 use Rattle.std.specs.List.{list_all}
 use Rattle.std.proofs.lemmas.Bool.{false≢true, ltb-false, le-ltb, cases_lt, cases_Bool, and_parts, and_from, or_cases, or_from, or_left, or_right, not-true, not_from_false}
 use Rattle.std.proofs.lemmas.List.{get_or-drop}
 use Rattle.jh_num.proofs.Booleans.{same_test}
+use Rattle.jh_num.specs.Bits.{has_bit}
 use Rattle.jh_num.specs.declared.error.TheConstants.{EBUSY, EEXIST, ENOMEM}
 use Rattle.jh_cellcfg.specs.declared.config.CellConfig.{CellConfig}
 use Rattle.jh_cellcfg.specs.declared.config.SystemConfig.{SystemConfig}
@@ -17,6 +18,7 @@ use Rattle.jh_check.specs.Refusals.{is_known, any_below, is_beyond, names_beyond
 use Rattle.jh_check.proofs.BoolLemmas.{true_from_not}
 use Rattle.jh_check.proofs.DeviceLemmas.{some_byte, each_zero}
 use Rattle.jh_check.proofs.GivenLemmas.{byte_names, zero_names}
+use Rattle.jh_check.proofs.MaskLemmas.{high_bit}
 
 -- ---- numbers below a number
 
@@ -51,11 +53,6 @@ below_more p k (suc m) e f g =
     subst (λ i. (any_below p i || p i) ≡ false) same (or_from (any_below p k) (p k) f g)
 
 -- ---- CPUs
-
-past_default : (may : List Bool) (i : ℕ) → length may ≤ i → get_or may i false ≡ false
-past_default [] i l = refl
-past_default (b ∷ may) zero l = absurd (omega arith)
-past_default (b ∷ may) (suc i) l = past_default may i (omega arith)
 
 past_zero : (set : List ℕ) (i : ℕ) → length set ≤ i → get_or set i 0 ≡ 0
 past_zero [] i l = refl
@@ -94,9 +91,9 @@ high_named set cpu l t =
     false-by true h = absurd (h refl)
     false-by false h = refl
 
-pub beyond_by : (may : List Bool) (set : List ℕ) → length may ≡ 16 → ((i : ℕ) → get_or set i 0 < 256) → (any_below (is_beyond (λ i. get_or may i false) set) 16 || not (list_all is_zero (drop 2 set))) ≡ names_beyond (λ i. get_or may i false) set
-beyond_by may set size bytes =
-    let m : ℕ → Bool = λ i. get_or may i false in
+pub beyond_by : (mask : ℕ) (set : List ℕ) → mask < 2 ^ 16 → ((i : ℕ) → get_or set i 0 < 256) → (any_below (is_beyond (has_bit mask) set) 16 || not (list_all is_zero (drop 2 set))) ≡ names_beyond (has_bit mask) set
+beyond_by mask set small bytes =
+    let m : ℕ → Bool = has_bit mask in
     let low = any_below (is_beyond m set) 16 in
     let high = not (list_all is_zero (drop 2 set)) in
     same_test (low || high) (names_beyond m set) (λ t.
@@ -109,7 +106,7 @@ beyond_by may set size bytes =
           let s = some_byte (drop 2 set) (not-true (list_all is_zero (drop 2 set)) u) in
           let e : get_or (drop 2 set) s.0 0 ≡ get_or set (2 + s.0) 0 = get_or-drop 2 set s.0 0 in
           let k = byte_names set (2 + s.0) (bytes (2 + s.0)) (λ z. s.1 (e ∙ z)) in
-          named_beyond m set (8 * (2 + s.0) + k.0) k.1 (past_default may (8 * (2 + s.0) + k.0) (omega arith))
+          named_beyond m set (8 * (2 + s.0) + k.0) k.1 (high_bit mask (8 * (2 + s.0) + k.0) small (omega arith))
     ]) (λ t.
     let r = beyond_named m set t in
     elim (cases_lt r.0 16) [
@@ -117,16 +114,16 @@ beyond_by may set size bytes =
       | inr l ↦ or_right low high (high_named set r.0 l r.1)
     ])
 
-pub beyond_low : (may : List Bool) (set : List ℕ) → any_below (is_beyond (λ i. get_or may i false) set) 16 ≡ true → true ≡ names_beyond (λ i. get_or may i false) set
-beyond_low may set t =
-    let m : ℕ → Bool = λ i. get_or may i false in
+pub beyond_low : (mask : ℕ) (set : List ℕ) → any_below (is_beyond (has_bit mask) set) 16 ≡ true → true ≡ names_beyond (has_bit mask) set
+beyond_low mask set t =
+    let m : ℕ → Bool = has_bit mask in
     let r = below_of (is_beyond m set) 16 t in
     let p = and_parts (is_cpu_set set r.0) (not (m r.0)) r.2 in
     sym (named_beyond m set r.0 p.0 (not-true (m r.0) p.1))
 
-pub beyond_high : (may : List Bool) (set : List ℕ) → length may ≡ 16 → ((i : ℕ) → get_or set i 0 < 256) → any_below (is_beyond (λ i. get_or may i false) set) 16 ≡ false → not (list_all is_zero (drop 2 set)) ≡ names_beyond (λ i. get_or may i false) set
-beyond_high may set size bytes f =
-    sym (ap (λ b. b || not (list_all is_zero (drop 2 set))) f) ∙ beyond_by may set size bytes
+pub beyond_high : (mask : ℕ) (set : List ℕ) → mask < 2 ^ 16 → ((i : ℕ) → get_or set i 0 < 256) → any_below (is_beyond (has_bit mask) set) 16 ≡ false → not (list_all is_zero (drop 2 set)) ≡ names_beyond (has_bit mask) set
+beyond_high mask set small bytes f =
+    sym (ap (λ b. b || not (list_all is_zero (drop 2 set))) f) ∙ beyond_by mask set small bytes
 
 -- ---- refusals
 

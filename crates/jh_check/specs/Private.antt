@@ -1,4 +1,5 @@
 -- Definitions that mirror the code: clauses of private functions alone cite them, and no public clause rests on them.
+pub mod Blocks
 pub mod Bus
 pub mod Fits
 pub mod Links

@@ -14,6 +14,10 @@ use Rattle.jh_check.specs.Verdicts.{verdict_of}
 abbrev pub is_namesake : CellConfig → CellConfig → Bool
 is_namesake new cell = (cell.id == new.id) || pointwise nat_eq (name_of cell) (name_of new)
 
+-- the two cells have neither one name nor one id
+abbrev pub AreTwo : CellConfig → CellConfig → Type 0
+AreTwo earlier later = is_namesake later earlier ≡ false
+
 -- one of the cells has the new one's id or its name
 abbrev pub is_known : List CellConfig → CellConfig → Bool
 is_known cells new = list_any (is_namesake new) cells

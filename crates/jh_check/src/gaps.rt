@@ -1,8 +1,9 @@
 //! The gaps between how far regions of a cell reach, by which those that meet none of them are told at once.
 ghost use Rattle.std.specs.Prelude.{◌≡◌, true, false};
 ghost use Rattle.jh_check.specs.Spans.{span_of, takes_part, LiesWithin};
-ghost use Rattle.jh_check.specs.Private.Reaches.{unshared_of, reaches_for, extent_for, IsRising, IsReached, IsGap, AreGaps, IsInside, AreExtents};
+ghost use Rattle.jh_check.specs.Private.Reaches.{unshared_of, reaches_for, IsRising, IsReached, IsGap, AreGaps};
 
+use crate::blocks::Extents;
 use crate::reach::{Reach, Reaches, end_before, passes_shared, start_behind, unshared_of};
 use crate::rule::Rule;
 use crate::spans::{Span, span_of, takes_part};
@@ -22,68 +23,6 @@ pub(crate) struct Gap {
 pub(crate) struct Gaps {
     pub(crate) any: Gap,
     pub(crate) unshared: Gap,
-}
-
-/// What has all regions that take part, of each kind by which they are looked for.
-#[derive(Clone, Copy)]
-pub(crate) struct Extents {
-    pub(crate) any: Span,
-    pub(crate) unshared: Span,
-}
-
-/// The least that has both.
-fn joined(one: Span, other: Span) -> Span
-    ensures one { IsInside one result }
-    ensures other { IsInside other result }
-{
-    Span {
-        start: one.start.min(other.start),
-        end: one.end.max(other.end),
-        item: other.item,
-    }
-}
-
-/// The extents, one of them made so wide that it has the region, where that takes part.
-fn widened(extents: Extents, rule: Rule, item: usize, region: &Region) -> Extents
-    ensures any { IsInside extents.any result.any }
-    ensures unshared { IsInside extents.unshared result.unshared }
-    ensures own { takes_part rule region.now ≡ true → IsInside (span_of rule item region.now) (extent_for rule region.now result) }
-{
-    if !takes_part(rule, region) {
-        return extents;
-    }
-    let span = span_of(rule, item, region);
-    if passes_shared(rule, region) {
-        Extents {
-            any: extents.any,
-            unshared: joined(extents.unshared, span),
-        }
-    } else {
-        Extents {
-            any: joined(extents.any, span),
-            unshared: extents.unshared,
-        }
-    }
-}
-
-/// What has all regions that take part: from the least of their starts to the farthest of their ends.
-#[inline(never)]
-pub(crate) fn extents_of(rule: Rule, regions: &[Region]) -> Extents
-    ensures { AreExtents rule regions.now result }
-{
-    let none = Span {
-        start: u64::MAX,
-        end: 0,
-        item: 0,
-    };
-    let mut extents = Extents {
-        any: none,
-        unshared: none,
-    };
-    for (item, region) in regions.iter().enumerate() {
-        extents = widened(extents, rule, item, region);
-    }
-    extents
 }
 
 /// The gap between the first `n` of them and the others.
@@ -142,6 +81,14 @@ pub(crate) fn may_reach_into(reaches: &Reaches, extents: Extents) -> bool
 {
     let any = is_near(reaches.any.as_slice(), extents.any);
     any || is_near(unshared_of(reaches), extents.unshared)
+}
+
+/// Whether the extents lie in the gaps of their kinds; then no region within them is reached.
+pub(crate) fn lie_in(gaps: &Gaps, extents: Extents) -> bool
+    ensures any { result ≡ true → LiesWithin extents.any gaps.now.any.start gaps.now.any.end }
+    ensures unshared { result ≡ true → LiesWithin extents.unshared gaps.now.unshared.start gaps.now.unshared.end }
+{
+    lies_in(gaps.any, extents.any) && lies_in(gaps.unshared, extents.unshared)
 }
 
 /// Whether the last of those before the gap begins before the span's end, and those behind the gap don't.

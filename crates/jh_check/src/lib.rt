@@ -1,6 +1,7 @@
 //! The check of a system and its cells: what would break the isolation of cells, rule by rule.
 #![tactic(auto)]
 
+mod blocks;
 mod bus;
 mod checking;
 mod devices;
@@ -9,6 +10,7 @@ mod fits;
 mod gaps;
 mod laws;
 mod links;
+mod mask;
 mod pairing;
 mod pairs;
 mod reach;
@@ -32,6 +34,7 @@ pub use laws::{
     nothing_is_refused_that_is_accepted, pages_are_whole, places_are_single,
     sound_bitmaps_name_few_cpus,
 };
+pub use mask::{mask_of, with_bit};
 pub use refusal::{refusal_of, refusal_without_cpus};
 pub use rule::Rule;
 pub use verdict::{NewCell, clean_with};

@@ -45,24 +45,30 @@ pub(crate) fn holders_of(
     }
 }
 
+/// The number of a region, if it has 16 bits, as it has in every configuration that can be read.
+fn short(item: usize) -> Option<u16>
+    ensures { (s : ℕ) → result ≡ Some s → item ≡ s }
+{
+    if item <= usize::from(u16::MAX) {
+        Some(item as u16)
+    } else {
+        None
+    }
+}
+
 /// Notes the partner of the region of that number, if there is room for one.
-fn put(partners: &mut Vec<Option<usize>>, item: usize, mate: usize)
+fn put(partners: &mut Vec<Option<u16>>, item: usize, mate: usize)
     ensures others { (k : ℕ) → k ≢ item → slice_index_or partners.new.items k None ≡ slice_index_or partners.old.items k None }
     ensures own { (s : ℕ) → slice_index_or partners.new.items item None ≡ Some s → mate ≡ s }
 {
     if item >= partners.len() {
         return;
     }
-    partners[item] = Some(mate);
+    partners[item] = short(mate);
 }
 
 /// Whether so many sections of the two devices seem to be noted as partners, as the first and the last are.
-fn seem_noted(
-    partners: &[Option<usize>],
-    device: &PciDevice,
-    mate: &PciDevice,
-    count: usize,
-) -> bool
+fn seem_noted(partners: &[Option<u16>], device: &PciDevice, mate: &PciDevice, count: usize) -> bool
     requires { count < 258 }
 {
     let start = device.shmem_regions_start as usize;
@@ -73,7 +79,7 @@ fn seem_noted(
 }
 
 /// Notes the sections of those two devices as partners, if the devices are linked and they aren't noted yet.
-fn note(partners: &mut Vec<Option<usize>>, one: &CellConfig, n: usize, other: &CellConfig, m: usize)
+fn note(partners: &mut Vec<Option<u16>>, one: &CellConfig, n: usize, other: &CellConfig, m: usize)
     requires one { n < length one.now.pci_devices }
     requires other { m < length other.now.pci_devices }
     requires known { ArePartners one.now other.now partners.old.items }
@@ -97,7 +103,7 @@ fn note(partners: &mut Vec<Option<usize>>, one: &CellConfig, n: usize, other: &C
 
 /// Notes those of the other cell's device of that number and of the one's with its bdf.
 fn note_at(
-    partners: &mut Vec<Option<usize>>,
+    partners: &mut Vec<Option<u16>>,
     holders: &[u16],
     one: &CellConfig,
     other: &CellConfig,
@@ -123,7 +129,7 @@ pub(crate) fn find_partners(
     holders: &[u16],
     one: &CellConfig,
     other: &CellConfig,
-) -> Result<Vec<Option<usize>>, NoMemory>
+) -> Result<Vec<Option<u16>>, NoMemory>
     ensures { IfOk result (λ partners. ArePartners one.now other.now partners.items) }
 {
     if holders.is_empty() {
@@ -137,13 +143,12 @@ pub(crate) fn find_partners(
 }
 
 /// The partner of the region of that number, if one is known.
-pub(crate) fn partner_of(partners: &[Option<usize>], item: usize) -> Option<usize>
+pub(crate) fn partner_of(partners: &[Option<u16>], item: usize) -> Option<usize>
     ensures { result ≡ slice_index_or partners.now item None }
 {
-    if item < partners.len() {
-        partners[item]
-    } else {
-        None
+    match partners.get(item) {
+        Some(Some(mate)) => Some(usize::from(*mate)),
+        Some(None) | None => None,
     }
 }
 

@@ -1,17 +1,19 @@
 //! The search for pairs of regions, which passes over regions that meet none of another cell.
-ghost use Rattle.std.specs.Prelude.{◌≡◌, ◌<◌, ◌≤◌, ◌++◌, true, length, slice_index_or, OnOk, IfOk};
+ghost use Rattle.std.specs.Prelude.{◌≡◌, ◌+◌, ◌<◌, ◌≤◌, ◌++◌, true, length, slice_index_or, OnOk, IfOk};
 ghost use Rattle.jh_cellcfg.specs.declared.region.Region.{Region};
 ghost use Rattle.jh_check.specs.Cells.{cells_of};
 ghost use Rattle.jh_check.specs.Lists.{capped};
 ghost use Rattle.jh_check.specs.Spans.{joins, is_within};
-ghost use Rattle.jh_check.specs.Private.Reaches.{IsOwn, AreOf, AreOfEach, AreExtents};
+ghost use Rattle.jh_check.specs.Private.Blocks.{AreBlocks, AreExtents, between_from};
+ghost use Rattle.jh_check.specs.Private.Reaches.{IsOwn, AreOf, AreOfEach, AreGaps};
 ghost use Rattle.jh_check.specs.Private.Rising.{IsStretch};
 ghost use Rattle.jh_check.specs.Private.Links.{ArePartners};
 ghost use Rattle.jh_check.specs.Findings.{spot, beside, between, between_at, in_pairs, from_cell};
 
+use crate::blocks::{BLOCK, Extents, blocks_of, extents_of};
 use crate::checking::MAX_FINDINGS;
 use crate::finding::Finding;
-use crate::gaps::{Extents, behind, extents_of, first_gaps, may_meet, may_reach_into};
+use crate::gaps::{Gaps, behind, first_gaps, lie_in, may_meet, may_reach_into};
 use crate::links::{find_partners, holders_of, partner_of};
 use crate::pairs::Site;
 use crate::reach::{Reaches, Window, find_window, is_within, measure};
@@ -53,7 +55,7 @@ fn visit(
     found: &mut Seq<Finding>,
     rule: Rule,
     pair: &Pair,
-    partners: &[Option<usize>],
+    partners: &[Option<u16>],
     reaches: &Reaches,
     near: usize,
     item: usize,
@@ -78,32 +80,64 @@ fn visit(
     beside(found, rule, &first, partner, window, pair.b, pair.other)
 }
 
-/// Each region of a cell with each of another; those are passed over that may meet none of them.
-fn between(
+/// Each region of a block of a cell, which begins with the number `first`, with each of another; those are passed over that
+/// may meet none of them.
+fn among(
     found: &mut Seq<Finding>,
     rule: Rule,
     pair: &Pair,
-    partners: &[Option<usize>],
+    partners: &[Option<u16>],
     reaches: &Reaches,
+    first: usize,
+    gaps: &mut Gaps,
 ) -> Result<(), NoMemory>
     requires partners { ArePartners pair.now.one.now pair.now.other.now partners.now }
     requires reaches { AreOf rule pair.now.b pair.now.other.now reaches.now }
     requires same { pair.now.a ≡ pair.now.b → pair.now.one.now ≡ pair.now.other.now }
-    ensures { OnOk result (capped found.new ≡ capped (found.old ++ between rule pair.now.a pair.now.one.now pair.now.b pair.now.other.now)) }
+    requires gaps { AreGaps reaches.now gaps.old }
+    ensures gaps { OnOk result (AreGaps reaches.now gaps.new) }
+    ensures found { OnOk result (capped (found.new ++ between_from rule pair.now.a pair.now.one.now pair.now.b pair.now.other.now (first + BLOCK))
+        ≡ capped (found.old ++ between_from rule pair.now.a pair.now.one.now pair.now.b pair.now.other.now first)) }
 {
-    let mut gaps = first_gaps(reaches);
-    for (r, region) in pair.one.memory_regions.as_slice().iter().enumerate() {
-        if !may_meet(reaches, rule, r, region, &mut gaps) {
+    let regions = pair.one.memory_regions.as_slice();
+    for r in first..regions.len().min(first.saturating_add(BLOCK)) {
+        let region = &regions[r];
+        if !may_meet(reaches, rule, r, region, gaps) {
             continue;
         }
-        let near = behind(&gaps, rule, region);
+        let near = behind(gaps, rule, region);
         visit(found, rule, pair, partners, reaches, near, r, region)?;
     }
     Ok(())
 }
 
+/// Each region of a cell with each of another, block by block; a block is passed over where its regions meet none of them.
+fn between(
+    found: &mut Seq<Finding>,
+    rule: Rule,
+    pair: &Pair,
+    partners: &[Option<u16>],
+    reaches: &Reaches,
+    blocks: &[Extents],
+) -> Result<(), NoMemory>
+    requires partners { ArePartners pair.now.one.now pair.now.other.now partners.now }
+    requires reaches { AreOf rule pair.now.b pair.now.other.now reaches.now }
+    requires same { pair.now.a ≡ pair.now.b → pair.now.one.now ≡ pair.now.other.now }
+    requires blocks { AreBlocks rule pair.now.one.now.memory_regions blocks.now }
+    ensures { OnOk result (capped found.new ≡ capped (found.old ++ between rule pair.now.a pair.now.one.now pair.now.b pair.now.other.now)) }
+{
+    let mut gaps = first_gaps(reaches);
+    for k in 0..blocks.len() {
+        if lie_in(&gaps, blocks[k]) {
+            continue;
+        }
+        among(found, rule, pair, partners, reaches, BLOCK * k, &mut gaps)?;
+    }
+    Ok(())
+}
+
 /// Each region of a cell with each of another, unless the one cell's regions lie all beyond what the other's reach.
-/// `extents` have all regions of the one cell.
+/// `blocks` and `extents` have all regions of the one cell.
 fn compare(
     alloc: Global,
     found: &mut Seq<Finding>,
@@ -111,10 +145,12 @@ fn compare(
     pair: &Pair,
     holders: &[u16],
     reaches: &Reaches,
+    blocks: &[Extents],
     extents: Extents,
 ) -> Result<(), NoMemory>
     requires reaches { AreOf rule pair.now.b pair.now.other.now reaches.now }
     requires same { pair.now.a ≡ pair.now.b → pair.now.one.now ≡ pair.now.other.now }
+    requires blocks { AreBlocks rule pair.now.one.now.memory_regions blocks.now }
     requires extents { AreExtents rule pair.now.one.now.memory_regions extents }
     ensures { OnOk result (capped found.new ≡ capped (found.old ++ between rule pair.now.a pair.now.one.now pair.now.b pair.now.other.now)) }
 {
@@ -122,11 +158,11 @@ fn compare(
         return Ok(());
     }
     let partners = find_partners(alloc, holders, pair.one, pair.other)?;
-    between(found, rule, pair, partners.as_slice(), reaches)
+    between(found, rule, pair, partners.as_slice(), reaches, blocks)
 }
 
 /// Each region of a cell with each of another, if the rule speaks of the two cells and there is room for a finding.
-/// `extents` have all regions of the one cell.
+/// `blocks` and `extents` have all regions of the one cell.
 #[tactic(auto, using(crate::proofs::ListLemmas::append_nil, crate::proofs::ListLemmas::capped_full))]
 fn join(
     alloc: Global,
@@ -135,10 +171,12 @@ fn join(
     pair: &Pair,
     holders: &[u16],
     reaches: &Reaches,
+    blocks: &[Extents],
     extents: Extents,
 ) -> Result<(), NoMemory>
     requires reaches { AreOf rule pair.now.b pair.now.other.now reaches.now }
     requires same { pair.now.a ≡ pair.now.b → pair.now.one.now ≡ pair.now.other.now }
+    requires blocks { AreBlocks rule pair.now.one.now.memory_regions blocks.now }
     requires extents { AreExtents rule pair.now.one.now.memory_regions extents }
     ensures { OnOk result (capped found.new ≡ capped (found.old ++ between rule pair.now.a pair.now.one.now pair.now.b pair.now.other.now)) }
 {
@@ -146,7 +184,7 @@ fn join(
         return Ok(());
     }
     if joins(rule, pair.a, pair.b) {
-        compare(alloc, found, rule, pair, holders, reaches, extents)
+        compare(alloc, found, rule, pair, holders, reaches, blocks, extents)
     } else {
         Ok(())
     }
@@ -170,7 +208,8 @@ fn from_cell(
     ensures { OnOk result (capped found.new ≡ capped (found.old ++ from_cell rule (cells_of setup.now) a one.now)) }
 {
     let holders = holders_of(alloc, rule, one)?;
-    let extents = extents_of(rule, one.memory_regions.as_slice());
+    let blocks = blocks_of(alloc, rule, one.memory_regions.as_slice())?;
+    let extents = extents_of(blocks.as_slice());
     for b in 0..setup.count() {
         let pair = Pair {
             a,
@@ -185,6 +224,7 @@ fn from_cell(
             &pair,
             holders.as_slice(),
             &each[b as usize],
+            blocks.as_slice(),
             extents,
         )?;
     }
@@ -278,13 +318,14 @@ fn across(
     ensures { OnOk result (capped found.new ≡ capped (found.old ++ between rule a one.now a one.now)) }
 {
     let reaches = measure(alloc, rule, a, one)?;
+    let blocks = blocks_of(alloc, rule, one.memory_regions.as_slice())?;
     let pair = Pair {
         a,
         one,
         b: a,
         other: one,
     };
-    between(found, rule, &pair, &[], &reaches)
+    between(found, rule, &pair, &[], &reaches, blocks.as_slice())
 }
 
 /// Each region of a cell with each of its own.

@@ -1,6 +1,7 @@
 //! What a new cell is refused for, once its configuration was read.
-ghost use Rattle.std.specs.Prelude.{◌≡◌, ℕ, ◌≤◌, ◌<◌, ◌∷◌, IsSome, false, not, drop, length, slice_index, slice_index_or, IfOk};
+ghost use Rattle.std.specs.Prelude.{◌≡◌, ℕ, ◌≤◌, ◌<◌, ◌∷◌, IsSome, false, not, drop, length, slice_index, IfOk};
 ghost use Rattle.std.specs.List.{list_any, list_all};
+ghost use Rattle.jh_num.specs.Bits.{has_bit};
 ghost use Rattle.jh_cellcfg.specs.Cells.{is_cpu_set};
 ghost use Rattle.jh_check.specs.Devices.{is_zero};
 ghost use Rattle.jh_check.specs.Refusals.{is_namesake, is_known, any_below, is_beyond, names_beyond, nobody, refusal_of};
@@ -9,8 +10,8 @@ use crate::devices::are_zero;
 use crate::laws::{beyond_is_a_cpu, sound_bitmaps_name_few_cpus};
 use crate::verdict::{NewCell, clean_with};
 use jh_cellcfg::{CellConfig, SystemConfig};
-use jh_num::NoMemory;
 use jh_num::error::{EBUSY, EEXIST, EINVAL, ENOMEM};
+use jh_num::{NoMemory, has_bit};
 use std::alloc::Global;
 
 /// Whether the cell has the new one's id or name.
@@ -35,16 +36,16 @@ fn is_known(root: &CellConfig, live: &[CellConfig], new: &CellConfig) -> bool
 }
 
 /// Whether the CPU, one of the first 16, is named and mustn't be.
-fn is_beyond(may: &[bool; 16], cell: &CellConfig, cpu: usize) -> bool
+fn is_beyond(may: u16, cell: &CellConfig, cpu: usize) -> bool
     requires { cpu < 16 }
-    ensures { result ≡ is_beyond (λ i. slice_index_or may.now i false) cell.now.cpu_set cpu }
+    ensures { result ≡ is_beyond (has_bit may) cell.now.cpu_set cpu }
 {
-    cell.has_cpu(cpu as u8) && !may[cpu]
+    cell.has_cpu(cpu as u8) && !has_bit(may, cpu)
 }
 
 /// Whether one of the first 16 CPUs is named and mustn't be.
-fn any_beyond(may: &[bool; 16], cell: &CellConfig) -> bool
-    ensures { result ≡ any_below (is_beyond (λ i. slice_index_or may.now i false) cell.now.cpu_set) 16 }
+fn any_beyond(may: u16, cell: &CellConfig) -> bool
+    ensures { result ≡ any_below (is_beyond (has_bit may) cell.now.cpu_set) 16 }
 {
     for cpu in 0..16 {
         if is_beyond(may, cell, cpu) {
@@ -62,16 +63,16 @@ fn names_high(set: &[u8]) -> bool
     !are_zero(&set[set.len().min(2)..])
 }
 
-/// Whether the new cell names a CPU that it mustn't. `may` says of each of the first 16 whether it may; of those
-/// from 16 on it may have none.
-fn names_beyond(may: &[bool; 16], cell: &CellConfig) -> bool
-    ensures { result ≡ names_beyond (λ i. slice_index_or may.now i false) cell.now.cpu_set }
+/// Whether the new cell names a CPU that it mustn't. `may` has a bit for each of the first 16 that it may have; of
+/// those from 16 on it may have none.
+fn names_beyond(may: u16, cell: &CellConfig) -> bool
+    ensures { result ≡ names_beyond (has_bit may) cell.now.cpu_set }
 {
     any_beyond(may, cell) || names_high(cell.cpu_set.as_slice())
 }
 
 /// What a new cell is refused for beside the system and the live cells: EEXIST, EBUSY, EINVAL or ENOMEM, by the
-/// first cause that holds. `may` says of each of the first 16 CPUs whether the new cell may have it, `pages` how
+/// first cause that holds. `may` has a bit for each of the first 16 CPUs that the new cell may have, `pages` says how
 /// many pages all cells take with it, and `pool` how many there are. It takes memory for an index of the new cell's
 /// regions, and for nothing else.
 #[tactic(auto, unfolding(crate::specs::Refusals::refusal_of))]
@@ -80,12 +81,12 @@ pub fn refusal_of(
     system: &SystemConfig,
     live: &[CellConfig],
     new: &CellConfig,
-    may: &[bool; 16],
+    may: u16,
     pages: u64,
     pool: u64,
 ) -> Result<Option<i64>, NoMemory>
     requires { length live.now ≤ 14 }
-    ensures { IfOk result (λ refusal. refusal ≡ refusal_of system.now live.now new.now (λ cpu. slice_index_or may.now cpu false) pages pool) }
+    ensures { IfOk result (λ refusal. refusal ≡ refusal_of system.now live.now new.now (has_bit may) pages pool) }
 {
     if is_known(&system.root, live, new) {
         return Ok(Some(EEXIST));
@@ -117,7 +118,7 @@ pub fn refusal_without_cpus(
     if is_known(&system.root, live, new) {
         return Some(EEXIST);
     }
-    if names_beyond(&[false; 16], new) {
+    if names_beyond(0, new) {
         return Some(EBUSY);
     }
     Some(EINVAL)

@@ -14,7 +14,7 @@ use Rattle.jh_cli.specs.Stopped.{IsCounted}
 use Rattle.jh_cli.specs.declared.status.Status.{Status}
 use Rattle.jh_cli.specs.declared.status.Status.TheVariants as status
 use Rattle.jh_cli.specs.Play.{played_status}
-use Rattle.jh_cli.specs.Run.{EndsRun, IsRun, IsRan}
+use Rattle.jh_cli.specs.Run.{EndsRun, IsMadeByRun, IsRan}
 use Rattle.jh_cli.specs.Soak.{Soaks}
 use Rattle.jh_cli.proofs.StatusLemmas.{run_ends}
 
@@ -23,9 +23,9 @@ ends_run : (image : Image) (entries : List Entry) (ended : Ended) → ((ended �
 ends_run image entries Quiet quiet full = quiet.0 refl
 ends_run image entries Full quiet full = full.0 refl
 
-pub is_run : (image : Image) (entries : List Entry) (ended : Ended) (status : Status) → IsLegal image entries → ((ended ≡ Quiet) ↔ IsQuiet image entries)
-    → ((ended ≡ Full) ↔ ((length entries ≡ max_entries) × ¬ IsQuiet image entries)) → status ≡ played_status (is_full ended) → IsRun image entries status
-is_run image entries ended status legal quiet full is = record { legal = legal; ends = subst (EndsRun image entries) (sym is) (ends_run image entries ended quiet full) }
+pub made_by_run : (image : Image) (entries : List Entry) (ended : Ended) (status : Status) → IsLegal image entries → ((ended ≡ Quiet) ↔ IsQuiet image entries)
+    → ((ended ≡ Full) ↔ ((length entries ≡ max_entries) × ¬ IsQuiet image entries)) → status ≡ played_status (is_full ended) → IsMadeByRun image entries status
+made_by_run image entries ended status legal quiet full is = record { legal = legal; ends = subst (EndsRun image entries) (sym is) (ends_run image entries ended quiet full) }
 
 -- a soak reads no file
 other : (said : Reply) (one : Status) → said.status ≡ one → ¬ (number_of one ≡ number_of status.ReadFault) → said.status ≡ status.ReadFault → ⊥

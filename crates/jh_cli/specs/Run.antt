@@ -19,14 +19,14 @@ EndsRun image entries Full = (length entries ≡ max_entries) × ¬ IsQuiet imag
 EndsRun image entries _ = ⊥
 
 -- a run of the image may make these entries, and end with this status
-pub record IsRun (image : Image) (entries : List Entry) (status : Status) : Type 0 where
+pub record IsMadeByRun (image : Image) (entries : List Entry) (status : Status) : Type 0 where
   pub legal : IsLegal image entries
   pub ends : EndsRun image entries status
 
 -- what is said is the text of a journal that a run of the image may make, and the status that it ends with
 pub record IsRan (image : Image) (said : Reply) : Type 0 where
   pub entries : List Entry
-  pub run : IsRun image entries said.status
+  pub run : IsMadeByRun image entries said.status
   pub told : said.text ≡ journal_text entries
 
 -- what a run of the board ends with: the board's files are read, and the first that stops the call ends it

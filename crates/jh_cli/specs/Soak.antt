@@ -6,7 +6,7 @@ use Rattle.jh_run.specs.Summaries.{summary_of}
 use Rattle.jh_run.specs.Soak.{soak_board}
 use Rattle.jh_cli.specs.Lines.{rounds_line}
 use Rattle.jh_cli.specs.Reading.{Reply}
-use Rattle.jh_cli.specs.Run.{IsRun}
+use Rattle.jh_cli.specs.Run.{IsMadeByRun}
 use Rattle.jh_cli.specs.declared.status.Status.TheVariants.{Refused}
 
 -- the word is the number of rounds in decimal, of which there may be 1 to 400
@@ -29,7 +29,7 @@ summary_line summary =
 -- the summary of a journal that a run of the board of so many rounds may make
 pub record IsSoaked (rounds : ℕ) (said : Reply) : Type 0 where
   pub entries : List Entry
-  pub run : IsRun (soak_board rounds) entries said.status
+  pub run : IsMadeByRun (soak_board rounds) entries said.status
   pub told : said.text ≡ summary_line (summary_of entries)
 
 -- the word that tells no number of rounds is refused

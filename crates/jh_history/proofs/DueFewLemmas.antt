@@ -11,13 +11,14 @@ use Rattle.jh_cellcfg.specs.declared.config.CellConfig.{CellConfig}
 use Rattle.jh_cellcfg.specs.declared.live.Live.{Live}
 use Rattle.jh_cellcfg.specs.Cells.{name_of, is_cpu_set}
 use Rattle.jh_cpu.specs.declared.cpu.Cpu.{Cpu}
+use Rattle.jh_check.specs.Refusals.{AreTwo}
 use Rattle.jh_script.specs.declared.image.Image.{Image}
 use Rattle.jh_history.specs.declared.call.OpenCall.{OpenCall}
 use Rattle.jh_history.specs.declared.call.Phase.TheVariants.{ToCreate}
 use Rattle.jh_history.specs.Facts.{Facts}
 use Rattle.jh_history.specs.Lives.{is_on_board}
 use Rattle.jh_shape.specs.Lives.{configs_of}
-use Rattle.jh_history.specs.Sound.{AreTwo, AreSoundCells, HasItsCpus, AreOwned, IsSound}
+use Rattle.jh_history.specs.Sound.{AreSoundCells, HasItsCpus, AreOwned, IsSound}
 use Rattle.jh_history.specs.DueFacts.{NamesCpu}
 use Rattle.jh_history.proofs.SoundCellsLemmas.{cells_joined}
 use Rattle.jh_history.proofs.SoundDecideLemmas.{board_few}

@@ -13,11 +13,12 @@ use Rattle.jh_cellcfg.specs.declared.config.CellConfig.{CellConfig}
 use Rattle.jh_cellcfg.specs.declared.live.Live.{Live}
 use Rattle.jh_cellcfg.specs.Cells.{is_cpu_set}
 use Rattle.jh_check.specs.Clean.{IsSoundBitmap, IsSoundCpuSet}
+use Rattle.jh_check.specs.Refusals.{AreTwo}
 use Rattle.jh_script.specs.declared.image.Image.{Image}
 use Rattle.jh_history.specs.declared.call.OpenCall.{OpenCall}
 use Rattle.jh_history.specs.Facts.{Facts}
 use Rattle.jh_shape.specs.Lives.{configs_of}
-use Rattle.jh_history.specs.Sound.{AreTwo, AreSoundCells, AreOwned, IsSound, IsSoundCall, IsOpen}
+use Rattle.jh_history.specs.Sound.{AreSoundCells, AreOwned, IsSound, IsSoundCall, IsOpen}
 use Rattle.jh_history.proofs.SoundDecideLemmas.{board_few}
 
 abbrev IsGood : CellConfig → Type 0

@@ -7,9 +7,9 @@ use Rattle.jh_cellcfg.specs.declared.config.CellConfig.{CellConfig}
 use Rattle.jh_cellcfg.specs.declared.live.Live.{Live}
 use Rattle.jh_cellcfg.specs.Lives.{has_id, id_of}
 use Rattle.jh_history.specs.Lives.{live_in}
-use Rattle.jh_shape.specs.Lives.{configs_of, joined}
+use Rattle.jh_shape.specs.Lives.{configs_of, joined, marked}
 use Rattle.jh_history.specs.Calls.{is_told, is_told_by, first_told, behind}
-use Rattle.jh_history.specs.Commits.{marked, is_other}
+use Rattle.jh_history.specs.Commits.{is_other}
 use Rattle.jh_history.proofs.LoopLemmas.{live_of}
 
 abbrev config : Live → CellConfig

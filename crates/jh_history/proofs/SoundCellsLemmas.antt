@@ -9,12 +9,12 @@ use Rattle.jh_cellcfg.specs.declared.config.CellConfig.{CellConfig}
 use Rattle.jh_cellcfg.specs.declared.config.SystemConfig.{SystemConfig}
 use Rattle.jh_cellcfg.specs.declared.region.Region.{Region}
 use Rattle.jh_check.specs.Clean.{IsClean}
-use Rattle.jh_check.specs.Refusals.{is_namesake, is_known}
+use Rattle.jh_check.specs.Refusals.{is_namesake, is_known, AreTwo}
 use Rattle.jh_check.proofs.JoinLemmas.{clean_from_nothing, fewer_clean}
 use Rattle.jh_shape.specs.Pages.{pages_of}
 use Rattle.jh_shape.proofs.OrderLemmas.{pages_of_fewer}
 use Rattle.jh_history.specs.Admitted.{IsAdmittedSystem, pool_pages}
-use Rattle.jh_history.specs.Sound.{AreTwo, AreSoundCells}
+use Rattle.jh_history.specs.Sound.{AreSoundCells}
 
 -- at opening
 pub cells_open : (system : SystemConfig) → IsAdmittedSystem system → AreSoundCells system []

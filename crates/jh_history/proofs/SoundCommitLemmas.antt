@@ -18,10 +18,10 @@ use Rattle.jh_script.specs.declared.image.Image.{Image}
 use Rattle.jh_history.specs.declared.call.Phase.TheVariants.{ToCreate, ToCommit, ToNote, ToNoted, ToFinish}
 use Rattle.jh_history.specs.Lives.{is_on_board}
 use Rattle.jh_history.specs.Calls.{is_named, is_told, first_told, telling, behind}
-use Rattle.jh_history.specs.Commits.{marked, is_other}
+use Rattle.jh_history.specs.Commits.{is_other}
 use Rattle.jh_history.specs.Cpus.{end_in_root}
 use Rattle.jh_history.specs.Phases.{keeps_commit}
-use Rattle.jh_shape.specs.Lives.{configs_of}
+use Rattle.jh_shape.specs.Lives.{configs_of, marked}
 use Rattle.jh_history.specs.Sound.{AreSoundCells, HasItsCpus, IsOwner, AreOwned, IsCalm, IsHalted, IsAsked, IsHalting, IsCaller, IsAboutLive, MayCome, IsNews, IsInPhase, IsOpen}
 use Rattle.jh_history.proofs.SoundCpusLemmas.{owned_kept, other_root, unknown_id, named_same, root_unnamed}
 use Rattle.jh_history.proofs.SoundDecideLemmas.{IsLate, open_late, board_few, absent_unnamed}

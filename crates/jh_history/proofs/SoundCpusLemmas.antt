@@ -7,7 +7,7 @@ use Rattle.jh_num.proofs.Lists.{list_any_false}
 use Rattle.jh_cellcfg.specs.declared.config.CellConfig.{CellConfig}
 use Rattle.jh_cellcfg.specs.declared.config.SystemConfig.{SystemConfig}
 use Rattle.jh_cellcfg.specs.Cells.{name_of}
-use Rattle.jh_check.specs.Refusals.{is_namesake, is_known}
+use Rattle.jh_check.specs.Refusals.{is_namesake, is_known, AreTwo}
 use Rattle.jh_cpu.specs.declared.cpu.Cpu.{Cpu}
 use Rattle.jh_cpu.specs.declared.cpu.Mode.{Mode}
 use Rattle.jh_cpu.specs.declared.cpu.Mode.TheVariants.{Running, Parked, Failed}
@@ -22,7 +22,7 @@ use Rattle.jh_history.specs.declared.change.Change.TheVariants.{Stay, Step, Fail
 use Rattle.jh_history.specs.Calls.{is_named, counted, one_more}
 use Rattle.jh_history.specs.Cpus.{changed, is_running}
 use Rattle.jh_history.specs.Wants.{goes_on}
-use Rattle.jh_history.specs.Sound.{AreTwo, AreSoundCells, IsOwner, AreOwned, IsCalm, IsHalted, IsAsked, IsHalting, HasCome, GoesOn, IsAboutLive, MayCome, IsInPhase}
+use Rattle.jh_history.specs.Sound.{AreSoundCells, IsOwner, AreOwned, IsCalm, IsHalted, IsAsked, IsHalting, HasCome, GoesOn, IsAboutLive, MayCome, IsInPhase}
 
 -- ---- one CPU
 

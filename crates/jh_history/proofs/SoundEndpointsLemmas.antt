@@ -8,7 +8,7 @@ use Rattle.jh_cellcfg.specs.declared.config.CellConfig.{CellConfig}
 use Rattle.jh_cellcfg.specs.declared.live.Live.{Live}
 use Rattle.jh_cellcfg.specs.Lives.{has_id}
 use Rattle.jh_check.specs.Clean.{IsClean}
-use Rattle.jh_check.specs.Refusals.{is_known}
+use Rattle.jh_check.specs.Refusals.{is_known, AreTwo}
 use Rattle.jh_call.specs.declared.call.Call.{Call}
 use Rattle.jh_call.specs.declared.call.Call.TheVariants.{Create, Start, Loadable, Destroy, Info, State, CpuInfo, Unknown}
 use Rattle.jh_ivshmem.specs.declared.endpoint.Endpoint.{Endpoint}
@@ -34,10 +34,10 @@ use Rattle.jh_vpci.specs.Writes.{written as config_written}
 use Rattle.jh_history.specs.Devices.{Devices, InConfig, number_at, specs_of}
 use Rattle.jh_history.specs.Endpoints.{endpoints_put, function_put, space_put, endpoints_acted, endpoints_changed, endpoints_after, device_change, changing, changing_by, change_by}
 use Rattle.jh_history.specs.Grants.{reach, devices_of}
-use Rattle.jh_history.specs.Commits.{committed_cells, cells_by, marked, is_other}
-use Rattle.jh_shape.specs.Lives.{configs_of}
+use Rattle.jh_history.specs.Commits.{committed_cells, cells_by, is_other}
+use Rattle.jh_shape.specs.Lives.{configs_of, marked}
 use Rattle.jh_history.specs.History.{cells_after}
-use Rattle.jh_history.specs.Sound.{AreTwo, AreSoundCells, IsInPhase, IsSoundCall, IsOfDevice, HasEndpoint, IsSoundEndpoint, AreEndpoints, IsSound}
+use Rattle.jh_history.specs.Sound.{AreSoundCells, IsInPhase, IsSoundCall, IsOfDevice, HasEndpoint, IsSoundEndpoint, AreEndpoints, IsSound}
 use Rattle.jh_history.proofs.SoundCpusLemmas.{other_root}
 use Rattle.jh_history.proofs.SoundCommitLemmas.{configs_marked, is_other_config, configs_others, configs_joined}
 use Rattle.jh_history.proofs.SpecsLemmas.{specs_device, specs_within, specs_apart, specs_apart_new, held_numbered}

@@ -33,13 +33,13 @@ use Rattle.jh_history.specs.Lives.{is_on_board, program_of, ops_in}
 use Rattle.jh_history.specs.Admitted.{IsAdmitted}
 use Rattle.jh_history.specs.Bytes.{byte_after}
 use Rattle.jh_history.specs.Calls.{call_by, counted, decided, first_told, telling, behind, is_named}
-use Rattle.jh_history.specs.Commits.{cells_by, marked, is_other}
+use Rattle.jh_history.specs.Commits.{cells_by, is_other}
 use Rattle.jh_history.specs.Cpus.{acted, change_if, is_agreed}
 use Rattle.jh_history.specs.History.{start, after, facts, coming_of, coming_by}
 use Rattle.jh_history.specs.Wants.{goes_on}
 use Rattle.jh_history.specs.Endpoints.{endpoints_after}
 use Rattle.jh_history.specs.Phases.{phase_act, keeps_decide, keeps_commit, decision, settled_of, heard_of}
-use Rattle.jh_shape.specs.Lives.{configs_of}
+use Rattle.jh_shape.specs.Lives.{configs_of, marked}
 use Rattle.jh_history.specs.Due.{due_at, is_idle_but, IsLegal, IsLegalFrom}
 use Rattle.jh_history.proofs.FactsLemmas.{same_function}
 use Rattle.jh_history.specs.Sound.{AreSoundCells, AreOwned, IsCalm, IsHalted, IsOpen, IsSoundCall, AreEndpoints, IsSound}

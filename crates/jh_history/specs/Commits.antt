@@ -1,9 +1,10 @@
 -- Which cells live after an entry.
-use Rattle.std.specs.Prelude.{ℕ, Bool, true, false, not, List, [], ◌∷◌, ◌++◌, map, filter, Option, Some, None, option_and_then, if◌then◌else◌}
+use Rattle.std.specs.Prelude.{ℕ, Bool, true, false, not, List, [], ◌∷◌, ◌++◌, map, filter, Option, Some, None, option_and_then}
 use Rattle.std.specs.Option.{option_map_or}
 use Rattle.jh_cellcfg.specs.declared.config.CellConfig.{CellConfig}
 use Rattle.jh_cellcfg.specs.declared.live.Live.{Live}
 use Rattle.jh_cellcfg.specs.Lives.{has_id}
+use Rattle.jh_shape.specs.Lives.{marked}
 use Rattle.jh_call.specs.declared.call.Call.{Call}
 use Rattle.jh_call.specs.declared.call.Call.TheVariants.{Create, Start, Loadable, Destroy}
 use Rattle.jh_history.specs.declared.call.OpenCall.{OpenCall}
@@ -11,10 +12,6 @@ use Rattle.jh_history.specs.declared.call.Phase.{Phase}
 use Rattle.jh_history.specs.declared.call.Phase.TheVariants.{ToCreate}
 use Rattle.jh_history.specs.declared.entry.Act.{Act}
 use Rattle.jh_history.specs.declared.entry.Act.TheVariants.{Commit}
-
--- the cell, loadable or not where it is the one with the id
-abbrev pub marked : ℕ → Bool → Live → Live
-marked id loadable live = if has_id id live then record live { loadable = loadable } else live
 
 -- the cell is another than the one with the id
 abbrev pub is_other : ℕ → Live → Bool

@@ -4,7 +4,7 @@ use Rattle.std.specs.Prelude.{◌≡◌, ◌≢◌, ◌⊎◌, ◌≤◌, ◌<�
 use Rattle.jh_cellcfg.specs.declared.config.CellConfig.{CellConfig}
 use Rattle.jh_cellcfg.specs.declared.config.SystemConfig.{SystemConfig}
 use Rattle.jh_cellcfg.specs.Cells.{name_of, is_cpu_set, is_passive}
-use Rattle.jh_check.specs.Refusals.{is_namesake, is_known}
+use Rattle.jh_check.specs.Refusals.{is_known, AreTwo}
 use Rattle.jh_check.specs.Clean.{IsClean}
 use Rattle.jh_shape.specs.Pages.{pages_of}
 use Rattle.jh_cpu.specs.declared.cpu.Cpu.{Cpu}
@@ -32,10 +32,6 @@ use Rattle.jh_history.specs.Cpus.{is_running}
 use Rattle.jh_shape.specs.Lives.{configs_of}
 
 -- ---- the cells
-
--- the two cells have neither one name nor one id
-abbrev pub AreTwo : CellConfig → CellConfig → Type 0
-AreTwo earlier later = is_namesake later earlier ≡ false
 
 -- beside root live cells with these configurations: the check finds nothing in them, their pages are there, and
 -- no two of all have one name or one id

@@ -1,6 +1,6 @@
 //! What comes of a create.
-ghost use Rattle.std.specs.Prelude.{◌≡◌, ℕ, ◌<◌, ◌≤◌, ◌==◌, Bool, Some, false, length, slice_get, slice_index_or, IfOk, IfSome, IfNone};
-ghost use Rattle.std.specs.List.{list_any};
+ghost use Rattle.std.specs.Prelude.{◌≡◌, ℕ, ◌<◌, ◌≤◌, ◌==◌, Some, length, slice_get, IfOk, IfSome, IfNone};
+ghost use Rattle.jh_num.specs.Bits.{has_bit};
 ghost use Rattle.jh_check.specs.Refusals.{refusal_of};
 ghost use Rattle.jh_history.specs.Admitted.{pool_pages, IsAdmitted};
 ghost use Rattle.jh_history.specs.Facts.{Facts};
@@ -15,7 +15,7 @@ use crate::cells::is_on_board;
 use crate::counting::sum_of_pages;
 use crate::laws::admitted_roots_are_sound;
 use jh_cellcfg::CellConfig;
-use jh_check::{refusal_of, refusal_without_cpus};
+use jh_check::{refusal_of, refusal_without_cpus, with_bit};
 use jh_cpu::Cpu;
 use jh_num::NoMemory;
 use jh_script::Image;
@@ -29,26 +29,19 @@ fn may_give(image: &Image, state: Cpu, caller: u8, cpu: u8) -> bool
     is_on_board(image, cpu) && cpu != caller && state.owner == image.system.root.id
 }
 
-/// Of each of the 16 CPUs, whether the caller may give it to a new cell: it is on the board, root's, and not the
-/// caller.
-fn given(image: &Image, cpus: &[Cpu], caller: u8) -> [bool; 16]
+/// The CPUs that the caller may give to a new cell: those on the board that are root's, without the caller.
+fn given(image: &Image, cpus: &[Cpu], caller: u8) -> u16
     requires admitted { IsAdmitted image.now }
     requires cpus { length cpus.now ≡ 16 }
-    ensures { (f : Facts) → ((i : ℕ) → i < 16 → slice_get cpus.now i ≡ Some (f.cpu i)) → (cpu : ℕ) → slice_index_or result cpu false ≡ may_give image.now f caller cpu }
+    ensures { (f : Facts) → ((i : ℕ) → i < 16 → slice_get cpus.now i ≡ Some (f.cpu i)) → (cpu : ℕ) → has_bit result cpu ≡ may_give image.now f caller cpu }
 {
     admitted_roots_are_sound(image);
-    let mut may = [false; 16];
+    let mut may = 0;
     for cpu in 0..16u8 {
-        may[usize::from(cpu)] = may_give(image, cpus[usize::from(cpu)], caller, cpu);
+        let index = usize::from(cpu);
+        may = with_bit(may, index, may_give(image, cpus[index], caller, cpu));
     }
     may
-}
-
-/// Whether one of the CPUs may be given away.
-fn is_any(may: &[bool; 16]) -> bool
-    ensures { result ≡ list_any (λ (b : Bool). b) may.now }
-{
-    may.iter().any(|m| *m)
 }
 
 /// What the configuration is refused for by such pages, beside 15 cells at most. Beside 15 none of the CPUs may be
@@ -57,13 +50,13 @@ fn refusal_with(
     alloc: Global,
     image: &Image,
     cells: &[CellConfig],
-    may: &[bool; 16],
+    may: u16,
     config: &CellConfig,
     pages: u64,
 ) -> Result<Option<i64>, NoMemory>
     requires few { length cells.now ≤ 15 }
-    requires kept { length cells.now ≡ 15 → list_any (λ (b : Bool). b) may.now ≡ false }
-    ensures { IfOk result (λ refusal. refusal ≡ refusal_of image.now.system cells.now config.now (λ cpu. slice_index_or may.now cpu false) pages (pool_pages image.now.system)) }
+    requires kept { length cells.now ≡ 15 → may ≡ 0 }
+    ensures { IfOk result (λ refusal. refusal ≡ refusal_of image.now.system cells.now config.now (has_bit may) pages (pool_pages image.now.system)) }
 {
     if cells.len() == 15 {
         return Ok(refusal_without_cpus(&image.system, cells, config));
@@ -77,12 +70,12 @@ fn refusal_by(
     alloc: Global,
     image: &Image,
     cells: &[CellConfig],
-    may: &[bool; 16],
+    may: u16,
     config: &BoxedCell,
 ) -> Result<Option<i64>, NoMemory>
     requires few { length cells.now ≤ 15 }
-    requires kept { length cells.now ≡ 15 → list_any (λ (b : Bool). b) may.now ≡ false }
-    ensures { IfOk result (λ refusal. refusal ≡ refusal_by image.now cells.now (λ cpu. slice_index_or may.now cpu false) config.now) }
+    requires kept { length cells.now ≡ 15 → may ≡ 0 }
+    ensures { IfOk result (λ refusal. refusal ≡ refusal_by image.now cells.now (has_bit may) config.now) }
 {
     let root = image.system.root.memory_regions.as_slice();
     let config = config.get();
@@ -121,10 +114,10 @@ pub(crate) fn judged(
     match read {
         Creation::Comes { config } => {
             let may = given(image, cpus, caller);
-            if cells.len() == 15 && is_any(&may) {
+            if cells.len() == 15 && may != 0 {
                 return Ok(None);
             }
-            let refusal = refusal_by(alloc, image, cells, &may, &config)?;
+            let refusal = refusal_by(alloc, image, cells, may, &config)?;
             Ok(Some(unless_refused(config, refusal)))
         }
         Creation::Refused { number } => Ok(Some(Creation::Refused { number })),

@@ -10,7 +10,6 @@ ghost use Rattle.jh_history.specs.Facts.{Facts};
 ghost use Rattle.jh_history.specs.Wants.{wanted_of, goes_on, pending_op, IsReachOf, IsReachOfAct, IsReachOfEntry};
 ghost use Rattle.jh_history.specs.Grants.{devices_of};
 ghost use Rattle.jh_history.specs.Due.{irq_of, act_of, await_of, state_act, call_of, is_other_due, is_idle_but, caller_act, next_act, entry_by, due_at};
-ghost use Rattle.jh_history.specs.declared.next.DueEntry.{DueEntry as TheDue};
 ghost use Rattle.jh_history.specs.Admitted.{IsWellFormedAct};
 
 use crate::access::{Access, Reach, Wanted};
@@ -24,13 +23,6 @@ use crate::phases::{is_phase_due, phase_act};
 use jh_cpu::Cpu;
 use jh_num::NoMemory;
 use jh_script::Op;
-
-/// The entry that a CPU makes next, and what its access reaches; nothing where it makes none.
-#[derive(Drop)]
-pub struct DueEntry {
-    pub entry: Entry,
-    pub reach: Reach,
-}
 
 /// The access that the operation makes.
 fn wanted_of(op: Op) -> Option<Wanted>
@@ -203,19 +195,16 @@ fn act_of<K: Known>(known: &K, cell: u32, op: Op, reach: &Reach) -> Option<Act>
     }
 }
 
-/// The CPU's act as an entry, in the name of its owner, with what it reaches.
-fn due_by(cpu: u8, cell: u32, act: Option<Act>, reach: Reach) -> Option<DueEntry>
-    ensures entry { option_map (λ (due : TheDue). due.entry) result ≡ option_map (entry_by cpu cell) act }
-    ensures reached { (i : TheImage) (f : Facts) → IfSome act (λ act. IsReachOfAct i f cell act reach) → IfSome result (λ due. IsReachOfEntry i f due.entry due.reach) }
-    ensures cpu { IfSome result (λ due. due.entry.cpu ≡ cpu) }
-    ensures plain { IfSome act IsWellFormedAct → IfSome result (λ due. IsWellFormedAct due.entry.act) }
+/// The CPU's act as an entry, in the name of its owner.
+fn entry_by(cpu: u8, cell: u32, act: Option<Act>) -> Option<Entry>
+    ensures entry { result ≡ option_map (entry_by cpu cell) act }
+    ensures reached { (i : TheImage) (f : Facts) (found : TheReach) → IfSome act (λ act. IsReachOfAct i f cell act found) → IfSome result (λ entry. IsReachOfEntry i f entry found) }
+    ensures cpu { IfSome result (λ entry. entry.cpu ≡ cpu) }
+    ensures plain { IfSome act IsWellFormedAct → IfSome result (λ entry. IsWellFormedAct entry.act) }
 {
     match act {
         None => None,
-        Some(act) => Some(DueEntry {
-            entry: Entry { cpu, cell, act },
-            reach,
-        }),
+        Some(act) => Some(Entry { cpu, cell, act }),
     }
 }
 
@@ -376,21 +365,21 @@ fn is_next_due<K: Known>(known: &K, cpu: u8, state: Cpu) -> bool
     }
 }
 
-/// The entry that the CPU makes next, and what its access reaches. Only the Decide of a create takes memory.
-pub fn next_of<K: Known>(known: &K, cpu: u8) -> Result<Option<DueEntry>, NoMemory>
+/// The entry that the CPU makes next. What its access reaches is put into `reach`. Only the Decide of a create takes
+/// memory.
+pub fn next_of<K: Known>(known: &K, cpu: u8, reach: &mut Reach) -> Result<Option<Entry>, NoMemory>
     requires { cpu < 16 }
-    ensures due { (i : TheImage) (f : Facts) → K.Knows known.now i f → IfOk result (λ due. option_map (λ (due : TheDue). due.entry) due ≡ due_at i f cpu) }
-    ensures reached { (i : TheImage) (f : Facts) → K.Knows known.now i f → IfOk result (λ due. IfSome due (λ due. IsReachOfEntry i f due.entry due.reach)) }
-    ensures cpu { IfOk result (λ due. IfSome due (λ due. due.entry.cpu ≡ cpu)) }
-    ensures plain { IfOk result (λ due. IfSome due (λ due. IsWellFormedAct due.entry.act)) }
+    ensures due { (i : TheImage) (f : Facts) → K.Knows known.now i f → IfOk result (λ entry. entry ≡ due_at i f cpu) }
+    ensures reached { (i : TheImage) (f : Facts) → K.Knows known.now i f → IfOk result (λ entry. IfSome entry (λ entry. IsReachOfEntry i f entry reach.new)) }
+    ensures cpu { IfOk result (λ entry. IfSome entry (λ entry. entry.cpu ≡ cpu)) }
+    ensures plain { IfOk result (λ entry. IfSome entry (λ entry. IsWellFormedAct entry.act)) }
 {
     if !known.has_cpu(cpu) {
         return Ok(None);
     }
     let state = known.cpu(cpu);
-    let mut reach = Reach::Nothing;
-    let act = next_due(known, cpu, state, &mut reach)?;
-    Ok(due_by(cpu, state.owner, act, reach))
+    let act = next_due(known, cpu, state, reach)?;
+    Ok(entry_by(cpu, state.owner, act))
 }
 
 /// Whether an entry is due to the CPU.

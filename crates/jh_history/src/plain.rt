@@ -418,10 +418,7 @@ pub fn due(
     admitted_roots_are_sound(image);
     legal_journals_are_sound();
     let plain = Plain::after(alloc, image, journal.as_slice())?;
-    match next_of(&plain, cpu)? {
-        Some(due) => Ok(Some(due.entry)),
-        None => Ok(None),
-    }
+    next_of(&plain, cpu, &mut Reach::Nothing)
 }
 
 /// Whether nothing is due to any CPU after the journal, by the plain definition.

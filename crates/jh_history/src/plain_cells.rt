@@ -3,8 +3,8 @@ ghost use Rattle.std.specs.Prelude.{◌≡◌, ℕ, ◌+◌, ◌<◌, [], ◌++�
 ghost use Rattle.jh_cellcfg.specs.declared.live.Live.{Live as TheLive};
 ghost use Rattle.jh_history.specs.declared.call.Phase.{Phase as ThePhase};
 ghost use Rattle.jh_shape.specs.Shapes.{is_closed, holder_of_live};
-ghost use Rattle.jh_shape.specs.Lives.{configs_of, joined};
-ghost use Rattle.jh_history.specs.Commits.{marked, is_other, committed_cells, created as created_by};
+ghost use Rattle.jh_shape.specs.Lives.{configs_of, joined, marked};
+ghost use Rattle.jh_history.specs.Commits.{is_other, committed_cells, created as created_by};
 
 use crate::boxed::BoxedCell;
 use jh_call::Call;

@@ -19,10 +19,10 @@ use Rattle.jh_history.specs.declared.entry.Act.{Act}
 use Rattle.jh_history.specs.declared.entry.Act.TheVariants.{Read, Write, Fetch, Await, Irq, Hvc, Begin, Stop, Decide, Settle, Commit, Note, Noted, Finish}
 use Rattle.jh_history.specs.Facts.{Facts}
 use Rattle.jh_history.specs.Calls.{call_by, decided}
-use Rattle.jh_history.specs.Commits.{cells_by, committed_cells, marked, is_other}
+use Rattle.jh_history.specs.Commits.{cells_by, committed_cells, is_other}
 use Rattle.jh_history.specs.Configs.{config_read, read_at}
 use Rattle.jh_history.specs.History.{after, facts, coming_of, coming_by}
-use Rattle.jh_shape.specs.Lives.{configs_of}
+use Rattle.jh_shape.specs.Lives.{configs_of, marked}
 use Rattle.jh_history.specs.Due.{due_at, is_idle_but, IsLegal}
 use Rattle.jh_history.specs.Admitted.{IsAdmitted}
 use Rattle.jh_history.proofs.FactsLemmas.{facts_push}

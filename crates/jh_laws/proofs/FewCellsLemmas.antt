@@ -16,7 +16,7 @@ use Rattle.jh_cellcfg.specs.Cells.{is_passive}
 use Rattle.jh_cellcfg.specs.Lives.{has_id}
 use Rattle.jh_cellcfg.specs.Faults.{header_fault, header_size}
 use Rattle.jh_cellcfg.specs.Reading.{config_of}
-use Rattle.jh_check.specs.Refusals.{any_below}
+use Rattle.jh_check.specs.Refusals.{any_below, AreTwo}
 use Rattle.jh_check.proofs.GivenLemmas.{sound_set}
 use Rattle.jh_comm.specs.declared.words.TheConstants.{STATE_RUNNING, STATE_SHUT_DOWN, STATE_FAILED, MESSAGE_SHUTDOWN_REQUEST}
 use Rattle.jh_cpu.specs.declared.cpu.Cpu.{Cpu}
@@ -42,15 +42,15 @@ use Rattle.jh_history.specs.Grants.{granted, reach, devices_of}
 use Rattle.jh_history.specs.Endpoints.{specs_changing, with_words}
 use Rattle.jh_history.specs.Bytes.{byte_written, byte_after}
 use Rattle.jh_history.specs.Calls.{is_named, counted, one_more, telling, first_told, behind, decided, after_settle, after_commit, after_note, after_noted, phase_after, call_by}
-use Rattle.jh_history.specs.Commits.{cells_by, committed_cells, marked, is_other}
+use Rattle.jh_history.specs.Commits.{cells_by, committed_cells, is_other}
 use Rattle.jh_history.specs.Configs.{bytes_at, read_whole, read_behind, read_from, read_at, config_read}
 use Rattle.jh_history.specs.Cpus.{acted, changed, change_of, settled, is_agreed, cpu_after}
 use Rattle.jh_history.specs.History.{start, after, facts, coming_by, coming_of}
 use Rattle.jh_history.specs.Pages.{is_left, failing, unless_good, asking, committing, named_cell, page_write_by, on_page}
-use Rattle.jh_shape.specs.Lives.{configs_of}
+use Rattle.jh_shape.specs.Lives.{configs_of, marked}
 use Rattle.jh_history.specs.Due.{due_at, IsLegal, IsLegalFrom}
 use Rattle.jh_history.specs.Admitted.{IsAdmitted}
-use Rattle.jh_history.specs.Sound.{AreTwo, HasBytes, IsSound}
+use Rattle.jh_history.specs.Sound.{HasBytes, IsSound}
 use Rattle.jh_laws.specs.Ways.{is_commit}
 use Rattle.jh_history.proofs.SoundCommitLemmas.{configs_joined, configs_marked, configs_others, is_other_config}
 use Rattle.jh_history.proofs.SoundCpusLemmas.{changed_owner}

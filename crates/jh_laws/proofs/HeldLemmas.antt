@@ -15,6 +15,7 @@ use Rattle.jh_cellcfg.specs.Lives.{has_id}
 use Rattle.jh_cellcfg.specs.Cells.{name_of}
 use Rattle.jh_cellcfg.specs.Regions.{has_flags, has_address, virt_end, is_comm}
 use Rattle.jh_check.specs.Laws.{IsNumbered}
+use Rattle.jh_check.specs.Refusals.{AreTwo}
 use Rattle.jh_shape.specs.Laws.{IsTaken}
 use Rattle.jh_shape.specs.Shapes.{is_closed, holder_of_live}
 use Rattle.jh_shape.proofs.LawLemmas.{taken_there, taken_back}
@@ -28,7 +29,7 @@ use Rattle.jh_history.specs.Facts.{Facts}
 use Rattle.jh_history.specs.Lives.{cell_in, live_in, regions_in}
 use Rattle.jh_history.specs.Grants.{is_kept, unless, granted_by, granted_in, granted}
 use Rattle.jh_shape.specs.Lives.{configs_of}
-use Rattle.jh_history.specs.Sound.{AreTwo, AreSoundCells}
+use Rattle.jh_history.specs.Sound.{AreSoundCells}
 use Rattle.jh_laws.specs.Grants.{may, IsGranted}
 use Rattle.jh_laws.specs.Held.{IsLive, IsLeft, IsGrantedTo}
 use Rattle.jh_laws.proofs.RootLemmas.{has_address_first, has_address_last, has_address_from, gives_address, gives_pages, gives_right, gives_from}

@@ -16,7 +16,7 @@ use Rattle.jh_history.specs.Admitted.{IsAdmitted}
 use Rattle.jh_history.proofs.DueLemmas.{IsLegal_made}
 use Rattle.jh_history.proofs.FactsLemmas.{IsLegal_nil}
 use Rattle.jh_history.proofs.ItemsLemmas.{items_append, items_append_full, items_nil, items_one, items_quiet, rounds_append, Grows, items_grows, IsQuiet_from_cpus, reached}
-use Rattle.jh_laws.specs.Runs.{IsRun, IsCutShort}
+use Rattle.jh_laws.specs.Items.{ItemsLead, IsCutShort}
 use Rattle.jh_laws.proofs.RootLemmas.{few_cpus}
 
 never_both : (es fs : List Entry) → reached es false ≡ reached fs true → ⊥
@@ -38,37 +38,37 @@ item_full image limit cpu cpus es entry is le =
     = items_one image limit cpu es ∙ ap (with_due limit es) is ∙ ap (λ (b : Bool). cond b (reached (es ++ entry ∷ []) false) (reached es true)) (le-ltb (length es) limit le) in
     items_append_full image limit (cpu ∷ []) cpus es es one
 
--- items that don't end full are a run
-run_item : (image : Image) (limit cpu : ℕ) (cpus : List ℕ) (es fs : List Entry) (o : Option Entry)
-    → ((gs : List Entry) → items image limit cpus gs ≡ reached fs false → IsRun image limit cpus gs fs)
-    → due image es cpu ≡ o → items image limit (cpu ∷ cpus) es ≡ reached fs false → IsRun image limit (cpu ∷ cpus) es fs
-run_item image limit cpu cpus es fs None rest is h = inl (is, rest es (sym (item_none image limit cpu cpus es is) ∙ h))
-run_item image limit cpu cpus es fs (Some entry) rest is h = elim (cases_lt (length es) limit) [
+-- items that don't end full lead to where they end
+lead_item : (image : Image) (limit cpu : ℕ) (cpus : List ℕ) (es fs : List Entry) (o : Option Entry)
+    → ((gs : List Entry) → items image limit cpus gs ≡ reached fs false → ItemsLead image limit cpus gs fs)
+    → due image es cpu ≡ o → items image limit (cpu ∷ cpus) es ≡ reached fs false → ItemsLead image limit (cpu ∷ cpus) es fs
+lead_item image limit cpu cpus es fs None rest is h = inl (is, rest es (sym (item_none image limit cpu cpus es is) ∙ h))
+lead_item image limit cpu cpus es fs (Some entry) rest is h = elim (cases_lt (length es) limit) [
   | inl lt ↦ inr (entry, is, lt, rest (es ++ entry ∷ []) (sym (item_made image limit cpu cpus es entry is lt) ∙ h))
   | inr le ↦ absurd (never_both fs es (sym h ∙ item_full image limit cpu cpus es entry is le))
 ]
 
-pub run_from_items : (image : Image) (limit : ℕ) (cpus : List ℕ) (es fs : List Entry) → items image limit cpus es ≡ reached fs false → IsRun image limit cpus es fs
-run_from_items image limit [] es fs h = sym (ap (λ (r : Reached). r.entries) (sym (items_nil image limit es) ∙ h))
-run_from_items image limit (cpu ∷ cpus) es fs h = run_item image limit cpu cpus es fs (due image es cpu) (λ gs. run_from_items image limit cpus gs fs) refl h
+pub lead_from_items : (image : Image) (limit : ℕ) (cpus : List ℕ) (es fs : List Entry) → items image limit cpus es ≡ reached fs false → ItemsLead image limit cpus es fs
+lead_from_items image limit [] es fs h = sym (ap (λ (r : Reached). r.entries) (sym (items_nil image limit es) ∙ h))
+lead_from_items image limit (cpu ∷ cpus) es fs h = lead_item image limit cpu cpus es fs (due image es cpu) (λ gs. lead_from_items image limit cpus gs fs) refl h
 
--- and a run is what they do
-pub items_from_run : (image : Image) (limit : ℕ) (cpus : List ℕ) (es fs : List Entry) → IsRun image limit cpus es fs → items image limit cpus es ≡ reached fs false
-items_from_run image limit [] es fs run = items_nil image limit es ∙ ap (λ (gs : List Entry). reached gs false) (sym run)
-items_from_run image limit (cpu ∷ cpus) es fs run = elim run [
-  | inl same ↦ item_none image limit cpu cpus es same.0 ∙ items_from_run image limit cpus es fs same.1
-  | inr more ↦ item_made image limit cpu cpus es more.0 more.1 more.2 ∙ items_from_run image limit cpus (es ++ more.0 ∷ []) fs more.3
+-- and what they lead to is what they do
+pub items_from_lead : (image : Image) (limit : ℕ) (cpus : List ℕ) (es fs : List Entry) → ItemsLead image limit cpus es fs → items image limit cpus es ≡ reached fs false
+items_from_lead image limit [] es fs lead = items_nil image limit es ∙ ap (λ (gs : List Entry). reached gs false) (sym lead)
+items_from_lead image limit (cpu ∷ cpus) es fs lead = elim lead [
+  | inl same ↦ item_none image limit cpu cpus es same.0 ∙ items_from_lead image limit cpus es fs same.1
+  | inr more ↦ item_made image limit cpu cpus es more.0 more.1 more.2 ∙ items_from_lead image limit cpus (es ++ more.0 ∷ []) fs more.3
 ]
 
 -- items that end full are cut short
-cut_behind : (image : Image) (limit cpu : ℕ) (cpus : List ℕ) (es gs fs : List Entry) → ((done : List ℕ) → IsRun image limit done gs fs → IsRun image limit (cpu ∷ done) es fs) → IsCutShort image limit cpus gs fs
+cut_behind : (image : Image) (limit cpu : ℕ) (cpus : List ℕ) (es gs fs : List Entry) → ((done : List ℕ) → ItemsLead image limit done gs fs → ItemsLead image limit (cpu ∷ done) es fs) → IsCutShort image limit cpus gs fs
     → IsCutShort image limit (cpu ∷ cpus) es fs
 cut_behind image limit cpu cpus es gs fs one cut = record {
   done = cpu ∷ cut.done;
   next = cut.next;
   left = cut.left;
   split = ap (λ (xs : List ℕ). cpu ∷ xs) cut.split;
-  run = one cut.done cut.run;
+  lead = one cut.done cut.lead;
   is_due = cut.is_due;
   reached = cut.reached;
 }
@@ -76,15 +76,15 @@ cut_behind image limit cpu cpus es gs fs one cut = record {
 cut_here : (image : Image) (limit cpu : ℕ) (cpus : List ℕ) (es fs : List Entry) (entry : Entry) → due image es cpu ≡ Some entry → limit ≤ length es → fs ≡ es → IsCutShort image limit (cpu ∷ cpus) es fs
 cut_here image limit cpu cpus es fs entry is le same =
     let P : List Entry → Type 0 = λ gs. IsCutShort image limit (cpu ∷ cpus) es gs in
-    subst P (sym same) (record { done = []; next = cpu; left = cpus; split = refl; run = refl; is_due = ap (λ (o : Option Entry). is_some o) is; reached = le })
+    subst P (sym same) (record { done = []; next = cpu; left = cpus; split = refl; lead = refl; is_due = ap (λ (o : Option Entry). is_some o) is; reached = le })
 
 cut_item : (image : Image) (limit cpu : ℕ) (cpus : List ℕ) (es fs : List Entry) (o : Option Entry)
     → ((gs : List Entry) → items image limit cpus gs ≡ reached fs true → IsCutShort image limit cpus gs fs)
     → due image es cpu ≡ o → items image limit (cpu ∷ cpus) es ≡ reached fs true → IsCutShort image limit (cpu ∷ cpus) es fs
 cut_item image limit cpu cpus es fs None rest is h =
-    cut_behind image limit cpu cpus es es fs (λ done run. inl (is, run)) (rest es (sym (item_none image limit cpu cpus es is) ∙ h))
+    cut_behind image limit cpu cpus es es fs (λ done lead. inl (is, lead)) (rest es (sym (item_none image limit cpu cpus es is) ∙ h))
 cut_item image limit cpu cpus es fs (Some entry) rest is h = elim (cases_lt (length es) limit) [
-  | inl lt ↦ cut_behind image limit cpu cpus es (es ++ entry ∷ []) fs (λ done run. inr (entry, is, lt, run)) (rest (es ++ entry ∷ []) (sym (item_made image limit cpu cpus es entry is lt) ∙ h))
+  | inl lt ↦ cut_behind image limit cpu cpus es (es ++ entry ∷ []) fs (λ done lead. inr (entry, is, lt, lead)) (rest (es ++ entry ∷ []) (sym (item_made image limit cpu cpus es entry is lt) ∙ h))
   | inr le ↦ cut_here image limit cpu cpus es fs entry is le (ap (λ (r : Reached). r.entries) (sym h ∙ item_full image limit cpu cpus es entry is le))
 ]
 
@@ -100,36 +100,36 @@ cut_by image limit fs next left (Some entry) is some le = item_full image limit 
 pub items_from_cut : (image : Image) (limit : ℕ) (cpus : List ℕ) (es fs : List Entry) → IsCutShort image limit cpus es fs → items image limit cpus es ≡ reached fs true
 items_from_cut image limit cpus es fs cut =
     ap (λ (xs : List ℕ). items image limit xs es) cut.split
-    ∙ items_append image limit cut.done (cut.next ∷ cut.left) es fs (items_from_run image limit cut.done es fs cut.run)
+    ∙ items_append image limit cut.done (cut.next ∷ cut.left) es fs (items_from_lead image limit cut.done es fs cut.lead)
     ∙ cut_by image limit fs cut.next cut.left (due image fs cut.next) refl cut.is_due cut.reached
 
--- a run stays within the limit
-pub run_few : (image : Image) (limit : ℕ) (cpus : List ℕ) (es fs : List Entry) → IsRun image limit cpus es fs → length es ≤ limit → length fs ≤ limit
-run_few image limit [] es fs run few = let same : length fs ≡ length es = ap length run in omega arith
-run_few image limit (cpu ∷ cpus) es fs run few = elim run [
-  | inl same ↦ run_few image limit cpus es fs same.1 few
-  | inr more ↦ run_few image limit cpus (es ++ more.0 ∷ []) fs more.3 (let one : length (es ++ more.0 ∷ []) ≡ length es + 1 = length_push es more.0 in let lt : length es < limit = more.2 in omega arith)
+-- they stay within the limit
+pub lead_few : (image : Image) (limit : ℕ) (cpus : List ℕ) (es fs : List Entry) → ItemsLead image limit cpus es fs → length es ≤ limit → length fs ≤ limit
+lead_few image limit [] es fs lead few = let same : length fs ≡ length es = ap length lead in omega arith
+lead_few image limit (cpu ∷ cpus) es fs lead few = elim lead [
+  | inl same ↦ lead_few image limit cpus es fs same.1 few
+  | inr more ↦ lead_few image limit cpus (es ++ more.0 ∷ []) fs more.3 (let one : length (es ++ more.0 ∷ []) ≡ length es + 1 = length_push es more.0 in let lt : length es < limit = more.2 in omega arith)
 ]
 
--- and leaves a legal journal legal
-pub run_legal : (image : Image) (limit : ℕ) (cpus : List ℕ) (es fs : List Entry) → IsRun image limit cpus es fs → IsLegal image es → IsLegal image fs
-run_legal image limit [] es fs run legal = let P : List Entry → Type 0 = IsLegal image in subst P (sym run) legal
-run_legal image limit (cpu ∷ cpus) es fs run legal = elim run [
-  | inl same ↦ run_legal image limit cpus es fs same.1 legal
-  | inr more ↦ run_legal image limit cpus (es ++ more.0 ∷ []) fs more.3 (IsLegal_made image es (es ++ more.0 ∷ []) cpu more.0 legal more.1 refl)
+-- and leave a legal journal legal
+pub lead_legal : (image : Image) (limit : ℕ) (cpus : List ℕ) (es fs : List Entry) → ItemsLead image limit cpus es fs → IsLegal image es → IsLegal image fs
+lead_legal image limit [] es fs lead legal = let P : List Entry → Type 0 = IsLegal image in subst P (sym lead) legal
+lead_legal image limit (cpu ∷ cpus) es fs lead legal = elim lead [
+  | inl same ↦ lead_legal image limit cpus es fs same.1 legal
+  | inr more ↦ lead_legal image limit cpus (es ++ more.0 ∷ []) fs more.3 (IsLegal_made image es (es ++ more.0 ∷ []) cpu more.0 legal more.1 refl)
 ]
 
 -- both, however the items end
 few_by : (image : Image) (limit : ℕ) (cpus : List ℕ) (es fs : List Entry) (b : Bool) → items image limit cpus es ≡ reached fs b → length es ≤ limit → length fs ≤ limit
-few_by image limit cpus es fs false h few = run_few image limit cpus es fs (run_from_items image limit cpus es fs h) few
-few_by image limit cpus es fs true h few = let cut = cut_from_items image limit cpus es fs h in run_few image limit cut.done es fs cut.run few
+few_by image limit cpus es fs false h few = lead_few image limit cpus es fs (lead_from_items image limit cpus es fs h) few
+few_by image limit cpus es fs true h few = let cut = cut_from_items image limit cpus es fs h in lead_few image limit cut.done es fs cut.lead few
 
 pub items_few : (image : Image) (limit : ℕ) (cpus : List ℕ) (es : List Entry) → length es ≤ limit → length (items image limit cpus es).entries ≤ limit
 items_few image limit cpus es few = few_by image limit cpus es (items image limit cpus es).entries (items image limit cpus es).full refl few
 
 legal_by : (image : Image) (limit : ℕ) (cpus : List ℕ) (es fs : List Entry) (b : Bool) → items image limit cpus es ≡ reached fs b → IsLegal image es → IsLegal image fs
-legal_by image limit cpus es fs false h legal = run_legal image limit cpus es fs (run_from_items image limit cpus es fs h) legal
-legal_by image limit cpus es fs true h legal = let cut = cut_from_items image limit cpus es fs h in run_legal image limit cut.done es fs cut.run legal
+legal_by image limit cpus es fs false h legal = lead_legal image limit cpus es fs (lead_from_items image limit cpus es fs h) legal
+legal_by image limit cpus es fs true h legal = let cut = cut_from_items image limit cpus es fs h in lead_legal image limit cut.done es fs cut.lead legal
 
 pub items_legal : (image : Image) (limit : ℕ) (cpus : List ℕ) (es : List Entry) → IsLegal image es → IsLegal image (items image limit cpus es).entries
 items_legal image limit cpus es legal = legal_by image limit cpus es (items image limit cpus es).entries (items image limit cpus es).full refl legal

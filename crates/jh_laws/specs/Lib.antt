@@ -4,7 +4,7 @@ pub mod Outcomes
 pub mod Writes
 pub mod Moves
 pub mod Operations
-pub mod Runs
+pub mod Items
 pub mod Moments
 pub mod Ways
 pub mod Held

@@ -3,10 +3,11 @@ ghost use Rattle.std.specs.Prelude.{◌≡◌, ◌↔◌, ◌≤◌, ℕ, [], �
 ghost use Rattle.jh_cellcfg.specs.declared.config.CellConfig.{CellConfig as TheConfig};
 ghost use Rattle.jh_cellcfg.specs.Cells.{is_cpu_set};
 ghost use Rattle.jh_check.specs.Findings.{findings};
+ghost use Rattle.jh_check.specs.Refusals.{AreTwo};
 ghost use Rattle.jh_shape.specs.Pages.{pages_of};
 ghost use Rattle.jh_history.specs.Admitted.{pool_pages};
 ghost use Rattle.jh_history.specs.Lives.{is_on_board};
-ghost use Rattle.jh_history.specs.Sound.{AreTwo, HasBytes};
+ghost use Rattle.jh_history.specs.Sound.{HasBytes};
 ghost use Rattle.jh_laws.specs.Moments.{AdmittedJournal, cells_of, owner_of};
 
 /// The check finds nothing in the system with the cells that live, their pages are there, and of root and them no

@@ -2,11 +2,12 @@
 ghost use Rattle.std.specs.Prelude.{◌≡◌, ◌≢◌, ℕ, List, [], ◌∷◌, ◌++◌, map, filter, Some, None, All, true, false};
 ghost use Rattle.jh_cellcfg.specs.declared.config.CellConfig.{CellConfig as TheConfig};
 ghost use Rattle.jh_call.specs.declared.call.Call.TheVariants.{Create, Start, Loadable, Destroy};
+ghost use Rattle.jh_shape.specs.Lives.{marked};
 ghost use Rattle.jh_script.specs.declared.image.Image.{Image as TheImage};
 ghost use Rattle.jh_history.specs.declared.entry.Entry.{Entry as TheEntry};
 ghost use Rattle.jh_history.specs.declared.entry.Act.TheVariants.{Decide, Commit};
 ghost use Rattle.jh_history.specs.History.{facts};
-ghost use Rattle.jh_history.specs.Commits.{marked, is_other};
+ghost use Rattle.jh_history.specs.Commits.{is_other};
 ghost use Rattle.jh_history.specs.Configs.{config_read, read_at};
 ghost use Rattle.jh_history.specs.Due.{IsLegal};
 ghost use Rattle.jh_history.specs.Admitted.{IsAdmitted};

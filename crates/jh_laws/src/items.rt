@@ -7,14 +7,14 @@ ghost use Rattle.jh_history.specs.declared.entry.Entry.{Entry as TheEntry};
 ghost use Rattle.jh_history.specs.Admitted.{IsAdmitted};
 ghost use Rattle.jh_history.specs.Due.{due, IsLegal, IsQuiet};
 ghost use Rattle.jh_history.specs.Items.{items, played, cpus_of, rounds};
-ghost use Rattle.jh_laws.specs.Runs.{IsRun, IsCutShort};
+ghost use Rattle.jh_laws.specs.Items.{ItemsLead, IsCutShort};
 
 /// Items end full exactly where the journal has reached its limit and the next item has an entry due.
 /// Else each of them was made, or had nothing due. A journal that begins within its limit ends within it.
 pub fn items_run_until_one_is_cut_short()
     ensures run { (image : TheImage) (limit : ℕ) (cpus : List ℕ) (before after : List TheEntry) →
         (items image limit cpus before ≡ record { entries = after; full = false }) ↔
-        IsRun image limit cpus before after }
+        ItemsLead image limit cpus before after }
     ensures cut { (image : TheImage) (limit : ℕ) (cpus : List ℕ) (before after : List TheEntry) →
         (items image limit cpus before ≡ record { entries = after; full = true }) ↔
         IsCutShort image limit cpus before after }

@@ -9,10 +9,10 @@ use Rattle.std.proofs.lemmas.List.Quantifiers.{all_pairs_push, all_pairs_remove}
 use Rattle.jh_num.proofs.Lists.{list_any_false, read_again}
 use Rattle.jh_cellcfg.specs.declared.config.CellConfig.{CellConfig}
 use Rattle.jh_cellcfg.specs.declared.live.Live.{Live}
-use Rattle.jh_check.specs.Refusals.{is_namesake, is_known}
+use Rattle.jh_check.specs.Refusals.{is_namesake, is_known, AreTwo}
 use Rattle.jh_life.specs.Lives.{marks_of}
 use Rattle.jh_shape.specs.Lives.{configs_of, joined}
-use Rattle.jh_life.specs.SoundRecords.{AreTwo, AreSoundRecords}
+use Rattle.jh_life.specs.SoundRecords.{AreSoundRecords}
 use Rattle.jh_shape.proofs.PageLemmas.{own_pages}
 
 abbrev live_of : CellConfig → Bool → Live

@@ -1,5 +1,5 @@
 pub mod JoinedLemmas
-pub mod MarkLemmas
+pub mod MaskLemmas
 pub mod VerdictLemmas
 pub mod CauseLemmas
 pub mod ChangeLemmas

@@ -7,8 +7,8 @@ use Rattle.jh_cellcfg.specs.declared.config.CellConfig.{CellConfig}
 use Rattle.jh_cellcfg.specs.declared.live.Live.{Live}
 use Rattle.jh_cellcfg.specs.Lives.{has_id}
 use Rattle.jh_life.specs.Lives.{new_live}
-use Rattle.jh_shape.specs.Lives.{configs_of}
-use Rattle.jh_life.specs.Changes.{CellChange, Created, Dropped, Marked, marked, without, after, is_kept, lasting}
+use Rattle.jh_shape.specs.Lives.{configs_of, marked}
+use Rattle.jh_life.specs.Changes.{CellChange, Created, Dropped, Marked, without, after, is_kept, lasting}
 use Rattle.jh_life.proofs.ChangeLemmas.{marked_configs}
 
 none_dropped : (configs : List CellConfig) → filter (is_kept []) configs ≡ configs

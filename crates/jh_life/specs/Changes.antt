@@ -4,6 +4,7 @@ use Rattle.std.specs.List.{find, list_any}
 use Rattle.jh_cellcfg.specs.declared.config.CellConfig.{CellConfig}
 use Rattle.jh_cellcfg.specs.declared.live.Live.{Live}
 use Rattle.jh_cellcfg.specs.Lives.{has_id}
+use Rattle.jh_shape.specs.Lives.{marked}
 use Rattle.jh_life.specs.Lives.{new_live}
 
 -- a cell is created; the cell with the id is dropped; or it becomes loadable, or isn't so any longer
@@ -11,10 +12,6 @@ pub data CellChange : Type 0 where
   Created : CellConfig → CellChange
   Dropped : ℕ → CellChange
   Marked : ℕ → Bool → CellChange
-
--- the cell, with this mark where it is the one with the id
-abbrev pub marked : ℕ → Bool → Live → Live
-marked id on live = record { config = live.config; loadable = if has_id id live then on else live.loadable }
 
 -- the live cells but the one with the id
 abbrev pub without : ℕ → List Live → List Live

@@ -1,12 +1,8 @@
 -- What holds of the records of live cells at every moment.
-use Rattle.std.specs.Prelude.{◌≡◌, ℕ, ◌+◌, ◌≤◌, Bool, false, List, ◌∷◌, length, map, sum_by, AllPairs}
+use Rattle.std.specs.Prelude.{◌≡◌, ℕ, ◌+◌, ◌≤◌, Bool, List, ◌∷◌, length, map, sum_by, AllPairs}
 use Rattle.jh_cellcfg.specs.declared.config.CellConfig.{CellConfig}
-use Rattle.jh_check.specs.Refusals.{is_namesake}
+use Rattle.jh_check.specs.Refusals.{AreTwo}
 use Rattle.jh_shape.specs.Pages.{tables_of, cell_claims}
-
--- the two cells have neither one name nor one id
-abbrev pub AreTwo : CellConfig → CellConfig → Type 0
-AreTwo earlier later = is_namesake later earlier ≡ false
 
 -- each cell has a mark, there are at most 15, no two of them and root have one name or one id, and so many pages are
 -- taken by each, and so many by them together: their tables, and a communication page for each

@@ -2,19 +2,18 @@
 ghost use Rattle.std.specs.Prelude.{◌≡◌, ◌↔◌, ℕ, ◌+◌, ◌-◌, ◌<◌, ◌≤◌, Bool, false, [], ◌∷◌, ◌++◌, length, map, position, remove, slice_set, option_to_list, IfNone, IfOk, OnOk, OnErr, IsOk, IsTrue, AllPairs};
 ghost use Rattle.std.specs.Option.{option_copied};
 ghost use Rattle.jh_cellcfg.specs.declared.live.Live.{Live};
-ghost use Rattle.jh_check.specs.Refusals.{is_known};
+ghost use Rattle.jh_check.specs.Refusals.{is_known, AreTwo};
 ghost use Rattle.jh_num.specs.Bits.{has_bit};
 ghost use Rattle.jh_shape.specs.Pages.{pages_of};
 ghost use Rattle.jh_life.specs.Lives.{new_live, has_config_id, marks_of, cells_of, is_loadable_at, number_of};
 ghost use Rattle.jh_shape.specs.Lives.{configs_of};
-ghost use Rattle.jh_life.specs.SoundRecords.{AreTwo};
 ghost use Rattle.jh_life.specs.Verdict.{verdict_of_create};
 
 use crate::copy::copy_of_system;
 use crate::counting::refusal_by_pages;
-use crate::marks::{free_cpus, mask_of};
+use crate::cpus::free_cpus;
 use jh_cellcfg::{CellConfig, SystemConfig};
-use jh_check::{refusal_of, refusal_without_cpus};
+use jh_check::{mask_of, refusal_of, refusal_without_cpus};
 use jh_num::error::EPERM;
 use jh_num::{NoMemory, make_room};
 use jh_shape::{cell_pages, pages_of};
@@ -137,7 +136,7 @@ impl Cells {
         }
         let free = free_cpus(owned, caller);
         // Pages are counted last, where nothing else speaks against the cell.
-        let refusal = refusal_of(alloc, &self.system, live, new, &free, 0, 0)?;
+        let refusal = refusal_of(alloc, &self.system, live, new, free, 0, 0)?;
         match refusal {
             Some(_) => Ok(refusal),
             None => Ok(refusal_by_pages(self.pages(Some(new)), pool)),

@@ -5,8 +5,8 @@
 mod cells;
 mod copy;
 mod counting;
+mod cpus;
 mod laws;
-mod marks;
 
 pub use cells::{Cells, MOST_CELLS, live_cells_differ};
 pub use laws::{
@@ -15,4 +15,3 @@ pub use laws::{
     a_refusal_tells_its_first_cause, a_verdict_goes_by_the_listed_cells,
     cells_are_listed_in_order_of_creation, each_number_has_its_causes,
 };
-pub use marks::mask_of;

@@ -7,7 +7,7 @@ use Rattle.jh_history.specs.declared.entry.Entry.{Entry}
 use Rattle.jh_history.specs.Due.{due, IsQuiet}
 use Rattle.jh_history.specs.Items.{Reached, items, played, cpus_of, rounds}
 use Rattle.jh_history.proofs.ItemsLemmas.{reached}
-use Rattle.jh_laws.specs.Runs.{IsRun, IsCutShort}
+use Rattle.jh_laws.specs.Items.{ItemsLead, IsCutShort}
 use Rattle.jh_board.specs.BoardView.{BoardView}
 use Rattle.jh_run.specs.declared.ended.Ended.{Ended}
 use Rattle.jh_run.specs.declared.ended.Ended.TheVariants.{Quiet, Full}
@@ -16,8 +16,8 @@ use Rattle.jh_run.specs.Private.Ran.{Ran}
 use Rattle.jh_run.specs.Plays.{IsBoardOf, Follows, Plays, IsFullAtItem, IsFullAtCpu}
 
 -- the laws on items, as they are stated
-abbrev pub RunLaw : Type 0
-RunLaw = (image : Image) (limit : ℕ) (cpus : List ℕ) (before after : List Entry) → (items image limit cpus before ≡ record { entries = after; full = false }) ↔ IsRun image limit cpus before after
+abbrev pub LeadLaw : Type 0
+LeadLaw = (image : Image) (limit : ℕ) (cpus : List ℕ) (before after : List Entry) → (items image limit cpus before ≡ record { entries = after; full = false }) ↔ ItemsLead image limit cpus before after
 
 abbrev pub CutLaw : Type 0
 CutLaw = (image : Image) (limit : ℕ) (cpus : List ℕ) (before after : List Entry) → (items image limit cpus before ≡ record { entries = after; full = true }) ↔ IsCutShort image limit cpus before after
@@ -33,16 +33,16 @@ ended_quiet : (ended : Ended) → (ended ≡ Full → ⊥) → ended ≡ Quiet
 ended_quiet Quiet h = refl
 ended_quiet Full h = absurd (h refl)
 
-items_from : RunLaw → CutLaw → (image : Image) (limit : ℕ) (xs : List ℕ) (full : Bool) (new : BoardView) → Ran (opened image limit) xs full new → (items image limit xs [] ≡ reached new.entries full) × IsBoardOf image limit new
-items_from run cut image limit xs false new h = ((run image limit xs [] new.entries).1 h.0, h.1)
-items_from run cut image limit xs true new h = ((cut image limit xs [] new.entries).1 h.0, h.1)
+items_from : LeadLaw → CutLaw → (image : Image) (limit : ℕ) (xs : List ℕ) (full : Bool) (new : BoardView) → Ran (opened image limit) xs full new → (items image limit xs [] ≡ reached new.entries full) × IsBoardOf image limit new
+items_from lead cut image limit xs false new h = ((lead image limit xs [] new.entries).1 h.0, h.1)
+items_from lead cut image limit xs true new h = ((cut image limit xs [] new.entries).1 h.0, h.1)
 
 -- what a schedule alone makes
-pub Follows_from : RunLaw → CutLaw → (image : Image) (limit : ℕ) (old new : BoardView) (schedule : List ℕ) (full : Bool) (ended : Ended) → old ≡ opened image limit → is_full ended ≡ full → Ran old schedule full new → Follows image limit schedule new ended
-Follows_from run cut image limit old new schedule full ended is how h =
+pub Follows_from : LeadLaw → CutLaw → (image : Image) (limit : ℕ) (old new : BoardView) (schedule : List ℕ) (full : Bool) (ended : Ended) → old ≡ opened image limit → is_full ended ≡ full → Ran old schedule full new → Follows image limit schedule new ended
+Follows_from lead cut image limit old new schedule full ended is how h =
     let P : BoardView → Type 0 = λ v. Ran v schedule full new in
     let Q : Bool → Type 0 = λ b. (items image limit schedule [] ≡ reached new.entries b) × IsBoardOf image limit new in
-    subst Q (sym how) (items_from run cut image limit schedule full new (subst P is h))
+    subst Q (sym how) (items_from lead cut image limit schedule full new (subst P is h))
 
 -- and when the limit stops it
 pub full_at_item : CutLaw → (image : Image) (limit : ℕ) (schedule : List ℕ) (board : BoardView) (ended : Ended) → Follows image limit schedule board ended → length board.entries ≤ board.limit
@@ -58,12 +58,12 @@ full_at_item cut image limit schedule board ended follows within =
     )
 
 -- what is played
-pub Plays_from : RunLaw → CutLaw → (image : Image) (limit : ℕ) (old new : BoardView) (schedule cpus : List ℕ) (full : Bool) (ended : Ended) → old ≡ opened image limit → is_full ended ≡ full → cpus ≡ cpus_of image
+pub Plays_from : LeadLaw → CutLaw → (image : Image) (limit : ℕ) (old new : BoardView) (schedule cpus : List ℕ) (full : Bool) (ended : Ended) → old ≡ opened image limit → is_full ended ≡ full → cpus ≡ cpus_of image
     → Ran old (schedule ++ rounds (limit + 1) cpus) full new → Plays image limit schedule new ended
 unfolding played
-Plays_from run cut image limit old new schedule cpus full ended is how all h =
+Plays_from lead cut image limit old new schedule cpus full ended is how all h =
     let P : List ℕ → Type 0 = λ zs. Ran old (schedule ++ rounds (limit + 1) zs) full new in
-    Follows_from run cut image limit old new (schedule ++ rounds (limit + 1) (cpus_of image)) full ended is how (subst P all h)
+    Follows_from lead cut image limit old new (schedule ++ rounds (limit + 1) (cpus_of image)) full ended is how (subst P all h)
 
 none_due : (o : Option Entry) → o ≡ None → IsSome o → ⊥
 none_due o e some = false≢true (let P : Option Entry → Type 0 = λ x. IsSome x in subst P e some)

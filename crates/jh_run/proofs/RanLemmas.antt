@@ -4,10 +4,10 @@ use Rattle.std.proofs.lemmas.List.{take_more, take-append-drop}
 use Rattle.jh_script.specs.declared.image.Image.{Image}
 use Rattle.jh_history.specs.Due.{IsQuiet}
 use Rattle.jh_history.specs.Items.{rounds}
-use Rattle.jh_laws.specs.Runs.{IsRun, IsCutShort}
+use Rattle.jh_laws.specs.Items.{ItemsLead, IsCutShort}
 use Rattle.jh_board.specs.BoardView.{BoardView}
 use Rattle.jh_run.specs.Private.Ran.{Ran, IsSameBut}
-use Rattle.jh_run.proofs.RunLemmas.{run_append, cut_behind, cut_before, run_quiet}
+use Rattle.jh_run.proofs.RunLemmas.{lead_append, cut_behind, cut_before, lead_quiet}
 
 -- no items
 pub Ran_nil : (old : BoardView) → Ran old [] false old
@@ -19,8 +19,8 @@ kept old mid new h k = k ∙ ap (λ (v : BoardView). let w : BoardView = record 
 -- items after others, on a board of the same image and limit
 moved : (image : Image) (limit : ℕ) (mid : BoardView) (new : BoardView) (ys : List ℕ) (full : Bool) → mid.image ≡ image → mid.limit ≡ limit → Ran mid ys full new → Ran (record { image = image; limit = limit; entries = mid.entries }) ys full (record { image = image; limit = limit; entries = new.entries })
 moved image limit mid new ys false is_image is_limit h =
-    let P : Image → Type 0 = λ i. IsRun i mid.limit ys mid.entries new.entries in
-    let Q : ℕ → Type 0 = λ n. IsRun image n ys mid.entries new.entries in
+    let P : Image → Type 0 = λ i. ItemsLead i mid.limit ys mid.entries new.entries in
+    let Q : ℕ → Type 0 = λ n. ItemsLead image n ys mid.entries new.entries in
     (subst Q is_limit (subst P is_image h.0), refl)
 moved image limit mid new ys true is_image is_limit h =
     let P : Image → Type 0 = λ i. IsCutShort i mid.limit ys mid.entries new.entries in
@@ -28,7 +28,7 @@ moved image limit mid new ys true is_image is_limit h =
     (subst Q is_limit (subst P is_image h.0), refl)
 
 joined : (old mid new : BoardView) (xs ys : List ℕ) (full : Bool) → Ran old xs false mid → IsSameBut mid new → Ran (record { image = old.image; limit = old.limit; entries = mid.entries }) ys full (record { image = old.image; limit = old.limit; entries = new.entries }) → Ran old (xs ++ ys) full new
-joined old mid new xs ys false h k m = (run_append old.image old.limit xs ys old.entries mid.entries new.entries h.0 m.0, kept old mid new h.1 k)
+joined old mid new xs ys false h k m = (lead_append old.image old.limit xs ys old.entries mid.entries new.entries h.0 m.0, kept old mid new h.1 k)
 joined old mid new xs ys true h k m = (cut_behind old.image old.limit xs ys old.entries mid.entries new.entries h.0 m.0, kept old mid new h.1 k)
 
 same_but : (mid new : BoardView) (ys : List ℕ) (full : Bool) → Ran mid ys full new → IsSameBut mid new
@@ -62,7 +62,7 @@ Ran_round old mid new n cpus full h k = rw add-one (Ran_append old mid new (roun
 -- the rounds that are left at a quiet board, and at a stop
 quiet_rounds : (old mid : BoardView) (n k : ℕ) (cpus : List ℕ) → Ran old (rounds n cpus) false mid → IsQuiet mid.image mid.entries → Ran old (rounds (n + k) cpus) false mid
 quiet_rounds old mid n zero cpus h quiet = rw add-zero h
-quiet_rounds old mid n (suc k) cpus h quiet = rw add-suc (Ran_append old mid mid (rounds (n + k) cpus) cpus false (quiet_rounds old mid n k cpus h quiet) (run_quiet mid.image mid.limit cpus mid.entries quiet, refl))
+quiet_rounds old mid n (suc k) cpus h quiet = rw add-suc (Ran_append old mid mid (rounds (n + k) cpus) cpus false (quiet_rounds old mid n k cpus h quiet) (lead_quiet mid.image mid.limit cpus mid.entries quiet, refl))
 
 stopped_rounds : (old new : BoardView) (n k : ℕ) (cpus : List ℕ) → Ran old (rounds n cpus) true new → Ran old (rounds (n + k) cpus) true new
 stopped_rounds old new n zero cpus h = rw add-zero h

@@ -7,24 +7,24 @@ use Rattle.jh_script.specs.declared.image.Image.{Image}
 use Rattle.jh_history.specs.declared.entry.Entry.{Entry}
 use Rattle.jh_history.specs.Due.{IsQuiet}
 use Rattle.jh_history.specs.Items.{below}
-use Rattle.jh_laws.specs.Runs.{IsRun, IsCutShort}
+use Rattle.jh_laws.specs.Items.{ItemsLead, IsCutShort}
 
--- items behind a run
-pub run_append : (image : Image) (limit : ℕ) (xs ys : List ℕ) (es fs gs : List Entry) → IsRun image limit xs es fs → IsRun image limit ys fs gs → IsRun image limit (xs ++ ys) es gs
-run_append image limit [] ys es fs gs first second = let P : List Entry → Type 0 = λ hs. IsRun image limit ys hs gs in subst P first second
-run_append image limit (x ∷ xs) ys es fs gs first second = elim first [
-  | inl same ↦ inl (same.0, run_append image limit xs ys es fs gs same.1 second)
-  | inr more ↦ inr (more.0, more.1, more.2, run_append image limit xs ys (es ++ more.0 ∷ []) fs gs more.3 second)
+-- items behind items
+pub lead_append : (image : Image) (limit : ℕ) (xs ys : List ℕ) (es fs gs : List Entry) → ItemsLead image limit xs es fs → ItemsLead image limit ys fs gs → ItemsLead image limit (xs ++ ys) es gs
+lead_append image limit [] ys es fs gs first second = let P : List Entry → Type 0 = λ hs. ItemsLead image limit ys hs gs in subst P first second
+lead_append image limit (x ∷ xs) ys es fs gs first second = elim first [
+  | inl same ↦ inl (same.0, lead_append image limit xs ys es fs gs same.1 second)
+  | inr more ↦ inr (more.0, more.1, more.2, lead_append image limit xs ys (es ++ more.0 ∷ []) fs gs more.3 second)
 ]
 
--- a stop behind a run
-pub cut_behind : (image : Image) (limit : ℕ) (xs ys : List ℕ) (es fs gs : List Entry) → IsRun image limit xs es fs → IsCutShort image limit ys fs gs → IsCutShort image limit (xs ++ ys) es gs
+-- a stop behind items
+pub cut_behind : (image : Image) (limit : ℕ) (xs ys : List ℕ) (es fs gs : List Entry) → ItemsLead image limit xs es fs → IsCutShort image limit ys fs gs → IsCutShort image limit (xs ++ ys) es gs
 cut_behind image limit xs ys es fs gs first cut = record {
   done = xs ++ cut.done;
   next = cut.next;
   left = cut.left;
   split = ap (λ (zs : List ℕ). xs ++ zs) cut.split ∙ sym (append_assoc xs cut.done (cut.next ∷ cut.left));
-  run = run_append image limit xs cut.done es fs gs first cut.run;
+  lead = lead_append image limit xs cut.done es fs gs first cut.lead;
   is_due = cut.is_due;
   reached = cut.reached;
 }
@@ -36,15 +36,15 @@ cut_before image limit xs ys es fs cut = record {
   next = cut.next;
   left = cut.left ++ ys;
   split = ap (λ (zs : List ℕ). zs ++ ys) cut.split ∙ append_assoc cut.done (cut.next ∷ cut.left) ys;
-  run = cut.run;
+  lead = cut.lead;
   is_due = cut.is_due;
   reached = cut.reached;
 }
 
 -- at a quiet journal no item changes anything
-pub run_quiet : (image : Image) (limit : ℕ) (cpus : List ℕ) (es : List Entry) → IsQuiet image es → IsRun image limit cpus es es
-run_quiet image limit [] es quiet = refl
-run_quiet image limit (cpu ∷ cpus) es quiet = inl (quiet cpu, run_quiet image limit cpus es quiet)
+pub lead_quiet : (image : Image) (limit : ℕ) (cpus : List ℕ) (es : List Entry) → IsQuiet image es → ItemsLead image limit cpus es es
+lead_quiet image limit [] es quiet = refl
+lead_quiet image limit (cpu ∷ cpus) es quiet = inl (quiet cpu, lead_quiet image limit cpus es quiet)
 
 -- one number more that passes, or that doesn't
 pub filter_below_more : (p : ℕ → Bool) (k : ℕ) → p k ≡ true → filter p (below (k + 1)) ≡ filter p (below k) ++ k ∷ []

@@ -4,7 +4,7 @@ use Rattle.jh_script.specs.declared.image.Image.{Image}
 use Rattle.jh_history.specs.declared.entry.Entry.{Entry}
 use Rattle.jh_history.specs.Due.{due}
 use Rattle.jh_history.specs.Items.{items, played}
-use Rattle.jh_laws.specs.Runs.{IsCutShort}
+use Rattle.jh_laws.specs.Items.{IsCutShort}
 use Rattle.jh_board.specs.BoardView.{BoardView}
 use Rattle.jh_run.specs.declared.ended.Ended.{Ended}
 use Rattle.jh_run.specs.Ends.{is_full}

@@ -44,20 +44,43 @@ fn end_after(answer: Result<Turn, TurnFault>) -> Option<DriveEnd>
     }
 }
 
-/// Lets other threads go first where a turn found nothing due to its CPU.
-fn give_way(answer: &Result<Turn, TurnFault>) {
-    if matches!(answer, Ok(Turn::NotNow)) {
+/// How often a thread looks for a new entry before its next turn, where the last one found nothing due to its CPU. A turn
+/// of another thread may be refused, which adds none, so it doesn't look for ever.
+const LOOKS: u32 = 64;
+
+/// Lets other threads go first until there is a new entry, which may have made one due to the port's CPU.
+fn wait_for_news(shared: &Shared<Running>, port: &Port<Running>) {
+    for _ in 0..LOOKS {
         thread::yield_now();
+        if shared.has_news(port) {
+            return;
+        }
     }
 }
 
-/// A turn of the port behind the gate. `round` is the number of turns of this port before.
+/// Lets other threads go first where a turn at each of the ports made no entry. A thread that drives one port alone has
+/// nothing to do until there is a new entry.
+fn give_way(shared: &Shared<Running>, ports: &[Port<Running>]) {
+    match ports {
+        [port] => wait_for_news(shared, port),
+        _ => thread::yield_now(),
+    }
+}
+
+/// Whether the turn made an entry.
+fn has_made(answer: &Result<Turn, TurnFault>) -> bool {
+    matches!(answer, Ok(Turn::Made(_)))
+}
+
+/// A turn of the port behind the gate. `round` is the number of turns of this port before; `idle` becomes false where the
+/// turn makes an entry.
 fn drive_port<R: Wait, G: Gate>(
     rt: &R,
     shared: &Shared<Running>,
     port: &mut Port<Running>,
     gate: &G,
     round: u64,
+    idle: &mut bool,
 ) -> Option<DriveEnd>
     requires { IsPortOf shared.now port.old }
     ensures port { IsPortOf shared.now port.new }
@@ -66,11 +89,11 @@ fn drive_port<R: Wait, G: Gate>(
 {
     gate.pass(port.caller(), round);
     let answer = shared.turn(rt, port);
-    give_way(&answer);
+    *idle &= !has_made(&answer);
     end_after(answer)
 }
 
-/// A turn of each port in their order, until one is the last.
+/// A turn of each port in their order, until one is the last. Where none made an entry, other threads go first.
 fn drive_round<R: Wait, G: Gate>(
     rt: &R,
     shared: &Shared<Running>,
@@ -82,11 +105,15 @@ fn drive_round<R: Wait, G: Gate>(
     ensures same { IsSameSet shared.now ports.old ports.new }
     ensures shows { IfSome result (λ end. SomeShows (origin_of (opened_value shared.now)) end ports.new) }
 {
+    let mut idle = true;
     for i in 0..ports.len() {
-        let end = drive_port(rt, shared, &mut ports[i], gate, round);
+        let end = drive_port(rt, shared, &mut ports[i], gate, round, &mut idle);
         if end.is_some() {
             return end;
         }
+    }
+    if idle {
+        give_way(shared, ports);
     }
     None
 }

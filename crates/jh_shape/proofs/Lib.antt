@@ -1,5 +1,6 @@
 pub mod HoldersLemmas
 pub mod WantLemmas
+pub mod WordLemmas
 pub mod CountLemmas
 pub mod PageLemmas
 pub mod OrderLemmas

@@ -17,7 +17,7 @@ use Rattle.jh_cellcfg.specs.Regions.{virt_end, phys_end, place_in, is_unshared}
 use Rattle.jh_shape.specs.Claims.{Claims}
 use Rattle.jh_shape.specs.Intervals.{touches, spans}
 use Rattle.jh_shape.specs.Marks.{is_marked, is_inside, marked_slots, past_slot, is_beyond, AreMarkedWithin}
-use Rattle.jh_shape.specs.Shapes.{slot_size, is_mapped, is_met_by, meets_in_part, are_cut, fits_blocks, may_be_block, is_leaf_by}
+use Rattle.jh_shape.specs.Shapes.{slot_size, is_mapped, is_met_by, meets_in_part, are_cut, is_cut_for_root, fits_blocks, may_be_block, is_leaf_by}
 use Rattle.jh_shape.proofs.CountLemmas.{count_below_le}
 
 -- one mark more
@@ -380,6 +380,35 @@ pub leaf_end : (kept : ℕ → Bool) (k from to n : ℕ) (b new span : Bool) →
 leaf_end kept k from to n b new span h l s e =
     let same : is_from from n k ≡ is_from from to k = grind (arith, nat_tests) in
     e ∙ ap (λ v. b || (v && not (kept k))) (same ∙ s)
+
+-- leaves of a span of slots
+pub leaf_span : (claims : Claims) (level n : ℕ) (region : Region) (b span new : Bool) → level < 3 → is_mapped region ≡ true → fits_blocks level region ≡ true → span ≡ spans region.virt_start (virt_end region) (n * slot_size level) (slot_size level) → new ≡ (b || (span && not (is_cut_for_root claims level (n * slot_size level) region))) → new ≡ (b || is_leaf_by claims level (n * slot_size level) region)
+leaf_span claims level n region b span new h mapped fits s e =
+    let kept = is_cut_for_root claims level (n * slot_size level) region in
+    e ∙ ap (λ v. b || (v && not kept)) s ∙ ap (λ v. b || v) (sym (leaf_fits claims level (n * slot_size level) region h mapped fits))
+
+-- none is cut but for root
+and_whole : (span : Bool) → span ≡ (span && true)
+and_whole true = refl
+and_whole false = refl
+
+pub none_kept : (root cut span b new : Bool) → root ≡ false → new ≡ (b || span) → new ≡ (b || (span && not (root && cut)))
+none_kept root cut span b new none e = e ∙ ap (λ v. b || v) (and_whole span ∙ sym (ap (λ v. span && not (v && cut)) none))
+
+-- where slots of addresses and of places are the same
+but_alike : (span marked kept : Bool) → (span ≡ true → marked ≡ kept) → (span && not marked) ≡ (span && not kept)
+but_alike true marked kept h = ap not (h refl)
+but_alike false marked kept h = refl
+
+pub free_alike : (claims : Claims) (level n room : ℕ) (region : Region) (cuts : List ℕ) (b span new : Bool) → claims.root ≡ true → region.phys_start ≡ region.virt_start → span ≡ spans region.virt_start (virt_end region) (n * slot_size level) (slot_size level) → (span ≡ true → n < room) → (n < room → is_marked cuts n ≡ are_cut claims.holders (n * slot_size level) (slot_size level)) → new ≡ (b || (span && not (is_marked cuts n))) → new ≡ (b || (span && not (is_cut_for_root claims level (n * slot_size level) region)))
+free_alike claims level n room region cuts b span new root same s low told e =
+    let at = n * slot_size level in
+    let cut : ℕ → Bool = λ place. are_cut claims.holders place (slot_size level) in
+    e ∙ ap (λ v. b || v) (but_alike span (is_marked cuts n) (is_cut_for_root claims level at region) (λ is.
+    let p = and_parts (nat_le region.virt_start at) (nat_le (at + slot_size level) (virt_end region)) (sym s ∙ is) in
+    let within = leb-true region.virt_start at p.0 in
+    let place : place_in region at ≡ at = omega arith in
+    told (low is) ∙ ap cut (sym place) ∙ sym (ap (λ v. v && cut (place_in region at)) root)))
 
 -- a mark that was there
 pub marked_again : (test : ℕ → Bool) (n k : ℕ) → test n ≡ true → test k ≡ (test k || nat_eq k n)

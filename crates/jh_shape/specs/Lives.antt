@@ -1,7 +1,8 @@
 -- The live cells' configurations and marks.
-use Rattle.std.specs.Prelude.{Bool, List, [], ◌∷◌, map}
+use Rattle.std.specs.Prelude.{ℕ, Bool, List, [], ◌∷◌, map, if◌then◌else◌}
 use Rattle.jh_cellcfg.specs.declared.config.CellConfig.{CellConfig}
 use Rattle.jh_cellcfg.specs.declared.live.Live.{Live}
+use Rattle.jh_cellcfg.specs.Lives.{has_id}
 
 -- the configurations of these live cells
 abbrev pub configs_of : List Live → List CellConfig
@@ -12,3 +13,7 @@ abbrev pub joined : List CellConfig → List Bool → List Live
 joined [] marks = []
 joined (config ∷ configs) [] = []
 joined (config ∷ configs) (mark ∷ marks) = record { config = config; loadable = mark } ∷ joined configs marks
+
+-- the cell, loadable or not where it is the one with the id
+abbrev pub marked : ℕ → Bool → Live → Live
+marked id loadable live = if has_id id live then record live { loadable = loadable } else live

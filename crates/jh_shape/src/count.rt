@@ -1,16 +1,16 @@
 //! How many pages a cell's tables take. All slots of a level are told at once, by marks: those of places that other
 //! cells cut, the leaves, and those that are met.
-ghost use Rattle.std.specs.Prelude.{◌≡◌, ℕ, ◌+◌, ◌*◌, ◌^◌, ◌<◌, ◌≤◌, ◌&&◌, ◌||◌, false, true, length};
+ghost use Rattle.std.specs.Prelude.{◌≡◌, ℕ, ◌+◌, ◌*◌, ◌^◌, ◌<◌, ◌≤◌, ◌&&◌, ◌||◌, false, true, not, nat_le, nat_lt, length};
 ghost use Rattle.std.specs.List.{list_any};
 ghost use Rattle.jh_shape.specs.Claims.{claims_of};
 ghost use Rattle.jh_shape.specs.Marks.{is_beyond, is_marked, marked_slots, past_slot, AreMarked, AreMarkedBelow, AreCuts};
 ghost use Rattle.jh_shape.specs.Pages.{tables_at, tables_of};
 ghost use Rattle.jh_cellcfg.specs.Regions.{place_in, virt_end};
-ghost use Rattle.jh_shape.specs.Shapes.{slot_size, are_cut, is_aligned_alike, is_leaf, is_leaf_by, is_met};
+ghost use Rattle.jh_shape.specs.Shapes.{slot_size, are_cut, is_aligned_alike, is_cut_for_root, is_leaf, is_leaf_by, is_met};
 
-use crate::interval::NO_SPAN;
+use crate::interval::{NO_SPAN, Slots};
 use crate::level::{FIRST_LEVEL, LAST_LEVEL, slot_of, slot_size};
-use crate::marks::{LOW_SLOTS, LOW_WORDS, SLOTS, WORDS, is_marked, mark, mark_span};
+use crate::marks::{LOW_SLOTS, LOW_WORDS, SLOTS, WORDS, is_marked, mark, mark_free, mark_span};
 use crate::region::{addresses, any_beyond, any_place_beyond, fits_blocks, is_mapped, mark_cuts};
 use crate::target::Target;
 use jh_cellcfg::Region;
@@ -65,7 +65,33 @@ impl<'a> Target<'a> {
         self.root && self.is_cut(cuts, level, n as u64 + places - addresses)
     }
 
-    /// Marks the slots that the region makes leaves.
+    /// Marks the slots that the region makes leaves, among these that it spans, one by one.
+    fn mark_each_leaf(
+        &self,
+        words: &mut [u64],
+        cuts: &[u64],
+        level: u8,
+        region: &Region,
+        slots: Slots,
+    )
+        requires cells { length self.now.cells.now ≤ 15 }
+        requires level { level < LAST_LEVEL }
+        requires room { slots.to ≤ 64 * length words.old }
+        requires few { slots.to ≤ 262144 }
+        requires alike { is_aligned_alike level region.now ≡ true }
+        requires within { (n : ℕ) → slots.from ≤ n → n < slots.to → region.now.virt_start ≤ n * slot_size level }
+        requires cuts { AreCuts cuts.now level (claims_of self.now) }
+        ensures { (n : ℕ) → is_marked words.new n ≡ (is_marked words.old n || ((nat_le slots.from n && nat_lt n slots.to) && not (is_cut_for_root (claims_of self.now) level (n * slot_size level) region.now))) }
+    {
+        for n in slots.from..slots.to {
+            if !self.is_kept_small(cuts, level, region, n) {
+                mark(words, n);
+            }
+        }
+    }
+
+    /// Marks the slots that the region makes leaves. Words of slots are marked at once where no slot is cut, or where
+    /// slots of addresses and of places are the same.
     fn mark_leaves(&self, words: &mut [u64], cuts: &[u64], level: u8, region: &Region)
         requires cells { length self.now.cells.now ≤ 15 }
         requires level { level < LAST_LEVEL }
@@ -75,10 +101,14 @@ impl<'a> Target<'a> {
     {
         if region.size >= slot_size(level) && is_mapped(region) && fits_blocks(level, region) {
             let slots = addresses(region).spanned(level);
-            for n in slots.from..slots.to {
-                if !self.is_kept_small(cuts, level, region, n) {
-                    mark(words, n);
-                }
+            if !self.root {
+                mark_span(words, slots.from, slots.to);
+            } else if region.phys_start == region.virt_start
+                && slots.to.div_ceil(64) <= cuts.len()
+            {
+                mark_free(words, cuts, slots.from, slots.to);
+            } else {
+                self.mark_each_leaf(words, cuts, level, region, slots);
             }
         }
     }

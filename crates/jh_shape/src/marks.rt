@@ -1,5 +1,6 @@
 //! Marks of slots, a bit each.
-ghost use Rattle.std.specs.Prelude.{◌≡◌, ℕ, ◌+◌, ◌*◌, ◌<◌, ◌≤◌, ◌&&◌, ◌||◌, length, nat_eq, nat_le, nat_lt, if◌then◌else◌};
+ghost use Rattle.std.specs.Prelude.{◌≡◌, ℕ, ◌+◌, ◌*◌, ◌/◌, ◌%◌, ◌<◌, ◌≤◌, ◌&&◌, ◌||◌, not, length, nat_eq, nat_le, nat_lt, if◌then◌else◌};
+ghost use Rattle.jh_num.specs.Bits.{has_bit};
 ghost use Rattle.jh_shape.specs.Marks.{is_marked};
 ghost use Rattle.jh_shape.specs.Pages.{count_below};
 
@@ -31,18 +32,37 @@ pub(crate) fn mark(words: &mut [u64], n: usize)
     words[n / 64] |= 1 << (n % 64);
 }
 
-/// Marks the slot of that number, and tells how many marks that adds.
-fn mark_more(words: &mut [u64], n: usize) -> u64
-    requires { n < 64 * length words.old }
-    ensures marks { (k : ℕ) → is_marked words.new k ≡ (is_marked words.old k || nat_eq k n) }
-    ensures more { result ≡ (if is_marked words.old n then 0 else 1) }
-    ensures bound { result ≤ 1 }
+/// Adds the bits to the word of that number, and tells how many that adds.
+fn add_bits(words: &mut [u64], word: usize, bits: u64) -> u64
+    requires { word < length words.old }
+    ensures marks { (k : ℕ) → is_marked words.new k ≡ (is_marked words.old k || (nat_eq (k / 64) word && has_bit bits (k % 64))) }
+    ensures more { count_below (λ k. is_marked words.new k) (64 * word + 64) ≡ count_below (λ k. is_marked words.old k) (64 * word + 64) + result }
 {
-    if is_marked(words, n) {
-        return 0;
-    }
-    mark(words, n);
-    1
+    let more = (bits & !words[word]).count_ones();
+    words[word] |= bits;
+    u64::from(more)
+}
+
+/// The bits that the slots from `from` on, below `to`, have in the word of that number.
+fn span_bits(word: usize, from: usize, to: usize) -> u64
+    requires from { from < 64 * word + 64 }
+    requires to { 64 * word < to }
+    ensures { (k : ℕ) → k / 64 ≡ word → has_bit result (k % 64) ≡ (nat_le from k && nat_lt k to) }
+{
+    let first = from.saturating_sub(64 * word);
+    let past = (to - 64 * word).min(64);
+    u64::MAX >> (64 - past) & u64::MAX << first
+}
+
+/// Marks the slots of the word of that number from `from` on, below `to`, and tells how many marks that adds.
+fn mark_in_word(words: &mut [u64], word: usize, from: usize, to: usize) -> u64
+    requires listed { word < length words.old }
+    requires from { from < 64 * word + 64 }
+    requires to { 64 * word < to }
+    ensures marks { (k : ℕ) → is_marked words.new k ≡ (is_marked words.old k || (nat_eq (k / 64) word && (nat_le from k && nat_lt k to))) }
+    ensures more { (end : ℕ) → to ≤ end → count_below (λ k. is_marked words.new k) end ≡ count_below (λ k. is_marked words.old k) end + result }
+{
+    add_bits(words, word, span_bits(word, from, to))
 }
 
 /// Marks the slots from `from` on, below `to`, and tells how many marks that adds.
@@ -53,8 +73,19 @@ pub(crate) fn mark_span(words: &mut [u64], from: usize, to: usize) -> u64
     ensures bound { result ≤ to }
 {
     let mut more = 0;
-    for n in from..to {
-        more += mark_more(words, n);
+    for word in from / 64..to.div_ceil(64) {
+        more += mark_in_word(words, word, from, to);
     }
     more
+}
+
+/// Marks the slots from `from` on, below `to`, that the other list doesn't mark.
+pub(crate) fn mark_free(words: &mut [u64], taken: &[u64], from: usize, to: usize)
+    requires room { to ≤ 64 * length words.old }
+    requires taken { to ≤ 64 * length taken.now }
+    ensures { (k : ℕ) → is_marked words.new k ≡ (is_marked words.old k || ((nat_le from k && nat_lt k to) && not (is_marked taken.now k))) }
+{
+    for word in from / 64..to.div_ceil(64) {
+        add_bits(words, word, span_bits(word, from, to) & !taken[word]);
+    }
 }

@@ -1,15 +1,14 @@
 //! The top call where a read fails in its turn, a sink fills up, memory is wanted, and workers wait for one another. What
 //! it writes for words and files is shown by rows.
 
+use crate::meeting::Meeting;
 use jh_cli::{Status, jailhouse};
 use jh_num::NoMemory;
-use jh_outside::{Gate, MemFiles, MemSink, NoGate, Sink};
+use jh_outside::{MemFiles, MemSink, NoGate, Sink};
 use std::alloc::Global;
 use std::process::Abort;
 use std::sync::Wait;
-use std::sync::atomic::{AtomicU64, Ordering};
 use std::test::Fail;
-use std::thread;
 use std::thread::Threads;
 
 const BOARD: &str =
@@ -151,50 +150,6 @@ fn without_memory_a_run_writes_nothing(rt: HostRuntime) -> Result<(), Fail> {
     Ok(())
 }
 
-/// The worker of CPU 0 waits before its first turn until that of CPU 1 comes to its second, and that one waits
-/// before its second turn until CPU 0's comes to its second.
-#[derive(Drop)]
-struct Meeting {
-    zero: AtomicU64,
-    one: AtomicU64,
-    met: AtomicU64,
-}
-
-impl Meeting {
-    fn new() -> Meeting {
-        Meeting {
-            zero: AtomicU64::new(0),
-            one: AtomicU64::new(0),
-            met: AtomicU64::new(0),
-        }
-    }
-
-    /// Looks until the worker's second turn has begun.
-    fn await_second(&self, begun: &AtomicU64) {
-        for _ in 0..100_000_000u64 {
-            if begun.load(Ordering::SeqCst) > 0 {
-                self.met.fetch_add(1, Ordering::SeqCst);
-                return;
-            }
-            thread::yield_now();
-        }
-    }
-}
-
-impl Gate for Meeting {
-    fn pass(&self, cpu: u8, turn: u64) {
-        match (cpu, turn) {
-            (0, 0) => self.await_second(&self.one),
-            (1, 1) => {
-                self.one.store(1, Ordering::SeqCst);
-                self.await_second(&self.zero);
-            }
-            (0, 1) => self.zero.store(1, Ordering::SeqCst),
-            _ => {}
-        }
-    }
-}
-
 /// Calls with these words behind a gate at which the workers of CPUs 0 and 1 wait for one another.
 fn meets<R: Abort + Threads + Wait + Sync>(
     rt: &R,
@@ -204,12 +159,12 @@ fn meets<R: Abort + Threads + Wait + Sync>(
 ) -> Result<(), NoMemory> {
     let mut files = files(alloc)?;
     let mut out = MemSink::new(alloc, 4096)?;
-    let gate = Meeting::new();
+    let gate = Meeting::with(1);
     let words = words(alloc, texts)?;
     let got = jailhouse(rt, alloc, words.as_slice(), &mut files, &mut out, &gate);
     assert_eq!(rt; got, Status::Good);
     assert_eq!(rt; out.bytes(), text.as_bytes());
-    assert_eq!(rt; gate.met.load(Ordering::SeqCst), 2);
+    assert_eq!(rt; gate.met(), 2);
     Ok(())
 }
 

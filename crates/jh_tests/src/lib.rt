@@ -8,4 +8,6 @@ mod cli;
 #[cfg(test)]
 mod exchanges;
 #[cfg(test)]
+mod meeting;
+#[cfg(test)]
 mod run;

@@ -2,17 +2,16 @@
 ghost use Rattle.std.specs.Prelude.{IfOk};
 ghost use Rattle.jh_history.specs.Admitted.{IsAdmitted};
 
+use crate::meeting::Meeting;
 use jh_cellcfg::{CellConfig, Region, SystemConfig};
 use jh_history::{Act, Entry, Journal, admit, due, is_on_board, quiet};
 use jh_num::{NoMemory, Seq};
-use jh_outside::{Gate, NoGate};
+use jh_outside::NoGate;
 use jh_run::{Ended, follow, play, run};
 use jh_script::{Image, Op, Program};
 use std::alloc::Global;
 use std::process::Abort;
-use std::sync::atomic::{AtomicU64, Ordering};
 use std::test::Fail;
-use std::thread;
 
 /// The one page of root's memory.
 const BASE: u64 = 0x4000_0000;
@@ -130,59 +129,15 @@ fn play_stops_at_a_full_journal(rt: HostRuntime) -> Result<(), Fail> {
     Ok(())
 }
 
-/// The worker of CPU 0 waits before its first turn until that of CPU 3 comes to its second, and that one waits
-/// before its second turn until CPU 0's comes to its second.
-#[derive(Drop)]
-struct Meeting {
-    zero: AtomicU64,
-    three: AtomicU64,
-    met: AtomicU64,
-}
-
-impl Meeting {
-    fn new() -> Meeting {
-        Meeting {
-            zero: AtomicU64::new(0),
-            three: AtomicU64::new(0),
-            met: AtomicU64::new(0),
-        }
-    }
-
-    /// Looks until the worker's second turn has begun.
-    fn await_second(&self, begun: &AtomicU64) {
-        for _ in 0..100_000_000u64 {
-            if begun.load(Ordering::SeqCst) > 0 {
-                self.met.fetch_add(1, Ordering::SeqCst);
-                return;
-            }
-            thread::yield_now();
-        }
-    }
-}
-
-impl Gate for Meeting {
-    fn pass(&self, cpu: u8, turn: u64) {
-        match (cpu, turn) {
-            (0, 0) => self.await_second(&self.three),
-            (3, 1) => {
-                self.three.store(1, Ordering::SeqCst);
-                self.await_second(&self.zero);
-            }
-            (0, 1) => self.zero.store(1, Ordering::SeqCst),
-            _ => {}
-        }
-    }
-}
-
 #[test]
 fn workers_of_two_cpus_wait_for_one_another(rt: HostRuntime) -> Result<(), Fail> {
     let alloc = rt.alloc();
     let image = ready(&rt, alloc, &[read(1)])?;
-    let meeting = Meeting::new();
+    let meeting = Meeting::with(3);
     let (board, ended) = run(&rt, alloc, image, &meeting, AMPLE)?;
     assert_eq!(rt; ended, Ended::Quiet);
     assert_eq!(rt; board.journal().as_slice(), [FIRST].as_slice());
-    assert_eq!(rt; meeting.met.load(Ordering::SeqCst), 2);
+    assert_eq!(rt; meeting.met(), 2);
     Ok(())
 }
 

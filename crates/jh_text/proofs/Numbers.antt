@@ -1,21 +1,28 @@
 -- What the reader makes of digits.
-use Rattle.std.proofs.Common.{◌≡◌, ◌&&◌, ℕ, ◌+◌, ◌*◌, ◌^◌, ◌<◌, ◌≤◌, Bool, true, false, not, eqb, nat_le, nat_lt, if◌then◌else◌, ◌==◌, List, [], ◌∷◌, ◌++◌, length, drop, get_or, Option, Some, None, refl, sym, ap, ◌∙◌, subst, arith}
+use Rattle.std.proofs.Common.{◌≡◌, ◌≢◌, ◌&&◌, ℕ, ◌+◌, ◌-◌, ◌*◌, ◌^◌, ◌<◌, ◌≤◌, Bool, true, false, not, eqb, nat_le, nat_lt, if◌then◌else◌, ◌==◌, List, [], ◌∷◌, ◌++◌, length, drop, get_or, Option, Some, None, refl, sym, ap, ◌∙◌, subst, arith}
 use Rattle.std.specs.Char.{digit_value, is_digit}
 use Rattle.std.specs.Fmt.{digits}
 use Rattle.std.specs.List.{list_all}
 use Rattle.std.specs.Str.Parse.{AllDigits, digits_value, digits_value_after}
-use Rattle.std.proofs.lemmas.Bool.{lt-ltb, ltb-true, le-leb, ne_eqb, eq-eqb, eqb-true, and_parts, false≢true}
-use Rattle.std.proofs.lemmas.List.{at_drop_more, at_drop_all}
+use Rattle.std.proofs.lemmas.Bool.{lt-ltb, lt-leb, ltb-true, le-leb, ne_eqb, eq-eqb, eqb-true, and_parts, false≢true}
 use Rattle.std.proofs.lemmas.Fmt.{digits_is_IsNumeral}
 use Rattle.std.proofs.lemmas.Option.{none-some, same_Some}
 use Rattle.std.proofs.Math.Nat.{pow-le-pow_left}
-use Rattle.jh_text.specs.Private.Reading.{◌>>=◌, is_lower, lower_digit, with_digit, digits_until, begins_plain, number_until}
+use Rattle.jh_text.specs.Private.Reading.{◌>>=◌, is_lower, lower_digit, with_digit, one_more, digits_until, begins_plain, number_until}
 use Rattle.jh_text.proofs.Plain.{is_plain, digits_of_plain, plain_digits, several_plain, value_ge}
 use Rattle.jh_text.proofs.Splits.{Lacks, Lacks_cons}
 
 -- a byte that is no digit, such as a space or a line feed, is none of the digits of a number
 no_digit : (radix byte d : ℕ) → radix ≤ 16 → digit_value byte ≡ 36 → digit_value d < radix → eqb d byte ≡ false
 no_digit radix byte d high none small = ne_eqb d byte (λ e. omega (arith, ap digit_value e))
+
+-- so it is no digit that is read
+pub end_is_no_digit : (radix end c d : ℕ) → radix ≤ 16 → digit_value end ≡ 36 → lower_digit radix c ≡ Some d → (c == end) ≡ false
+end_is_no_digit radix end c d high none digit = by (is_lower c && is_digit c radix) refl digit
+  where
+    by : (t : Bool) → (is_lower c && is_digit c radix) ≡ t → (if t then Some (digit_value c) else None) ≡ Some d → (c == end) ≡ false
+    by true is e = no_digit radix end c high none (ltb-true (digit_value c) radix (and_parts _ _ is).1)
+    by false is e = absurd (none-some _ e)
 
 digits_lack : (radix byte : ℕ) (ds : List ℕ) → radix ≤ 16 → digit_value byte ≡ 36 → AllDigits radix ds → Lacks byte ds
 digits_lack radix byte [] high none all = record { none = refl }
@@ -26,31 +33,39 @@ Lacks_digits radix byte n low high small none = digits_lack radix byte (digits r
 
 -- ---- digit by digit
 
--- the end is found
-pub until_here : (radix end n : ℕ) (text : List ℕ) (i : ℕ) → i < length text → (get_or text i 0 == end) ≡ true → digits_until radix end n (drop i text) ≡ Some (n, drop (i + 1) text)
+-- the end stands at the front
+pub until_end : (radix end n : ℕ) (text : List ℕ) → 1 ≤ length text → get_or text 0 0 ≡ end → digits_until radix end n text ≡ Some (n, drop 1 text)
 unfolding digits_until
-until_here radix end n text i h is = at_drop_more (digits_until radix end n) text i 0 h ∙ rw is refl
+until_end radix end n [] some is = absurd (let no : ⊥ = omega arith in no)
+until_end radix end n (c ∷ text) some is = rw (eq-eqb c end is) refl
 
--- one more digit
-pub until_more : (radix end n d m : ℕ) (text : List ℕ) (i : ℕ) → i < length text → (get_or text i 0 == end) ≡ false → lower_digit radix (get_or text i 0) ≡ Some d → with_digit radix n d ≡ Some m
-    → digits_until radix end n (drop i text) ≡ digits_until radix end m (drop (i + 1) text)
+-- a digit stands at the front
+pub until_digit : (radix end n m : ℕ) (text : List ℕ) → radix ≤ 16 → digit_value end ≡ 36 → 1 ≤ length text → one_more radix n (get_or text 0 0) ≡ Some m
+    → digits_until radix end n text ≡ digits_until radix end m (drop 1 text)
 unfolding digits_until
-until_more radix end n d m text i h other digit next = at_drop_more (digits_until radix end n) text i 0 h ∙ rw (other, digit, next) refl
-
--- a byte that is neither the end nor makes a number
-pub until_none : (radix end n : ℕ) (text : List ℕ) (i : ℕ) → i < length text → (get_or text i 0 == end) ≡ false → (lower_digit radix (get_or text i 0) >>= λ d. with_digit radix n d) ≡ None
-    → digits_until radix end n (drop i text) ≡ None
-unfolding digits_until
-until_none radix end n text i h other none = at_drop_more (digits_until radix end n) text i 0 h ∙ rw other (by (lower_digit radix (get_or text i 0)) none)
+until_digit radix end n m [] high none some more = absurd (let no : ⊥ = omega arith in no)
+until_digit radix end n m (c ∷ text) high none some more = by (lower_digit radix c) refl more
   where
-    by : (o : Option ℕ) → (o >>= λ d. with_digit radix n d) ≡ None → (o >>= λ d. with_digit radix n d >>= λ m. digits_until radix end m (drop (i + 1) text)) ≡ None
-    by None e = refl
-    by (Some d) e = rw e refl
+    by : (o : Option ℕ) → lower_digit radix c ≡ o → (o >>= with_digit radix n) ≡ Some m
+        → (if c == end then Some (n, text) else (o >>= λ d. with_digit radix n d >>= λ k. digits_until radix end k text)) ≡ digits_until radix end m text
+    by None e more = absurd (none-some _ more)
+    by (Some d) e more = rw (end_is_no_digit radix end c d high none e, more) refl
 
--- no end is found
-pub until_all : (radix end n : ℕ) (text : List ℕ) (i : ℕ) → length text ≤ i → digits_until radix end n (drop i text) ≡ None
+-- neither the end stands there nor a digit that makes a number
+pub until_other : (radix end n : ℕ) (text : List ℕ) → 1 ≤ length text → get_or text 0 0 ≢ end → one_more radix n (get_or text 0 0) ≡ None → digits_until radix end n text ≡ None
 unfolding digits_until
-until_all radix end n text i h = at_drop_all (digits_until radix end n) text i h
+until_other radix end n [] some other none = absurd (let no : ⊥ = omega arith in no)
+until_other radix end n (c ∷ text) some other none = by (lower_digit radix c) none
+  where
+    by : (o : Option ℕ) → (o >>= with_digit radix n) ≡ None → (if c == end then Some (n, text) else (o >>= λ d. with_digit radix n d >>= λ k. digits_until radix end k text)) ≡ None
+    by None e = rw (ne_eqb c end other) refl
+    by (Some d) e = rw (ne_eqb c end other, e) refl
+
+-- nothing is left
+pub until_nothing : (radix end n : ℕ) (text : List ℕ) → length text < 1 → digits_until radix end n text ≡ None
+unfolding digits_until
+until_nothing radix end n [] none = refl
+until_nothing radix end n (c ∷ text) none = absurd (let no : ⊥ = omega arith in no)
 
 -- ---- from the digits of a number to the number
 
@@ -97,6 +112,39 @@ number_again radix end most n rest low high none some small fits =
     lower_of [] plain = absurd (false≢true plain)
     lower_of (c ∷ []) plain = plain
     lower_of (c ∷ d ∷ ds) plain = (several_plain _ _ plain).1
+
+-- a number of one digit
+one_digit_until : (end most c : ℕ) (rest : List ℕ) → digit_value end ≡ 36 → 48 ≤ c → c ≤ 57 → number_until 10 end most (c ∷ end ∷ rest) ≡ (if nat_le (c - 48) most then Some (c - 48, rest) else None)
+unfolding number_until
+one_digit_until end most c rest none low high =
+    let value : digit_value c ≡ c - 48 = grind arith in
+    let all : AllDigits 10 (c ∷ []) = (omega arith, tt) in
+    let lower : is_lower c ≡ true = grind arith in
+    let after : digits_value_after 10 0 (c ∷ []) ≡ c - 48 = omega arith in
+    rw (
+      begins_again 10 end (c ∷ []) rest (omega arith) none all (rw lower refl),
+      on_again 10 end 0 (c ∷ []) rest (omega arith) (omega arith) none all (rw lower refl) (omega arith),
+      after,
+    ) refl
+
+-- a digit stands at the front, and the end behind it
+pub record OneDigit (end : ℕ) (text : List ℕ) : Type 0 where
+  pub long : 2 ≤ length text
+  pub low : 48 ≤ get_or text 0 0
+  pub high : get_or text 0 0 ≤ 57
+  pub last : get_or text 1 0 ≡ end
+
+one_digit_front : (end most : ℕ) (text : List ℕ) → digit_value end ≡ 36 → OneDigit end text → number_until 10 end most text ≡ (if nat_le (get_or text 0 0 - 48) most then Some (get_or text 0 0 - 48, drop 2 text) else None)
+one_digit_front end most [] none h = absurd (let no : ⊥ = omega (arith, h.long) in no)
+one_digit_front end most (c ∷ []) none h = absurd (let no : ⊥ = omega (arith, h.long) in no)
+one_digit_front end most (c ∷ d ∷ rest) none h =
+    ap (λ x. number_until 10 end most (c ∷ x ∷ rest)) h.last ∙ one_digit_until end most c rest none h.low h.high
+
+pub one_digit_fits : (end most : ℕ) (text : List ℕ) → digit_value end ≡ 36 → OneDigit end text → get_or text 0 0 - 48 ≤ most → number_until 10 end most text ≡ Some (get_or text 0 0 - 48, drop 2 text)
+one_digit_fits end most text none h fits = one_digit_front end most text none h ∙ rw (le-leb (get_or text 0 0 - 48) most fits) refl
+
+pub one_digit_large : (end most : ℕ) (text : List ℕ) → digit_value end ≡ 36 → OneDigit end text → most < get_or text 0 0 - 48 → number_until 10 end most text ≡ None
+one_digit_large end most text none h large = one_digit_front end most text none h ∙ rw (lt-leb (get_or text 0 0 - 48) most large) refl
 
 -- ---- from what is read to the text
 

@@ -1,12 +1,13 @@
 -- What each word tells is read again, before a space or a line feed.
-use Rattle.std.proofs.Common.{◌≡◌, ◌≢◌, ℕ, suc, ◌-◌, ◌^◌, ◌<◌, ◌≤◌, ℤ, pos, negsuc, Bool, true, false, List, [], ◌∷◌, ◌++◌, length, Option, Some, None, refl, ap, arith, IsTrue, FitsSigned, w64}
+use Rattle.std.proofs.Common.{◌≡◌, ◌≢◌, ℕ, suc, ◌-◌, ◌^◌, ◌<◌, ◌≤◌, ℤ, pos, negsuc, Bool, true, false, List, [], ◌∷◌, ◌++◌, length, Option, Some, None, refl, ap, arith, IsTrue, FitsSigned, w64, ◌⊎◌, inl, inr, drop, get_or, if◌then◌else◌}
 use Rattle.std.specs.Option.{IfSome}
 use Rattle.std.specs.Char.{digit_value}
-use Rattle.std.specs.Fmt.{decimal, signed_decimal}
+use Rattle.std.specs.Fmt.{decimal, signed_decimal, digits}
 use Rattle.std.specs.Str.Parse.{AllDigits}
 use Rattle.std.proofs.lemmas.Bool.{le-leb, ne_eqb}
 use Rattle.std.proofs.lemmas.Fmt.{decimal_is_IsNumeral}
 use Rattle.std.proofs.lemmas.Int.{ints}
+use Rattle.std.proofs.lemmas.Option.{none-some, same_Some}
 use Rattle.std.proofs.Math.Nat.{pow-le-pow_right}
 use Rattle.jh_history.specs.declared.entry.Settled.{Settled}
 use Rattle.jh_history.specs.declared.entry.Settled.TheVariants as settled
@@ -14,7 +15,7 @@ use Rattle.jh_history.specs.declared.entry.Heard.{Heard}
 use Rattle.jh_history.specs.declared.entry.Heard.TheVariants as heard
 use Rattle.jh_text.specs.Ranges.{is_width}
 use Rattle.jh_text.specs.Text.{hexadecimal, got_text, ok_text, decision_text, settled_text, heard_text}
-use Rattle.jh_text.specs.Private.Reading.{mapped, begins, max_u64, number_until, hexadecimal_until, answer_of, negative, width_of, got_of, ok_of, decision_of, settled_of, heard_of}
+use Rattle.jh_text.specs.Private.Reading.{mapped, begins, max_u64, number_until, hexadecimal_until, answer_of, negative, width_digit, width_of, got_of, ok_of, decision_of, settled_of, heard_of}
 use Rattle.jh_text.proofs.Numbers.{number_again}
 
 pub decimal_again : (end most n : ℕ) (rest : List ℕ) → digit_value end ≡ 36 → n < 2 ^ 64 → n ≤ most → number_until 10 end most (decimal n ++ end ∷ rest) ≡ Some (n, rest)
@@ -57,11 +58,40 @@ answer_is_not (negsuc n) rest c cs fits letter feed sign = rw (ne_eqb 45 c sign)
 pub width_le : (width : ℕ) → IsTrue (is_width width) → width ≤ 8
 width_le width h = grind arith
 
+width_cases : (width : ℕ) → IsTrue (is_width width) → (width ≡ 1) ⊎ (width ≡ 2) ⊎ (width ≡ 4) ⊎ (width ≡ 8)
+width_cases width h = grind arith
+
 pub width_again : (width : ℕ) (rest : List ℕ) → IsTrue (is_width width) → width_of (decimal width ++ 32 ∷ rest) ≡ Some (width, rest)
-unfolding width_of
-width_again width rest h =
-    let small : width ≤ 8 = width_le width h in
-    rw (decimal_again 32 8 width rest refl (omega arith) small, h) refl
+unfolding width_of digits
+width_again width rest h = elim (width_cases width h) as (λ _. width_of (decimal width ++ 32 ∷ rest) ≡ Some (width, rest)) [
+  | inl one ↦ rw one refl
+  | inr (inl two) ↦ rw two refl
+  | inr (inr (inl four)) ↦ rw four refl
+  | inr (inr (inr eight)) ↦ rw eight refl
+]
+
+-- a byte that tells a width is its one digit
+digit_of_width : (c width : ℕ) → width_digit c ≡ Some width → decimal width ≡ c ∷ []
+unfolding digits
+digit_of_width c width e = by (is_width (c - 48)) refl e
+  where
+    only : IsTrue (is_width (c - 48)) → decimal (c - 48) ≡ c ∷ []
+    only h = elim (width_cases (c - 48) h) as (λ _. decimal (c - 48) ≡ c ∷ []) [
+      | inl one ↦ rw one (ap (λ x. x ∷ []) (omega arith))
+      | inr (inl two) ↦ rw two (ap (λ x. x ∷ []) (omega arith))
+      | inr (inr (inl four)) ↦ rw four (ap (λ x. x ∷ []) (omega arith))
+      | inr (inr (inr eight)) ↦ rw eight (ap (λ x. x ∷ []) (omega arith))
+    ]
+
+    by : (t : Bool) → is_width (c - 48) ≡ t → (if t then Some (c - 48) else None) ≡ Some width → decimal width ≡ c ∷ []
+    by true is e = rw (← same_Some _ _ e) (only is)
+    by false is e = absurd (none-some _ e)
+
+-- a text that begins with the digit of a width and a space
+pub width_spelled : (width : ℕ) (text : List ℕ) → 2 ≤ length text → get_or text 1 0 ≡ 32 → width_digit (get_or text 0 0) ≡ Some width → text ≡ decimal width ++ 32 ∷ drop 2 text
+width_spelled width [] long space digit = absurd (let no : ⊥ = omega arith in no)
+width_spelled width (c ∷ []) long space digit = absurd (let no : ⊥ = omega arith in no)
+width_spelled width (c ∷ d ∷ rest) long space digit = rw (digit_of_width c width digit, space) refl
 
 -- eight bytes are the most
 pub widest : (width : ℕ) → IsTrue (is_width width) → 256 ^ width ≤ 2 ^ 64

@@ -11,7 +11,8 @@ const MOST_DIGITS: usize = 20;
 /// Room for the digits of a number, and for two bytes before them.
 const ROOM: usize = MOST_DIGITS + 2;
 
-/// Puts the decimal digits of the number at the end.
+/// Puts the decimal digits of the number at the end. Most numbers of a journal have one.
+#[inline(always)]
 pub(crate) fn push_decimal(text: &mut Vec<u8>, n: u64) -> Result<(), NoMemory>
     ensures { OnOk result (text.new.items ≡ text.old.items ++ decimal n) }
 {
@@ -19,6 +20,14 @@ pub(crate) fn push_decimal(text: &mut Vec<u8>, n: u64) -> Result<(), NoMemory>
         text.push(b'0' + n as u8)?;
         return Ok(());
     }
+    push_digits(text, n)
+}
+
+/// Puts the decimal digits of the number at the end, however many they are.
+#[inline(never)]
+fn push_digits(text: &mut Vec<u8>, n: u64) -> Result<(), NoMemory>
+    ensures { OnOk result (text.new.items ≡ text.old.items ++ decimal n) }
+{
     let mut room = [0; ROOM];
     let start = write_digits(10, &mut room, n);
     text.extend_from_slice(&room[start..])?;

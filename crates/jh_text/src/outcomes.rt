@@ -38,6 +38,7 @@ pub(crate) fn heard_word(how: Heard) -> &'static str
 }
 
 /// What a read or a fetch gave; without a value where it was a violation.
+#[inline(always)]
 #[tactic(auto, unfolding(crate::specs::Private::Reading::got_of))]
 pub(crate) fn read_got(text: &mut Reader, most: u64) -> Option<Option<u64>>
     ensures value { Reads result text.new (got_of most text.old) }

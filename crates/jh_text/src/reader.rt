@@ -1,12 +1,11 @@
 //! What stands at the front of a text: words and numbers, read one after the other.
-ghost use Rattle.std.specs.Prelude.{◌≡◌, ℕ, ◌^◌, ◌≤◌, [], ◌∷◌, ◌++◌, true, false, length, drop, if◌then◌else◌, IfSome, IsTrue};
+ghost use Rattle.std.specs.Prelude.{◌≡◌, ℕ, ◌^◌, ◌≤◌, [], ◌∷◌, ◌++◌, true, false, length, drop, if◌then◌else◌, IfSome, IsTrue, codes};
 ghost use Rattle.std.specs.Char.{digit_value};
 ghost use Rattle.std.specs.Fmt.{decimal, signed_decimal, digits};
 ghost use Rattle.jh_text.specs.Ranges.{is_width};
 ghost use Rattle.jh_text.specs.Text.{hexadecimal};
-ghost use Rattle.jh_text.specs.Private.Reading.{Finds, Reads, begins, behind, lower_digit, with_digit, digits_until, begins_plain, number_until, hexadecimal_until, negative, answer_of, width_of};
+ghost use Rattle.jh_text.specs.Private.Reading.{Finds, Reads, begins, behind, lower_digit, with_digit, one_more, digits_until, begins_plain, number_until, hexadecimal_until, negative, answer_of, width_digit, width_of};
 
-use jh_script::access_width;
 use std::marker::Model;
 
 /// What is left of a text that is read from its front.
@@ -30,10 +29,14 @@ fn lower_digit(radix: u32, byte: u8) -> Option<u64>
     requires high { radix ≤ 16 }
     ensures { result ≡ lower_digit radix byte }
 {
-    let digit = match byte {
-        b'0'..=b'9' => byte - b'0',
-        b'a'..=b'f' => byte - b'a' + 10,
-        _ => return None,
+    let figure = byte.wrapping_sub(b'0');
+    let letter = byte.wrapping_sub(b'a');
+    let digit = if figure < 10 {
+        figure
+    } else if letter < 6 {
+        letter + 10
+    } else {
+        return None;
     };
     if u32::from(digit) < radix {
         Some(u64::from(digit))
@@ -50,7 +53,18 @@ fn with_digit(radix: u32, n: u64, digit: u64) -> Option<u64>
     n.checked_mul(u64::from(radix))?.checked_add(digit)
 }
 
+/// The number with the byte as one more digit; `None` where the byte is no digit, or the number is too large.
+#[inline(always)]
+fn one_more(radix: u32, n: u64, byte: u8) -> Option<u64>
+    requires low { 2 ≤ radix }
+    requires high { radix ≤ 16 }
+    ensures { result ≡ one_more radix n byte }
+{
+    with_digit(radix, n, lower_digit(radix, byte)?)
+}
+
 /// Whether a word stands before the end and doesn't begin with a 0 that isn't all of it.
+#[inline(always)]
 fn begins_plain(end: u8, text: &[u8]) -> bool
     ensures { result ≡ begins_plain end text.now }
 {
@@ -63,20 +77,90 @@ fn begins_plain(end: u8, text: &[u8]) -> bool
 
 /// The number that the digits before the end write, and what stands behind the end.
 #[inline(always)]
-#[tactic(auto, using(crate::proofs::Numbers::until_all))]
 fn digits(radix: u32, end: u8, text: &[u8]) -> Option<(u64, &[u8])>
     requires low { 2 ≤ radix }
     requires high { radix ≤ 16 }
+    requires end { digit_value end ≡ 36 }
     ensures { Finds (λ x. (x.0, x.1.now)) result (digits_until radix end 0 text.now) }
 {
     let mut n = 0;
-    for (at, byte) in text.iter().enumerate() {
-        if *byte == end {
-            return Some((n, &text[at + 1..]));
-        }
-        n = with_digit(radix, n, lower_digit(radix, *byte)?)?;
+    let mut rest = text;
+    while let [byte, behind @ ..] = rest {
+        let Some(more) = one_more(radix, n, *byte) else {
+            break;
+        };
+        n = more;
+        rest = behind;
     }
-    None
+    match rest {
+        [last, behind @ ..] if *last == end => Some((n, behind)),
+        _ => None,
+    }
+}
+
+/// The number whose digits are the word before the end, without leading zeros, where it is `most` at most, and what
+/// stands behind the end.
+#[inline(always)]
+#[tactic(auto, unfolding(crate::specs::Private::Reading::number_until))]
+fn number(radix: u32, end: u8, most: u64, text: &[u8]) -> Option<(u64, &[u8])>
+    requires low { 2 ≤ radix }
+    requires high { radix ≤ 16 }
+    requires end { digit_value end ≡ 36 }
+    ensures value { Finds (λ x. (x.0, x.1.now)) result (number_until radix end most text.now) }
+    ensures bound { IfSome result (λ x. x.0 ≤ most) }
+    ensures spelled { IfSome result (λ x. text.now ≡ digits radix false x.0 ++ end ∷ x.1.now) }
+{
+    if !begins_plain(end, text) {
+        return None;
+    }
+    let (n, rest) = digits(radix, end, text)?;
+    if most < n {
+        return None;
+    }
+    Some((n, rest))
+}
+
+/// The number whose decimal digits, one or more, are the word before the end, and what stands behind the end.
+#[inline(never)]
+fn some_digits(end: u8, most: u64, text: &[u8]) -> Option<(u64, &[u8])>
+    requires end { digit_value end ≡ 36 }
+    ensures value { Finds (λ x. (x.0, x.1.now)) result (number_until 10 end most text.now) }
+    ensures bound { IfSome result (λ x. x.0 ≤ most) }
+    ensures spelled { IfSome result (λ x. text.now ≡ decimal x.0 ++ end ∷ x.1.now) }
+{
+    number(10, end, most, text)
+}
+
+/// The number whose decimal digits are the word before the end, and what stands behind the end. Most have one digit.
+#[inline(always)]
+fn decimal_number(end: u8, most: u64, text: &[u8]) -> Option<(u64, &[u8])>
+    requires end { digit_value end ≡ 36 }
+    ensures value { Finds (λ x. (x.0, x.1.now)) result (number_until 10 end most text.now) }
+    ensures bound { IfSome result (λ x. x.0 ≤ most) }
+    ensures spelled { IfSome result (λ x. text.now ≡ decimal x.0 ++ end ∷ x.1.now) }
+{
+    match text {
+        [digit @ b'0'..=b'9', second, rest @ ..] if *second == end => {
+            let n = u64::from(*digit - b'0');
+            if n <= most { Some((n, rest)) } else { None }
+        }
+        _ => {
+            // Taken apart here, so that what the other arm gives stays in registers.
+            let (n, rest) = some_digits(end, most, text)?;
+            Some((n, rest))
+        }
+    }
+}
+
+/// The width of an access that the digit writes.
+#[inline(always)]
+fn width_digit(digit: u8) -> Option<u8>
+    ensures { result ≡ width_digit digit }
+{
+    match digit {
+        b'1' | b'2' | b'4' | b'8' => Some(digit - b'0'),
+        _ => None,
+    }
 }
 
 /// The number below 0 that has these digits behind its sign.
@@ -130,41 +214,21 @@ impl<'a> Reader<'a> {
         }
     }
 
-    /// The number whose digits are the word before the end, without leading zeros, where it is `most` at most.
-    #[inline(always)]
-    #[tactic(auto, unfolding(crate::specs::Private::Reading::number_until))]
-    fn number(&mut self, radix: u32, end: u8, most: u64) -> Option<u64>
-        requires low { 2 ≤ radix }
-        requires high { radix ≤ 16 }
-        requires end { digit_value end ≡ 36 }
-        ensures value { Reads result self.new (number_until radix end most self.old) }
-        ensures bound { IfSome result (λ n. n ≤ most) }
-        ensures spelled { IfSome result (λ n. self.old ≡ digits radix false n ++ end ∷ self.new) }
-    {
-        if !begins_plain(end, self.rest) {
-            return None;
-        }
-        let (n, rest) = digits(radix, end, self.rest)?;
-        if most < n {
-            return None;
-        }
-        self.rest = rest;
-        Some(n)
-    }
-
     /// The number whose decimal digits are the word before the end.
-    #[inline(never)]
+    #[inline(always)]
     pub(crate) fn decimal(&mut self, end: u8, most: u64) -> Option<u64>
         requires end { digit_value end ≡ 36 }
         ensures value { Reads result self.new (number_until 10 end most self.old) }
         ensures bound { IfSome result (λ n. n ≤ most) }
         ensures spelled { IfSome result (λ n. self.old ≡ decimal n ++ end ∷ self.new) }
     {
-        self.number(10, end, most)
+        let (n, rest) = decimal_number(end, most, self.rest)?;
+        self.rest = rest;
+        Some(n)
     }
 
     /// The number whose digits stand behind `0x` in the word before the end.
-    #[inline(never)]
+    #[inline(always)]
     #[tactic(auto, unfolding(crate::specs::Private::Reading::hexadecimal_until))]
     pub(crate) fn hexadecimal(&mut self, end: u8, most: u64) -> Option<u64>
         requires end { digit_value end ≡ 36 }
@@ -173,15 +237,33 @@ impl<'a> Reader<'a> {
         ensures spelled { IfSome result (λ n. self.old ≡ hexadecimal n ++ end ∷ self.new) }
     {
         match self.rest {
-            [b'0', b'x', rest @ ..] => {
+            [b'0', b'x', text @ ..] => {
+                let (n, rest) = number(16, end, most, text)?;
                 self.rest = rest;
-                self.number(16, end, most)
+                Some(n)
             }
             _ => None,
         }
     }
 
+    /// Whether an equals sign and a space stand at the front: then they are passed over.
+    #[inline(always)]
+    pub(crate) fn pass_sign(&mut self) -> bool
+        ensures value { result ≡ begins (codes "= ") self.old }
+        ensures whole { IsTrue result → self.old ≡ codes "= " ++ self.new }
+        ensures left { self.new ≡ (if result then behind (codes "= ") self.old else self.old) }
+    {
+        match self.rest {
+            [b'=', b' ', rest @ ..] => {
+                self.rest = rest;
+                true
+            }
+            _ => false,
+        }
+    }
+
     /// A number with a sign, the last word of its line.
+    #[inline(always)]
     #[tactic(auto, unfolding(crate::specs::Private::Reading::answer_of))]
     pub(crate) fn answer(&mut self) -> Option<i64>
         ensures value { Reads result self.new (answer_of self.old) }
@@ -201,12 +283,20 @@ impl<'a> Reader<'a> {
     }
 
     /// The number of bytes of an access.
+    #[inline(always)]
     #[tactic(auto, unfolding(crate::specs::Private::Reading::width_of))]
     pub(crate) fn width(&mut self) -> Option<u8>
         ensures value { Reads result self.new (width_of self.old) }
         ensures width { IfSome result (λ width. IsTrue (is_width width)) }
         ensures spelled { IfSome result (λ width. self.old ≡ decimal width ++ 32 ∷ self.new) }
     {
-        access_width(self.decimal(b' ', 8)?)
+        match self.rest {
+            [digit, b' ', rest @ ..] => {
+                let width = width_digit(*digit)?;
+                self.rest = rest;
+                Some(width)
+            }
+            _ => None,
+        }
     }
 }

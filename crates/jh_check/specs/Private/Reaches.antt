@@ -12,9 +12,8 @@ use Rattle.jh_check.specs.declared.reach.Reaches.{Reaches}
 use Rattle.jh_check.specs.declared.reach.Window.{Window}
 use Rattle.jh_check.specs.declared.gaps.Gap.{Gap}
 use Rattle.jh_check.specs.declared.gaps.Gaps.{Gaps}
-use Rattle.jh_check.specs.declared.gaps.Extents.{Extents}
 use Rattle.jh_check.specs.Regions.{Spot, pair_breaks}
-use Rattle.jh_check.specs.Spans.{takes_part, span_of, spans_meet, is_within, LiesWithin}
+use Rattle.jh_check.specs.Spans.{span_of, spans_meet, is_within, LiesWithin}
 use Rattle.jh_check.specs.Findings.{spot}
 
 -- the rule lets the region meet those that are shared
@@ -90,25 +89,6 @@ IsGap reaches gap = (span : Span) → LiesWithin span gap.start gap.end → IsRe
 pub record AreGaps (reaches : Reaches) (gaps : Gaps) : Type 0 where
   pub any : IsGap reaches.any.items gaps.any
   pub unshared : IsGap (unshared_of reaches) gaps.unshared
-
--- the span is within the extent
-pub record IsInside (span extent : Span) : Type 0 where
-  pub starts : extent.start ≤ span.start
-  pub ends : span.end ≤ extent.end
-
--- the extent by which the region is looked for
-abbrev pub extent_for : Rule → Region → Extents → Span
-extent_for rule region extents = if passes_shared rule region then extents.unshared else extents.any
-
--- each of the first regions that takes part is within the extent by which it is looked for
-abbrev pub AreExtentsTo : Rule → List Region → ℕ → Extents → Type 0
-AreExtentsTo rule regions n extents =
-    (r : ℕ) (d : Region) → r < n → r < length regions → takes_part rule (slice_index_or regions r d) ≡ true
-    → IsInside (span_of rule r (slice_index_or regions r d)) (extent_for rule (slice_index_or regions r d) extents)
-
--- each region that takes part is within the extent by which it is looked for
-abbrev pub AreExtents : Rule → List Region → Extents → Type 0
-AreExtents rule regions extents = AreExtentsTo rule regions (length regions) extents
 
 -- the reaches tell of the regions of the cell, which has that number
 pub record AreOf (rule : Rule) (b : ℕ) (other : CellConfig) (reaches : Reaches) : Type 0 where

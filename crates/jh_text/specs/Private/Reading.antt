@@ -62,6 +62,10 @@ lower_digit radix c = if is_lower c && is_digit c radix then Some (digit_value c
 abbrev pub with_digit : ℕ → ℕ → ℕ → Option ℕ
 with_digit radix n digit = if nat_lt (n * radix + digit) (2 ^ 64) then Some (n * radix + digit) else None
 
+-- the number with one more digit, which the byte is
+abbrev pub one_more : ℕ → ℕ → ℕ → Option ℕ
+one_more radix n c = lower_digit radix c >>= with_digit radix n
+
 -- the number that the digits before the end write behind those of n
 unfoldable pub digits_until : ℕ → ℕ → ℕ → List ℕ → Option (ℕ × List ℕ)
 digits_until radix end n [] = None
@@ -97,10 +101,15 @@ answer_of (c ∷ text) =
     if c == 45 then (number_until 10 10 max_u64 text >>= λ x. option_map (λ z. (z, x.1)) (negative x.0))
     else mapped pos (number_until 10 10 (2 ^ 63 - 1) (c ∷ text))
 
+-- the width that the digit writes
+abbrev pub width_digit : ℕ → Option ℕ
+width_digit c = if is_width (c - 48) then Some (c - 48) else None
+
+-- a width has one digit, behind which a space stands
 unfoldable pub width_of : List ℕ → Option (ℕ × List ℕ)
-width_of text = do
-  width ← number_until 10 32 8 text
-  if is_width width.0 then Some width else None
+width_of [] = None
+width_of (c ∷ []) = None
+width_of (c ∷ d ∷ text) = if d == 32 then option_map (λ width. (width, text)) (width_digit c) else None
 
 -- ---- the last word of a line
 

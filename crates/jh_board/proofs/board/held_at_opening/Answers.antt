@@ -18,6 +18,6 @@ returns c =
     let ready = c.prepare_devices.new.memory in
     let joined = c.change_devices.new.memory in
     let before : byte_of ready ≡ loaded_byte image = same_function (byte_of ready) (loaded_byte image) (λ q. c.prepare_devices.ensures.bytes q ∙ c.in_ok-memory.ensures q) in
-    Means_opened image _ c.new-2.result (λ q. c.change_devices.ensures.bytes q ∙ ap (λ (byte : Place → ℕ). with_words specs byte q) before) refl (λ i. c.new-2.ensures) c.in_ok-cells.ensures.system c.in_ok-cells.ensures.alone
+    Means_opened image _ c.new-2.result (λ q. c.change_devices.ensures.bytes q ∙ ap (λ (byte : Place → ℕ). with_words specs byte q) before) refl (λ i. c.new-2.ensures) c.in_ok-cells.ensures.system c.in_ok-cells.ensures.alone c.opening_programs.ensures
     (c.change_devices.ensures.list ∙ ap (endpoints_changed Join specs) (c.prepare_devices.ensures.list ∙ c.new-endpoints.ensures))
     (words_kept ready joined specs c.change_devices.ensures.held c.in_ok-prepare_devices.ensures.held) refl

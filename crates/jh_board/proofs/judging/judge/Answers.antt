@@ -44,7 +44,7 @@ pub returns : goal.returns
 returns c = λ f h.
     let image = c.args.image.now in
     let owned = c.cpus_of_root-owned.ensures f h.cpus in
-    let is = verdict_is image f c.cells-cells.result.now c.get.result.now c.mask_of.result c.args.caller c.pool_pages.result
-    (c.cells-cells.ensures.system ∙ h.system) (c.cells-cells.ensures.lives ∙ h.cells) (λ k. c.mask_of.ensures k ∙ owned k) c.pool_pages.ensures in
+    let is = verdict_is image f c.cells-cells.result.now c.get.result.now c.cpus_of_root-owned.result c.args.caller c.pool_pages.result
+    (c.cells-cells.ensures.system ∙ h.system) (c.cells-cells.ensures.lives ∙ h.cells) owned c.pool_pages.ensures in
     c.unless_refused.ensures
     ∙ ap (unless_refused c.args.config) (c.in_ok-refusal.ensures.value ∙ is ∙ ap (refusal_by image (configs_of f.cells) (may_give image f c.args.caller)) c.get.ensures)

@@ -15,6 +15,8 @@ use Rattle.jh_history.specs.Facts.{Facts}
 use Rattle.jh_history.specs.Pages.{page_write_by}
 use Rattle.jh_shape.specs.Lives.{configs_of}
 use Rattle.jh_board.specs.declared.held.Held.{Held}
+use Rattle.jh_board.specs.declared.indexed.FoundProgram.{FoundProgram}
+use Rattle.jh_board.specs.Indexed.{AreFound}
 use Rattle.jh_board.specs.LiveView.{LiveView}
 use Rattle.jh_board.specs.Means.{Means}
 use Rattle.jh_board.specs.Pages.{byte_of, HoldsComm}
@@ -39,10 +41,10 @@ pub returns-in_err-make_bytes-clause-err : goal.returns-in_err-make_bytes-clause
 returns-in_err-make_bytes-clause-err c =
     let image = c.args.image.now in
     let held : Held = c.prepare.new.held in
-    let mid : Held = record { memory = c.make_bytes.new.memory; cpus = held.cpus; cells = held.cells; endpoints = held.endpoints; call = held.call; index = held.index; alloc = held.alloc } in
+    let mid : Held = record { memory = c.make_bytes.new.memory; cpus = held.cpus; cells = held.cells; programs = held.programs; endpoints = held.endpoints; call = held.call; index = held.index; alloc = held.alloc } in
     on_err c.from_residual-in_err-make_bytes.result ((f : Facts) → Means image c.args.held.now f → Means image mid f) (λ f old.
     let means = c.prepare.ensures.means f old in
-    Means_kept image held mid f c.in_err-make_bytes.ensures.err c.make_bytes.ensures.held refl refl refl refl refl (ready_kept held mid f.call refl refl (omega arith) c.make_bytes.ensures.held means.ready) means)
+    Means_kept image held mid f c.in_err-make_bytes.ensures.err c.make_bytes.ensures.held refl refl refl refl refl refl (ready_kept held mid f.call refl refl (omega arith) c.make_bytes.ensures.held means.ready) means)
 
 pub make_devices-requires : goal.make_devices-requires
 make_devices-requires c =
@@ -52,7 +54,7 @@ make_devices-requires c =
     let sound = c.requires.next.sound in
     let held : Held = c.prepare.new.held in
     let means = c.prepare.ensures.means f c.requires.next.means in
-    let mid : Held = record { memory = c.make_bytes.new.memory; cpus = held.cpus; cells = held.cells; endpoints = held.endpoints; call = held.call; index = held.index; alloc = held.alloc } in
+    let mid : Held = record { memory = c.make_bytes.new.memory; cpus = held.cpus; cells = held.cells; programs = held.programs; endpoints = held.endpoints; call = held.call; index = held.index; alloc = held.alloc } in
     may_write_slot image held mid f entry.cell entry.act c.args.reach.now means sound refl refl c.make_bytes.ensures.held
     (λ value. c.devices_may_change.ensures.word image f entry.cell value c.args.reach.now sound)
 
@@ -123,7 +125,7 @@ returns-clause-ok c = λ f old due.
     let acted = c.make_devices.ensures in
     let changed = c.make_commit.ensures in
     let last : Held = c.make_commit.new.held in
-    let mid : Held = record { memory = c.make_page.new.memory; cpus = c.cpus_after.new.cpus; cells = last.cells; endpoints = last.endpoints; call = last.call; index = last.index; alloc = last.alloc } in
+    let mid : Held = record { memory = c.make_page.new.memory; cpus = c.cpus_after.new.cpus; cells = last.cells; programs = last.programs; endpoints = last.endpoints; call = last.call; index = last.index; alloc = last.alloc } in
     let call = changed.others.call ∙ acted.others.call ∙ means.call in
     let cells = ap (λ (v : LiveView). v.lives) (changed.others.cells ∙ acted.others.cells) ∙ means.cells in
     let acted_call = sym (acted.others.call ∙ means.call) in
@@ -137,7 +139,10 @@ returns-clause-ok c = λ f old due.
     let known = c.requires.next in
     let P : List Endpoint → Type 0 = λ list. IsNextOf entry.cell list entry.act in
     let next = subst P (sym known.means.endpoints ∙ old.endpoints) (c.devices_may_change.ensures.interrupt image known.facts entry known.sound known.due) in
-    Means_made image held mid c.make_call.new.held f entry c.in_ok-coming.coming (c.in_ok-coming.ensures.ok f old due) (record {
+    let called : Held = c.make_call.new.held in
+    let new : Held = record { memory = called.memory; cpus = called.cpus; cells = called.cells; programs = c.renew_programs.new.programs; endpoints = called.endpoints; call = called.call; index = called.index; alloc = called.alloc } in
+    let F : List Live → List FoundProgram → Type 0 = AreFound image in
+    Means_made image held mid new f entry c.in_ok-coming.coming (c.in_ok-coming.ensures.ok f old due) (record {
       bytes = entry_bytes image f entry c.args.reach.now devices c.page_write-write.result (byte_of held.memory) (byte_of c.make_bytes.new.memory) (byte_of c.make_devices.new.held.memory) (byte_of last.memory) (byte_of c.make_page.new.memory)
           reached same write means.bytes c.in_ok-make_bytes.ensures.ok acted.bytes (changed.bytes f acted_cells acted_call) c.make_page.ensures.bytes;
       pages = λ q there. c.make_page.ensures.held q (changed.others.pages q (acted.others.pages q (c.make_bytes.ensures.held q there)));
@@ -147,6 +152,7 @@ returns-clause-ok c = λ f old due.
           changed.spare (ap (λ (cs : List Live). changing_by cs c.make_devices.new.held.call entry.act) (sym acted_cells) ∙ ap (λ (k : Option OpenCall). changing_by f.cells k entry.act) (sym acted_call) ∙ none)
           ∙ acted.spare;
       cells = changed.others.cells ∙ acted.others.cells;
+      programs = changed.others.programs ∙ acted.others.programs;
       call = changed.others.call ∙ acted.others.call;
       index = changed.others.index ∙ acted.others.index;
     }) (record {
@@ -157,5 +163,6 @@ returns-clause-ok c = λ f old due.
       lives = c.make_call.ensures.lives;
       named = c.make_call.ensures.named;
       call = c.make_call.ensures.call;
-      ready = c.make_call.ensures.ready;
+      programs = λ k lives found same. c.renew_programs.ensures k lives (subst (F lives) (sym c.make_call.ensures.programs) found) same;
+      ready = λ h. ready_kept called new called.call refl refl (omega arith) (λ q there. there) (c.make_call.ensures.ready h);
     })

@@ -47,5 +47,5 @@ returns-in_default c =
       bytes = λ q. ap (λ (slot : Option Slot). with_slot_if slot (byte_of held.memory) q) (sym none.0);
       list = sym none.1;
       spare = refl;
-      others = record { cpus = refl; cells = refl; call = refl; index = refl; pages = λ q h. h };
+      others = record { cpus = refl; cells = refl; programs = refl; call = refl; index = refl; pages = λ q h. h };
     }

@@ -7,20 +7,20 @@ use Rattle.jh_board.proofs.steps.make_ready.Goals as goal
 pub returns-in_err-index-clause-means : goal.returns-in_err-index-clause-means
 returns-in_err-index-clause-means c = λ i f free means.
     let old = c.args.held.now in
-    let new : Held = record { memory = old.memory; cpus = old.cpus; cells = c.prepare.new.self; endpoints = old.endpoints; call = old.call; index = old.index; alloc = old.alloc } in
-    Means_kept i old new f (λ q. refl) (λ q h. h) refl c.prepare.ensures.system c.prepare.ensures.lives refl refl (free new) means
+    let new : Held = record { memory = old.memory; cpus = old.cpus; cells = c.prepare.new.self; programs = old.programs; endpoints = old.endpoints; call = old.call; index = old.index; alloc = old.alloc } in
+    Means_kept i old new f (λ q. refl) (λ q h. h) refl c.prepare.ensures.system c.prepare.ensures.lives refl refl refl (free new) means
 
 pub returns-in_err-hold_page-clause-means : goal.returns-in_err-hold_page-clause-means
 returns-in_err-hold_page-clause-means c = λ i f free means.
     let old = c.args.held.now in
-    let new : Held = record { memory = c.hold_page.new.self; cpus = old.cpus; cells = c.prepare.new.self; endpoints = old.endpoints; call = old.call; index = old.index; alloc = old.alloc } in
-    Means_kept i old new f c.hold_page.ensures.bytes c.hold_page.ensures.others refl c.prepare.ensures.system c.prepare.ensures.lives refl refl (free new) means
+    let new : Held = record { memory = c.hold_page.new.self; cpus = old.cpus; cells = c.prepare.new.self; programs = old.programs; endpoints = old.endpoints; call = old.call; index = old.index; alloc = old.alloc } in
+    Means_kept i old new f c.hold_page.ensures.bytes c.hold_page.ensures.others refl c.prepare.ensures.system c.prepare.ensures.lives refl refl refl (free new) means
 
 pub returns-in_err-prepare_devices-clause-means : goal.returns-in_err-prepare_devices-clause-means
 returns-in_err-prepare_devices-clause-means c = λ i f free means.
     let old = c.args.held.now in
-    let new : Held = record { memory = c.prepare_devices.new.memory; cpus = old.cpus; cells = c.prepare.new.self; endpoints = c.prepare_devices.new.endpoints; call = old.call; index = old.index; alloc = old.alloc } in
-    Means_kept i old new f (λ q. c.prepare_devices.ensures.bytes q ∙ c.hold_page.ensures.bytes q) (λ q h. c.prepare_devices.ensures.others q (c.hold_page.ensures.others q h)) refl c.prepare.ensures.system c.prepare.ensures.lives
+    let new : Held = record { memory = c.prepare_devices.new.memory; cpus = old.cpus; cells = c.prepare.new.self; programs = old.programs; endpoints = c.prepare_devices.new.endpoints; call = old.call; index = old.index; alloc = old.alloc } in
+    Means_kept i old new f (λ q. c.prepare_devices.ensures.bytes q ∙ c.hold_page.ensures.bytes q) (λ q h. c.prepare_devices.ensures.others q (c.hold_page.ensures.others q h)) refl c.prepare.ensures.system c.prepare.ensures.lives refl
     c.prepare_devices.ensures.list refl (free new) means
 
 pub returns-clause-ready : goal.returns-clause-ready
@@ -36,6 +36,6 @@ returns-clause-ready c = record {
 pub returns-clause-means : goal.returns-clause-means
 returns-clause-means c = λ i f free means.
     let old = c.args.held.now in
-    let new : Held = record { memory = c.prepare_devices.new.memory; cpus = old.cpus; cells = c.prepare.new.self; endpoints = c.prepare_devices.new.endpoints; call = old.call; index = Some c.in_ok-index.index; alloc = old.alloc } in
-    Means_kept i old new f (λ q. c.prepare_devices.ensures.bytes q ∙ c.hold_page.ensures.bytes q) (λ q h. c.prepare_devices.ensures.others q (c.hold_page.ensures.others q h)) refl c.prepare.ensures.system c.prepare.ensures.lives
+    let new : Held = record { memory = c.prepare_devices.new.memory; cpus = old.cpus; cells = c.prepare.new.self; programs = old.programs; endpoints = c.prepare_devices.new.endpoints; call = old.call; index = Some c.in_ok-index.index; alloc = old.alloc } in
+    Means_kept i old new f (λ q. c.prepare_devices.ensures.bytes q ∙ c.hold_page.ensures.bytes q) (λ q h. c.prepare_devices.ensures.others q (c.hold_page.ensures.others q h)) refl c.prepare.ensures.system c.prepare.ensures.lives refl
     c.prepare_devices.ensures.list refl (free new) means

@@ -1,58 +1,44 @@
-use Rattle.std.proofs.Common.{◌≡◌, ◌<◌, [], ◌++◌, length, get_or, refl}
-use Rattle.jh_cellcfg.specs.declared.region.Region.{Region}
+use Rattle.std.proofs.Common.{◌≡◌, ◌+◌, ◌*◌, ◌++◌, refl, sym, ap, ◌∙◌, arith}
+use Rattle.jh_check.specs.declared.blocks.TheConstants.{BLOCK}
 use Rattle.jh_check.specs.Lists.{capped}
-use Rattle.jh_check.specs.Findings.{between, between_at, spot}
-use Rattle.jh_check.proofs.ListLemmas.{found_step, found_done}
-use Rattle.jh_check.proofs.ReachLemmas.{own_spot, beside_unreached, capped_none_more}
+use Rattle.jh_check.specs.Findings.{between, between_at}
+use Rattle.jh_check.specs.Private.Blocks.{between_from}
+use Rattle.jh_check.proofs.ListLemmas.{found_done}
+use Rattle.jh_check.proofs.BlockLemmas.{block_beyond}
 use Rattle.jh_check.proofs.pairing.between.Goals as goal
 
-pub loop-r-init : goal.loop-r-init
+pub loop-k-init : goal.loop-k-init
 unfolding between
-loop-r-init c = record { gaps = c.first_gaps-gaps.ensures; found = refl }
+loop-k-init c = record { gaps = c.first_gaps-gaps.ensures; found = refl }
 
-pub loop-r-preserved-then-not-may_meet : goal.loop-r-preserved-then-not-may_meet
-loop-r-preserved-then-not-may_meet c =
+pub loop-k-preserved-then-lie_in : goal.loop-k-preserved-then-lie_in
+loop-k-preserved-then-lie_in c =
     let pair = c.args.pair.now in
-    let found = between_at c.args.rule pair.a pair.one.now pair.b pair.other.now in
-    let regions = pair.one.now.memory_regions in
-    let none : Region = record { phys_start = 0; virt_start = 0; size = 0; flags = 0 } in
-    let v = c.as_slice-region-items.ensures.value in
-    let t = c.loop-r-test.true in
-    let h : c.loop-r.r < length regions = rw v at t in
-    let own = own_spot pair.a pair.one.now c.loop-r.r none pair.b pair.other.now h c.requires.same in
-    let told = c.may_meet.ensures.told c.if-not-may_meet.true in
-    let missed = rw v at told in
-    let e : found c.loop-r.r (get_or regions c.loop-r.r none) ≡ [] = beside_unreached c.args.rule (spot pair.a pair.one.now c.loop-r.r (get_or regions c.loop-r.r none)) pair.b pair.other.now c.args.reaches.now c.requires.reaches own missed in
+    let k = c.loop-k.k in
+    let lies = c.if-lie_in.true in
+    let gaps = c.loop-k.invariant.gaps in
+    let any = gaps.any _ (c.lie_in.ensures.any lies) in
+    let unshared = gaps.unshared _ (c.lie_in.ensures.unshared lies) in
+    let t = c.loop-k-test.true in
+    let e : BLOCK * (k + 1) ≡ BLOCK * k + BLOCK = omega arith in
+    let passed = block_beyond c.args.rule pair.a pair.one.now pair.b pair.other.now c.args.reaches.now (BLOCK * k) BLOCK _ c.requires.reaches c.requires.same (c.requires.blocks.each k _ (omega arith)) any unshared in
     record {
-      gaps = c.may_meet.ensures.gaps;
-      found = found_step found regions c.loop-r.r none c.loop-r.found c.loop-r.found _ h (capped_none_more c.loop-r.found (found c.loop-r.r (get_or regions c.loop-r.r none)) e) c.loop-r.invariant.found;
+      gaps = gaps;
+      found = ap (λ n. capped (c.loop-k.found ++ between_from c.args.rule pair.a pair.one.now pair.b pair.other.now n)) e ∙ ap (λ xs. capped (c.loop-k.found ++ xs)) (sym passed) ∙ c.loop-k.invariant.found;
     }
 
-pub loop-r-preserved : goal.loop-r-preserved
-loop-r-preserved c =
+pub loop-k-preserved : goal.loop-k-preserved
+loop-k-preserved c =
     let pair = c.args.pair.now in
-    let found = between_at c.args.rule pair.a pair.one.now pair.b pair.other.now in
-    let regions = pair.one.now.memory_regions in
-    let none : Region = record { phys_start = 0; virt_start = 0; size = 0; flags = 0 } in
-    let v = c.as_slice-region-items.ensures.value in
-    let t = c.loop-r-test.true in
-    let h : c.loop-r.r < length regions = rw v at t in
-    let a = c.in_ok-visit.ensures in
-    let e : capped c.visit.new.found ≡ capped (c.loop-r.found ++ found c.loop-r.r (get_or regions c.loop-r.r none)) = cc in
+    let e : BLOCK * (c.loop-k.k + 1) ≡ BLOCK * c.loop-k.k + BLOCK = omega arith in
     record {
-      gaps = c.may_meet.ensures.gaps;
-      found = found_step found regions c.loop-r.r none c.loop-r.found c.visit.new.found _ h e c.loop-r.invariant.found;
+      gaps = c.in_ok-among.ensures.gaps;
+      found = ap (λ n. capped (c.among.new.found ++ between_from c.args.rule pair.a pair.one.now pair.b pair.other.now n)) e ∙ c.in_ok-among.ensures.found ∙ c.loop-k.invariant.found;
     }
 
 pub returns : goal.returns
 returns c =
-    found_done (between_at c.args.rule c.args.pair.now.a c.args.pair.now.one.now c.args.pair.now.b c.args.pair.now.other.now) c.args.pair.now.one.now.memory_regions c.loop-r.r c.loop-r.found _ (rw c.as_slice-region-items.ensures.value at c.loop-r-test.false) c.loop-r.invariant.found
-
-pub visit-requires-clause-own : goal.visit-requires-clause-own
-visit-requires-clause-own c =
-    let none : Region = record { phys_start = 0; virt_start = 0; size = 0; flags = 0 } in
-    let v = c.as_slice-region-items.ensures.value in
-    let t = c.loop-r-test.true in
-    let h : c.loop-r.r < length c.args.pair.now.one.now.memory_regions = rw v at t in
-    let k = own_spot c.args.pair.now.a c.args.pair.now.one.now c.loop-r.r none c.args.pair.now.b c.args.pair.now.other.now h c.requires.same in
-    rw v k
+    let pair = c.args.pair.now in
+    let t = c.loop-k-test.false in
+    let enough = c.requires.blocks.enough in
+    found_done (between_at c.args.rule pair.a pair.one.now pair.b pair.other.now) pair.one.now.memory_regions (BLOCK * c.loop-k.k) c.loop-k.found _ (omega arith) c.loop-k.invariant.found

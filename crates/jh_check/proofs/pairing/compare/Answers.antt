@@ -1,5 +1,6 @@
 use Rattle.jh_check.specs.Findings.{between}
-use Rattle.jh_check.proofs.ReachLemmas.{between_beyond, capped_none_more}
+use Rattle.jh_check.proofs.BlockLemmas.{between_beyond}
+use Rattle.jh_check.proofs.ReachLemmas.{capped_none_more}
 use Rattle.jh_check.proofs.pairing.compare.Goals as goal
 
 pub returns-then-not-may_reach_into : goal.returns-then-not-may_reach_into

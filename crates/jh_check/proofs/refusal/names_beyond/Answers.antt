@@ -6,11 +6,11 @@ use Rattle.jh_check.proofs.refusal.names_beyond.Goals as goal
 
 pub returns-then-any_beyond : goal.returns-then-any_beyond
 returns-then-any_beyond c =
-    c.if-any_beyond.true ∙ beyond_low c.args.may.now c.args.cell.now.cpu_set (sym c.any_beyond.ensures ∙ c.if-any_beyond.true)
+    c.if-any_beyond.true ∙ beyond_low c.args.may c.args.cell.now.cpu_set (sym c.any_beyond.ensures ∙ c.if-any_beyond.true)
 
 pub returns-else-any_beyond : goal.returns-else-any_beyond
 returns-else-any_beyond c =
     let set = c.args.cell.now.cpu_set in
     let bytes = subst (λ (xs : List ℕ). (i : ℕ) → get_or xs i 0 < 256) c.as_slice.ensures.value c.names_high.ensures.bytes in
     let value = subst (λ (xs : List ℕ). c.names_high.result ≡ not (list_all is_zero (drop 2 xs))) c.as_slice.ensures.value c.names_high.ensures.value in
-    value ∙ beyond_high c.args.may.now set c.told-may bytes (sym c.any_beyond.ensures ∙ c.if-any_beyond.false)
+    value ∙ beyond_high c.args.may set c.ranges.may.fits bytes (sym c.any_beyond.ensures ∙ c.if-any_beyond.false)

@@ -1,18 +1,20 @@
-use Rattle.std.proofs.Common.{◌≡◌, ℕ, Bool, true, false, List, get_or, replicate, sym, ap, ◌∙◌}
+use Rattle.std.proofs.Common.{◌≡◌, ℕ, Bool, true, false, List, sym, ap, ◌∙◌}
+use Rattle.jh_num.specs.Bits.{has_bit}
 use Rattle.jh_cellcfg.specs.Cells.{is_cpu_set}
 use Rattle.jh_check.specs.Clean.{IsSoundBitmap, IsSoundCpuSet}
 use Rattle.jh_check.specs.Devices.{cpus_break}
 use Rattle.jh_check.specs.Refusals.{names_beyond, nobody}
-use Rattle.jh_check.proofs.IdleLemmas.{none_set, idle_breaks, refused_known, refused_busy, refused_idle}
+use Rattle.jh_check.proofs.IdleLemmas.{idle_breaks, refused_known, refused_busy, refused_idle}
+use Rattle.jh_check.proofs.MaskLemmas.{no_bit}
 use Rattle.jh_check.proofs.refusal.refusal_without_cpus.Goals as goal
 
 pub returns-then-is_known-clause-value : goal.returns-then-is_known-clause-value
 returns-then-is_known-clause-value c = λ pages pool.
     refused_known c.args.system.now c.args.live.now c.args.new.now pages pool (sym c.is_known.ensures ∙ c.if-is_known.true)
 
--- sixteen CPUs that mustn't be given away are all
-named : (set : List ℕ) (answer : Bool) → answer ≡ names_beyond (λ cpu. get_or (replicate 16 false) cpu false) set → names_beyond nobody set ≡ answer
-named set answer is = sym (is ∙ ap (λ (may : ℕ → Bool). names_beyond may set) (λ i cpu. none_set 16 cpu i))
+-- the empty mask
+named : (set : List ℕ) (answer : Bool) → answer ≡ names_beyond (has_bit 0) set → names_beyond nobody set ≡ answer
+named set answer is = sym (is ∙ ap (λ (may : ℕ → Bool). names_beyond may set) (λ i cpu. no_bit cpu i))
 
 pub returns-then-names_beyond-clause-value : goal.returns-then-names_beyond-clause-value
 returns-then-names_beyond-clause-value c = λ pages pool.

@@ -2,13 +2,13 @@
 use Rattle.std.proofs.Common.{◌∙◌, ap, List}
 use Rattle.jh_history.specs.declared.entry.Entry.{Entry}
 use Rattle.jh_text.specs.Text.{journal_text}
-use Rattle.jh_cli.proofs.RunLemmas.{is_run}
+use Rattle.jh_cli.proofs.RunLemmas.{made_by_run}
 use Rattle.jh_cli.proofs.run.render.Goals as goal
 
 pub returns : goal.returns
 returns g c =
     record {
       entries = c.in_ok-board.board.entries;
-      run = is_run c.args.image c.in_ok-board.board.entries c.in_ok-board.ended c.status_of.result c.in_ok-board.ensures.legal c.in_ok-board.ensures.quiet c.in_ok-board.ensures.full c.status_of.ensures;
+      run = made_by_run c.args.image c.in_ok-board.board.entries c.in_ok-board.ended c.status_of.result c.in_ok-board.ensures.legal c.in_ok-board.ensures.quiet c.in_ok-board.ensures.full c.status_of.ensures;
       told = c.in_ok-text.ensures ∙ ap (λ (es : List Entry). journal_text es) c.journal.ensures.entries;
     }

@@ -4,17 +4,17 @@ use Rattle.jh_script.specs.declared.image.Image.{Image}
 use Rattle.jh_history.specs.declared.entry.Entry.{Entry}
 use Rattle.jh_run.specs.declared.summary.Summary.{Summary}
 use Rattle.jh_run.specs.Summaries.{summary_of}
-use Rattle.jh_cli.specs.Run.{IsRun}
+use Rattle.jh_cli.specs.Run.{IsMadeByRun}
 use Rattle.jh_cli.specs.Soak.{summary_line}
-use Rattle.jh_cli.proofs.RunLemmas.{is_run}
+use Rattle.jh_cli.proofs.RunLemmas.{made_by_run}
 use Rattle.jh_cli.proofs.soak.render.Goals as goal
 
 pub returns : goal.returns
 returns g c =
     let entries = c.in_ok-board.board.entries in
-    let run = is_run c.in_ok-image.image entries c.in_ok-board.ended c.status_of.result c.in_ok-board.ensures.legal c.in_ok-board.ensures.quiet c.in_ok-board.ensures.full c.status_of.ensures in
+    let run = made_by_run c.in_ok-image.image entries c.in_ok-board.ended c.status_of.result c.in_ok-board.ensures.legal c.in_ok-board.ensures.quiet c.in_ok-board.ensures.full c.status_of.ensures in
     record {
       entries = entries;
-      run = subst (λ (image : Image). IsRun image entries c.status_of.result) c.in_ok-image.ensures.image run;
+      run = subst (λ (image : Image). IsMadeByRun image entries c.status_of.result) c.in_ok-image.ensures.image run;
       told = c.in_ok-summary_line.ensures ∙ ap (λ (s : Summary). summary_line s) (c.summary_of-summary.ensures ∙ ap (λ (es : List Entry). summary_of es) c.journal.ensures.entries);
     }

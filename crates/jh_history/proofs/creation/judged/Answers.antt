@@ -1,5 +1,6 @@
 -- A configuration that was read.
-use Rattle.std.proofs.Common.{ℕ, Bool, List, false, get_or, ap, sym, ◌∙◌}
+use Rattle.std.proofs.Common.{ℕ, Bool, List, ap, sym, ◌∙◌}
+use Rattle.jh_num.specs.Bits.{has_bit}
 use Rattle.jh_cellcfg.specs.declared.config.CellConfig.{CellConfig}
 use Rattle.jh_history.specs.Phases.{may_give, unless_refused}
 use Rattle.jh_shape.specs.Lives.{configs_of}
@@ -11,7 +12,7 @@ pub returns-in_ok-refusal-in-Comes-clause-told : goal.returns-in_ok-refusal-in-C
 returns-in_ok-refusal-in-Comes-clause-told c = λ f e h.
     let image = c.args.image.now in
     let config = c.in-Comes.config in
-    let may : ℕ → Bool = λ cpu. get_or c.given-may.result cpu false in
+    let may : ℕ → Bool = has_bit c.given-may.result in
     rw c.in-Comes.is
     (c.unless_refused.ensures
     ∙ ap (unless_refused config)

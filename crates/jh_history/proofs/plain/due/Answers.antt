@@ -1,9 +1,6 @@
 -- What is due, by what holds after the journal.
-use Rattle.std.proofs.Common.{◌≡◌, ◌∙◌, Option, Some, None, sym, subst}
-use Rattle.std.specs.Prelude.{option_map}
-use Rattle.jh_history.specs.declared.next.DueEntry.{DueEntry}
 use Rattle.jh_history.specs.History.{facts}
-use Rattle.jh_history.specs.Due.{IsLegal, due_at}
+use Rattle.jh_history.specs.Due.{IsLegal}
 use Rattle.jh_history.specs.Sound.{IsSound}
 use Rattle.jh_history.specs.PlainView.{StandsFor}
 use Rattle.jh_history.proofs.plain.due.Goals as goal
@@ -11,21 +8,12 @@ use Rattle.jh_history.proofs.plain.due.Goals as goal
 pub after-requires-clause-legal : goal.after-requires-clause-legal
 after-requires-clause-legal c = rw c.as_slice.ensures c.requires.legal
 
-pub returns-in-Some : goal.returns-in-Some
-returns-in-Some c =
-    let legal : IsLegal c.args.image.now c.as_slice.result.now = rw c.as_slice.ensures c.requires.legal in
-    let f = facts c.args.image.now c.as_slice.result.now in
-    let stands : StandsFor c.in_ok-plain.plain c.args.image.now f × IsSound c.args.image.now f = (c.in_ok-plain.ensures, c.legal_journals_are_sound.ensures.legal c.args.image.now c.as_slice.result.now c.requires.admitted legal) in
-    let P : Option DueEntry → Type 0 = λ due. option_map (λ (due : DueEntry). due.entry) due ≡ due_at c.args.image.now f c.args.cpu in
-    rw (← c.as_slice.ensures) (subst P c.in-Some.is (c.in_ok-due.ensures.due c.args.image.now f stands))
-
 pub returns : goal.returns
 returns c =
     let legal : IsLegal c.args.image.now c.as_slice.result.now = rw c.as_slice.ensures c.requires.legal in
     let f = facts c.args.image.now c.as_slice.result.now in
     let stands : StandsFor c.in_ok-plain.plain c.args.image.now f × IsSound c.args.image.now f = (c.in_ok-plain.ensures, c.legal_journals_are_sound.ensures.legal c.args.image.now c.as_slice.result.now c.requires.admitted legal) in
-    let P : Option DueEntry → Type 0 = λ due. option_map (λ (due : DueEntry). due.entry) due ≡ due_at c.args.image.now f c.args.cpu in
-    rw (← c.as_slice.ensures) (subst P c.in-None.is (c.in_ok-due.ensures.due c.args.image.now f stands))
+    rw (← c.as_slice.ensures) (c.next_of.ensures.due c.args.image.now f stands)
 
 pub next_of-requires : goal.next_of-requires
 next_of-requires c = c.admitted_roots_are_sound.ensures.cpus c.requires.admitted c.args.cpu c.requires.cpu

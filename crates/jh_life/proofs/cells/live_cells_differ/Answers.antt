@@ -1,7 +1,7 @@
 use Rattle.std.proofs.Common.{◌≡◌, ◌∷◌, List, length, AllPairs, sym, ap, subst, arith}
 use Rattle.jh_cellcfg.specs.declared.config.CellConfig.{CellConfig}
+use Rattle.jh_check.specs.Refusals.{AreTwo}
 use Rattle.jh_life.specs.Lives.{cells_of}
-use Rattle.jh_life.specs.SoundRecords.{AreTwo}
 use Rattle.jh_life.proofs.JoinedLemmas.{list_joined, length_joined}
 use Rattle.jh_life.proofs.cells.live_cells_differ.Goals as goal
 

@@ -1,11 +1,11 @@
-use Rattle.std.proofs.Common.{◌≡◌, ℕ, ◌+◌, ◌≤◌, ◌&&◌, ◌||◌, max, nat_le, nat_lt}
+use Rattle.std.proofs.Common.{◌≡◌, ℕ, ◌+◌, ◌≤◌, ◌||◌}
 use Rattle.jh_shape.specs.Marks.{is_marked}
 use Rattle.jh_shape.specs.Pages.{count_below}
+use Rattle.jh_shape.proofs.WordLemmas.{below_word}
 use Rattle.jh_shape.proofs.marks.mark_span.Given as goal
 
-abbrev pub invariant-loop-n : goal.invariant-loop-n
-invariant-loop-n l =
-    (l.n ≤ max l.from l.to)
-    × (l.more + l.from ≤ l.n)
-    × ((k : ℕ) → is_marked l.words k ≡ (is_marked l.initial.words k || (nat_le l.from k && nat_lt k l.n)))
+abbrev pub invariant-loop-word : goal.invariant-loop-word
+invariant-loop-word l =
+    (l.more ≤ l.to)
+    × ((k : ℕ) → is_marked l.words k ≡ (is_marked l.initial.words k || below_word l.from l.to l.word k))
     × ((end : ℕ) → l.to ≤ end → count_below (λ k. is_marked l.words k) end ≡ count_below (λ k. is_marked l.initial.words k) end + l.more)

@@ -1,45 +1,39 @@
-use Rattle.std.proofs.Common.{rules, ◌≡◌, ◌+◌, ◌-◌, ◌≤◌, ◌<◌, ◌==◌, true, false, None, Some, length, drop, get_or, length-drop, take_all, refl, sym, ◌∙◌, arith}
-use Rattle.jh_text.specs.Private.Reading.{lower_digit, with_digit}
-use Rattle.jh_text.proofs.Numbers.{until_here, until_more, until_none}
+use Rattle.std.proofs.Common.{rules, ◌≡◌, ◌-◌, ◌≤◌, ◌<◌, None, Some, length, drop, get_or, length-drop, take_all, sym, ◌∙◌, arith}
+use Rattle.jh_text.specs.Private.Reading.{one_more, digits_until}
+use Rattle.jh_text.proofs.Numbers.{until_end, until_digit, until_other, until_nothing}
 use Rattle.jh_text.proofs.reader.digits.Goals as goal
+use Rattle.jh_text.proofs.reader.digits.Goals.{in_default, in-len1-up+in_default-one_more, in_default-rest-via-then-rest-lt1-2, in_default-rest-via-in-len1-up-rest+else-last-end}
 
-pub returns-then-byte-end : goal.returns-then-byte-end
-returns-then-byte-end c =
-    let text = c.args.text.now in
-    let at = c.loop-at.at in
-    let within : at < length text = search rules in
-    let here : (get_or text at 0 == c.args.end) ≡ true = search rules in
-    let behind = drop (at + 1) text in
-    let all : length behind ≤ length text - (at + 1) = omega (arith, length-drop (at + 1) text) in
-    rw (take_all (length text - (at + 1)) behind all) (sym c.loop-at.invariant ∙ until_here c.args.radix c.args.end c.loop-at.n text at within here)
+pub loop-rest-preserved : goal.loop-rest-preserved
+loop-rest-preserved c =
+    let rest = c.loop-rest.rest.now in
+    let some : 1 ≤ length rest = search rules in
+    let more : one_more c.args.radix c.loop-rest.n (get_or rest 0 0) ≡ Some c.in-Some.more = search rules in
+    let all : length (drop 1 rest) ≤ length rest - 1 = omega (arith, length-drop 1 rest) in
+    rw (take_all (length rest - 1) (drop 1 rest) all)
+    (sym (until_digit c.args.radix c.args.end c.loop-rest.n c.in-Some.more rest c.requires.high c.requires.end some more) ∙ c.loop-rest.invariant)
 
-pub returns-in_err-lower_digit : goal.returns-in_err-lower_digit
-returns-in_err-lower_digit c =
-    let text = c.args.text.now in
-    let at = c.loop-at.at in
-    let within : at < length text = search rules in
-    let other : (get_or text at 0 == c.args.end) ≡ false = search rules in
-    let none : lower_digit c.args.radix (get_or text at 0) ≡ None = search rules in
-    let fails : c.from_residual.result ≡ None = search rules in
-    rw fails (sym c.loop-at.invariant ∙ until_none c.args.radix c.args.end c.loop-at.n text at within other (rw none refl))
+pub returns-in-len1-up-rest : goal.returns-in-len1-up-rest
+returns-in-len1-up-rest c =
+    let rest = c.loop-rest.rest.now in
+    let some : 1 ≤ length rest = search rules in
+    let last : get_or rest 0 0 ≡ c.args.end = search rules in
+    let all : length (drop 1 rest) ≤ length rest - 1 = omega (arith, length-drop 1 rest) in
+    rw (take_all (length rest - 1) (drop 1 rest) all) (sym c.loop-rest.invariant ∙ until_end c.args.radix c.args.end c.loop-rest.n rest some last)
 
-pub returns-in_err-n : goal.returns-in_err-n
-returns-in_err-n c =
-    let text = c.args.text.now in
-    let at = c.loop-at.at in
-    let within : at < length text = search rules in
-    let other : (get_or text at 0 == c.args.end) ≡ false = search rules in
-    let digit : lower_digit c.args.radix (get_or text at 0) ≡ Some c.in_ok-lower_digit.field-0 = search rules in
-    let none : with_digit c.args.radix c.loop-at.n c.in_ok-lower_digit.field-0 ≡ None = search rules in
-    let fails : c.from_residual-in_err-n.result ≡ None = search rules in
-    rw fails (sym c.loop-at.invariant ∙ until_none c.args.radix c.args.end c.loop-at.n text at within other (rw (digit, none) refl))
-
-pub loop-at-preserved : goal.loop-at-preserved
-loop-at-preserved c =
-    let text = c.args.text.now in
-    let at = c.loop-at.at in
-    let within : at < length text = search rules in
-    let other : (get_or text at 0 == c.args.end) ≡ false = search rules in
-    let digit : lower_digit c.args.radix (get_or text at 0) ≡ Some c.in_ok-lower_digit.field-0 = search rules in
-    let next : with_digit c.args.radix c.loop-at.n c.in_ok-lower_digit.field-0 ≡ Some c.in_ok-n.n = search rules in
-    sym (until_more c.args.radix c.args.end c.loop-at.n c.in_ok-lower_digit.field-0 c.in_ok-n.n text at within other digit next) ∙ c.loop-at.invariant
+pub returns-in_default-rest : goal.returns-in_default-rest
+returns-in_default-rest c =
+    let rest = c.loop-rest.rest.now in
+    sym c.loop-rest.invariant ∙ elim c.in_default-rest.branch as (λ _. digits_until c.args.radix c.args.end c.loop-rest.n rest ≡ None) [
+      | in_default-rest-via-then-rest-lt1-2 w ↦
+          let none : length rest < 1 = search rules in
+          until_nothing c.args.radix c.args.end c.loop-rest.n rest none
+      | in_default-rest-via-in-len1-up-rest+else-last-end w ↦
+          let some : 1 ≤ length rest = w.in-len1-up-rest.len_at_least in
+          elim c.if-rest-lt1.branch as (λ _. digits_until c.args.radix c.args.end c.loop-rest.n rest ≡ None) [
+            | in_default v ↦ absurd (let none : length rest < 1 = search rules in let no : ⊥ = omega arith in no)
+            | in-len1-up+in_default-one_more v ↦
+                let none : one_more c.args.radix c.loop-rest.n (get_or rest 0 0) ≡ None = search rules in
+                until_other c.args.radix c.args.end c.loop-rest.n rest some w.if-last-end.false none
+          ]
+    ]

@@ -1,30 +1,56 @@
 -- The journal is still legal, and what the board holds stands for it.
-use Rattle.std.proofs.Common.{◌≡◌, ℕ, ◌<◌, length, arith, sym, subst}
-use Rattle.std.proofs.lemmas.List.{length_push}
+use Rattle.std.proofs.Common.{◌≡◌, ℕ, List, Option, Some, None, Result, Ok, Err, length, refl, ap, sym, subst}
+use Rattle.std.specs.Prelude.{IsTrue, IsSome, IfOk, IfErr, OnErr}
+use Rattle.jh_script.specs.declared.image.Image.{Image}
 use Rattle.jh_history.specs.declared.entry.Entry.{Entry}
-use Rattle.jh_history.proofs.DueLemmas.{IsLegal_made}
-use Rattle.std.specs.Prelude.{IsTrue}
+use Rattle.jh_history.specs.Due.{due}
 use Rattle.jh_history.specs.Lives.{is_on_board}
 use Rattle.jh_board.specs.BoardView.{BoardView}
+use Rattle.jh_board.specs.Turns.{Advances, MakesDue, Refuses}
+use Rattle.jh_board.specs.declared.turn.TurnFault.{TurnFault}
+use Rattle.jh_board.specs.declared.turn.TurnFault.TheVariants.{Full, NoMemory}
 use Rattle.jh_board.proofs.board.Board.make_due.Goals as goal
 
-few_of : (entry : Entry) (cpu : ℕ) → entry.cpu ≡ cpu → cpu < 16 → entry.cpu < 16
-few_of entry cpu e lt = omega arith
+-- what a board with these entries is
+abbrev board : Image → ℕ → List Entry → BoardView
+board image limit entries = record { image = image; limit = limit; entries = entries }
+
+made_due : (image : Image) (limit : ℕ) (old new : List Entry) (cpu : ℕ) (made : Option Entry) → Advances image limit old cpu made new → MakesDue (board image limit old) cpu made (board image limit new)
+made_due image limit old new cpu None h = (h.0, ap (board image limit) h.1)
+made_due image limit old new cpu (Some entry) h = (h.0, h.1, ap (board image limit) h.2)
+
+makes : (image : Image) (limit : ℕ) (old new : List Entry) (cpu : ℕ) (r : Result (Option Entry) TurnFault) → IfOk r (λ made. Advances image limit old cpu made new) → IfOk r (λ made. MakesDue (board image limit old) cpu made (board image limit new))
+makes image limit old new cpu (Ok made) h = made_due image limit old new cpu made h
+makes image limit old new cpu (Err fault) h = tt
+
+-- why nothing is made
+abbrev IsFull : Image → ℕ → List Entry → ℕ → Result (Option Entry) TurnFault → Type 0
+IsFull image limit old cpu r = r ≡ Err Full → IsSome (due image old cpu) × (length old ≡ limit)
+
+refuses : (image : Image) (limit : ℕ) (old new : List Entry) (cpu : ℕ) (r : Result (Option Entry) TurnFault) → IsFull image limit old cpu r → OnErr r (new ≡ old)
+    → IfErr r (λ fault. Refuses (board image limit old) cpu fault (board image limit new))
+refuses image limit old new cpu (Ok made) full same = tt
+refuses image limit old new cpu (Err Full) full same = ((full refl).0, (full refl).1, ap (board image limit) same)
+refuses image limit old new cpu (Err NoMemory) full same = ap (board image limit) same
 
 pub advance-requires-clause-cpu : goal.advance-requires-clause-cpu
 advance-requires-clause-cpu c =
     let P : BoardView → Type 0 = λ v. IsTrue (is_on_board v.image c.args.cpu) in
     c.has_few_cpus.ensures.cpus c.args.cpu (subst P (sym c.self.view_is) c.requires)
 
-pub invariant_of-self-in-Some : goal.invariant_of-self-in-Some
-invariant_of-self-in-Some c =
-    let made = rw c.in-Some.is at c.in_ok-made.ensures.ok in
-    let P : BoardView → Type 0 = λ v. IsTrue (is_on_board v.image c.args.cpu) in
-    let few = c.has_few_cpus.ensures.cpus c.args.cpu (subst P (sym c.self.view_is) c.requires) in
-    record {
-      admitted = c.self.invariant.admitted;
-      legal = IsLegal_made c.self.inside.image c.self.inside.journal.entries c.advance.new.journal.entries c.args.cpu c.in-Some.entry c.self.invariant.legal made.0 made.2;
-      within = let few : length c.self.inside.journal.entries < c.self.inside.limit = made.1 in rw (made.2, length_push) (omega arith);
-      means = c.advance.ensures.means;
-      last = few_of c.in-Some.entry c.args.cpu (rw c.in-Some.is at c.in_ok-made.ensures.cpu) few;
-    }
+pub invariant_of-self : goal.invariant_of-self
+invariant_of-self c = record {
+  admitted = c.self.invariant.admitted;
+  legal = c.advance.ensures.legal;
+  within = c.advance.ensures.within;
+  means = c.advance.ensures.means;
+  last = c.advance.ensures.last;
+}
+
+pub returns-clause-ok : goal.returns-clause-ok
+returns-clause-ok c =
+    rw (← c.self.view_is) (makes c.self.inside.image c.self.inside.limit c.self.inside.journal.entries c.advance.new.journal.entries c.args.cpu c.advance.result c.advance.ensures.ok)
+
+pub returns-clause-err : goal.returns-clause-err
+returns-clause-err c =
+    rw (← c.self.view_is) (refuses c.self.inside.image c.self.inside.limit c.self.inside.journal.entries c.advance.new.journal.entries c.args.cpu c.advance.result c.advance.ensures.full c.advance.ensures.err)

@@ -6,10 +6,9 @@ use Rattle.jh_cellcfg.specs.declared.config.SystemConfig.{SystemConfig}
 use Rattle.jh_cellcfg.specs.declared.region.Region.{Region}
 use Rattle.jh_shape.specs.Pages.{pages_of}
 use Rattle.jh_life.specs.Lives.{marks_of}
-use Rattle.jh_shape.specs.Lives.{configs_of}
-use Rattle.jh_life.specs.Changes.{marked}
+use Rattle.jh_shape.specs.Lives.{configs_of, marked}
 use Rattle.jh_board.specs.Closed.{all_regions, count_regions, AreInRange}
-use Rattle.jh_board.proofs.CellsLemmas.{cell_at, lists_len, marked_none, marked_same}
+use Rattle.jh_board.proofs.CellsLemmas.{cell_at, lists_len, marked_none}
 use Rattle.jh_board.proofs.cells.LiveCells.set_loadable.Goals as goal
 
 pub returns-in_default-clause-lives : goal.returns-in_default-clause-lives
@@ -64,5 +63,4 @@ returns-clause-lives c =
     let index : c.in-Some.index + 1 - 1 ≡ c.in-Some.index = omega arith in
     rw (← c.self.view_is)
     (c.a_cell_is_marked_by_its_id.ensures c.in-Some.index cell.0 c.args.on new cell.1.at c.set_loadable.ensures.list (c.set_loadable.ensures.marks ∙ ap (λ k. set (marks_of lives) k c.args.on) index)
-    ∙ ap (λ id. map (marked id c.args.on) lives) cell.1.is
-    ∙ marked_same lives c.args.id c.args.on)
+    ∙ ap (λ id. map (marked id c.args.on) lives) cell.1.is)

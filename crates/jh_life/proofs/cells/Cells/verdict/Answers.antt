@@ -1,5 +1,6 @@
-use Rattle.std.proofs.Common.{◌≡◌, ℕ, ◌<◌, Bool, false, List, [], ◌∷◌, ◌++◌, length, get_or, Some, None, nat_lt, refl, sym, ap, ◌∙◌, arith}
+use Rattle.std.proofs.Common.{◌≡◌, ℕ, ◌<◌, Bool, false, List, [], ◌∷◌, ◌++◌, length, Some, None, nat_lt, refl, sym, ap, ◌∙◌, arith}
 use Rattle.std.specs.Prelude.{if◌then◌else◌}
+use Rattle.jh_num.specs.Bits.{has_bit}
 use Rattle.jh_num.specs.declared.error.TheConstants.{ENOMEM}
 use Rattle.jh_cellcfg.specs.declared.config.CellConfig.{CellConfig}
 use Rattle.jh_cellcfg.specs.declared.config.SystemConfig.{SystemConfig}
@@ -54,7 +55,7 @@ returns-in-Some-clause-value c =
     let now = c.args.self.now in
     let new = c.args.new.now in
     let live = c.as_slice-live.result.now in
-    let free : ℕ → Bool = λ cpu. get_or c.free_cpus-free.result cpu false in
+    let free : ℕ → Bool = has_bit c.free_cpus-free.result in
     let system : c.self.inside.system ≡ now.system = ap (λ (s : Seen). s.system) c.self.view_is in
     let cells : live ≡ configs_of now.lives = c.as_slice-live.ensures.value ∙ sym (list_joined c.self.inside.configs.items c.self.inside.marks.items c.self.invariant.even) ∙ ap (λ (s : Seen). configs_of s.lives) c.self.view_is in
     let kept : refusal_of c.self.inside.system live new free 0 0 ≡ refusal_of c.self.inside.system live new free (pages_with now new) c.args.pool =
@@ -69,7 +70,7 @@ returns-in-None-clause-value c =
     let now = c.args.self.now in
     let new = c.args.new.now in
     let live = c.as_slice-live.result.now in
-    let free : ℕ → Bool = λ cpu. get_or c.free_cpus-free.result cpu false in
+    let free : ℕ → Bool = has_bit c.free_cpus-free.result in
     let system : c.self.inside.system ≡ now.system = ap (λ (s : Seen). s.system) c.self.view_is in
     let cells : live ≡ configs_of now.lives = c.as_slice-live.ensures.value ∙ sym (list_joined c.self.inside.configs.items c.self.inside.marks.items c.self.invariant.even) ∙ ap (λ (s : Seen). configs_of s.lives) c.self.view_is in
     let before : refusal_of c.self.inside.system live new free 0 0 ≡ None = sym c.in_ok-refusal.ensures ∙ c.in-None.is in
@@ -85,7 +86,7 @@ returns-in-None-clause-unknown c =
     let now = c.args.self.now in
     let new = c.args.new.now in
     let live = c.as_slice-live.result.now in
-    let free : ℕ → Bool = λ cpu. get_or c.free_cpus-free.result cpu false in
+    let free : ℕ → Bool = has_bit c.free_cpus-free.result in
     let system : c.self.inside.system ≡ now.system = ap (λ (s : Seen). s.system) c.self.view_is in
     let cells : live ≡ configs_of now.lives = c.as_slice-live.ensures.value ∙ sym (list_joined c.self.inside.configs.items c.self.inside.marks.items c.self.invariant.even) ∙ ap (λ (s : Seen). configs_of s.lives) c.self.view_is in
     let before : refusal_of now.system (configs_of now.lives) new (may_have c.args.owned c.args.caller) 0 0 ≡ None =

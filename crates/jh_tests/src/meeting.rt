@@ -1,0 +1,58 @@
+//! A gate at which two workers wait for one another, so that no run on one thread passes it.
+
+use jh_outside::Gate;
+use std::sync::atomic::{AtomicU64, Ordering};
+use std::thread;
+
+/// The worker of CPU 0 waits before its first turn until that of the other CPU comes to its second, and that one waits
+/// before its second turn until CPU 0's comes to its second.
+#[derive(Drop)]
+pub struct Meeting {
+    other: u8,
+    zero_came: AtomicU64,
+    other_came: AtomicU64,
+    met: AtomicU64,
+}
+
+impl Meeting {
+    /// The gate of CPU 0 and the other one.
+    pub fn with(other: u8) -> Meeting {
+        Meeting {
+            other,
+            zero_came: AtomicU64::new(0),
+            other_came: AtomicU64::new(0),
+            met: AtomicU64::new(0),
+        }
+    }
+
+    /// How many workers saw the other one come.
+    pub fn met(&self) -> u64 {
+        self.met.load(Ordering::SeqCst)
+    }
+
+    /// Looks until the worker's second turn has begun.
+    fn await_second(&self, came: &AtomicU64) {
+        for _ in 0..100_000_000u64 {
+            if came.load(Ordering::SeqCst) > 0 {
+                self.met.fetch_add(1, Ordering::SeqCst);
+                return;
+            }
+            thread::yield_now();
+        }
+    }
+}
+
+impl Gate for Meeting {
+    fn pass(&self, cpu: u8, turn: u64) {
+        if cpu == 0 && turn == 0 {
+            self.await_second(&self.other_came);
+        }
+        if cpu == self.other && turn == 1 {
+            self.other_came.store(1, Ordering::SeqCst);
+            self.await_second(&self.zero_came);
+        }
+        if cpu == 0 && turn == 1 {
+            self.zero_came.store(1, Ordering::SeqCst);
+        }
+    }
+}
