@@ -1,24 +1,36 @@
 -- Where an audit ends.
-use Rattle.std.proofs.Common.{◌≡◌, ◌≢◌, ℕ, suc, ◌+◌, ◌<◌, List, Option, Some, length, get_or, sym, ap, arith}
-use Rattle.std.specs.Prelude.{take, drop}
-use Rattle.std.proofs.Math.Seq.{split_at}
-use Rattle.std.proofs.lemmas.List.{length-take-le}
+use Rattle.std.proofs.Common.{◌≡◌, ◌≢◌, ℕ, List, [], ◌∷◌, ◌++◌, Option, Some, length, sym, ◌∙◌, arith, append_assoc, length-append}
 use Rattle.jh_script.specs.declared.image.Image.{Image}
 use Rattle.jh_history.specs.declared.entry.Entry.{Entry}
 use Rattle.jh_history.specs.Due.{due, IsLegal}
-use Rattle.jh_audit.specs.Judges.{IsFirstIllegal}
+use Rattle.jh_text.specs.LinesView.{LinesView}
+use Rattle.jh_text.specs.Lines.{IsReadTo}
+use Rattle.jh_audit.specs.declared.verdict.Verdict.TheVariants.{Illegal}
+use Rattle.jh_audit.specs.Judges.{IsFirstIllegal, JudgesText}
+use Rattle.jh_audit.specs.Rest.{EndsJournal}
 
--- what was due behind the first entries isn't the entry that stands there
-pub is_first : (image : Image) (entries : List Entry) (i : ℕ) (d : Entry) (expected : Option Entry)
-    → i < length entries → IsLegal image (take i entries) → due image (take i entries) (get_or entries i d).cpu ≡ expected → expected ≢ Some (get_or entries i d)
-    → IsFirstIllegal image entries (i + 1) expected
-is_first image entries i d expected lt legal was_due differs = record {
-  before = take i entries;
-  entry = get_or entries i d;
-  rest = drop (suc i) entries;
-  split = split_at entries i d lt;
-  counted = ap (λ n. n + 1) (sym (length-take-le i entries (omega arith)));
+-- the entry in the line that was read last is the first that isn't due
+is_first : (image : Image) (before : List Entry) (entry : Entry) (rest : List Entry) (line : ℕ) (expected : Option Entry)
+    → line ≡ length (before ++ entry ∷ []) → IsLegal image before → due image before entry.cpu ≡ expected → expected ≢ Some entry
+    → IsFirstIllegal image ((before ++ entry ∷ []) ++ rest) line expected
+is_first image before entry rest line expected counted legal was_due differs = record {
+  before = before;
+  entry = entry;
+  rest = rest;
+  split = append_assoc before (entry ∷ []) rest;
+  counted = omega (arith, counted, length-append before (entry ∷ []));
   legal = legal;
   was_due = sym was_due;
   differs = differs;
+}
+
+-- the text is that of a journal whose entry in this line is the first that isn't due
+pub is_illegal : (image : Image) (text : List ℕ) (before : List Entry) (entry : Entry) (lines : LinesView) (line : ℕ) (expected : Option Entry)
+    → IsReadTo text (before ++ entry ∷ []) lines → line ≡ lines.count → EndsJournal lines
+    → IsLegal image before → due image before entry.cpu ≡ expected → expected ≢ Some entry
+    → JudgesText image text (Illegal line expected)
+is_illegal image text before entry lines line expected read counted ends legal was_due differs = record {
+  entries = (before ++ entry ∷ []) ++ ends.rest;
+  told = ends.told text (before ++ entry ∷ []) read;
+  judged = is_first image before entry ends.rest line expected (counted ∙ read.counted) legal was_due differs;
 }

@@ -1,2 +1,4 @@
 pub mod AbsentLemmas
 pub mod JudgeLemmas
+pub mod RestLemmas
+pub mod TextLemmas

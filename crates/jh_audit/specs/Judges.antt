@@ -3,6 +3,7 @@ use Rattle.std.specs.Prelude.{◌≡◌, ◌≢◌, ℕ, ◌+◌, ◌↔◌, Lis
 use Rattle.jh_script.specs.declared.image.Image.{Image}
 use Rattle.jh_history.specs.declared.entry.Entry.{Entry}
 use Rattle.jh_history.specs.Due.{due, IsLegal, IsQuiet}
+use Rattle.jh_text.specs.Faults.{IsJournalText}
 use Rattle.jh_board.specs.BoardView.{BoardView}
 use Rattle.jh_audit.specs.declared.compared.Compared.{Compared}
 use Rattle.jh_audit.specs.declared.compared.Compared.TheVariants.{Same, Differs}
@@ -21,10 +22,17 @@ pub record IsFirstIllegal (image : Image) (entries : List Entry) (line : ℕ) (e
   pub was_due : expected ≡ due image before entry.cpu
   pub differs : expected ≢ Some entry
 
--- the verdict on the journal: it is legal, with whether it is quiet; or it isn't, with its first illegal entry
+-- the verdict on the journal: it is legal, with how many entries it has and whether it is quiet; or it isn't, with its
+-- first illegal entry
 abbrev pub Judges : Image → List Entry → Verdict → Type 0
-Judges image entries (Legal quiet) = IsLegal image entries × (IsTrue quiet ↔ IsQuiet image entries)
+Judges image entries (Legal count quiet) = IsLegal image entries × (count ≡ length entries) × (IsTrue quiet ↔ IsQuiet image entries)
 Judges image entries (Illegal line expected) = IsFirstIllegal image entries line expected
+
+-- the text is that of a journal, and the verdict is that on its entries
+pub record JudgesText (image : Image) (text : List ℕ) (verdict : Verdict) : Type 0 where
+  pub entries : List Entry
+  pub told : IsJournalText text entries
+  pub judged : Judges image entries verdict
 
 -- from `old` the entry is the one due to its CPU, and is made; or it isn't, behind legal entries, and what was due is
 -- told

@@ -1,18 +1,25 @@
 //! The audit.
-ghost use Rattle.std.specs.Prelude.{◌≡◌, ◌<◌, ◌≤◌, ◌↔◌, [], length, Some, IfOk, IsTrue};
+ghost use Rattle.std.specs.Prelude.{◌≡◌, ◌≢◌, ◌<◌, ◌↔◌, ℕ, List, [], length, Some, IfOk, IfErr, IsOkAnd, OnOk, IsTrue};
 ghost use Rattle.jh_history.specs.Admitted.{IsAdmitted};
+ghost use Rattle.jh_history.specs.declared.entry.Entry.{Entry as TheEntry};
 ghost use Rattle.jh_board.specs.Turns.{MakesDue};
-ghost use Rattle.jh_text.specs.Faults.{max_entries};
-ghost use Rattle.jh_audit.specs.Judges.{Judges, Compares};
+ghost use Rattle.jh_text.specs.Faults.{IsFault, IsFirstBadLine, IsJournalText, IsTooLong};
+ghost use Rattle.jh_audit.specs.Judges.{Judges, JudgesText, Compares};
+ghost use Rattle.jh_audit.specs.Rest.{EndsJournal, EndsAtFault};
 
 use crate::compared::Compared;
 use crate::verdict::Verdict;
 use jh_board::{Board, TurnFault};
-use jh_history::{Act, Entry, Journal};
+use jh_history::{Act, Entry};
 use jh_num::NoMemory;
 use jh_script::Image;
-use jh_text::MAX_ENTRIES;
+use jh_text::{
+    JournalFault, JournalLines, MAX_ENTRIES, lines_tell_the_text, one_answer, texts_go_both_ways,
+};
 use std::alloc::Global;
+
+/// How many bytes the shortest line has: `0 0 stop`, and a line feed.
+const SHORTEST_LINE: usize = 9;
 
 /// Makes what is due to the entry's CPU, and tells it. A CPU that the board lacks makes nothing.
 fn try_entry(board: &mut Board, entry: &Entry) -> Result<Option<Entry>, NoMemory>
@@ -69,47 +76,81 @@ fn compare(board: &mut Board, entry: &Entry) -> Result<Compared, NoMemory>
     }
 }
 
-/// The verdict on the journal of a board, which has made each entry of it.
-fn whole_verdict(board: &Board) -> Verdict
+/// The verdict on the journal of a board, which has made each entry of it, so many.
+fn whole_verdict(board: &Board, count: u32) -> Verdict
+    requires counted { count ≡ length board.now.entries }
     ensures { Judges board.now.image board.now.entries result }
 {
     // for the proof: the entries so far are legal
     let _ = board.journal();
     Verdict::Legal {
+        entries: count,
         quiet: board.is_quiet(),
     }
 }
 
-/// Judges the entries on a board that was just opened: makes each anew, and compares.
-fn judge_entries(board: &mut Board, entries: &[Entry]) -> Result<Verdict, NoMemory>
-    requires opened { board.old.entries ≡ [] }
-    requires limit { board.old.limit ≡ MAX_ENTRIES }
-    requires few { length entries.now ≤ MAX_ENTRIES }
-    // legal exactly where each entry is the one due; else the first that isn't, and what was due there
-    ensures { IfOk result (Judges board.old.image entries.now) }
-{
-    board.reserve(entries.len())?;
-    for (index, entry) in entries.iter().enumerate() {
-        if let Compared::Differs { expected } = compare(board, entry)? {
-            return Ok(Verdict::Illegal {
-                line: index as u32 + 1,
-                expected,
-            });
-        }
-    }
-    Ok(whole_verdict(board))
+/// The most entries that the text can be a journal of.
+fn most_entries(text: &[u8]) -> usize {
+    (text.len() / SHORTEST_LINE).min(MAX_ENTRIES)
 }
 
-/// Judges the journal by the image: whether each entry is the one that was due, else which is the first that isn't. It
-/// makes the entries anew on a board.
-pub fn audit(alloc: Global, image: Image, journal: &Journal) -> Result<Verdict, NoMemory>
-    requires admitted { IsAdmitted image }
-    requires few { length journal.now.entries ≤ max_entries }
-    // legal exactly where each entry is the one due; else the first that isn't, and what was due there
-    ensures { IfOk result (Judges image journal.now.entries) }
+/// Reads what is left of the text, for its faults alone.
+fn read_rest(lines: &mut JournalLines<'_>) -> Result<(), JournalFault>
+    ensures ok { OnOk result (EndsJournal lines.old) }
+    ensures err { IfErr result (EndsAtFault lines.old) }
 {
+    // for the proof: what is read is read of the whole text
+    lines_tell_the_text();
+    while let Some(_) = lines.next()? {}
+    Ok(())
+}
+
+/// Judges the text on a board that was just opened: makes each entry anew, and compares. Behind the first that differs
+/// no more is made, and the rest of the text is read.
+fn judge_text(board: &mut Board, text: &[u8]) -> Result<Verdict, JournalFault>
+    requires opened { board.old.entries ≡ [] }
+    requires limit { board.old.limit ≡ MAX_ENTRIES }
+    ensures ok { IfOk result (JudgesText board.old.image text.now) }
+    ensures err { IfErr result (IsFault text.now) }
+{
+    // for the proof: what is read is read of the whole text
+    lines_tell_the_text();
+    board.reserve(most_entries(text))?;
+    let mut lines = JournalLines::new(text);
+    while let Some(entry) = lines.next()? {
+        if let Compared::Differs { expected } = compare(board, &entry)? {
+            let line = lines.count();
+            read_rest(&mut lines)?;
+            return Ok(Verdict::Illegal { line, expected });
+        }
+    }
+    Ok(whole_verdict(board, lines.count()))
+}
+
+/// Judges the journal of this text by the image: whether each entry is the one that was due, else which is the first
+/// that isn't. It makes the entries anew on a board, as it reads them.
+///
+/// # Errors
+///
+/// The first fault of a text that is no journal's, wherever it stands: no verdict is told then, also where an entry
+/// before it wasn't due. Or want of memory.
+pub fn audit(alloc: Global, image: Image, text: &[u8]) -> Result<Verdict, JournalFault>
+    requires admitted { IsAdmitted image }
+    // legal exactly where each entry is the one due; else the first that isn't, and what was due there
+    ensures ok { IfOk result (JudgesText image text.now) }
+    ensures only { result ≢ Err JournalFault.NoMemory
+        → (entries : List TheEntry) → IsJournalText text.now entries
+        → IsOkAnd result (Judges image entries) }
+    ensures line { result ≢ Err JournalFault.NoMemory
+        → (number : ℕ) → (result ≡ Err (JournalFault.Line number)) ↔ IsFirstBadLine text.now number }
+    ensures too_long { result ≢ Err JournalFault.NoMemory
+        → (result ≡ Err JournalFault.TooLong) ↔ IsTooLong text.now }
+{
+    // for the proof: a text has one answer
+    one_answer();
+    texts_go_both_ways();
     match Board::open(alloc, image, MAX_ENTRIES as u32) {
-        Ok(mut board) => judge_entries(&mut board, journal.as_slice()),
-        Err(_) => Err(NoMemory),
+        Ok(mut board) => judge_text(&mut board, text),
+        Err(_) => Err(JournalFault::NoMemory),
     }
 }

@@ -5,8 +5,8 @@ use jh_history::Entry;
 /// What is found of a journal.
 #[derive(Clone, Copy, PartialEq, Eq, Debug)]
 pub enum Verdict {
-    /// Each entry is the one that was due; `quiet` tells whether nothing is due after the last.
-    Legal { quiet: bool },
+    /// Each of the entries, so many, is the one that was due; `quiet` tells whether nothing is due after the last.
+    Legal { entries: u32, quiet: bool },
     /// The entry in this line, from 1, is the first that wasn't due; `expected` is what was due to its CPU there,
     /// `None` where nothing was or the board lacks the CPU.
     Illegal { line: u32, expected: Option<Entry> },

@@ -36,7 +36,7 @@ use Rattle.jh_board.specs.declared.indexed.FoundProgram.{FoundProgram}
 use Rattle.jh_board.specs.Indexed.{AreFound}
 use Rattle.jh_board.specs.Pages.{byte_of, HoldsComm, MayHold, MemoryView}
 use Rattle.jh_board.specs.Means.{Means, HoldsPageOf, HoldsWords, IsReady, IsReadyIn, IsReadyFor}
-use Rattle.jh_board.specs.Steps.{IsFree, MayWrite, MayWriteOf, MayJoin, IsPrepared}
+use Rattle.jh_board.specs.Steps.{IsFree, MayWrite, MayWriteOf, MayJoinCells, IsPrepared}
 use Rattle.jh_board.proofs.KeptLemmas.{KeepsPages, comms_kept, words_kept, all_words_kept}
 use Rattle.jh_board.proofs.MadeLemmas.{ready_written}
 
@@ -146,7 +146,7 @@ page_held image held f act id means (inr h) =
 
 -- the cell that comes may join those that live
 pub may_join : (image : Image) (held : Held) (f : Facts) (o : OpenCall) (config : CellConfig) → Means image held f → f.call ≡ Some o → o.phase ≡ ToCreate config → MayLive image f.cells config
-    → (NamesCpu config → length f.cells < 15) → MayJoin held.cells held.index config
+    → (NamesCpu config → length f.cells < 15) → MayJoinCells held.cells held.index config
 may_join image held f o config means is phase may few =
     let ready = ready_coming held f.call o config means.ready is phase in
     record {
@@ -160,7 +160,7 @@ may_join image held f o config means is phase may few =
     }
 
 -- so it may where devices have changed
-pub join_kept : (old new : Held) (act : Act) → new.call ≡ old.call → new.cells ≡ old.cells → new.index ≡ old.index → IfSome (created_by old.call act) (MayJoin old.cells old.index) → IfSome (created_by new.call act) (MayJoin new.cells new.index)
+pub join_kept : (old new : Held) (act : Act) → new.call ≡ old.call → new.cells ≡ old.cells → new.index ≡ old.index → IfSome (created_by old.call act) (MayJoinCells old.cells old.index) → IfSome (created_by new.call act) (MayJoinCells new.cells new.index)
 join_kept old new act call cells index h = rw (call, cells, index) h
 
 -- ---- what is true of each cell after the entry

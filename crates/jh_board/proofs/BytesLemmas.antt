@@ -9,7 +9,7 @@ use Rattle.jh_history.specs.declared.place.Place.{Place}
 use Rattle.jh_history.specs.declared.place.Place.TheVariants.{Physical, Page}
 use Rattle.jh_history.specs.Places.{further, places_in_row, with_byte, over, written}
 use Rattle.jh_history.proofs.PlaceLemmas.{further_none, further_next, row_next, written_over}
-use Rattle.jh_board.specs.Pages.{byte_of, page_at, Holds, HoldsPlace, MayHold, MemoryView}
+use Rattle.jh_board.specs.Pages.{byte_of, page_at, HoldsPage, HoldsPlace, MayHold, MemoryView}
 
 abbrev Pages : Type 0
 Pages = List (ℕ × List ℕ)
@@ -19,7 +19,7 @@ MayHold_same old new same (Physical a) h = tt
 MayHold_same old new same (Page cell offset) h = same (Page cell offset) h
 
 -- a page is the first's or the last's of a row
-two_pages : (pages : Pages) (p k n : ℕ) → k ≤ n → n < 8 → Holds pages p → Holds pages (p + n) → Holds pages (p + k)
+two_pages : (pages : Pages) (p k n : ℕ) → k ≤ n → n < 8 → HoldsPage pages p → HoldsPage pages (p + n) → HoldsPage pages (p + k)
 two_pages pages p k n le few first last =
     let P : ℕ → Type 0 = λ number. IsSome (page_at pages number) in
     elim (cases_eq ((p + k) / 4096) (p / 4096)) [

@@ -10,7 +10,7 @@ use Rattle.jh_cellcfg.specs.Lives.{has_id}
 use Rattle.jh_ivshmem.specs.declared.endpoint.Endpoint.{Endpoint}
 use Rattle.jh_ivshmem.specs.declared.spec.EndpointSpec.{EndpointSpec}
 use Rattle.jh_ivshmem.specs.declared.spec.Slot.{Slot}
-use Rattle.jh_ivshmem.specs.Specs.{IsWithin, slot_of}
+use Rattle.jh_ivshmem.specs.Specs.{IsInItsLimits, slot_of}
 use Rattle.jh_call.specs.declared.call.Call.{Call}
 use Rattle.jh_call.specs.declared.call.Call.TheVariants.{Create, Start, Loadable, Destroy, Info, State, CpuInfo, Unknown}
 use Rattle.jh_script.specs.declared.image.Image.{Image}
@@ -55,7 +55,7 @@ word_held image held f e means sound there =
     let own : IsOfDevice image (configs_of f.cells) e.spec = All-contains (λ (o : Endpoint). IsOfDevice image (configs_of f.cells) o.spec) f.endpoints e sound.endpoints.own there in
     All-contains (HoldsWord held.memory) (specs_of own.0) e.spec (words_of_cell image held f own.0 means own.1) own.2
 
-slot_held : (memory : MemoryView) (slot : Slot) (spec : EndpointSpec) → IsWithin spec → slot ≡ slot_of spec slot.value → HoldsWord memory spec → (slot.place + 4 < 2 ^ 64) × HoldsSlot memory slot
+slot_held : (memory : MemoryView) (slot : Slot) (spec : EndpointSpec) → IsInItsLimits spec → slot ≡ slot_of spec slot.value → HoldsWord memory spec → (slot.place + 4 < 2 ^ 64) × HoldsSlot memory slot
 slot_held memory slot spec within is word =
     let place : slot.place ≡ spec.table + 4 * spec.id = ap (λ (s : Slot). s.place) is in
     let own = within.id in

@@ -15,7 +15,7 @@ use Rattle.jh_ivshmem.specs.declared.endpoint.Endpoint.{Endpoint}
 use Rattle.jh_ivshmem.specs.declared.spec.EndpointSpec.{EndpointSpec}
 use Rattle.jh_ivshmem.specs.Endpoint.{fresh}
 use Rattle.jh_ivshmem.specs.Links.{joined}
-use Rattle.jh_ivshmem.specs.Specs.{IsWithin, AreApart, is_before}
+use Rattle.jh_ivshmem.specs.Specs.{IsInItsLimits, AreEndpointsApart, is_before}
 use Rattle.jh_history.specs.declared.device_change.DeviceChange.{DeviceChange}
 use Rattle.jh_history.specs.declared.device_change.DeviceChange.TheVariants.{Join}
 use Rattle.jh_history.specs.declared.place.Place.{Place}
@@ -148,7 +148,7 @@ first_table config device good range =
     let P : Option Region → Type 0 = λ o. place_of_section o + 64 ≤ 2 ^ 39 in
     subst P (sym item) fits
 
-spec_within : (config : CellConfig) (n : ℕ) (device : PciDevice) → IsGoodDevice config device → AreInRange config.memory_regions → IsWithin (spec_of config n device)
+spec_within : (config : CellConfig) (n : ℕ) (device : PciDevice) → IsGoodDevice config device → AreInRange config.memory_regions → IsInItsLimits (spec_of config n device)
 spec_within config n device good range = record {
   id = good.own;
   peers = good.few;
@@ -160,17 +160,17 @@ cond_all : (P : EndpointSpec → Type 0) (b : Bool) (spec : EndpointSpec) (xs : 
 cond_all P true spec xs h hs = (h refl, hs)
 cond_all P false spec xs h hs = hs
 
-within_from : (config : CellConfig) (n : ℕ) (devices : List PciDevice) → AreInRange config.memory_regions → AllByRecursion (λ (d : PciDevice). IsShmem d → IsGoodDevice config d) devices → AllByRecursion IsWithin (specs_from config n devices)
+within_from : (config : CellConfig) (n : ℕ) (devices : List PciDevice) → AreInRange config.memory_regions → AllByRecursion (λ (d : PciDevice). IsShmem d → IsGoodDevice config d) devices → AllByRecursion IsInItsLimits (specs_from config n devices)
 within_from config n [] range good = tt
 within_from config n (device ∷ devices) range good =
-    cond_all IsWithin (is_endpoint n device) (spec_of config n device) (specs_from config (n + 1) devices)
+    cond_all IsInItsLimits (is_endpoint n device) (spec_of config n device) (specs_from config (n + 1) devices)
     (λ passes. spec_within config n device (good.0 (kind_from n device passes)) range) (within_from config (n + 1) devices range good.1)
 
 -- the endpoints of good devices are within their limits, where the cell's regions end within the places
-pub specs_within : (config : CellConfig) → HasGoodDevices config → AreInRange config.memory_regions → All IsWithin (specs_of config)
+pub specs_within : (config : CellConfig) → HasGoodDevices config → AreInRange config.memory_regions → All IsInItsLimits (specs_of config)
 unfolding specs_of
 specs_within config good range =
-    All-from_recursion IsWithin (specs_from config 0 config.pci_devices)
+    All-from_recursion IsInItsLimits (specs_from config 0 config.pci_devices)
     (within_from config 0 config.pci_devices range (recursion_from_All (λ (d : PciDevice). IsShmem d → IsGoodDevice config d) config.pci_devices good))
 
 -- ---- endpoints that join
@@ -208,14 +208,14 @@ pair_apart {X} R xs ys a b apart first later =
 pub may_join_next : (config : CellConfig) (list : List Endpoint) (n : ℕ) → MayChange Join list config → n < length config.pci_devices → All (MayJoinThem (endpoints_changed Join (specs_before config n) list)) (specs_at config n)
 may_join_next config list n may lt =
     let before = specs_before config n in
-    let P : List EndpointSpec → Type 0 = AllPairs AreApart in
-    let apart : AllPairs AreApart (before ++ specs_rest config n) = subst P (specs_around config n lt) (may.apart refl) in
+    let P : List EndpointSpec → Type 0 = AllPairs AreEndpointsApart in
+    let apart : AllPairs AreEndpointsApart (before ++ specs_rest config n) = subst P (specs_around config n lt) (may.apart refl) in
     All_from_held (MayJoinThem (endpoints_changed Join before list)) (specs_at config n) (λ spec held.
-    let Q : EndpointSpec → Type 0 = λ other. AreApart other spec in
+    let Q : EndpointSpec → Type 0 = λ other. AreEndpointsApart other spec in
     let new : All (λ (e : Endpoint). Q e.spec) list = All-contains (MayJoinThem list) (specs_at config n) spec (all_at (MayJoinThem list) config n lt (may.new refl)) held in
     All-from_recursion (λ (e : Endpoint). Q e.spec) (endpoints_changed Join before list)
     (joining_have Q before list
-    (recursion_from_All Q before (All_from_held Q before (λ other earlier. pair_apart AreApart before (specs_rest config n) other spec apart earlier (left_held (specs_at config n) (specs_from config (suc n) (drop (suc n) config.pci_devices)) spec held))))
+    (recursion_from_All Q before (All_from_held Q before (λ other earlier. pair_apart AreEndpointsApart before (specs_rest config n) other spec apart earlier (left_held (specs_at config n) (specs_from config (suc n) (drop (suc n) config.pci_devices)) spec held))))
     (recursion_from_All (λ (e : Endpoint). Q e.spec) list new)))
   where
     left_held : (xs ys : List EndpointSpec) (x : EndpointSpec) → Contains xs x → Contains (xs ++ ys) x

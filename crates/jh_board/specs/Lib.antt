@@ -2,7 +2,7 @@ pub mod Pages
 pub mod Closed
 pub mod IsCellRegions
 pub mod LiveView
-pub mod IsLive
+pub mod KeptCells
 pub mod StateView
 pub mod Means
 pub mod Steps

@@ -149,7 +149,7 @@ abbrev pub joined_cells : List Live → CellConfig → List Live
 joined_cells cells config = cells ++ (record { config = config; loadable = false }) ∷ []
 
 -- the cell with the configuration may join those that live, whose index and room are there; as it names a CPU, few live
-pub record MayJoin (live : LiveView) (found : Option (List Region)) (config : CellConfig) : Type 0 where
+pub record MayJoinCells (live : LiveView) (found : Option (List Region)) (config : CellConfig) : Type 0 where
   pub cpus : IsSoundBitmap config.cpu_set
   pub few : NamesCpu config → length live.lives < 15
   pub unknown : is_known (live.system.root ∷ configs_of live.lives) config ≡ false

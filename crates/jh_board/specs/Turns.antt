@@ -24,7 +24,7 @@ MakesDue old cpu (Some entry) new = (due old.image old.entries cpu ≡ Some entr
 abbrev pub Turns : BoardView → ℕ → Turn → BoardView → Type 0
 Turns old cpu (Made entry) new = (due old.image old.entries cpu ≡ Some entry) × (length old.entries < old.limit) × (new ≡ record old { entries = old.entries ++ entry ∷ [] })
 Turns old cpu (Edited left) new = ⊥
-Turns old cpu NotNow new = (due old.image old.entries cpu ≡ None) × ¬ IsQuiet old.image old.entries × (new ≡ old)
+Turns old cpu (NotNow other) new = (due old.image old.entries cpu ≡ None) × IsSome (due old.image old.entries other) × (new ≡ old)
 Turns old cpu Done new = IsQuiet old.image old.entries × (new ≡ old)
 
 -- from old, a turn of the CPU may be refused by this and leave new

@@ -1,5 +1,5 @@
 //! The board.
-ghost use Rattle.std.specs.Prelude.{◌≡◌, ℕ, ◌+◌, ◌<◌, ◌≤◌, ◌↔◌, [], ◌∷◌, ◌++◌, length, Some, None, IsSome, IfSome, IsTrue, IfOk, IfErr, OnErr, option_copied, slice_get};
+ghost use Rattle.std.specs.Prelude.{◌≡◌, ℕ, ◌+◌, ◌<◌, ◌≤◌, ◌↔◌, [], ◌∷◌, ◌++◌, length, Some, None, IsSome, IfSome, IsTrue, IfOk, IfErr, OnErr, option_copied, slice_get, is_none};
 ghost use Rattle.jh_history.specs.Lives.{is_on_board};
 ghost use Rattle.jh_history.specs.Due.{due, IsLegal, IsQuiet};
 ghost use Rattle.jh_history.specs.Bytes.{loaded_byte};
@@ -19,7 +19,7 @@ use crate::held::Held;
 use crate::indexed::{IndexedImage, opening_programs};
 use crate::memory::Memory;
 use crate::overview::{cell_at, map_of};
-use crate::state::{find_create, is_quiet, next_entry};
+use crate::state::{any_cpu_due, find_create, next_entry};
 use crate::steps::make;
 use crate::turn::{Turn, TurnFault};
 use jh_cellcfg::CellConfig;
@@ -196,7 +196,15 @@ impl Board {
     pub fn is_quiet(&self) -> bool
         ensures { IsTrue result ↔ IsQuiet self.now.image self.now.entries }
     {
-        is_quiet(&self.image, &self.held, self.last)
+        self.due_cpu().is_none()
+    }
+
+    /// A CPU that has an entry due; `None` where nothing is due to any.
+    fn due_cpu(&self) -> Option<u8>
+        ensures due { IfSome result (λ cpu. IsSome (due self.now.image self.now.entries cpu)) }
+        ensures quiet { IsTrue (is_none result) ↔ IsQuiet self.now.image self.now.entries }
+    {
+        any_cpu_due(&self.image, &self.held, self.last)
     }
 
     /// How many cells live, root too.
@@ -270,10 +278,9 @@ impl Board {
     {
         match self.make_due(cpu)? {
             Some(entry) => Ok(Turn::Made(entry)),
-            None => Ok(if self.is_quiet() {
-                Turn::Done
-            } else {
-                Turn::NotNow
+            None => Ok(match self.due_cpu() {
+                Some(due_to) => Turn::NotNow { due_to },
+                None => Turn::Done,
             }),
         }
     }

@@ -39,7 +39,7 @@ pub struct LiveCells {
 impl Model for LiveCells {
     ghost use Rattle.std.specs.Prelude.{◌+◌, ◌-◌, ◌^◌, min, vec_len, vec_capacity};
     ghost use Rattle.jh_board.specs.LiveView.{LiveView};
-    ghost use Rattle.jh_board.specs.IsLive.{IsLive};
+    ghost use Rattle.jh_board.specs.KeptCells.{FitsItsCells};
 
     ghost Value = { LiveView };
 
@@ -50,7 +50,7 @@ impl Model for LiveCells {
       regions = min s.closed.room (2 ^ 64 - 1) - (s.regions + 1);
     } };
 
-    ghost invariant = { IsLive };
+    ghost invariant = { FitsItsCells };
 }
 
 /// The index of the first configuration with the id.

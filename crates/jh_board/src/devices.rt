@@ -1,7 +1,7 @@
 //! What entries do to the devices of a board.
 ghost use Rattle.std.specs.Prelude.{◌≡◌, ◌≤◌, ◌<◌, ◌+◌, ◌^◌, All, IfSome, OnOk, length};
 ghost use Rattle.std.specs.Option.{option_to_list};
-ghost use Rattle.jh_ivshmem.specs.Specs.{IsWithin, slot_of};
+ghost use Rattle.jh_ivshmem.specs.Specs.{IsInItsLimits, slot_of};
 ghost use Rattle.jh_ivshmem.specs.declared.spec.Slot.{Slot as TheSlot};
 ghost use Rattle.jh_history.specs.declared.place.Place.{Place as ThePlace};
 ghost use Rattle.jh_history.specs.declared.device_change.DeviceChange.TheVariants.{Join as Joins};
@@ -18,7 +18,7 @@ use jh_num::NoMemory;
 
 /// The endpoint's word of its state table, with the value 0.
 fn word_of(spec: &EndpointSpec) -> Slot
-    requires { IsWithin spec.now }
+    requires { IsInItsLimits spec.now }
     ensures { result ≡ slot_of spec.now 0 }
 {
     Slot {
@@ -40,7 +40,7 @@ fn spec_at(config: &CellConfig, number: usize) -> Option<EndpointSpec>
 fn hold_device(memory: &mut Memory, config: &CellConfig, number: usize) -> Result<(), NoMemory>
     requires number { number < length config.now.pci_devices }
     requires good { HasGoodDevices config.now }
-    requires within { All IsWithin (specs_at config.now number) }
+    requires within { All IsInItsLimits (specs_at config.now number) }
     ensures bytes { (q : ThePlace) → byte_of memory.new q ≡ byte_of memory.old q }
     ensures held { OnOk result (All (HoldsWord memory.new) (specs_at config.now number)) }
     ensures others { (q : ThePlace) → HoldsPlace memory.old q → HoldsPlace memory.new q }
@@ -59,7 +59,7 @@ pub fn prepare_devices(
     config: &CellConfig,
 ) -> Result<(), NoMemory>
     requires good { HasGoodDevices config.now }
-    requires within { All IsWithin (specs_of config.now) }
+    requires within { All IsInItsLimits (specs_of config.now) }
     ensures list { endpoints.new.list ≡ endpoints.old.list }
     ensures room { OnOk result (length (specs_of config.now) ≤ endpoints.new.spare) }
     ensures spare { endpoints.old.spare ≤ endpoints.new.spare }
@@ -85,7 +85,7 @@ fn change_device(
 )
     requires number { number < length config.now.pci_devices }
     requires good { HasGoodDevices config.now }
-    requires within { All IsWithin (specs_at config.now number) }
+    requires within { All IsInItsLimits (specs_at config.now number) }
     requires new { change ≡ Joins → All (MayJoinThem endpoints.old.list) (specs_at config.now number) }
     requires room { change ≡ Joins → length (specs_at config.now number) ≤ endpoints.old.spare }
     requires held { All (HoldsWord memory.old) (specs_at config.now number) }

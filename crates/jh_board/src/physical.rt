@@ -1,7 +1,7 @@
 //! Bytes of physical memory; a page that isn't held is zero.
 ghost use Rattle.std.specs.Prelude.{◌≡◌, ◌≢◌, ℕ, ◌+◌, ◌%◌, ◌<◌, ◌≤◌, ◌^◌, ◌++◌, OnOk, OnErr, length};
 ghost use Rattle.jh_num.specs.Memory.{spelled, stored};
-ghost use Rattle.jh_board.specs.Pages.{byte_at, bytes_from, Holds};
+ghost use Rattle.jh_board.specs.Pages.{byte_at, bytes_from, HoldsPage};
 
 use crate::page::Page;
 use indexmap::IndexMap;
@@ -108,7 +108,7 @@ impl Physical {
         requires { at % 4096 + length bytes.now ≤ 4096 }
         ensures ok { OnOk result ((q : ℕ) → byte_at self.new q ≡ stored (byte_at self.old) at bytes.now q) }
         ensures err { OnErr result ((q : ℕ) → byte_at self.new q ≡ byte_at self.old q) }
-        ensures held { (q : ℕ) → Holds self.old q → Holds self.new q }
+        ensures held { (q : ℕ) → HoldsPage self.old q → HoldsPage self.new q }
     {
         let number = at / 4096;
         let offset = (at % 4096) as usize;
@@ -122,11 +122,11 @@ impl Physical {
         Ok(())
     }
 
-    /// Holds the page of the place. No byte changes.
+    /// HoldsPage the page of the place. No byte changes.
     pub fn hold(&mut self, place: u64) -> Result<(), NoMemory>
         ensures bytes { (q : ℕ) → byte_at self.new q ≡ byte_at self.old q }
-        ensures held { OnOk result (Holds self.new place) }
-        ensures others { (q : ℕ) → Holds self.old q → Holds self.new q }
+        ensures held { OnOk result (HoldsPage self.new place) }
+        ensures others { (q : ℕ) → HoldsPage self.old q → HoldsPage self.new q }
     {
         let number = place / 4096;
         if !self.pages.contains_key(&number) {
@@ -138,10 +138,10 @@ impl Physical {
 
     /// Writes the byte at a place that is held.
     pub fn write(&mut self, place: u64, byte: u8)
-        requires { Holds self.old place }
+        requires { HoldsPage self.old place }
         ensures at { byte_at self.new place ≡ byte }
         ensures others { (q : ℕ) → q ≢ place → byte_at self.new q ≡ byte_at self.old q }
-        ensures held { (q : ℕ) → Holds self.old q → Holds self.new q }
+        ensures held { (q : ℕ) → HoldsPage self.old q → HoldsPage self.new q }
     {
         if let Some(page) = self.pages.get_mut(&(place / 4096)) {
             page.set((place % 4096) as usize, byte);

@@ -1,5 +1,5 @@
 //! What a board holds, as what tells the facts of its journal.
-ghost use Rattle.std.specs.Prelude.{◌≡◌, ℕ, ◌<◌, ◌↔◌, None, IfSome, IfOk, IsTrue};
+ghost use Rattle.std.specs.Prelude.{◌≡◌, ℕ, ◌<◌, ◌↔◌, None, IsSome, IfSome, IfOk, IsTrue, is_none};
 ghost use Rattle.jh_script.specs.declared.image.Image.{Image};
 ghost use Rattle.jh_history.specs.Due.{due_at};
 ghost use Rattle.jh_history.specs.Phases.{creation_of};
@@ -16,8 +16,8 @@ use jh_call::Call;
 use jh_cellcfg::CellConfig;
 use jh_cpu::Cpu;
 use jh_history::{
-    Creation, Entry, Known, OpenCall, Phase, Places, Reach, RootBytes, Wanted, is_any_locked,
-    is_any_other_locked, is_due, next_of, none_due, read_config, rows_are_read_byte_by_byte,
+    Creation, Entry, Known, OpenCall, Phase, Places, Reach, RootBytes, Wanted, any_due,
+    is_any_locked, is_any_other_locked, is_due, next_of, read_config, rows_are_read_byte_by_byte,
 };
 use jh_ivshmem::Endpoints;
 use jh_num::NoMemory;
@@ -282,12 +282,13 @@ pub fn creation_by(
     State::new(image, held, &unknown).creation(caller, at)
 }
 
-/// Whether nothing is due to any CPU; they are asked from `first` on.
-pub fn is_quiet(image: &IndexedImage, held: &Held, first: u8) -> bool
+/// A CPU that has an entry due; `None` where nothing is due to any. They are asked from `first` on.
+pub fn any_cpu_due(image: &IndexedImage, held: &Held, first: u8) -> Option<u8>
     requires { first < 16 }
-    ensures { (f : Facts) → Means image.now held.now f → IsTrue result ↔ ((cpu : ℕ) → due_at image.now f cpu ≡ None) }
+    ensures due { (f : Facts) → Means image.now held.now f → IfSome result (λ cpu. IsSome (due_at image.now f cpu)) }
+    ensures quiet { (f : Facts) → Means image.now held.now f → IsTrue (is_none result) ↔ ((cpu : ℕ) → due_at image.now f cpu ≡ None) }
 {
     image.has_few_cpus();
     let unknown = None;
-    none_due(&State::new(image, held, &unknown), first)
+    any_due(&State::new(image, held, &unknown), first)
 }

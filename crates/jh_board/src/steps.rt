@@ -2,7 +2,7 @@
 ghost use Rattle.std.specs.Prelude.{◌≡◌, ℕ, ◌<◌, ◌≤◌, List, Option, All, AllPairs, OnOk, OnErr, IfOk, IfSome, Some, None, false, option_copied};
 ghost use Rattle.std.specs.Option.{option_map_or};
 ghost use Rattle.jh_cellcfg.specs.declared.config.CellConfig.{CellConfig as TheConfig};
-ghost use Rattle.jh_ivshmem.specs.Specs.{IsWithin};
+ghost use Rattle.jh_ivshmem.specs.Specs.{IsInItsLimits};
 ghost use Rattle.jh_mmio.specs.Index.{SharesNoAddress};
 ghost use Rattle.jh_script.specs.declared.image.Image.{Image};
 ghost use Rattle.jh_history.specs.declared.place.Place.{Place as ThePlace};
@@ -23,7 +23,7 @@ ghost use Rattle.jh_board.specs.Pages.{byte_of, HoldsComm, HoldsPlace};
 ghost use Rattle.jh_board.specs.Indexed.{AreFound};
 ghost use Rattle.jh_board.specs.Judged.{IsJudged};
 ghost use Rattle.jh_board.specs.Means.{Means, IsReady, IsReadyFor};
-ghost use Rattle.jh_board.specs.Steps.{decides_to_go_on, create_of, change_of_call, change_of_cells, changed_cells, is_commit, IsNext, IsRead, IsFree, WillBeReady, IsPrepared, MayWrite, MayWriteOf, MayWriteSlot, MayCommit, MayJoin, IsSameButDevices, joined_cells, devices_held, memory_written, memory_after, slot_after, endpoints_acted_by};
+ghost use Rattle.jh_board.specs.Steps.{decides_to_go_on, create_of, change_of_call, change_of_cells, changed_cells, is_commit, IsNext, IsRead, IsFree, WillBeReady, IsPrepared, MayWrite, MayWriteOf, MayWriteSlot, MayCommit, MayJoinCells, IsSameButDevices, joined_cells, devices_held, memory_written, memory_after, slot_after, endpoints_acted_by};
 
 use crate::cell_regions::CellRegions;
 use crate::cells::LiveCells;
@@ -123,7 +123,7 @@ fn coming_of(
     ensures free { (f : Facts) → Means image.now held.now f → due_at image.now f entry.now.cpu ≡ Some entry.now → IfOk result (IsFree f) }
     ensures apart { IfOk result (λ coming. IfSome coming (λ config. AllPairs SharesNoAddress config.memory_regions)) }
     ensures devices { IfOk result (λ coming. IfSome coming HasGoodDevices) }
-    ensures tables { IfOk result (λ coming. IfSome coming (λ config. All IsWithin (specs_of config))) }
+    ensures tables { IfOk result (λ coming. IfSome coming (λ config. All IsInItsLimits (specs_of config))) }
 {
     if !decides_to_go_on(&entry.act) {
         return Ok(None);
@@ -148,7 +148,7 @@ fn coming_of(
 fn make_ready(held: &mut Held, config: &CellConfig) -> Result<(), NoMemory>
     requires apart { AllPairs SharesNoAddress config.now.memory_regions }
     requires devices { HasGoodDevices config.now }
-    requires tables { All IsWithin (specs_of config.now) }
+    requires tables { All IsInItsLimits (specs_of config.now) }
     ensures ready { OnOk result (IsReadyFor held.new config.now) }
     ensures means { (i : Image) (f : Facts) → IsFree f (Some config.now) → Means i held.old f → Means i held.new f }
 {
@@ -274,7 +274,7 @@ fn make_cells(
     created: Option<BoxedCell>,
     change: CellsChange,
 )
-    requires { IfSome created (MayJoin cells.old index.old) }
+    requires { IfSome created (MayJoinCells cells.old index.old) }
     ensures system { cells.new.system ≡ cells.old.system }
     ensures lives { cells.new.lives ≡ option_map_or (joined_cells cells.old.lives) created (changed_cells change cells.old.lives) }
     ensures named { IfSome created NamesCpu }
@@ -307,7 +307,7 @@ fn make_page(memory: &mut Memory, write: Option<PageWrite>)
 /// The open call after the entry, and the live cells. Most entries are none of the call's own, and change no more of it
 /// than that they are counted.
 fn make_call(held: &mut Held, entry: &Entry, coming: Option<BoxedCell>)
-    requires { IfSome (created_by held.old.call entry.now.act) (MayJoin held.old.cells held.old.index) }
+    requires { IfSome (created_by held.old.call entry.now.act) (MayJoinCells held.old.cells held.old.index) }
     ensures memory { held.new.memory ≡ held.old.memory }
     ensures cpus { held.new.cpus ≡ held.old.cpus }
     ensures endpoints { held.new.endpoints ≡ held.old.endpoints }

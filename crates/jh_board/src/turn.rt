@@ -10,8 +10,8 @@ pub enum Turn {
     Made(Entry),
     /// Tables were edited, and so many such turns are left.
     Edited { left: u32 },
-    /// Nothing is due to this CPU, and something to another.
-    NotNow,
+    /// Nothing is due to this CPU, and an entry to that other one.
+    NotNow { due_to: u8 },
     /// Nothing is due to any CPU.
     Done,
 }

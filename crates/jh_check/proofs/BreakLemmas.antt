@@ -11,7 +11,7 @@ use Rattle.jh_check.specs.declared.rule.Rule.TheVariants.{VirtOverlap, PhysOverl
 use Rattle.jh_check.specs.declared.spans.Span.{Span}
 use Rattle.jh_check.specs.Regions.{Spot, pair_breaks, share_places, takes_pages, both_shared}
 use Rattle.jh_check.specs.Devices.{are_same_section}
-use Rattle.jh_check.specs.Spans.{takes_part, span_of, spans_meet, joins, is_within, IsIndex, AreApart, StandApart}
+use Rattle.jh_check.specs.Spans.{takes_part, span_of, spans_meet, joins, is_within, IsIndex, AreSpansApart, StandApart}
 use Rattle.jh_check.specs.Lists.{only_if, is_any}
 use Rattle.jh_check.specs.Findings.{spot, beside, beside_at, between, between_at, finding_of}
 use Rattle.jh_check.proofs.BoolLemmas.{false_from_not, not_both, and_left, and_right, and_both}
@@ -179,7 +179,7 @@ between_apart rule a one b other e =
     between_none rule a one b other (λ r s d i j t. not_both (joins rule a b) (pair_joins rule (spot a one r (get_or one.memory_regions r d)) (spot b other s (get_or other.memory_regions s d)) t) e)
 
 -- spans that are apart and meet are one
-pub span_same : (spans : List Span) (x y : Span) → AreApart spans → Contains spans x → Contains spans y → spans_meet x y ≡ true → x.item ≡ y.item
+pub span_same : (spans : List Span) (x y : Span) → AreSpansApart spans → Contains spans x → Contains spans y → spans_meet x y ≡ true → x.item ≡ y.item
 span_same spans x y apart cx cy m =
     let p = cx.0 in
     let q = cy.0 in
@@ -198,7 +198,7 @@ span_same spans x y apart cx cy m =
           absurd (omega arith)
     ]
 
-meeting_same : (rule : Rule) (r s : ℕ) (x y : Region) (spans : List Span) → AreApart spans → Contains spans (span_of rule r x) → Contains spans (span_of rule s y) → spans_meet (span_of rule r x) (span_of rule s y) ≡ true → r ≡ s
+meeting_same : (rule : Rule) (r s : ℕ) (x y : Region) (spans : List Span) → AreSpansApart spans → Contains spans (span_of rule r x) → Contains spans (span_of rule s y) → spans_meet (span_of rule r x) (span_of rule s y) ≡ true → r ≡ s
 meeting_same VirtOverlap r s x y spans apart p q m = span_same spans (span_of VirtOverlap r x) (span_of VirtOverlap s y) apart p q m
 meeting_same PhysOverlap r s x y spans apart p q m = span_same spans (span_of PhysOverlap r x) (span_of PhysOverlap s y) apart p q m
 meeting_same rule r s x y spans apart p q m = span_same spans (span_of rule r x) (span_of rule s y) apart p q m

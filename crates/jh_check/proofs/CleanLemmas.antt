@@ -14,7 +14,7 @@ use Rattle.jh_check.specs.Regions.{pair_breaks, region_breaks, breaks_alone, hyp
 use Rattle.jh_check.specs.Devices.{are_same_section, are_sections_of, are_linked, is_section, section_count}
 use Rattle.jh_check.specs.Findings.{spot}
 use Rattle.jh_check.specs.Laws.{IsNumbered, IsItem, AddressesAreSingle, HypervisorIsAlone}
-use Rattle.jh_check.specs.Clean.{PlacesAreSingle, EachRegion, IsReadable, IsAligned, IsSoundMemory, RootIsIdentity, RootHasNoComm, CommsArePages, RootKeepsItsPages, IsSameSection, CellsShareAsTheySay}
+use Rattle.jh_check.specs.Clean.{PlacesAreSingle, EachRegion, IsReadIfExecuted, IsAligned, IsSoundMemory, RootIsIdentity, RootHasNoComm, CommsArePages, RootKeepsItsPages, IsSameSection, CellsShareAsTheySay}
 use Rattle.jh_check.proofs.BoolLemmas.{false_from_not, true_from_not, not_both, same_number}
 use Rattle.jh_check.proofs.BreakLemmas.{share_parts, within_parts}
 
@@ -273,12 +273,12 @@ within_to system cells k a cell r x n i t =
           not_both far q.1 (le-ltb ADDRESS_END (phys_end x) (w.phys (not-true (is_comm x) q.0)))
     ]
 
-pub readable_from : (system : SystemConfig) (cells : List CellConfig) → RegionsHold ExecuteWithoutRead system.hypervisor_memory (system.root ∷ cells) → EachRegion system cells IsReadable
+pub readable_from : (system : SystemConfig) (cells : List CellConfig) → RegionsHold ExecuteWithoutRead system.hypervisor_memory (system.root ∷ cells) → EachRegion system cells IsReadIfExecuted
 readable_from system cells k a cell n r x i some e =
     let f = alone ExecuteWithoutRead system.hypervisor_memory (system.root ∷ cells) k a cell r x n i some in
     not-false (has_flags 0x1 x) (and_rest (has_flags 0x4 x) (not (has_flags 0x1 x)) (λ t. not_both (has_flags 0x4 x && not (has_flags 0x1 x)) t f) e)
 
-pub readable_to : (system : SystemConfig) (cells : List CellConfig) → EachRegion system cells IsReadable → RegionsHold ExecuteWithoutRead system.hypervisor_memory (system.root ∷ cells)
+pub readable_to : (system : SystemConfig) (cells : List CellConfig) → EachRegion system cells IsReadIfExecuted → RegionsHold ExecuteWithoutRead system.hypervisor_memory (system.root ∷ cells)
 readable_to system cells k a cell r x n i t =
     let p = parts ExecuteWithoutRead system.hypervisor_memory a (take r cell.memory_regions) x t in
     let q = and_parts (has_flags 0x4 x) (not (has_flags 0x1 x)) p.1 in

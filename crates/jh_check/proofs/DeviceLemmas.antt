@@ -11,7 +11,8 @@ use Rattle.jh_cellcfg.specs.declared.config.PciDevice.{PciDevice}
 use Rattle.jh_cellcfg.specs.declared.config.CellConfig.{CellConfig}
 use Rattle.jh_cellcfg.specs.declared.config.SystemConfig.{SystemConfig}
 use Rattle.jh_cellcfg.specs.Regions.{has_flags, virt_end, is_page_mapped, is_comm, is_loadable}
-use Rattle.jh_check.specs.Devices.{is_shmem, are_linked, section_count, sections_of, has_good_peers, has_good_bars, bars_of, has_all_sections, is_good_table, has_good_table, is_section_region, are_read_only, are_alike, follows, are_in_a_row, is_twice, is_same_memory, are_same_memory, agrees_with, agrees_with_all, has_good_sections, is_good_shmem, device_breaks, is_zero, cpus_break}
+use Rattle.jh_cellcfg.specs.Limits.{is_zero}
+use Rattle.jh_check.specs.Devices.{is_shmem, are_linked, section_count, sections_of, has_good_peers, has_good_bars, bars_of, has_all_sections, is_good_table, has_good_table, is_section_region, are_read_only, are_alike, follows, are_in_a_row, is_twice, is_same_memory, are_same_memory, agrees_with, agrees_with_all, has_good_sections, is_good_shmem, device_breaks, cpus_break}
 use Rattle.jh_check.specs.Broken.{StandsAmong}
 use Rattle.jh_check.specs.Clean.{IsDevice, IsShmem, AreLinked, IsSection, IsStateTable, IsSectionRegion, IsGoodDevice, DevicesAreGood, DevicesAreSingle, AgreesWith, LinksAgree, IsSoundBitmap, CpusAreFew}
 use Rattle.jh_check.proofs.BoolLemmas.{false_from_not, not_both}

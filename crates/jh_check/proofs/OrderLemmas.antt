@@ -15,7 +15,7 @@ use Rattle.jh_check.specs.declared.rule.Rule.TheVariants.{VirtOverlap, PhysOverl
 use Rattle.jh_check.specs.Regions.{Spot, pair_breaks, region_breaks, hypervisor_breaks}
 use Rattle.jh_check.specs.Devices.{device_breaks, cpus_break}
 use Rattle.jh_check.specs.Lists.{found_from, only_if}
-use Rattle.jh_check.specs.Findings.{item_of, number_of, spot, finding_of, beside, beside_at, between, between_at, from_cell, in_pairs, in_cell, in_cell_at, in_regions, in_regions_at, in_hypervisor, device_at, in_devices_of, in_devices_at, in_devices, in_cpus_at, in_cpus, found_by, found_at, rules_in_order, findings}
+use Rattle.jh_check.specs.Findings.{item_of, rule_number, spot, finding_of, beside, beside_at, between, between_at, from_cell, in_pairs, in_cell, in_cell_at, in_regions, in_regions_at, in_hypervisor, device_at, in_devices_of, in_devices_at, in_devices, in_cpus_at, in_cpus, found_by, found_at, rules_in_order, findings}
 use Rattle.jh_check.specs.Order.{Precedes, IsCountable}
 use Rattle.jh_check.proofs.Tested.{OfRegion, OfMemory, OfRule}
 use Rattle.jh_check.proofs.FoundLemmas.{found_at_holds, found_at0, only_at, found_of}
@@ -236,15 +236,15 @@ ordered_by Shmem h all count = ordered_devices all count
 ordered_by NoCpu h all count = ordered_cpus all
 ordered_by PhysAlign h all count = ordered_both PhysAlign h all count
 
-numbered : (rule : Rule) (a r b s : ℕ) (f : Finding) → f ≡ finding_of rule a r b s → f.number ≡ number_of rule
+numbered : (rule : Rule) (a r b s : ℕ) (f : Finding) → f ≡ finding_of rule a r b s → f.number ≡ rule_number rule
 unfolding finding_of
 numbered rule a r b s f e = ap (λ (g : Finding). g.number) e
 
-both_numbered : (rule : Rule) (h : Region) (all : List CellConfig) (f : Finding) → OfRegion rule h all f ⊎ OfMemory rule h f → f.number ≡ number_of rule
+both_numbered : (rule : Rule) (h : Region) (all : List CellConfig) (f : Finding) → OfRegion rule h all f ⊎ OfMemory rule h f → f.number ≡ rule_number rule
 both_numbered rule h all f (inl p) = numbered rule p.a p.r 0 0 f p.told
 both_numbered rule h all f (inr p) = numbered rule 16 0 0 0 f p.told
 
-rule_numbered : (rule : Rule) (h : Region) (all : List CellConfig) (f : Finding) → OfRule rule h all f → f.number ≡ number_of rule
+rule_numbered : (rule : Rule) (h : Region) (all : List CellConfig) (f : Finding) → OfRule rule h all f → f.number ≡ rule_number rule
 rule_numbered VirtOverlap h all f p = numbered VirtOverlap p.a p.r p.b p.s f p.told
 rule_numbered PhysOverlap h all f p = numbered PhysOverlap p.a p.r p.b p.s f p.told
 rule_numbered Hypervisor h all f p = numbered Hypervisor p.a p.r 0 0 f p.told
@@ -271,11 +271,11 @@ number_at n (suc k) zero m h = let e : n ≡ m = cc in omega arith
 number_at n (suc k) (suc i) m h = let e = number_at (n + 1) k i m h in omega arith
 
 -- the rule at a place has the next number
-rule_at : (i : ℕ) (rule : Rule) → slice_get rules_in_order i ≡ Some rule → number_of rule ≡ 1 + i
+rule_at : (i : ℕ) (rule : Rule) → slice_get rules_in_order i ≡ Some rule → rule_number rule ≡ 1 + i
 unfolding numbers
 rule_at i rule h =
-    let e : map number_of rules_in_order ≡ numbers 1 13 = refl in
-    number_at 1 13 i (number_of rule) (ap (λ ns. slice_get ns i) (sym e) ∙ slice_get-map number_of rules_in_order i ∙ ap (option_map number_of) h)
+    let e : map rule_number rules_in_order ≡ numbers 1 13 = refl in
+    number_at 1 13 i (rule_number rule) (ap (λ ns. slice_get ns i) (sym e) ∙ slice_get-map rule_number rules_in_order i ∙ ap (option_map rule_number) h)
 
 pub findings_ordered : (system : SystemConfig) (cells : List CellConfig) → IsCountable (system.root ∷ cells) → AllPairs Precedes (findings system cells)
 unfolding findings

@@ -12,7 +12,7 @@ use Rattle.jh_cellcfg.specs.declared.config.SystemConfig.{SystemConfig}
 use Rattle.jh_cellcfg.specs.Cells.{is_cpu_set}
 use Rattle.jh_check.specs.declared.verdict.NewCell.{NewCell}
 use Rattle.jh_check.specs.declared.verdict.NewCell.TheVariants.{Clean, Invalid, Busy}
-use Rattle.jh_check.specs.Devices.{is_zero}
+use Rattle.jh_cellcfg.specs.Limits.{is_zero}
 use Rattle.jh_check.specs.Verdicts.{verdict_of}
 use Rattle.jh_check.specs.Refusals.{is_known, any_below, is_beyond, names_beyond, by_check, refusal_of, IsAccepted}
 use Rattle.jh_check.proofs.BoolLemmas.{true_from_not}

@@ -8,7 +8,7 @@ use Rattle.jh_cellcfg.specs.declared.region.Region.{Region}
 use Rattle.jh_check.specs.declared.rule.Rule.{Rule}
 use Rattle.jh_check.specs.declared.rule.Rule.TheVariants.{VirtOverlap}
 use Rattle.jh_check.specs.declared.spans.Span.{Span}
-use Rattle.jh_check.specs.Spans.{takes_part, span_of, spans_meet, AreApartTo, AreApart, LiesWithin, StandApartTo}
+use Rattle.jh_check.specs.Spans.{takes_part, span_of, spans_meet, AreApartTo, AreSpansApart, LiesWithin, StandApartTo}
 use Rattle.jh_check.proofs.BoolLemmas.{and_left, and_right}
 
 -- none is apart from nothing, and one more
@@ -38,7 +38,7 @@ apart_more spans k before ordered apart =
     }
 
 -- starts rise, and so do ends
-starts_rise : (spans : List Span) → AreApart spans → (i j : ℕ) (d : Span) → i ≤ j → j < length spans → (get_or spans i d).start ≤ (get_or spans j d).start
+starts_rise : (spans : List Span) → AreSpansApart spans → (i j : ℕ) (d : Span) → i ≤ j → j < length spans → (get_or spans i d).start ≤ (get_or spans j d).start
 starts_rise spans apart i j d h k =
     elim (cases_eq i j) [
       | inl e ↦ subst (λ j. (get_or spans i d).start ≤ (get_or spans j d).start) e (omega arith)
@@ -48,7 +48,7 @@ starts_rise spans apart i j d h k =
           omega arith
     ]
 
-ends_rise : (spans : List Span) → AreApart spans → (i j : ℕ) (d : Span) → i ≤ j → j < length spans → (get_or spans i d).end ≤ (get_or spans j d).end
+ends_rise : (spans : List Span) → AreSpansApart spans → (i j : ℕ) (d : Span) → i ≤ j → j < length spans → (get_or spans i d).end ≤ (get_or spans j d).end
 ends_rise spans apart i j d h k =
     elim (cases_eq i j) [
       | inl e ↦ subst (λ j. (get_or spans i d).end ≤ (get_or spans j d).end) e (omega arith)
@@ -58,13 +58,13 @@ ends_rise spans apart i j d h k =
           omega arith
     ]
 
-pub apart_parted : (spans : List Span) (limit : ℕ) → AreApart spans → IsPartitionedBy (λ (span : Span). nat_lt span.start limit) spans
+pub apart_parted : (spans : List Span) (limit : ℕ) → AreSpansApart spans → IsPartitionedBy (λ (span : Span). nat_lt span.start limit) spans
 apart_parted spans limit apart = λ i j d h k p.
     let rise = starts_rise spans apart i j d h k in
     let less = ltb-true (get_or spans j d).start limit p in
     lt-ltb (get_or spans i d).start limit (omega arith)
 
-pub apart_ended : (spans : List Span) (limit : ℕ) → AreApart spans → IsPartitionedBy (λ (span : Span). leb span.end limit) spans
+pub apart_ended : (spans : List Span) (limit : ℕ) → AreSpansApart spans → IsPartitionedBy (λ (span : Span). leb span.end limit) spans
 apart_ended spans limit apart = λ i j d h k p.
     let rise = ends_rise spans apart i j d h k in
     let less = leb-true (get_or spans j d).end limit p in
@@ -105,7 +105,7 @@ met_within spans other first m n low high bound after before x cx meets =
     (k - first, omega arith, get_or-take (n - first) (drop first spans) (k - first) x (omega arith) ∙ get_or-drop first spans (k - first) x ∙ ap (λ i. get_or spans i x) sum ∙ cx.2)
 
 -- what lies behind the first n and before the others meets none
-pub between_none : (spans : List Span) (other : Span) (n : ℕ) → AreApart spans → (0 < n → (d : Span) → (get_or spans (n - 1) d).end ≤ other.start) → (n < length spans → (d : Span) → other.end ≤ (get_or spans n d).start) → n ≤ length spans → (x : Span) → Contains spans x → spans_meet x other ≡ true → ⊥
+pub between_none : (spans : List Span) (other : Span) (n : ℕ) → AreSpansApart spans → (0 < n → (d : Span) → (get_or spans (n - 1) d).end ≤ other.start) → (n < length spans → (d : Span) → other.end ≤ (get_or spans n d).start) → n ≤ length spans → (x : Span) → Contains spans x → spans_meet x other ≡ true → ⊥
 between_none spans other n apart behind before bound x cx meets =
     let k = cx.0 in
     let within = cx.1 in

@@ -14,7 +14,7 @@ use Rattle.jh_check.specs.Regions.{pair_breaks, region_breaks, hypervisor_breaks
 use Rattle.jh_check.specs.Devices.{device_breaks, cpus_break}
 use Rattle.jh_check.specs.Spans.{is_within, joins}
 use Rattle.jh_check.specs.Lists.{found_from, only_if, is_any}
-use Rattle.jh_check.specs.Findings.{number_of, finding_of, spot, beside, beside_at, between, between_at, from_cell, in_pairs, in_cell, in_cell_at, in_regions, in_regions_at, in_hypervisor, in_devices_of, device_at, in_devices, in_devices_at, in_cpus, in_cpus_at, found_by, found_at, rules_in_order, findings}
+use Rattle.jh_check.specs.Findings.{rule_number, finding_of, spot, beside, beside_at, between, between_at, from_cell, in_pairs, in_cell, in_cell_at, in_regions, in_regions_at, in_hypervisor, in_devices_of, device_at, in_devices, in_devices_at, in_cpus, in_cpus_at, found_by, found_at, rules_in_order, findings}
 use Rattle.jh_check.specs.Verdicts.{is_invalid, is_busy, verdict_by, verdict_of}
 use Rattle.jh_check.specs.declared.verdict.NewCell.TheVariants.{Invalid}
 use Rattle.jh_cellcfg.specs.declared.config.SystemConfig.{SystemConfig}
@@ -90,13 +90,13 @@ unfolding found_from
 any_first p found x xs h = keep p (found 0 x) (found_from found 1 xs) (any_none p found 1 xs h)
 
 -- findings that name a cell, or don't
-invalid_own : (rule : Rule) (n r b s : ℕ) → (number_of rule == 10) ≡ false → is_invalid n (finding_of rule n r b s) ≡ true
+invalid_own : (rule : Rule) (n r b s : ℕ) → (rule_number rule == 10) ≡ false → is_invalid n (finding_of rule n r b s) ≡ true
 unfolding finding_of
-invalid_own rule n r b s e = and_both ((n == n) || (b == n)) (not (number_of rule == 10)) (ap (λ t. t || (b == n)) (same_number n)) (ap not e)
+invalid_own rule n r b s e = and_both ((n == n) || (b == n)) (not (rule_number rule == 10)) (ap (λ t. t || (b == n)) (same_number n)) (ap not e)
 
 invalid_other : (rule : Rule) (n a r b s : ℕ) → (a ≡ n → ⊥) → (b ≡ n → ⊥) → is_invalid n (finding_of rule a r b s) ≡ false
 unfolding finding_of
-invalid_other rule n a r b s h k = and_first ((a == n) || (b == n)) (not (number_of rule == 10)) (or_none (a == n) (b == n) (ne_eqb a n h) (ne_eqb b n k))
+invalid_other rule n a r b s h k = and_first ((a == n) || (b == n)) (not (rule_number rule == 10)) (or_none (a == n) (b == n) (ne_eqb a n h) (ne_eqb b n k))
 
 invalid_overlap : (n a r b s : ℕ) → is_invalid n (finding_of CellsOverlap a r b s) ≡ false
 unfolding finding_of
@@ -110,9 +110,9 @@ busy_other : (n a r b s : ℕ) → (a ≡ n → ⊥) → (b ≡ n → ⊥) → i
 unfolding finding_of
 busy_other n a r b s h k = and_first ((a == n) || (b == n)) true (or_none (a == n) (b == n) (ne_eqb a n h) (ne_eqb b n k))
 
-busy_rule : (rule : Rule) (n : ℕ) → (number_of rule == 10) ≡ false → (a r b s : ℕ) → is_busy n (finding_of rule a r b s) ≡ false
+busy_rule : (rule : Rule) (n : ℕ) → (rule_number rule == 10) ≡ false → (a r b s : ℕ) → is_busy n (finding_of rule a r b s) ≡ false
 unfolding finding_of
-busy_rule rule n e a r b s = and_second ((a == n) || (b == n)) (number_of rule == 10) e
+busy_rule rule n e a r b s = and_second ((a == n) || (b == n)) (rule_number rule == 10) e
 
 -- the pairs of two cells
 between_false_by : (p : Finding → Bool) (rule : Rule) (a : ℕ) (one : CellConfig) (b : ℕ) (other : CellConfig) (t : Bool) → joins rule a b ≡ t → (joins rule a b ≡ true → (r s : ℕ) → p (finding_of rule a r b s) ≡ false) → list_any p (between rule a one b other) ≡ false
@@ -134,7 +134,7 @@ between_true p rule a one b other h =
     only_true p (pair_breaks rule (spot a one r x) (spot b other s y)) (finding_of rule a r b s) (h r s)))
 
 -- a rule about two regions of one cell
-pub invalid_within : (rule : Rule) (xs : List CellConfig) (new : CellConfig) → is_within rule ≡ true → (number_of rule == 10) ≡ false → list_any (is_invalid (length xs)) (in_pairs rule (xs ++ new ∷ [])) ≡ is_any (between rule (length xs) new (length xs) new)
+pub invalid_within : (rule : Rule) (xs : List CellConfig) (new : CellConfig) → is_within rule ≡ true → (rule_number rule == 10) ≡ false → list_any (is_invalid (length xs)) (in_pairs rule (xs ++ new ∷ [])) ≡ is_any (between rule (length xs) new (length xs) new)
 unfolding in_pairs from_cell
 invalid_within rule xs new w e =
     let n = length xs in
@@ -174,7 +174,7 @@ invalid_taken root live new =
     ∙ between_true p SubpageTaken n new 0 root (λ r s. invalid_own SubpageTaken n r 0 s refl)
 
 -- a rule about one region
-pub invalid_regions : (rule : Rule) (h : Region) (xs : List CellConfig) (new : CellConfig) → 0 < length xs → (number_of rule == 10) ≡ false → list_any (is_invalid (length xs)) (in_regions rule h (xs ++ new ∷ [])) ≡ is_any (in_cell rule h (length xs) new.memory_regions)
+pub invalid_regions : (rule : Rule) (h : Region) (xs : List CellConfig) (new : CellConfig) → 0 < length xs → (rule_number rule == 10) ≡ false → list_any (is_invalid (length xs)) (in_regions rule h (xs ++ new ∷ [])) ≡ is_any (in_cell rule h (length xs) new.memory_regions)
 unfolding in_regions in_cell
 invalid_regions rule h xs new some e =
     let n = length xs in
@@ -187,7 +187,7 @@ invalid_regions rule h xs new some e =
     only_true p (region_breaks rule h n (take r new.memory_regions) x) (finding_of rule n r 0 0) (invalid_own rule n r 0 0 e))
 
 -- or about the hypervisor's memory too
-pub invalid_both : (rule : Rule) (h : Region) (xs : List CellConfig) (new : CellConfig) → 0 < length xs → length xs < 16 → (number_of rule == 10) ≡ false → list_any (is_invalid (length xs)) (in_regions rule h (xs ++ new ∷ []) ++ in_hypervisor rule h) ≡ is_any (in_cell rule h (length xs) new.memory_regions)
+pub invalid_both : (rule : Rule) (h : Region) (xs : List CellConfig) (new : CellConfig) → 0 < length xs → length xs < 16 → (rule_number rule == 10) ≡ false → list_any (is_invalid (length xs)) (in_regions rule h (xs ++ new ∷ []) ++ in_hypervisor rule h) ≡ is_any (in_cell rule h (length xs) new.memory_regions)
 unfolding in_hypervisor
 invalid_both rule h xs new some few e =
     let n = length xs in

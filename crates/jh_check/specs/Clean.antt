@@ -25,8 +25,8 @@ abbrev pub EachRegion : SystemConfig → List CellConfig → (Region → Type 0)
 EachRegion system cells P = EachCell system cells (λ cell. EachItem cell (λ r x. 0 < x.size → P x))
 
 -- the region may be read where it may be executed
-abbrev pub IsReadable : Region → Type 0
-IsReadable region = has_flags 0x4 region ≡ true → has_flags 0x1 region ≡ true
+abbrev pub IsReadIfExecuted : Region → Type 0
+IsReadIfExecuted region = has_flags 0x4 region ≡ true → has_flags 0x1 region ≡ true
 
 -- the places of a page-mapped region that is no communication region begin at a multiple of 4,096
 abbrev pub IsAligned : Region → Type 0
@@ -197,7 +197,7 @@ pub record IsClean (system : SystemConfig) (cells : List CellConfig) : Type 0 wh
   pub identity : RootIsIdentity system
   pub no_comm : RootHasNoComm system
   pub comms : CommsArePages system cells
-  pub readable : EachRegion system cells IsReadable
+  pub readable : EachRegion system cells IsReadIfExecuted
   pub pages : RootKeepsItsPages system cells
   pub together : CellsShareAsTheySay system cells
   pub devices : DevicesAreGood system cells
@@ -220,7 +220,7 @@ pub record IsSoundRegion (hypervisor region : Region) : Type 0 where
   pub clear : SharesNoPlace hypervisor region
   pub identity : region.phys_start ≡ region.virt_start
   pub no_comm : is_comm region ≡ false
-  pub readable : IsReadable region
+  pub readable : IsReadIfExecuted region
   pub aligned : IsAligned region
 
 -- root is sound: the hypervisor's memory and each region of root that isn't empty are, and no two regions of root have

@@ -5,6 +5,7 @@ use Rattle.std.specs.Cmp.Lexicographic.{pointwise}
 use Rattle.jh_cellcfg.specs.declared.region.Region.{Region}
 use Rattle.jh_cellcfg.specs.declared.config.PciDevice.{PciDevice}
 use Rattle.jh_cellcfg.specs.declared.config.CellConfig.{CellConfig}
+use Rattle.jh_cellcfg.specs.Limits.{is_zero}
 use Rattle.jh_cellcfg.specs.Regions.{has_flags, virt_end, is_page_mapped, is_comm, is_loadable}
 pub use Rattle.jh_cellcfg.specs.Devices.{is_shmem}
 
@@ -135,10 +136,6 @@ is_good_shmem lower cell earlier device =
 -- the device is an ivshmem device, and breaks one of its ten rules
 unfoldable pub device_breaks : List CellConfig → CellConfig → List PciDevice → PciDevice → Bool
 device_breaks lower cell earlier device = is_shmem device && not (is_good_shmem lower cell earlier device)
-
--- the byte of a CPU set is 0, so that it names no CPU
-abbrev pub is_zero : ℕ → Bool
-is_zero byte = byte == 0
 
 -- the CPU set names no CPU, or one above 15; CPU i is bit i mod 8 of byte i div 8
 unfoldable pub cpus_break : List ℕ → Bool

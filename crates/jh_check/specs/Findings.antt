@@ -13,20 +13,20 @@ use Rattle.jh_check.specs.Devices.{device_breaks, cpus_break}
 use Rattle.jh_check.specs.Lists.{found_from, only_if}
 
 -- the number of the rule
-abbrev pub number_of : Rule → ℕ
-number_of VirtOverlap = 1
-number_of PhysOverlap = 2
-number_of Hypervisor = 3
-number_of OutOfRange = 4
-number_of RootNotIdentity = 5
-number_of CommInRoot = 6
-number_of CommShape = 7
-number_of ExecuteWithoutRead = 8
-number_of SubpageTaken = 9
-number_of CellsOverlap = 10
-number_of Shmem = 11
-number_of NoCpu = 12
-number_of PhysAlign = 13
+abbrev pub rule_number : Rule → ℕ
+rule_number VirtOverlap = 1
+rule_number PhysOverlap = 2
+rule_number Hypervisor = 3
+rule_number OutOfRange = 4
+rule_number RootNotIdentity = 5
+rule_number CommInRoot = 6
+rule_number CommShape = 7
+rule_number ExecuteWithoutRead = 8
+rule_number SubpageTaken = 9
+rule_number CellsOverlap = 10
+rule_number Shmem = 11
+rule_number NoCpu = 12
+rule_number PhysAlign = 13
 
 -- the number of an item as a finding tells it: of 32 bits, and the last of these for all past it
 abbrev pub item_of : ℕ → ℕ
@@ -35,7 +35,7 @@ item_of n = min n 0xffffffff
 -- the finding that the rule is broken by these: an item of a cell, and one of another cell
 unfoldable pub finding_of : Rule → ℕ → ℕ → ℕ → ℕ → Finding
 finding_of rule cell item other_cell other_item =
-    record { number = number_of rule; cell = cell; item = item_of item; other_cell = other_cell; other_item = item_of other_item }
+    record { number = rule_number rule; cell = cell; item = item_of item; other_cell = other_cell; other_item = item_of other_item }
 
 -- the region with its cell, and the numbers of both
 abbrev pub spot : ℕ → CellConfig → ℕ → Region → Spot

@@ -47,8 +47,8 @@ pub record AreApartTo (spans : List Span) (n : ℕ) : Type 0 where
   pub apart : (i j : ℕ) (d : Span) → i < j → j < n → (slice_index_or spans i d).end ≤ (slice_index_or spans j d).start
 
 -- the spans end nowhere before their starts, and each ends before those behind it begin
-abbrev pub AreApart : List Span → Type 0
-AreApart spans = AreApartTo spans (length spans)
+abbrev pub AreSpansApart : List Span → Type 0
+AreSpansApart spans = AreApartTo spans (length spans)
 
 -- the span begins at the one number or behind it, and ends at the other or before it
 pub record LiesWithin (span : Span) (low high : ℕ) : Type 0 where
@@ -75,4 +75,4 @@ spans_meet one other = nat_lt one.start other.end && nat_lt other.start one.end
 pub record IsIndex (rule : Rule) (regions : List Region) (spans : List Span) : Type 0 where
   pub each : HasEach rule regions spans
   pub only : HasOnly regions spans
-  pub apart : AreApart spans
+  pub apart : AreSpansApart spans

@@ -61,11 +61,11 @@ pub(crate) fn rule_at(place: usize) -> Rule
 }
 
 impl Rule {
-    ghost use Rattle.jh_check.specs.Findings.{number_of};
+    ghost use Rattle.jh_check.specs.Findings.{rule_number};
 
     /// The rule's number, from 1 to 13.
     pub(crate) fn number(&self) -> u8
-        ensures { result ≡ number_of self.now }
+        ensures { result ≡ rule_number self.now }
     {
         match self {
             Rule::VirtOverlap => 1,

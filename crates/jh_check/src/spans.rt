@@ -1,7 +1,7 @@
 //! An index of a cell's regions, by which pairs that can't break a rule are told at once.
 ghost use Rattle.std.specs.Prelude.{◌≡◌, ◌≢◌, ◌-◌, ◌<◌, ◌≤◌, true, length, slice_index_or, OnOk, IfOk, IfSome, Contains};
 ghost use Rattle.jh_check.specs.declared.spans.Span.{Span};
-ghost use Rattle.jh_check.specs.Spans.{takes_part, span_of, spans_meet, HasEach, HasOnly, AreApart, LiesWithin, StandApart, IsIndex};
+ghost use Rattle.jh_check.specs.Spans.{takes_part, span_of, spans_meet, HasEach, HasOnly, AreSpansApart, LiesWithin, StandApart, IsIndex};
 
 use crate::rule::Rule;
 use jh_cellcfg::Region;
@@ -85,7 +85,7 @@ fn is_behind(spans: &[Span], k: usize) -> bool
 
 /// Whether each of the spans ends before those behind it begin.
 fn are_apart(spans: &[Span]) -> bool
-    ensures { result ≡ true → AreApart spans.now }
+    ensures { result ≡ true → AreSpansApart spans.now }
 {
     for k in 0..spans.len() {
         if !is_behind(spans, k) {
@@ -143,7 +143,7 @@ pub(crate) fn index(
 
 /// Whether that one lies behind the first `n` of the spans and before the others.
 fn lies_between(spans: &[Span], n: usize, other: Span) -> bool
-    requires { AreApart spans.now }
+    requires { AreSpansApart spans.now }
     ensures { result ≡ true → (x : Span) → Contains spans.now x → spans_meet x other ≡ true → ⊥ }
 {
     n <= spans.len()
@@ -153,7 +153,7 @@ fn lies_between(spans: &[Span], n: usize, other: Span) -> bool
 
 /// Those of the spans that meet that one, by two searches. `near` becomes how many lie before it.
 fn stretch_met<'a>(spans: &'a [Span], other: Span, near: &mut usize) -> &'a [Span]
-    requires { AreApart spans.now }
+    requires { AreSpansApart spans.now }
     ensures each { (x : Span) → Contains spans.now x → spans_meet x other ≡ true → Contains result.now x }
     ensures only { (x : Span) → Contains result.now x → Contains spans.now x }
 {
@@ -167,7 +167,7 @@ fn stretch_met<'a>(spans: &'a [Span], other: Span, near: &mut usize) -> &'a [Spa
 /// Those of the spans that meet that one. As they are apart, they stand side by side. `near` is how many lay before
 /// the last one, and becomes how many lie before this one: mostly as many, or one more.
 pub(crate) fn met_by<'a>(spans: &'a [Span], other: Span, near: &mut usize) -> &'a [Span]
-    requires { AreApart spans.now }
+    requires { AreSpansApart spans.now }
     ensures each { (x : Span) → Contains spans.now x → spans_meet x other ≡ true → Contains result.now x }
     ensures only { (x : Span) → Contains result.now x → Contains spans.now x }
 {

@@ -11,7 +11,7 @@ use Rattle.jh_cli.specs.declared.ending.Ending.{Ending}
 use Rattle.jh_cli.specs.declared.ending.Stop.{Stop}
 use Rattle.jh_cli.specs.declared.ending.Stop.TheVariants as stop
 use Rattle.jh_cli.specs.declared.status.Status.TheVariants as status
-use Rattle.jh_cli.specs.Lines.{number_of}
+use Rattle.jh_cli.specs.Lines.{exit_number}
 use Rattle.jh_image.specs.Files.{Contents}
 use Rattle.jh_cli.specs.Reading.{Reply}
 use Rattle.jh_cli.specs.Boards.{stopped, EndsAt, Opens}
@@ -32,7 +32,7 @@ ends_at contents board NoMemory stops s told memory = nothing (EndsAt contents b
 -- a refusal's status is not that of a fault of reading
 pub refused_is_read : (said : Reply) (text : List ℕ) → said ≡ record { status = status.Refused; text = text } → said.status ≢ status.ReadFault
 refused_is_read said text is fault =
-    let same : number_of status.Refused ≡ number_of status.ReadFault = ap number_of (sym (ap (λ (s : Reply). s.status) is) ∙ fault) in
+    let same : exit_number status.Refused ≡ exit_number status.ReadFault = ap exit_number (sym (ap (λ (s : Reply). s.status) is) ∙ fault) in
     omega arith
 
 -- what follows a board that was read

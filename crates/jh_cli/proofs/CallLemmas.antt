@@ -8,13 +8,13 @@ use Rattle.jh_cli.specs.declared.ending.Ending.{Ending}
 use Rattle.jh_cli.specs.declared.ending.Stop.{Stop}
 use Rattle.jh_cli.specs.declared.ending.Stop.TheVariants as stop
 use Rattle.jh_cli.specs.Words.{Asked}
-use Rattle.jh_cli.specs.Lines.{number_of}
+use Rattle.jh_cli.specs.Lines.{exit_number}
 use Rattle.jh_image.specs.Files.{Contents}
 use Rattle.jh_cli.specs.Reading.{Reply}
 use Rattle.jh_cli.specs.Stopped.{said_of, OnEnding, IsCounted}
 use Rattle.jh_cli.specs.Order.{IsReadFor}
 use Rattle.jh_cli.specs.Outcome.{Outcome, Sent}
-use Rattle.jh_cli.specs.Complete.{AreGood, IsAnswer}
+use Rattle.jh_cli.specs.Complete.{AreGood, MayEndWith}
 use Rattle.jh_cli.specs.Call.{Says, IsCall}
 use Rattle.jh_cli.proofs.GoodLemmas.{answered_or_rose, unread, said_read, IsAnswered}
 use Rattle.jh_cli.proofs.OrderLemmas.{call_keeps}
@@ -22,11 +22,11 @@ use Rattle.jh_cli.proofs.StatusLemmas.{outcome_other}
 
 -- good words and files are answered
 abbrev pub GoodAreAnswered : Type 0
-GoodAreAnswered = (contents : Contents) (asked : Option Asked) (said : Reply) (good : AreGood contents asked) → Outcome contents asked said → IsAnswered (IsAnswer contents asked good) said
+GoodAreAnswered = (contents : Contents) (asked : Option Asked) (said : Reply) (good : AreGood contents asked) → Outcome contents asked said → IsAnswered (MayEndWith contents asked good) said
 
 -- two statuses with different numbers
-differ : (status one other : Status) → status ≡ one → status ≡ other → number_of one ≢ number_of other → ⊥
-differ status one other is also apart = apart (ap number_of (sym is ∙ also))
+differ : (status one other : Status) → status ≡ one → status ≡ other → exit_number one ≢ exit_number other → ⊥
+differ status one other is also apart = apart (ap exit_number (sym is ∙ also))
 
 module _ {S K : Type 0} (contents : S → Contents) (failed : S → List ℕ) (faults : S → ℕ) (one : S → Ask → S → Type 0) (written : K → Option (List ℕ)) (sink_faults : K → ℕ) where
   -- what was told was sent, or a proper front of it
@@ -40,7 +40,7 @@ module _ {S K : Type 0} (contents : S → Contents) (failed : S → List ℕ) (f
         read_fault = unread (faults s) (faults t) (failed t) (written k) (written l) said status says.counted sent;
         write_fault = rose;
         unfailed = λ read wrote wanted. call_keeps one failed (contents s) asked s t said says.read (said_read (written k) (written l) said status sent read wrote);
-        complete = λ good. answered_or_rose (IsAnswer (contents s) asked good) (faults s) (faults t) (sink_faults k) (sink_faults l) (failed t) (written k) (written l) said status
+        complete = λ good. answered_or_rose (MayEndWith (contents s) asked good) (faults s) (faults t) (sink_faults k) (sink_faults l) (failed t) (written k) (written l) said status
             (answered (contents s) asked said good says.outcome) says.counted sent rose;
       }
 

@@ -41,7 +41,7 @@ use Rattle.jh_run.specs.Soak.{soak_board}
 use Rattle.jh_cli.specs.declared.status.Status.{Status}
 use Rattle.jh_cli.specs.declared.status.Status.TheVariants.{Good, Found, ReadFault, WriteFault, NoMemory, Full}
 use Rattle.jh_cli.specs.Limits.{most_of_a_file, most_of_a_journal}
-use Rattle.jh_cli.specs.Lines.{number_of, fault_line}
+use Rattle.jh_cli.specs.Lines.{exit_number, fault_line}
 use Rattle.jh_cli.specs.Words.{Asked, CheckOf, PackOf, PlayOf, RunOf, MapOf, AuditOf, SoakOf}
 use Rattle.jh_image.specs.Files.{Contents}
 use Rattle.jh_cli.specs.Reading.{Reply, StopsAt, ReadsAt}
@@ -55,7 +55,7 @@ use Rattle.jh_cli.specs.Soak.{AreRounds, Soaks}
 use Rattle.jh_cli.specs.Audit.{IsJournalFile, JournalRefusal, IsAudited, AuditsBy, Audits, verdict_status}
 use Rattle.jh_cli.specs.Outcome.{Outcome, Sent}
 use Rattle.jh_cli.specs.Stopped.{IsCounted}
-use Rattle.jh_cli.specs.Complete.{IsBoardTold, Holds, HoldCells, AreGoodToCheck, IsGoodToPack, AreGoodToPlay, AreGoodToRun, AreGoodToAudit, AreGood, IsAnswer}
+use Rattle.jh_cli.specs.Complete.{IsBoardTold, FileSpells, HoldCells, AreGoodToCheck, IsGoodToPack, AreGoodToPlay, AreGoodToRun, AreGoodToAudit, AreGood, MayEndWith}
 use Rattle.jh_cli.proofs.StatusLemmas.{run_ends}
 use Rattle.jh_cli.proofs.ToldLemmas.{all_told, each_is_told, is_image, stops}
 
@@ -100,7 +100,7 @@ of_verdict : (said : Reply) (status : Status) → said.status ≡ status → IsV
 of_verdict said status is one = inl (subst IsVerdict (sym is) one)
 
 stops_unrefused : {A : Type 0} (Answer : Status → Type 0) (most : ℕ) (contents : Contents) (name : List ℕ) (Why : List ℕ → List ℕ → Type 0) (Form : List ℕ → A → Type 0) (value : A) (said : Reply)
-    → IsSound Why Form most value → Holds most contents name Form value → StopsAt most contents name Why said → IsAnswered Answer said
+    → IsSound Why Form most value → FileSpells most contents name Form value → StopsAt most contents name Why said → IsAnswered Answer said
 stops_unrefused Answer most contents name Why Form value said sound held (inl fault) = inr (ap (λ (s : Reply). s.status) fault)
 stops_unrefused Answer most contents name Why Form value said sound held (inr is) =
     let same : is.bytes ≡ held.bytes = handed_held (contents name) most held.bytes is.bytes held.told held.within is.handed in
@@ -108,7 +108,7 @@ stops_unrefused Answer most contents name Why Form value said sound held (inr is
 
 -- what follows a file that holds a value is what was read of it
 reads_unrefused : {A : Type 0} (Answer : Status → Type 0) (most : ℕ) (contents : Contents) (name : List ℕ) (Why : List ℕ → List ℕ → Type 0) (Form : List ℕ → A → Type 0) (next : A → Reply → Type 0) (value : A) (said : Reply)
-    → IsSound Why Form most value → Holds most contents name Form value → ((bytes : List ℕ) (other : A) → Form bytes value → Form bytes other → next other said → IsAnswered Answer said)
+    → IsSound Why Form most value → FileSpells most contents name Form value → ((bytes : List ℕ) (other : A) → Form bytes value → Form bytes other → next other said → IsAnswered Answer said)
     → ReadsAt most contents name Why Form next said → IsAnswered Answer said
 reads_unrefused Answer most contents name Why Form next value said sound held rest (inl stops) = stops_unrefused Answer most contents name Why Form value said sound held stops
 reads_unrefused Answer most contents name Why Form next value said sound held rest (inr (other, spells, went)) =
@@ -141,7 +141,7 @@ cell_sound faultless cell bytes words within form (inr bad) =
 
 -- each of the files holds a cell
 one_of_cells : (contents : Contents) (before : List (List ℕ)) (name : List ℕ) (rest : List (List ℕ)) (cells : List CellConfig)
-    → HoldCells contents (before ++ name ∷ rest) cells → (cell : CellConfig) × Holds most_of_a_file contents name IsCellFile cell
+    → HoldCells contents (before ++ name ∷ rest) cells → (cell : CellConfig) × FileSpells most_of_a_file contents name IsCellFile cell
 one_of_cells contents [] name rest [] held = absurd held
 one_of_cells contents [] name rest (cell ∷ cells) held = (cell, held.0)
 one_of_cells contents (b ∷ before) name rest [] held = absurd held
@@ -235,7 +235,7 @@ played_unrefused : (image : Image) (items other : List ℕ) (said : Reply) → i
 played_unrefused image items other said same is =
     inl (ap (λ (s : Reply). s.status) is.told ∙ ap (λ (xs : List ℕ). played_status (played image max_entries xs).full) (sym same))
 
-plays_unrefused : (contents : Contents) (schedule : List ℕ) (image : Image) (items : List ℕ) (said : Reply) → Holds most_of_a_file contents schedule (IsSchedule image) items
+plays_unrefused : (contents : Contents) (schedule : List ℕ) (image : Image) (items : List ℕ) (said : Reply) → FileSpells most_of_a_file contents schedule (IsSchedule image) items
     → PlaysBy contents schedule image said → IsAnswered (IsPlayOf image items) said
 plays_unrefused contents schedule image items said held h =
     reads_unrefused (IsPlayOf image items) most_of_a_file contents schedule (ScheduleRefusal image) (IsSchedule image) (IsPlayed image) items said (schedule_sound image items) held
@@ -260,10 +260,10 @@ journal_sound no_bad not_long entries bytes words within form (inr bad) = faultl
   faultless journals.NoMemory other first = other refl
 
 verdict_unrefused : (verdict : Verdict) → IsVerdict (verdict_status verdict)
-verdict_unrefused (Legal quiet) = inl refl
+verdict_unrefused (Legal count quiet) = inl refl
 verdict_unrefused (Illegal line expected) = inr refl
 
-audits_unrefused : NoBadLine → NotLong → (contents : Contents) (journal : List ℕ) (image : Image) (entries : List Entry) (said : Reply) → Holds most_of_a_journal contents journal IsJournalFile entries
+audits_unrefused : NoBadLine → NotLong → (contents : Contents) (journal : List ℕ) (image : Image) (entries : List Entry) (said : Reply) → FileSpells most_of_a_journal contents journal IsJournalFile entries
     → AuditsBy contents journal image said → IsAnswered IsVerdict said
 audits_unrefused no_bad not_long contents journal image entries said held h =
     reads_unrefused IsVerdict most_of_a_journal contents journal JournalRefusal IsJournalFile (IsAudited image) entries said (journal_sound no_bad not_long entries) held
@@ -288,7 +288,7 @@ mapped_unrefused : (image : Image) (cpus other : List ℕ) (said : Reply) → cp
 mapped_unrefused image cpus other said same (found, is, told) =
     inl (ap (λ (s : Reply). s.status) told ∙ mapped_status image other found is ∙ ap (λ (xs : List ℕ). played_status (items image max_entries xs []).full) (sym same))
 
-maps_unrefused : (contents : Contents) (schedule : List ℕ) (image : Image) (cpus : List ℕ) (said : Reply) → Holds most_of_a_file contents schedule (IsSchedule image) cpus
+maps_unrefused : (contents : Contents) (schedule : List ℕ) (image : Image) (cpus : List ℕ) (said : Reply) → FileSpells most_of_a_file contents schedule (IsSchedule image) cpus
     → MapsBy contents schedule image said → IsAnswered (IsMapOf image cpus) said
 maps_unrefused contents schedule image cpus said held h =
     reads_unrefused (IsMapOf image cpus) most_of_a_file contents schedule (ScheduleRefusal image) (IsSchedule image) (IsMapped image) cpus said (schedule_sound image cpus) held
@@ -319,7 +319,7 @@ soak_unrefused word said rounds are (inr (n, others, soaked)) = inl (run_ends (s
 -- ---- all of them
 
 pub good_answered : CellsAreFaultless → SpellingsAreFaultless → NoBadLine → NotLong → OneImage → BoardsAreUnrefused
-    → (contents : Contents) (asked : Option Asked) (said : Reply) (good : AreGood contents asked) → Outcome contents asked said → IsAnswer contents asked good said.status ⊎ (said.status ≡ ReadFault)
+    → (contents : Contents) (asked : Option Asked) (said : Reply) (good : AreGood contents asked) → Outcome contents asked said → MayEndWith contents asked good said.status ⊎ (said.status ≡ ReadFault)
 good_answered cells systems no_bad not_long one_image unrefused contents None said good h = absurd good
 good_answered cells systems no_bad not_long one_image unrefused contents (Some (CheckOf system names)) said good h = check_unrefused cells systems contents system names said good h
 good_answered cells systems no_bad not_long one_image unrefused contents (Some (PackOf spec)) said good h = pack_unrefused contents spec said good h
@@ -346,7 +346,7 @@ unread old new failed before after said status counted (inl whole) is =
     let rose = counted (sym whole.0 ∙ is) in
     (rose.0, subst (λ (text : List ℕ). Appended before after text) rose.1 whole.1)
 unread old new failed before after said status counted (inr part) is =
-    let same : number_of WriteFault ≡ number_of ReadFault = ap number_of (sym part.0 ∙ is) in
+    let same : exit_number WriteFault ≡ exit_number ReadFault = ap exit_number (sym part.0 ∙ is) in
     absurd (omega arith)
 
 -- another status than that and a sink's is the said one's

@@ -62,8 +62,8 @@ one_handed None most a b is h k = absurd (is refl)
 one_handed (Some None) most a b is h k = absurd h
 one_handed (Some (Some held)) most a b is h k = h ∙ sym k
 
-abbrev audited_said : ℕ → Verdict → Reply
-audited_said count verdict = record { status = verdict_status verdict; text = verdict_text count verdict }
+abbrev audited_said : Verdict → Reply
+audited_said verdict = record { status = verdict_status verdict; text = verdict_text verdict }
 
 abbrev pub IsRead : Reply → Type 0
 IsRead said = said.status ≢ ReadFault
@@ -288,13 +288,14 @@ one_first_illegal image entries m n a b h k =
     (h.counted ∙ ap (λ (es : List Entry). length es + 1) both.0 ∙ sym k.counted, h.was_due ∙ due_there ∙ sym k.was_due)
 
 one_verdict : (image : Image) (entries : List Entry) (a b : Verdict) → Judges image entries a → Judges image entries b → a ≡ b
-one_verdict image entries (Legal p) (Legal q) h k = ap Legal (same_bool (IsQuiet image entries) p q h.1 k.1)
-one_verdict image entries (Legal p) (Illegal n b) h k = absurd (legal_not_illegal image entries n b h.0 k)
-one_verdict image entries (Illegal m a) (Legal q) h k = absurd (legal_not_illegal image entries m a k.0 h)
+one_verdict image entries (Legal m p) (Legal n q) h k =
+    ap (λ (l : ℕ). Legal l p) (h.1 ∙ sym k.1) ∙ ap (λ (b : Bool). Legal n b) (same_bool (IsQuiet image entries) p q h.2 k.2)
+one_verdict image entries (Legal m p) (Illegal n b) h k = absurd (legal_not_illegal image entries n b h.0 k)
+one_verdict image entries (Illegal m a) (Legal n q) h k = absurd (legal_not_illegal image entries m a k.0 h)
 one_verdict image entries (Illegal m a) (Illegal n b) h k =
     let both = one_first_illegal image entries m n a b h k in
     ap (λ (l : ℕ). Illegal l a) both.0 ∙ ap (λ (e : Option Entry). Illegal n e) both.1
 
 pub one_audited : (image : Image) (entries : List Entry) (one other : Reply) → IsAudited image entries one → IsAudited image entries other → one ≡ other
 one_audited image entries one other h k =
-    h.told ∙ ap (audited_said (length entries)) (one_verdict image entries h.verdict k.verdict h.judged k.judged) ∙ sym k.told
+    h.told ∙ ap audited_said (one_verdict image entries h.verdict k.verdict h.judged k.judged) ∙ sym k.told

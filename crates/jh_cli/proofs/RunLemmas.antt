@@ -8,7 +8,7 @@ use Rattle.jh_run.specs.Soak.{soak_board}
 use Rattle.jh_run.specs.declared.ended.Ended.{Ended}
 use Rattle.jh_run.specs.declared.ended.Ended.TheVariants.{Quiet, Full}
 use Rattle.jh_text.specs.Faults.{max_entries}
-use Rattle.jh_cli.specs.Lines.{number_of}
+use Rattle.jh_cli.specs.Lines.{exit_number}
 use Rattle.jh_cli.specs.Reading.{Reply}
 use Rattle.jh_cli.specs.Stopped.{IsCounted}
 use Rattle.jh_cli.specs.declared.status.Status.{Status}
@@ -28,8 +28,8 @@ pub made_by_run : (image : Image) (entries : List Entry) (ended : Ended) (status
 made_by_run image entries ended status legal quiet full is = record { legal = legal; ends = subst (EndsRun image entries) (sym is) (ends_run image entries ended quiet full) }
 
 -- a soak reads no file
-other : (said : Reply) (one : Status) → said.status ≡ one → ¬ (number_of one ≡ number_of status.ReadFault) → said.status ≡ status.ReadFault → ⊥
-other said one is differs also = differs (ap number_of (sym is ∙ also))
+other : (said : Reply) (one : Status) → said.status ≡ one → ¬ (exit_number one ≡ exit_number status.ReadFault) → said.status ≡ status.ReadFault → ⊥
+other said one is differs also = differs (ap exit_number (sym is ∙ also))
 
 pub soak_counted : (old new : ℕ) (failed word : List ℕ) (said : Reply) → Soaks word said → IsCounted old new failed said
 soak_counted old new failed word said (inl none) read = absurd (other said status.Refused (ap (λ (s : Reply). s.status) none.1) (omega arith) read)

@@ -15,7 +15,7 @@ use Rattle.jh_check.specs.Findings.{findings}
 use Rattle.jh_text.specs.Faults.{max_entries}
 use Rattle.jh_cli.specs.declared.status.Status.{Status}
 use Rattle.jh_cli.specs.declared.status.Status.TheVariants.{Good, Found, Usage, Refused, ReadFault, WriteFault, NoMemory, Full}
-use Rattle.jh_cli.specs.Lines.{number_of}
+use Rattle.jh_cli.specs.Lines.{exit_number}
 use Rattle.jh_cli.specs.Words.{Asked, CheckOf, PackOf, PlayOf, RunOf, MapOf, AuditOf, SoakOf}
 use Rattle.jh_image.specs.Files.{Contents}
 use Rattle.jh_cli.specs.Reading.{Reply, StopsAt, ReadsAt}
@@ -34,8 +34,8 @@ abbrev IsOther : Reply → Type 0
 IsOther said = said.status ≢ WriteFault
 
 -- a status with another number than 5
-other : (said : Reply) (status : Status) → said.status ≡ status → number_of status ≢ 5 → IsOther said
-other said status is differs h = differs (ap number_of (sym is ∙ h))
+other : (said : Reply) (status : Status) → said.status ≡ status → exit_number status ≢ 5 → IsOther said
+other said status is differs h = differs (ap exit_number (sym is ∙ h))
 
 stops_other : (most : ℕ) (contents : Contents) (name : List ℕ) (Why : List ℕ → List ℕ → Type 0) (said : Reply) → StopsAt most contents name Why said → IsOther said
 stops_other most contents name Why said (inl fault) = other said ReadFault (ap (λ (s : Reply). s.status) fault) (omega arith)
@@ -46,11 +46,11 @@ reads_other : {A : Type 0} (most : ℕ) (contents : Contents) (name : List ℕ) 
 reads_other most contents name Why Form next said rest (inl stops) = stops_other most contents name Why said stops
 reads_other most contents name Why Form next said rest (inr went) = rest went.0 went.2
 
-played_other : (full : Bool) → number_of (played_status full) ≢ 5
+played_other : (full : Bool) → exit_number (played_status full) ≢ 5
 played_other true = omega arith
 played_other false = omega arith
 
-checked_other : (any : Bool) → number_of (cond any Found Good) ≢ 5
+checked_other : (any : Bool) → exit_number (cond any Found Good) ≢ 5
 checked_other true = omega arith
 checked_other false = omega arith
 
@@ -63,7 +63,7 @@ played_ends_other : (image : Image) (cpus : List ℕ) (said : Reply) → IsPlaye
 played_ends_other image cpus said is =
     other said (played_status (played image max_entries cpus).full) (ap (λ (s : Reply). s.status) is.told) (played_other (played image max_entries cpus).full)
 
-mapped_other : (found : Option (List ℕ)) → number_of (mapped_said found).status ≢ 5
+mapped_other : (found : Option (List ℕ)) → exit_number (mapped_said found).status ≢ 5
 mapped_other (Some text) = omega arith
 mapped_other None = omega arith
 
@@ -89,14 +89,14 @@ soak_other : (word : List ℕ) (said : Reply) → Soaks word said → IsOther sa
 soak_other word said (inl none) = other said Refused (ap (λ (s : Reply). s.status) none.1) (omega arith)
 soak_other word said (inr (rounds, are, soaked)) = run_other said (run_ends (soak_board rounds) soaked.entries said.status soaked.run.ends)
 
-audited_other : (verdict : Verdict) → number_of (verdict_status verdict) ≢ 5
-audited_other (Legal quiet) = omega arith
+audited_other : (verdict : Verdict) → exit_number (verdict_status verdict) ≢ 5
+audited_other (Legal count quiet) = omega arith
 audited_other (Illegal line expected) = omega arith
 
 audit_ends_other : (image : Image) (entries : List Entry) (said : Reply) → IsAudited image entries said → IsOther said
 audit_ends_other image entries said is = other said (verdict_status is.verdict) (ap (λ (s : Reply). s.status) is.told) (audited_other is.verdict)
 
-cause_other : (file : List ℕ) (cause : ImageCause) → number_of (stopped file cause).status ≢ 5
+cause_other : (file : List ℕ) (cause : ImageCause) → exit_number (stopped file cause).status ≢ 5
 cause_other file CantBeRead = omega arith
 cause_other file Oversize = omega arith
 cause_other file Json = omega arith

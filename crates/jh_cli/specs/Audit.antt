@@ -11,7 +11,7 @@ use Rattle.jh_audit.specs.declared.verdict.Verdict.{Verdict}
 use Rattle.jh_audit.specs.declared.verdict.Verdict.TheVariants.{Legal, Illegal}
 use Rattle.jh_audit.specs.Judges.{Judges}
 use Rattle.jh_image.specs.Files.{Contents}
-use Rattle.jh_cli.specs.Reading.{Reply, ReadsAt, IsOversizeAt}
+use Rattle.jh_cli.specs.Reading.{Reply, SpellsAt, ReadsAt, IsOversizeAt}
 use Rattle.jh_cli.specs.Boards.{Opens}
 use Rattle.jh_cli.specs.declared.status.Status.{Status}
 use Rattle.jh_cli.specs.declared.status.Status.TheVariants.{Good, Found}
@@ -38,23 +38,29 @@ JournalRefusal bytes words = IsOversizeAt most_of_a_journal bytes words ⊎ IsNo
 abbrev pub due_text : ℕ → Entry → List ℕ
 due_text number entry = codes "illegal line " ++ (decimal number ++ (codes ": due " ++ (entry_text entry ++ 10 ∷ [])))
 
--- the line that tells the verdict on a journal of so many entries
-abbrev pub verdict_text : ℕ → Verdict → List ℕ
-verdict_text count (Legal true) = codes "legal " ++ (decimal count ++ (codes " quiet" ++ 10 ∷ []))
-verdict_text count (Legal false) = codes "legal " ++ (decimal count ++ (codes " unfinished" ++ 10 ∷ []))
-verdict_text count (Illegal number (Some entry)) = due_text number entry
-verdict_text count (Illegal number None) = codes "illegal line " ++ (decimal number ++ (codes ": nothing due" ++ 10 ∷ []))
+-- the line that tells the verdict
+abbrev pub verdict_text : Verdict → List ℕ
+verdict_text (Legal count true) = codes "legal " ++ (decimal count ++ (codes " quiet" ++ 10 ∷ []))
+verdict_text (Legal count false) = codes "legal " ++ (decimal count ++ (codes " unfinished" ++ 10 ∷ []))
+verdict_text (Illegal number (Some entry)) = due_text number entry
+verdict_text (Illegal number None) = codes "illegal line " ++ (decimal number ++ (codes ": nothing due" ++ 10 ∷ []))
 
 -- the status of the verdict: good where the journal is legal, and found where it isn't
 abbrev pub verdict_status : Verdict → Status
-verdict_status (Legal quiet) = Good
+verdict_status (Legal count quiet) = Good
 verdict_status (Illegal number expected) = Found
+
+-- the file of this name spells a journal, and the verdict is that on its entries
+pub record JudgesFile (contents : Contents) (name : List ℕ) (image : Image) (verdict : Verdict) : Type 0 where
+  pub entries : List Entry
+  pub spelled : SpellsAt most_of_a_journal contents name IsJournalFile entries
+  pub judged : Judges image entries verdict
 
 -- the verdict on the journal is told
 pub record IsAudited (image : Image) (entries : List Entry) (said : Reply) : Type 0 where
   pub verdict : Verdict
   pub judged : Judges image entries verdict
-  pub told : said ≡ record { status = verdict_status verdict; text = verdict_text (length entries) verdict }
+  pub told : said ≡ record { status = verdict_status verdict; text = verdict_text verdict }
 
 -- what an audit of the journal by the image ends with
 abbrev pub AuditsBy : Contents → List ℕ → Image → Reply → Type 0

@@ -11,7 +11,7 @@ use Rattle.jh_cli.specs.Reading.{Reply}
 use Rattle.jh_cli.specs.Stopped.{IsCounted}
 use Rattle.jh_cli.specs.Order.{IsReadFor}
 use Rattle.jh_cli.specs.Outcome.{Outcome, Sent}
-use Rattle.jh_cli.specs.Complete.{AreGood, IsAnswer}
+use Rattle.jh_cli.specs.Complete.{AreGood, MayEndWith}
 use Rattle.jh_cli.specs.declared.status.Status.{Status}
 use Rattle.jh_cli.specs.declared.status.Status.TheVariants.{ReadFault, WriteFault, NoMemory}
 
@@ -41,4 +41,4 @@ module _ {S K : Type 0} (contents : S → Contents) (failed : S → List ℕ) (f
     -- with any other status but want of memory the name of the failed read is what it was
     pub unfailed : status ≢ ReadFault → status ≢ WriteFault → status ≢ NoMemory → failed t ≡ failed s
     -- good words and files give the command's answer or want of memory, unless a count rose in this call
-    pub complete : (good : AreGood (contents s) asked) → IsAnswer (contents s) asked good status ⊎ (status ≡ NoMemory) ⊎ Rose (faults s) (faults t) ⊎ Rose (sink_faults k) (sink_faults l)
+    pub complete : (good : AreGood (contents s) asked) → MayEndWith (contents s) asked good status ⊎ (status ≡ NoMemory) ⊎ Rose (faults s) (faults t) ⊎ Rose (sink_faults k) (sink_faults l)

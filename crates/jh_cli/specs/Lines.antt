@@ -4,15 +4,15 @@ use Rattle.jh_cli.specs.declared.status.Status.{Status}
 use Rattle.jh_cli.specs.declared.status.Status.TheVariants.{Good, Found, Usage, Refused, ReadFault, WriteFault, NoMemory, Full}
 
 -- the number that the program exits with
-abbrev pub number_of : Status → ℕ
-number_of Good = 0
-number_of Found = 1
-number_of Usage = 2
-number_of Refused = 3
-number_of ReadFault = 4
-number_of WriteFault = 5
-number_of NoMemory = 6
-number_of Full = 7
+abbrev pub exit_number : Status → ℕ
+exit_number Good = 0
+exit_number Found = 1
+exit_number Usage = 2
+exit_number Refused = 3
+exit_number ReadFault = 4
+exit_number WriteFault = 5
+exit_number NoMemory = 6
+exit_number Full = 7
 
 -- the line that tells how the program is used
 abbrev pub usage_line : List ℕ

@@ -1,15 +1,14 @@
 //! Auditing a journal by a board.
-ghost use Rattle.std.specs.Prelude.{◌≡◌, ◌≢◌, ◌≤◌, length, IfOk, IfErr, ◌∷◌, [], OnOk};
+ghost use Rattle.std.specs.Prelude.{◌≡◌, IfOk, IfErr, ◌∷◌, [], OnOk};
 ghost use Rattle.jh_history.specs.Admitted.{IsAdmitted};
-ghost use Rattle.jh_text.specs.Faults.{max_entries};
 ghost use Rattle.jh_text.specs.FaultText.{fault_text};
 ghost use Rattle.jh_text.specs.declared.fault.JournalFault.TheVariants.{NoMemory as for_memory};
 ghost use Rattle.jh_outside.specs.Trail.{AsksAll};
 ghost use Rattle.jh_cli.specs.Order.{StopsIn, ReadsIn, ReadsBoard};
 ghost use Rattle.jh_cli.specs.Limits.{most_of_a_journal};
 ghost use Rattle.jh_cli.specs.Lines.{refusal_line};
-ghost use Rattle.jh_cli.specs.Reading.{SpellsAt, StopsAt};
-ghost use Rattle.jh_cli.specs.Audit.{IsJournalFile, JournalRefusal, IsAudited, AuditsBy, Audits, due_text, verdict_text, verdict_status};
+ghost use Rattle.jh_cli.specs.Reading.{StopsAt};
+ghost use Rattle.jh_cli.specs.Audit.{JournalRefusal, JudgesFile, AuditsBy, Audits, due_text, verdict_text, verdict_status};
 ghost use Rattle.jh_cli.specs.Stopped.{said_of, OnEnded, OnEnding, IsCounted};
 
 use crate::boards::open;
@@ -17,11 +16,11 @@ use crate::ending::{Ending, Stop, read_below, refused_for};
 use crate::limits::MOST_OF_A_JOURNAL;
 use crate::status::Status;
 use jh_audit::{Verdict, audit as audit_journal};
-use jh_history::{Entry, Journal};
+use jh_history::Entry;
 use jh_num::NoMemory;
 use jh_outside::Files;
 use jh_script::Image;
-use jh_text::{JournalFault, print_entry, read_journal};
+use jh_text::{JournalFault, print_entry};
 use std::alloc::Global;
 
 /// The call ends since no journal was read from the file of this name.
@@ -35,20 +34,18 @@ fn unread(alloc: Global, name: &str, fault: &JournalFault) -> Stop
     }
 }
 
-/// The journal in the file of this name.
-fn journal<F: Files>(alloc: Global, files: &mut F, name: &str) -> Result<Journal, Stop>
-    ensures ok { IfOk result (λ journal. SpellsAt most_of_a_journal (F.contents files.old) name.now IsJournalFile journal.entries) }
-    ensures few { IfOk result (λ journal. length journal.entries ≤ max_entries) }
+/// The verdict on the journal in the file of this name, by the image.
+fn judge<F: Files>(alloc: Global, files: &mut F, image: Image, name: &str) -> Result<Verdict, Stop>
+    requires admitted { IsAdmitted image }
+    ensures ok { IfOk result (JudgesFile (F.contents files.old) name.now image) }
     ensures err { IfErr result (λ stop. OnEnded stop (StopsAt most_of_a_journal (F.contents files.old) name.now JournalRefusal)) }
     ensures counted { IfErr result (λ stop. OnEnded stop (IsCounted (F.faults files.old) (F.faults files.new) (F.failed files.new))) }
-    ensures never_falls { F.faults files.old ≤ F.faults files.new }
-    ensures kept { F.contents files.new ≡ F.contents files.old }
     ensures asked { OnOk result (AsksAll F.asks F.failed (name.now ∷ []) files.old files.new) }
     ensures asked_until { IfErr result (λ stop. OnEnded stop (StopsIn F.asks F.failed (name.now ∷ []) files.old files.new)) }
 {
     let bytes = read_below(alloc, files, name, MOST_OF_A_JOURNAL)?;
-    match read_journal(alloc, bytes.as_slice()) {
-        Ok(journal) => Ok(journal),
+    match audit_journal(alloc, image, bytes.as_slice()) {
+        Ok(verdict) => Ok(verdict),
         Err(fault) => Err(unread(alloc, name, &fault)),
     }
 }
@@ -63,13 +60,19 @@ fn status_of(verdict: &Verdict) -> Status
     }
 }
 
-/// The line that tells the verdict on a journal of so many entries.
-fn verdict_text(alloc: Global, count: usize, verdict: &Verdict) -> Result<Vec<u8>, NoMemory>
-    ensures { IfOk result (λ text. text.items ≡ verdict_text count verdict.now) }
+/// The line that tells the verdict.
+fn verdict_text(alloc: Global, verdict: &Verdict) -> Result<Vec<u8>, NoMemory>
+    ensures { IfOk result (λ text. text.items ≡ verdict_text verdict.now) }
 {
     let text = match verdict {
-        Verdict::Legal { quiet: true } => format!(in alloc; "legal {count} quiet\n")?,
-        Verdict::Legal { quiet: false } => format!(in alloc; "legal {count} unfinished\n")?,
+        Verdict::Legal {
+            entries,
+            quiet: true,
+        } => format!(in alloc; "legal {entries} quiet\n")?,
+        Verdict::Legal {
+            entries,
+            quiet: false,
+        } => format!(in alloc; "legal {entries} unfinished\n")?,
         Verdict::Illegal {
             line,
             expected: None,
@@ -92,16 +95,13 @@ fn due_text(alloc: Global, line: u32, entry: &Entry) -> Result<Vec<u8>, NoMemory
     Ok(text)
 }
 
-/// Judges the journal by the image, and tells the verdict.
-fn tell_verdict(alloc: Global, image: Image, journal: &Journal) -> Result<Ending, NoMemory>
-    requires admitted { IsAdmitted image }
-    requires few { length journal.now.entries ≤ max_entries }
-    ensures { IfOk result (λ told. IsAudited image journal.now.entries (said_of told)) }
+/// Tells the verdict.
+fn tell_verdict(alloc: Global, verdict: &Verdict) -> Result<Ending, NoMemory>
+    ensures { IfOk result (λ told. said_of told ≡ record { status = verdict_status verdict.now; text = verdict_text verdict.now }) }
 {
-    let verdict = audit_journal(alloc, image, journal)?;
     Ok(Ending {
-        status: status_of(&verdict),
-        text: verdict_text(alloc, journal.len(), &verdict)?,
+        status: status_of(verdict),
+        text: verdict_text(alloc, verdict)?,
     })
 }
 
@@ -117,8 +117,8 @@ fn audit_by<F: Files>(
     ensures counted { OnEnding result (IsCounted (F.faults files.old) (F.faults files.new) (F.failed files.new)) }
     ensures asked { OnEnding result (ReadsIn F.asks F.failed (name.now ∷ []) files.old files.new) }
 {
-    let journal = journal(alloc, files, name)?;
-    Ok(tell_verdict(alloc, image, &journal)?)
+    let verdict = judge(alloc, files, image, name)?;
+    Ok(tell_verdict(alloc, &verdict)?)
 }
 
 /// Reads the board and the journal, and judges the one by the other.

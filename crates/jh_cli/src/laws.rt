@@ -4,7 +4,7 @@ ghost use Rattle.jh_cli.specs.Words.{Asked, IsSerial};
 ghost use Rattle.jh_image.specs.Files.{Contents};
 ghost use Rattle.jh_cli.specs.Reading.{Reply};
 ghost use Rattle.jh_cli.specs.Outcome.{Outcome};
-ghost use Rattle.jh_cli.specs.Complete.{AreFilesTold, AreGood, IsAnswer};
+ghost use Rattle.jh_cli.specs.Complete.{AreFilesTold, AreGood, MayEndWith};
 
 use crate::status::Status;
 use jh_cellcfg::{one_spelling, spelling_has_no_fault};
@@ -19,7 +19,7 @@ use jh_text::{one_answer, texts_go_both_ways};
 /// read.
 pub fn good_inputs_are_answered()
     ensures { (contents : Contents) (asked : Option Asked) (said : Reply) (good : AreGood contents asked)
-        → Outcome contents asked said → IsAnswer contents asked good said.status ⊎ (said.status ≡ Status.ReadFault) }
+        → Outcome contents asked said → MayEndWith contents asked good said.status ⊎ (said.status ≡ Status.ReadFault) }
 {
     spelling_has_no_fault();
     system_has_no_fault();
@@ -29,7 +29,8 @@ pub fn good_inputs_are_answered()
 }
 
 /// Where the files tell what they hold, words whose command isn't `run` or `soak` have one outcome besides that a file
-/// could not be read: one status and one text. Of those two the outcome is that of some order of the threads' turns.
+/// could not be read: one status and one text. What those two write may differ from call to call, as their threads take
+/// turns.
 pub fn words_have_one_outcome()
     ensures { (contents : Contents) (asked : Option Asked) (one other : Reply) → IsSerial asked → AreFilesTold contents asked → Outcome contents asked one → Outcome contents asked other
         → one.status ≢ Status.ReadFault → other.status ≢ Status.ReadFault → one ≡ other }

@@ -1,6 +1,6 @@
 //! The exit statuses.
 ghost use Rattle.std.specs.Prelude.{◌≡◌};
-ghost use Rattle.jh_cli.specs.Lines.{number_of};
+ghost use Rattle.jh_cli.specs.Lines.{exit_number};
 
 /// How a call ended. The statuses' numbers are 0 to 7 in this order.
 #[derive(Clone, Copy, PartialEq, Eq, Debug)]
@@ -22,7 +22,7 @@ pub enum Status {
 impl Status {
     /// The number that the program exits with.
     pub fn number(self) -> u8
-        ensures { result ≡ number_of self }
+        ensures { result ≡ exit_number self }
     {
         self as u8
     }

@@ -13,7 +13,7 @@ use Rattle.jh_ivshmem.specs.declared.spec.EndpointSpec.{EndpointSpec}
 use Rattle.jh_ivshmem.specs.declared.spec.Slot.{Slot}
 use Rattle.jh_ivshmem.specs.Endpoint.{fresh}
 use Rattle.jh_ivshmem.specs.Links.{joined}
-use Rattle.jh_ivshmem.specs.Specs.{is_before, slot_of, IsWithin, AreApart}
+use Rattle.jh_ivshmem.specs.Specs.{is_before, slot_of, IsInItsLimits, AreEndpointsApart}
 use Rattle.jh_history.specs.declared.device_change.DeviceChange.{DeviceChange}
 use Rattle.jh_history.specs.declared.device_change.DeviceChange.TheVariants.{Join}
 use Rattle.jh_history.specs.Devices.{is_endpoint, spec_of, specs_from, specs_of, specs_by, specs_at}
@@ -56,7 +56,7 @@ pub first : (P : EndpointSpec → Type 0) (specs : List EndpointSpec) (spec : En
 first P specs spec is all = (recursion_from_All P (spec ∷ []) (subst (λ (xs : List EndpointSpec). All P xs) is all)).0
 
 -- a word of a state table ends below 2^64
-pub word_ends : (spec : EndpointSpec) (slot : Slot) → IsWithin spec → slot ≡ slot_of spec 0 → slot.place + 4 < 2 ^ 64
+pub word_ends : (spec : EndpointSpec) (slot : Slot) → IsInItsLimits spec → slot ≡ slot_of spec 0 → slot.place + 4 < 2 ^ 64
 word_ends spec slot within is =
     let place : slot.place ≡ spec.table + 4 * spec.id = ap (λ (s : Slot). s.place) is in
     let id = within.id in
@@ -114,9 +114,9 @@ words_next config i old new q lt is =
 
 -- the change may be made at all of these, one after another
 pub record MayGoOn (change : DeviceChange) (endpoints : List Endpoint) (specs : List EndpointSpec) : Type 0 where
-  pub within : All IsWithin specs
+  pub within : All IsInItsLimits specs
   pub new : change ≡ Join → All (MayJoinThem endpoints) specs
-  pub apart : change ≡ Join → AllPairs AreApart specs
+  pub apart : change ≡ Join → AllPairs AreEndpointsApart specs
 
 pub may_begin : (change : DeviceChange) (endpoints : List Endpoint) (config : CellConfig) → MayChange change endpoints config → MayGoOn change endpoints (specs_left config 0)
 may_begin change endpoints config may = subst (MayGoOn change endpoints) (sym (left_all config)) (record { within = may.within; new = may.new; apart = may.apart })
@@ -135,9 +135,9 @@ pub All_joined : (P : Endpoint → Type 0) (s : EndpointSpec) (es : List Endpoin
 All_joined P s es p all = All-from_recursion P (joined s es) (joined_all P s es p (recursion_from_All P es all))
 
 -- beside one that joins those may join that are apart from it
-join_keeps : (s : EndpointSpec) (rest : List EndpointSpec) (es : List Endpoint) → All (MayJoinThem es) (s ∷ rest) → AllPairs AreApart (s ∷ rest) → All (MayJoinThem (joined s es)) rest
+join_keeps : (s : EndpointSpec) (rest : List EndpointSpec) (es : List Endpoint) → All (MayJoinThem es) (s ∷ rest) → AllPairs AreEndpointsApart (s ∷ rest) → All (MayJoinThem (joined s es)) rest
 join_keeps s rest es new apart = λ i d lt.
-    All_joined (λ (e : Endpoint). AreApart e.spec (get_or rest i d)) s es (apart 0 (suc i) d (omega arith) (omega arith)) (new (suc i) d (omega arith))
+    All_joined (λ (e : Endpoint). AreEndpointsApart e.spec (get_or rest i d)) s es (apart 0 (suc i) d (omega arith) (omega arith)) (new (suc i) d (omega arith))
 
 may_one : (change : DeviceChange) (s : EndpointSpec) (rest : List EndpointSpec) (es : List Endpoint) → MayGoOn change es (s ∷ rest) → MayGoOn change (endpoint_changed change es s) rest
 may_one change s rest es may = record {

@@ -15,7 +15,7 @@ use Rattle.jh_call.specs.declared.call.Call.TheVariants.{Create, Start, Loadable
 use Rattle.jh_call.specs.Calls.{decoded, is_management}
 use Rattle.jh_call.specs.Answers.{answer_of}
 use Rattle.jh_ivshmem.specs.declared.endpoint.Endpoint.{Endpoint}
-use Rattle.jh_ivshmem.specs.Specs.{is_device, AreApart, slot_of}
+use Rattle.jh_ivshmem.specs.Specs.{is_device, AreEndpointsApart, slot_of}
 use Rattle.jh_ivshmem.specs.Links.{endpoint_at, pending_of, slot_written}
 use Rattle.jh_script.specs.declared.image.Image.{Image}
 use Rattle.jh_script.specs.declared.op.Op.{Op}
@@ -88,7 +88,7 @@ coming_changes image f caller at config sound phase =
       good = devices_good image.system (configs ++ config ∷ []) back.0 config may.clean numbered;
       within = specs_within image.system (configs ++ config ∷ []) back.0 config may.clean numbered;
       new = λ _. All_from_held (MayJoinThem f.endpoints) (specs_of config)
-          (λ spec held. All_from_held (λ (e : Endpoint). AreApart e.spec spec) f.endpoints
+          (λ spec held. All_from_held (λ (e : Endpoint). AreEndpointsApart e.spec spec) f.endpoints
           (λ e there.
           let own : IsOfDevice image configs e.spec = All-contains (λ (x : Endpoint). IsOfDevice image configs x.spec) f.endpoints e sound.endpoints.own there in
           specs_apart_new image.system configs config own.0 e.spec spec may.clean may.unknown own.1 own.2 held));

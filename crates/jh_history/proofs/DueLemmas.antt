@@ -1,7 +1,7 @@
 -- What is due, by the cases.
 use Rattle.std.proofs.lemmas.Bool.{cases_lt}
 use Rattle.std.proofs.Common.{inl, inr, ◌+◌, ◌-◌, ◌%◌, ◌≡◌, ◌<◌, ◌≤◌, ℕ, List, [], ◌∷◌, ◌++◌, Bool, true, false, Option, Some, None, refl, sym, ◌∙◌, ap, subst, arith}
-use Rattle.std.specs.Prelude.{IsTrue, IfSome, option_map, is_some}
+use Rattle.std.specs.Prelude.{IsTrue, IfSome, option_map, is_some, is_none, not, ◌↔◌}
 use Rattle.std.proofs.lemmas.Option.{none-some, same_Some}
 use Rattle.jh_cpu.specs.declared.cpu.Cpu.{Cpu}
 use Rattle.jh_script.specs.declared.image.Image.{Image}
@@ -63,6 +63,11 @@ none_round image f first cpu few below none = elim (cases_lt cpu first) [
   | inl lt ↦ (let e : cpu ≡ (first + ((cpu + 16) - first)) % 16 = omega arith in ap (due_at image f) e) ∙ none ((cpu + 16) - first) (omega arith)
   | inr le ↦ (let e : cpu ≡ (first + (cpu - first)) % 16 = omega arith in ap (due_at image f) e) ∙ none (cpu - first) (omega arith)
 ]
+
+-- that none was found, as `is_none` answers it
+pub none_found : {P : Type 0} (found : Option ℕ) (none : Bool) → is_some found ≡ not none → IsTrue (is_none found) ↔ P → IsTrue none ↔ P
+none_found {P} found true e h = let Q : Bool → Type 0 = λ b. IsTrue (not b) ↔ P in subst Q e h
+none_found {P} found false e h = let Q : Bool → Type 0 = λ b. IsTrue (not b) ↔ P in subst Q e h
 
 -- what an operation comes to, by what its access reaches
 pub act_of_read : (i : Image) (f : Facts) (cell : ℕ) (op : Op) (width at : ℕ) (got : Option ℕ) (found : Reach) → op ≡ ReadOp width at → got ≡ read_of f.byte (devices_of i f cell) found → IsReachOf i f cell op found → Some (Read width at got) ≡ act_of i f cell op

@@ -11,7 +11,7 @@ use Rattle.jh_vpci.specs.Words.{word_of, word_at}
 use Rattle.jh_vpci.specs.Writes.{with_word, spliced, written as config_written}
 use Rattle.jh_ivshmem.specs.declared.endpoint.Endpoint.{Endpoint}
 use Rattle.jh_ivshmem.specs.declared.spec.EndpointSpec.{EndpointSpec}
-use Rattle.jh_ivshmem.specs.Specs.{IsWithin, is_device, is_peer, is_other, is_before}
+use Rattle.jh_ivshmem.specs.Specs.{IsInItsLimits, is_device, is_peer, is_other, is_before}
 use Rattle.jh_ivshmem.specs.Endpoint.{raised, taken, cleared, fresh, is_open}
 use Rattle.jh_ivshmem.specs.Registers.{register_written, is_in_table}
 use Rattle.jh_ivshmem.specs.Changes.{changed}
@@ -45,7 +45,7 @@ stays_sound : (old new : Endpoint) → Stays old new → IsSoundEndpoint old →
 stays_sound old new stays sound =
     let windows : Space → Type 0 = λ space. AreWindows space.bar0 space.bar1 in
     record {
-      within = subst IsWithin (sym stays.spec) sound.within;
+      within = subst IsInItsLimits (sym stays.spec) sound.within;
       function = ap (λ (space : Space). space.spec) stays.space ∙ sound.function ∙ ap (λ (s : EndpointSpec). s.function) (sym stays.spec);
       windows = subst windows (sym stays.space) sound.windows;
       vectors = stays.vectors ∙ sound.vectors;
@@ -236,15 +236,15 @@ specs_joined : (s : EndpointSpec) (list : List Endpoint) → specs_in (joined s 
 specs_joined s [] = refl
 specs_joined s (e ∷ list) = joined_by (is_before s.cell s.device e.spec) s e list (specs_joined s list)
 
-fresh_sound : (s : EndpointSpec) → IsWithin s → IsSoundEndpoint (fresh s)
+fresh_sound : (s : EndpointSpec) → IsInItsLimits s → IsSoundEndpoint (fresh s)
 fresh_sound s within = record { within = within; function = refl; windows = record { pages = refl; tables = refl }; vectors = refl }
 
-joins_by : (b : Bool) (s : EndpointSpec) (e : Endpoint) (list : List Endpoint) → IsWithin s → All IsSoundEndpoint (e ∷ list) → All IsSoundEndpoint (joined s list)
+joins_by : (b : Bool) (s : EndpointSpec) (e : Endpoint) (list : List Endpoint) → IsInItsLimits s → All IsSoundEndpoint (e ∷ list) → All IsSoundEndpoint (joined s list)
     → All IsSoundEndpoint (cond b (e ∷ joined s list) (fresh s ∷ e ∷ list))
 joins_by true s e list within sound rest = All-cons IsSoundEndpoint e (joined s list) (All-head IsSoundEndpoint e list sound) rest
 joins_by false s e list within sound rest = All-cons IsSoundEndpoint (fresh s) (e ∷ list) (fresh_sound s within) sound
 
-sound_joined : (s : EndpointSpec) (list : List Endpoint) → IsWithin s → All IsSoundEndpoint list → All IsSoundEndpoint (joined s list)
+sound_joined : (s : EndpointSpec) (list : List Endpoint) → IsInItsLimits s → All IsSoundEndpoint list → All IsSoundEndpoint (joined s list)
 sound_joined s [] within sound = All-cons IsSoundEndpoint (fresh s) [] (fresh_sound s within) sound
 sound_joined s (e ∷ list) within sound =
     joins_by (is_before s.cell s.device e.spec) s e list within sound (sound_joined s list within (All-tail IsSoundEndpoint e list sound))
@@ -253,10 +253,10 @@ pub specs_join : (specs : List EndpointSpec) (list : List Endpoint) → specs_in
 specs_join [] list = refl
 specs_join (s ∷ specs) list = specs_join specs (joined s list) ∙ ap (λ (l : List EndpointSpec). fold placed l specs) (specs_joined s list)
 
-pub sound_join : (specs : List EndpointSpec) (list : List Endpoint) → All IsWithin specs → All IsSoundEndpoint list → All IsSoundEndpoint (endpoints_changed Join specs list)
+pub sound_join : (specs : List EndpointSpec) (list : List Endpoint) → All IsInItsLimits specs → All IsSoundEndpoint list → All IsSoundEndpoint (endpoints_changed Join specs list)
 sound_join [] list within sound = sound
 sound_join (s ∷ specs) list within sound =
-    sound_join specs (joined s list) (All-tail IsWithin s specs within) (sound_joined s list (All-head IsWithin s specs within) sound)
+    sound_join specs (joined s list) (All-tail IsInItsLimits s specs within) (sound_joined s list (All-head IsInItsLimits s specs within) sound)
 
 -- ---- leaving
 

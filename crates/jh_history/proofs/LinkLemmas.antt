@@ -5,7 +5,7 @@ use Rattle.std.proofs.lemmas.List.Elements.{All-cons, All-head, All-tail, All-co
 use Rattle.std.proofs.lemmas.List.Kept.{AllPairs-cons, AllPairs-filter}
 use Rattle.jh_num.proofs.Lists.{Contains_head, Contains_tail, Contains_cases, IsFound_from_filter, Contains_filter}
 use Rattle.jh_ivshmem.specs.declared.spec.EndpointSpec.{EndpointSpec}
-use Rattle.jh_ivshmem.specs.Specs.{AreApart, ComesBefore, is_device, is_before}
+use Rattle.jh_ivshmem.specs.Specs.{AreEndpointsApart, ComesBefore, is_device, is_before}
 use Rattle.jh_ivshmem.proofs.OrderLemmas.{apart_turned}
 use Rattle.jh_history.proofs.EndpointLemmas.{placed, without}
 
@@ -61,7 +61,7 @@ lower_other a b c d fails differ =
       ]
     ]
 
-comes_before : (a s : EndpointSpec) → AreApart s a → is_before s.cell s.device a ≡ false → ComesBefore s a
+comes_before : (a s : EndpointSpec) → AreEndpointsApart s a → is_before s.cell s.device a ≡ false → ComesBefore s a
 comes_before a s apart fails =
     lower_before s a (lower_other a.cell a.device s.cell s.device
     (λ lower. both_ways (is_before s.cell s.device a) fails (lower_before a s lower))
@@ -130,17 +130,17 @@ one_of_pairs {X = X} R Q none turned (x ∷ xs) a b pairs has_a has_b is =
       ]
     ]
 
-placed_apart : (xs : List EndpointSpec) (s : EndpointSpec) → AllPairs AreApart xs → All (AreApart s) xs → AllPairs AreApart (placed xs s)
-placed_apart [] s pairs new = AllPairs-cons AreApart s [] new pairs
+placed_apart : (xs : List EndpointSpec) (s : EndpointSpec) → AllPairs AreEndpointsApart xs → All (AreEndpointsApart s) xs → AllPairs AreEndpointsApart (placed xs s)
+placed_apart [] s pairs new = AllPairs-cons AreEndpointsApart s [] new pairs
 placed_apart (x ∷ xs) s pairs new =
-    let turned : AreApart x s = apart_turned s x (All-head (AreApart s) x xs new) in
-    let rest : AllPairs AreApart (placed xs s) = placed_apart xs s (pairs_rest AreApart x xs pairs) (All-tail (AreApart s) x xs new) in
-    elim (is_before s.cell s.device x) as (λ b. AllPairs AreApart (cond b (x ∷ placed xs s) (s ∷ x ∷ xs))) [
-      | true ↦ AllPairs-cons AreApart x (placed xs s) (all_placed (AreApart x) xs s (pairs_first AreApart x xs pairs) turned) rest
-      | false ↦ AllPairs-cons AreApart s (x ∷ xs) new pairs
+    let turned : AreEndpointsApart x s = apart_turned s x (All-head (AreEndpointsApart s) x xs new) in
+    let rest : AllPairs AreEndpointsApart (placed xs s) = placed_apart xs s (pairs_rest AreEndpointsApart x xs pairs) (All-tail (AreEndpointsApart s) x xs new) in
+    elim (is_before s.cell s.device x) as (λ b. AllPairs AreEndpointsApart (cond b (x ∷ placed xs s) (s ∷ x ∷ xs))) [
+      | true ↦ AllPairs-cons AreEndpointsApart x (placed xs s) (all_placed (AreEndpointsApart x) xs s (pairs_first AreEndpointsApart x xs pairs) turned) rest
+      | false ↦ AllPairs-cons AreEndpointsApart s (x ∷ xs) new pairs
     ]
 
-order_by : (x : EndpointSpec) (xs : List EndpointSpec) (s : EndpointSpec) (b : Bool) → is_before s.cell s.device x ≡ b → AllPairs ComesBefore (x ∷ xs) → AreApart s x → AllPairs ComesBefore (placed xs s)
+order_by : (x : EndpointSpec) (xs : List EndpointSpec) (s : EndpointSpec) (b : Bool) → is_before s.cell s.device x ≡ b → AllPairs ComesBefore (x ∷ xs) → AreEndpointsApart s x → AllPairs ComesBefore (placed xs s)
     → AllPairs ComesBefore (cond b (x ∷ placed xs s) (s ∷ x ∷ xs))
 order_by x xs s true before pairs apart rest = AllPairs-cons ComesBefore x (placed xs s) (all_placed (ComesBefore x) xs s (pairs_first ComesBefore x xs pairs) before) rest
 order_by x xs s false behind pairs apart rest =
@@ -150,20 +150,20 @@ order_by x xs s false behind pairs apart rest =
     (All-cons (ComesBefore s) x xs first (λ k d lt. before_both s x (get_or xs k d) first (ahead k d lt)))
     pairs
 
-placed_order : (xs : List EndpointSpec) (s : EndpointSpec) → AllPairs ComesBefore xs → All (AreApart s) xs → AllPairs ComesBefore (placed xs s)
+placed_order : (xs : List EndpointSpec) (s : EndpointSpec) → AllPairs ComesBefore xs → All (AreEndpointsApart s) xs → AllPairs ComesBefore (placed xs s)
 placed_order [] s pairs new = AllPairs-cons ComesBefore s [] (λ k d lt. absurd (let no : ⊥ = omega arith in no)) pairs
 placed_order (x ∷ xs) s pairs new =
-    order_by x xs s (is_before s.cell s.device x) refl pairs (All-head (AreApart s) x xs new)
-    (placed_order xs s (pairs_rest ComesBefore x xs pairs) (All-tail (AreApart s) x xs new))
+    order_by x xs s (is_before s.cell s.device x) refl pairs (All-head (AreEndpointsApart s) x xs new)
+    (placed_order xs s (pairs_rest ComesBefore x xs pairs) (All-tail (AreEndpointsApart s) x xs new))
 
 -- ---- those of a cell
 
 -- all are apart, and in order
 pub record AreRow (specs : List EndpointSpec) : Type 0 where
-  pub apart : AllPairs AreApart specs
+  pub apart : AllPairs AreEndpointsApart specs
   pub order : AllPairs ComesBefore specs
 
-row_placed : (xs : List EndpointSpec) (s : EndpointSpec) → AreRow xs → All (AreApart s) xs → AreRow (placed xs s)
+row_placed : (xs : List EndpointSpec) (s : EndpointSpec) → AreRow xs → All (AreEndpointsApart s) xs → AreRow (placed xs s)
 row_placed xs s row new = record { apart = placed_apart xs s row.apart new; order = placed_order xs s row.order new }
 
 -- these have joined those, and no other is there
@@ -189,17 +189,17 @@ joined_more specs s news now rest =
     }
 
 -- those of a cell join others that they are apart from
-pub all_join : (specs news : List EndpointSpec) → AreRow specs → AllPairs AreApart news → ((x y : EndpointSpec) → Contains specs x → Contains news y → AreApart x y) → HaveJoined specs news (fold placed specs news)
+pub all_join : (specs news : List EndpointSpec) → AreRow specs → AllPairs AreEndpointsApart news → ((x y : EndpointSpec) → Contains specs x → Contains news y → AreEndpointsApart x y) → HaveJoined specs news (fold placed specs news)
 all_join specs [] row single apart = record { row = row; from = λ x h. inl h; old = λ x h. h; new = λ x h. let below : h.0 < 0 = h.1 in absurd (omega arith) }
 all_join specs (s ∷ news) row single apart =
     let next : AreRow (placed specs s) = row_placed specs s row (λ k d lt. apart_turned (get_or specs k d) s (apart (get_or specs k d) s (Contains-get_or specs k d lt) (Contains_head s news))) in
-    let first : All (AreApart s) news = pairs_first AreApart s news single in
-    let still : (x y : EndpointSpec) → Contains (placed specs s) x → Contains news y → AreApart x y = λ x y held later.
+    let first : All (AreEndpointsApart s) news = pairs_first AreEndpointsApart s news single in
+    let still : (x y : EndpointSpec) → Contains (placed specs s) x → Contains news y → AreEndpointsApart x y = λ x y held later.
     ⊎_elim
-    (λ (same : s ≡ x). subst (λ (z : EndpointSpec). AreApart z y) same (All-contains (AreApart s) news y first later))
+    (λ (same : s ≡ x). subst (λ (z : EndpointSpec). AreEndpointsApart z y) same (All-contains (AreEndpointsApart s) news y first later))
     (λ (old : Contains specs x). apart x y old (Contains_tail s news y later))
     (placed_from specs s x held) in
-    joined_more specs s news (fold placed (placed specs s) news) (all_join (placed specs s) news next (pairs_rest AreApart s news single) still)
+    joined_more specs s news (fold placed (placed specs s) news) (all_join (placed specs s) news next (pairs_rest AreEndpointsApart s news single) still)
 
 -- ---- those of a cell leave
 
@@ -237,5 +237,5 @@ unfolding IsBeside
 all_leave specs [] row = record { row = row; from = λ x h. h; beside = λ x h t held. (let below : held.0 < 0 = held.1 in absurd (omega arith)); stay = λ x h beside. h }
 all_leave specs (s ∷ gone) row =
     let other : EndpointSpec → Bool = λ x. not (is_device s.cell s.device x) in
-    let next : AreRow (without specs s) = record { apart = AllPairs-filter AreApart other specs row.apart; order = AllPairs-filter ComesBefore other specs row.order } in
+    let next : AreRow (without specs s) = record { apart = AllPairs-filter AreEndpointsApart other specs row.apart; order = AllPairs-filter ComesBefore other specs row.order } in
     left_more specs s gone (fold without (without specs s) gone) (all_leave (without specs s) gone next)

@@ -7,7 +7,7 @@ use Rattle.jh_cellcfg.specs.declared.config.CellConfig.{CellConfig}
 use Rattle.jh_cellcfg.specs.declared.live.Live.{Live}
 use Rattle.jh_cellcfg.specs.Lives.{has_id, id_of}
 use Rattle.jh_history.specs.Lives.{live_in}
-use Rattle.jh_shape.specs.Lives.{configs_of, joined, marked}
+use Rattle.jh_shape.specs.Lives.{configs_of, with_marks, marked}
 use Rattle.jh_history.specs.Calls.{is_told, is_told_by, first_told, behind}
 use Rattle.jh_history.specs.Commits.{is_other}
 use Rattle.jh_history.proofs.LoopLemmas.{live_of}
@@ -102,23 +102,23 @@ told_from_next b after about id cells k c lt is fails passed =
     ∙ ap (λ (p : Bool). told_from p about id (drop (k + 1) cells)) (sym passed))
 
 -- configurations with their marks
-pub configs_joined : (cells : List CellConfig) (marks : List Bool) → length marks ≡ length cells → configs_of (joined cells marks) ≡ cells
+pub configs_joined : (cells : List CellConfig) (marks : List Bool) → length marks ≡ length cells → configs_of (with_marks cells marks) ≡ cells
 configs_joined [] marks e = refl
 configs_joined (c ∷ cs) [] e = absurd (omega arith)
 configs_joined (c ∷ cs) (m ∷ ms) e = ap (λ (rest : List CellConfig). c ∷ rest) (configs_joined cs ms (omega arith))
 
-pub length_joined : (cells : List CellConfig) (marks : List Bool) → length marks ≡ length cells → length (joined cells marks) ≡ length cells
+pub length_joined : (cells : List CellConfig) (marks : List Bool) → length marks ≡ length cells → length (with_marks cells marks) ≡ length cells
 length_joined [] marks e = refl
 length_joined (c ∷ cs) [] e = absurd (omega arith)
 length_joined (c ∷ cs) (m ∷ ms) e = ap (λ n. suc n) (length_joined cs ms (omega arith))
 
-pub joined_push : (cells : List CellConfig) (marks : List Bool) (c : CellConfig) (mark : Bool) → length marks ≡ length cells → joined (cells ++ c ∷ []) (marks ++ mark ∷ []) ≡ joined cells marks ++ live_of c mark ∷ []
+pub joined_push : (cells : List CellConfig) (marks : List Bool) (c : CellConfig) (mark : Bool) → length marks ≡ length cells → with_marks (cells ++ c ∷ []) (marks ++ mark ∷ []) ≡ with_marks cells marks ++ live_of c mark ∷ []
 joined_push [] [] c mark e = refl
 joined_push [] (m ∷ ms) c mark e = absurd (omega arith)
 joined_push (x ∷ cs) [] c mark e = absurd (omega arith)
 joined_push (x ∷ cs) (m ∷ ms) c mark e = ap (λ (rest : List Live). live_of x m ∷ rest) (joined_push cs ms c mark (omega arith))
 
-pub joined_remove : (i : ℕ) (cells : List CellConfig) (marks : List Bool) → length marks ≡ length cells → i < length cells → joined (remove cells i) (remove marks i) ≡ remove (joined cells marks) i
+pub joined_remove : (i : ℕ) (cells : List CellConfig) (marks : List Bool) → length marks ≡ length cells → i < length cells → with_marks (remove cells i) (remove marks i) ≡ remove (with_marks cells marks) i
 joined_remove i [] marks e l = absurd (omega arith)
 joined_remove i (c ∷ cs) [] e l = absurd (omega arith)
 joined_remove zero (c ∷ cs) (m ∷ ms) e l = refl
@@ -140,11 +140,11 @@ marked_by : (id : ℕ) (loadable : Bool) (c : CellConfig) (m b : Bool) → live_
 marked_by id loadable c m true = refl
 marked_by id loadable c m false = refl
 
-pub marks_to_all : (id : ℕ) (loadable : Bool) (cells : List CellConfig) (marks : List Bool) → length marks ≡ length cells → joined cells (marks_to (length cells) id loadable cells marks) ≡ map (marked id loadable) (joined cells marks)
+pub marks_to_all : (id : ℕ) (loadable : Bool) (cells : List CellConfig) (marks : List Bool) → length marks ≡ length cells → with_marks cells (marks_to (length cells) id loadable cells marks) ≡ map (marked id loadable) (with_marks cells marks)
 marks_to_all id loadable [] marks e = refl
 marks_to_all id loadable (c ∷ cs) [] e = absurd (omega arith)
 marks_to_all id loadable (c ∷ cs) (m ∷ ms) e =
-    ap (λ (live : Live). live ∷ joined cs (marks_to (length cs) id loadable cs ms)) (marked_by id loadable c m (has_number id c))
+    ap (λ (live : Live). live ∷ with_marks cs (marks_to (length cs) id loadable cs ms)) (marked_by id loadable c m (has_number id c))
     ∙ ap (λ (rest : List Live). marked id loadable (live_of c m) ∷ rest) (marks_to_all id loadable cs ms (omega arith))
 
 pub marks_to_put : (i id : ℕ) (loadable : Bool) (cells : List CellConfig) (marks : List Bool) (d : CellConfig) → length marks ≡ length cells → i < length cells → has_number id (get_or cells i d) ≡ true
@@ -192,7 +192,7 @@ left_from_drop zero p (x ∷ xs) d lt is = ap (λ b. cond b (x ∷ filter p xs) 
 left_from_drop (suc i) p (x ∷ xs) d lt is = ap (λ rest. x ∷ rest) (left_from_drop i p xs d (omega arith) is)
 
 -- the configuration at a place
-pub joined_at : (i : ℕ) (cells : List CellConfig) (marks : List Bool) (d : Live) (c : CellConfig) → length marks ≡ length cells → i < length cells → config (get_or (joined cells marks) i d) ≡ get_or cells i c
+pub joined_at : (i : ℕ) (cells : List CellConfig) (marks : List Bool) (d : Live) (c : CellConfig) → length marks ≡ length cells → i < length cells → config (get_or (with_marks cells marks) i d) ≡ get_or cells i c
 joined_at i [] marks d c e lt = absurd (omega arith)
 joined_at i (x ∷ cs) [] d c e lt = absurd (omega arith)
 joined_at zero (x ∷ cs) (m ∷ ms) d c e lt = refl
@@ -200,44 +200,44 @@ joined_at (suc i) (x ∷ cs) (m ∷ ms) d c e lt = joined_at i cs ms d c (omega 
 
 -- a loop that takes cells away, from the last one on
 leave_at : (k id : ℕ) (first cells : List CellConfig) (first_marks marks : List Bool) (c : CellConfig) → length first_marks ≡ length first → length marks ≡ length cells → k < length first
-    → k < length cells → c ≡ get_or cells k c → joined cells marks ≡ left_from (suc k) (is_other id) (joined first first_marks)
-    → is_other id (get_or (joined first first_marks) k (live_of c false)) ≡ not (has_number id c)
+    → k < length cells → c ≡ get_or cells k c → with_marks cells marks ≡ left_from (suc k) (is_other id) (with_marks first first_marks)
+    → is_other id (get_or (with_marks first first_marks) k (live_of c false)) ≡ not (has_number id c)
 leave_at k id first cells first_marks marks c even_first even lt within is left =
     let d = live_of c false in
-    let long : k < length (joined first first_marks) = (let e = length_joined first first_marks even_first in omega arith) in
-    let same : get_or (joined cells marks) k d ≡ get_or (joined first first_marks) k d =
-    ap (λ (lives : List Live). get_or lives k d) left ∙ left_from_at k (is_other id) (joined first first_marks) d long in
-    let at : config (get_or (joined first first_marks) k d) ≡ c = ap config (sym same) ∙ joined_at k cells marks d c even within ∙ sym is in
+    let long : k < length (with_marks first first_marks) = (let e = length_joined first first_marks even_first in omega arith) in
+    let same : get_or (with_marks cells marks) k d ≡ get_or (with_marks first first_marks) k d =
+    ap (λ (lives : List Live). get_or lives k d) left ∙ left_from_at k (is_other id) (with_marks first first_marks) d long in
+    let at : config (get_or (with_marks first first_marks) k d) ≡ c = ap config (sym same) ∙ joined_at k cells marks d c even within ∙ sym is in
     ap (λ (x : CellConfig). not (has_number id x)) at
 
 pub leave_within : (k id : ℕ) (first cells : List CellConfig) (first_marks marks : List Bool) → length first_marks ≡ length first → length marks ≡ length cells → k < length first
-    → joined cells marks ≡ left_from (suc k) (is_other id) (joined first first_marks) → k < length cells
+    → with_marks cells marks ≡ left_from (suc k) (is_other id) (with_marks first first_marks) → k < length cells
 leave_within k id first cells first_marks marks even_first even lt left =
-    let long : k < length (joined first first_marks) = (let e = length_joined first first_marks even_first in omega arith) in
-    let h = left_from_long k (is_other id) (joined first first_marks) long in
-    let e : length (joined cells marks) ≡ length (left_from (suc k) (is_other id) (joined first first_marks)) = ap (λ (lives : List Live). length lives) left in
+    let long : k < length (with_marks first first_marks) = (let e = length_joined first first_marks even_first in omega arith) in
+    let h = left_from_long k (is_other id) (with_marks first first_marks) long in
+    let e : length (with_marks cells marks) ≡ length (left_from (suc k) (is_other id) (with_marks first first_marks)) = ap (λ (lives : List Live). length lives) left in
     let f = length_joined cells marks even in
     omega arith
 
 pub leave_keep : (k id : ℕ) (first cells : List CellConfig) (first_marks marks : List Bool) (c : CellConfig) → length first_marks ≡ length first → length marks ≡ length cells → k < length first
-    → c ≡ get_or cells k c → joined cells marks ≡ left_from (suc k) (is_other id) (joined first first_marks) → has_number id c ≡ false
-    → joined cells marks ≡ left_from k (is_other id) (joined first first_marks)
+    → c ≡ get_or cells k c → with_marks cells marks ≡ left_from (suc k) (is_other id) (with_marks first first_marks) → has_number id c ≡ false
+    → with_marks cells marks ≡ left_from k (is_other id) (with_marks first first_marks)
 leave_keep k id first cells first_marks marks c even_first even lt is left other =
     let within = leave_within k id first cells first_marks marks even_first even lt left in
-    let long : k < length (joined first first_marks) = (let e = length_joined first first_marks even_first in omega arith) in
+    let long : k < length (with_marks first first_marks) = (let e = length_joined first first_marks even_first in omega arith) in
     left
-    ∙ left_from_keep k (is_other id) (joined first first_marks) (live_of c false) long
+    ∙ left_from_keep k (is_other id) (with_marks first first_marks) (live_of c false) long
     (leave_at k id first cells first_marks marks c even_first even lt within is left ∙ ap not other)
 
 pub leave_drop : (k id : ℕ) (first cells : List CellConfig) (first_marks marks : List Bool) (c : CellConfig) → length first_marks ≡ length first → length marks ≡ length cells → k < length first
-    → c ≡ get_or cells k c → joined cells marks ≡ left_from (suc k) (is_other id) (joined first first_marks) → has_number id c ≡ true
-    → joined (remove cells k) (remove marks k) ≡ left_from k (is_other id) (joined first first_marks)
+    → c ≡ get_or cells k c → with_marks cells marks ≡ left_from (suc k) (is_other id) (with_marks first first_marks) → has_number id c ≡ true
+    → with_marks (remove cells k) (remove marks k) ≡ left_from k (is_other id) (with_marks first first_marks)
 leave_drop k id first cells first_marks marks c even_first even lt is left other =
     let within = leave_within k id first cells first_marks marks even_first even lt left in
-    let long : k < length (joined first first_marks) = (let e = length_joined first first_marks even_first in omega arith) in
+    let long : k < length (with_marks first first_marks) = (let e = length_joined first first_marks even_first in omega arith) in
     joined_remove k cells marks even within
     ∙ ap (λ (lives : List Live). remove lives k) left
-    ∙ left_from_drop k (is_other id) (joined first first_marks) (live_of c false) long
+    ∙ left_from_drop k (is_other id) (with_marks first first_marks) (live_of c false) long
     (leave_at k id first cells first_marks marks c even_first even lt within is left ∙ ap not other)
 
 pub leave_even : (k : ℕ) (cells : List CellConfig) (marks : List Bool) → length marks ≡ length cells → k < length cells → length (remove marks k) ≡ length (remove cells k)
@@ -249,6 +249,6 @@ leave_even k cells marks even lt =
 pub leave_so_far : (i id : ℕ) (lives rest : List Live) → 0 < i → lives ≡ left_from i (is_other id) rest → lives ≡ left_from (suc (i - 1)) (is_other id) rest
 leave_so_far i id lives rest some is = is ∙ (let e : i ≡ suc (i - 1) = omega arith in ap (λ (n : ℕ). left_from n (is_other id) rest) e)
 
-pub leave_begin : (n id : ℕ) (cells : List CellConfig) (marks : List Bool) → length marks ≡ length cells → n ≡ length cells → joined cells marks ≡ left_from n (is_other id) (joined cells marks)
+pub leave_begin : (n id : ℕ) (cells : List CellConfig) (marks : List Bool) → length marks ≡ length cells → n ≡ length cells → with_marks cells marks ≡ left_from n (is_other id) (with_marks cells marks)
 leave_begin n id cells marks even is =
-    sym (ap (λ (k : ℕ). left_from k (is_other id) (joined cells marks)) (is ∙ sym (length_joined cells marks even)) ∙ left_from_all (is_other id) (joined cells marks))
+    sym (ap (λ (k : ℕ). left_from k (is_other id) (with_marks cells marks)) (is ∙ sym (length_joined cells marks even)) ∙ left_from_all (is_other id) (with_marks cells marks))

@@ -13,7 +13,7 @@ use Rattle.jh_shape.specs.Claims.{Holder}
 use Rattle.jh_shape.specs.Shapes.{takes, is_closed, holder_of_live}
 use Rattle.jh_history.specs.declared.place.Place.{Place}
 use Rattle.jh_history.specs.Places.{further, places_in_row}
-use Rattle.jh_shape.specs.Lives.{configs_of, joined}
+use Rattle.jh_shape.specs.Lives.{configs_of, with_marks}
 use Rattle.jh_history.proofs.PlaceLemmas.{further_none, further_next}
 
 pub any_found : {X : Type 0} (p : X → Bool) (xs : List X) (i : ℕ) (x : X) → i < length xs → x ≡ get_or xs i x → p x ≡ true → list_any p xs ≡ true
@@ -39,14 +39,14 @@ closed_by lives place = list_any_map holder_of_live (λ (holder : Holder). list_
 abbrev pub live_of : CellConfig → Bool → Live
 live_of c mark = record { config = c; loadable = mark }
 
-pub joined_get : (i : ℕ) (cells : List CellConfig) (marks : List Bool) (c : CellConfig) (m : Bool) → length marks ≡ length cells → i < length cells → get_or (joined cells marks) i (live_of c m) ≡ live_of (get_or cells i c) (get_or marks i m)
+pub joined_get : (i : ℕ) (cells : List CellConfig) (marks : List Bool) (c : CellConfig) (m : Bool) → length marks ≡ length cells → i < length cells → get_or (with_marks cells marks) i (live_of c m) ≡ live_of (get_or cells i c) (get_or marks i m)
 joined_get i [] marks c m e lt = absurd (omega arith)
 joined_get i (x ∷ cs) [] c m e lt = absurd (omega arith)
 joined_get zero (x ∷ cs) (y ∷ ms) c m e lt = refl
 joined_get (suc i) (x ∷ cs) (y ∷ ms) c m e lt = joined_get i cs ms c m (omega arith) (omega arith)
 
 pub joined_read : (i : ℕ) (cells : List CellConfig) (marks : List Bool) (c : CellConfig) (m : Bool) → length marks ≡ length cells → i < length cells → c ≡ get_or cells i c
-    → live_of c (get_or marks i m) ≡ get_or (joined cells marks) i (live_of c (get_or marks i m))
+    → live_of c (get_or marks i m) ≡ get_or (with_marks cells marks) i (live_of c (get_or marks i m))
 joined_read i cells marks c m even lt is =
     sym
     (joined_get i cells marks c (get_or marks i m) even lt

@@ -8,7 +8,7 @@ use Rattle.jh_history.specs.Facts.{Facts}
 use Rattle.jh_history.specs.History.{after, coming_of}
 use Rattle.jh_shape.specs.Lives.{configs_of}
 use Rattle.jh_history.specs.Sound.{AreSoundCells, IsSound}
-use Rattle.jh_history.specs.PlainView.{IsFit}
+use Rattle.jh_history.specs.PlainView.{HasSoundCells}
 use Rattle.jh_history.proofs.FewLemmas.{few_sound}
 use Rattle.jh_cellcfg.specs.declared.config.CellConfig.{CellConfig}
 use Rattle.jh_cellcfg.specs.declared.live.Live.{Live}
@@ -116,7 +116,7 @@ few_at image f entry act is sound few names = elim (commit_or act) [
 ]
 
 -- the cells that live after an entry that is due are fit
-pub fit_after : (image : Image) (f : Facts) (entry : Entry) (cells new : List Live) → IsFit image cells → f.cells ≡ cells → IsSound image (after image f entry) → new ≡ cells_by f.call f.cells entry.act → Names (configs_of new) → IsFit image new
+pub fit_after : (image : Image) (f : Facts) (entry : Entry) (cells new : List Live) → HasSoundCells image cells → f.cells ≡ cells → IsSound image (after image f entry) → new ≡ cells_by f.call f.cells entry.act → Names (configs_of new) → HasSoundCells image new
 fit_after image f entry cells new fit e sound is names =
     let few : length f.cells ≤ 15 = subst (λ (lives : List Live). length lives ≤ 15) (sym e) fit.few in
     record {

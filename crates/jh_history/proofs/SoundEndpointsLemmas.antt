@@ -13,7 +13,7 @@ use Rattle.jh_call.specs.declared.call.Call.{Call}
 use Rattle.jh_call.specs.declared.call.Call.TheVariants.{Create, Start, Loadable, Destroy, Info, State, CpuInfo, Unknown}
 use Rattle.jh_ivshmem.specs.declared.endpoint.Endpoint.{Endpoint}
 use Rattle.jh_ivshmem.specs.declared.spec.EndpointSpec.{EndpointSpec}
-use Rattle.jh_ivshmem.specs.Specs.{AreApart, is_device}
+use Rattle.jh_ivshmem.specs.Specs.{AreEndpointsApart, is_device}
 use Rattle.jh_ivshmem.specs.Links.{endpoint_at, written}
 use Rattle.jh_ivshmem.proofs.ApartLemmas.{device_turned}
 use Rattle.jh_ivshmem.proofs.BesidesLemmas.{own_device}
@@ -53,9 +53,9 @@ record AreSpecs (image : Image) (configs : List CellConfig) (specs : List Endpoi
   row : AreRow specs
 
 -- one device has one endpoint
-one_device : (specs : List EndpointSpec) (a b : EndpointSpec) → AllPairs AreApart specs → Contains specs a → Contains specs b → is_device a.cell a.device b ≡ true → a ≡ b
+one_device : (specs : List EndpointSpec) (a b : EndpointSpec) → AllPairs AreEndpointsApart specs → Contains specs a → Contains specs b → is_device a.cell a.device b ≡ true → a ≡ b
 one_device specs a b apart has_a has_b is =
-    one_of_pairs AreApart (λ (x y : EndpointSpec). is_device x.cell x.device y ≡ true)
+    one_of_pairs AreEndpointsApart (λ (x y : EndpointSpec). is_device x.cell x.device y ≡ true)
     (λ x y two same. both_ways (is_device x.cell x.device y) two.devices same)
     (λ x y same. sym (device_turned x y) ∙ same)
     specs a b apart has_a has_b is
@@ -74,7 +74,7 @@ specs_of_them image configs list are = record {
 }
 
 -- the endpoint of a device is there where what is fixed of it is
-has_by : (list : List Endpoint) (s : EndpointSpec) → AllPairs AreApart (specs_in list) → Contains (specs_in list) s → HasEndpoint list s
+has_by : (list : List Endpoint) (s : EndpointSpec) → AllPairs AreEndpointsApart (specs_in list) → Contains (specs_in list) s → HasEndpoint list s
 has_by list s apart h =
     let test : Endpoint → Bool = λ e. is_device s.cell s.device e.spec in
     let from = Contains_from_map (λ (e : Endpoint). e.spec) list s h in
@@ -110,7 +110,7 @@ same_device cell n a b is_a is_b =
     ap (λ (c : ℕ). is_device c a.device b) a_cell ∙ ap (λ (d : ℕ). is_device cell d b) a_device ∙ is_b
 
 -- a write to configuration space
-function_follow : (devices : Devices) (bytes : InConfig) (value n : ℕ) (o : Option Endpoint) → AllPairs AreApart (specs_in devices.endpoints) → endpoint_at devices.cell n devices.endpoints ≡ o
+function_follow : (devices : Devices) (bytes : InConfig) (value n : ℕ) (o : Option Endpoint) → AllPairs AreEndpointsApart (specs_in devices.endpoints) → endpoint_at devices.cell n devices.endpoints ≡ o
     → Follow devices.endpoints (option_map_or (λ (e : Endpoint). space_put devices.cell n (config_written e.space (bytes.at % 4096) bytes.width (value % 2 ^ 32)) devices.endpoints) o devices.endpoints)
 function_follow devices bytes value n None apart is = follow_same devices.endpoints
 function_follow devices bytes value n (Some e) apart is =
@@ -124,7 +124,7 @@ function_follow devices bytes value n (Some e) apart is =
     (same_device devices.cell n x.spec e.spec passes found.passes))
 
 -- a write that reaches a device
-put_follow : (devices : Devices) (found : Reach) (value : ℕ) → AllPairs AreApart (specs_in devices.endpoints) → Follow devices.endpoints (endpoints_put devices found value)
+put_follow : (devices : Devices) (found : Reach) (value : ℕ) → AllPairs AreEndpointsApart (specs_in devices.endpoints) → Follow devices.endpoints (endpoints_put devices found value)
 put_follow devices (Config bytes) value apart =
     follow_option (number_at devices bytes.at) (function_put devices bytes value) devices.endpoints devices.endpoints
     (λ n. function_follow devices bytes value n (endpoint_at devices.cell n devices.endpoints) apart refl)
@@ -139,7 +139,7 @@ put_follow devices (Subpage places) value apart = follow_same devices.endpoints
 put_follow devices Nothing value apart = follow_same devices.endpoints
 
 -- what an act does to them itself
-acted_follow : (image : Image) (f : Facts) (cell : ℕ) (act : Act) → AllPairs AreApart (specs_in f.endpoints) → Follow f.endpoints (endpoints_acted image f cell act)
+acted_follow : (image : Image) (f : Facts) (cell : ℕ) (act : Act) → AllPairs AreEndpointsApart (specs_in f.endpoints) → Follow f.endpoints (endpoints_acted image f cell act)
 acted_follow image f cell (Write width at value true) apart = put_follow (devices_of image f cell) (reach image f cell ToWrite at width) value apart
 acted_follow image f cell (Write width at value false) apart = follow_same f.endpoints
 acted_follow image f cell (Irq device vector) apart = follow_taken cell (Some (device, vector)) f.endpoints
@@ -210,7 +210,7 @@ endpoints_come image configs new list unknown clean are =
     let old : AreSpecs image configs (specs_in list) = specs_of_them image configs list are in
     let held : Contains (image.system.root ∷ all) new = Contains-push cells new in
     let numbered = held_numbered image.system all new held in
-    let apart : (x y : EndpointSpec) → Contains (specs_in list) x → Contains specs y → AreApart x y = λ x y has_x has_y.
+    let apart : (x y : EndpointSpec) → Contains (specs_in list) x → Contains specs y → AreEndpointsApart x y = λ x y has_x has_y.
     let of = old.own x has_x in
     specs_apart_new image.system configs new of.0 x y clean unknown of.1 of.2 has_y in
     let joined = all_join (specs_in list) specs old.row (specs_apart image.system all held.0 new clean numbered) apart in

@@ -19,7 +19,7 @@ use Rattle.jh_check.specs.Laws.{IsNumbered, IsItem}
 use Rattle.jh_check.specs.Refusals.{is_namesake, is_known}
 use Rattle.jh_check.proofs.GivenLemmas.{may_join, numbers_differ}
 use Rattle.jh_ivshmem.specs.declared.spec.EndpointSpec.{EndpointSpec}
-use Rattle.jh_ivshmem.specs.Specs.{IsWithin, AreApart}
+use Rattle.jh_ivshmem.specs.Specs.{IsInItsLimits, AreEndpointsApart}
 use Rattle.jh_history.specs.Devices.{is_endpoint, section_at, place_of_section, spec_of, specs_from, specs_of}
 use Rattle.jh_history.specs.Endpoints.{HasGoodDevices}
 
@@ -125,9 +125,9 @@ specs_pairs R config h =
 abbrev pub AreSingle : CellConfig → Type 0
 AreSingle config = (m n : ℕ) (one other : PciDevice) → IsDevice config m one → IsDevice config n other → AreLinked one other → m ≡ n
 
-pub specs_apart_by : (config : CellConfig) → AreSingle config → AllPairs AreApart (specs_of config)
+pub specs_apart_by : (config : CellConfig) → AreSingle config → AllPairs AreEndpointsApart (specs_of config)
 specs_apart_by config single =
-    specs_pairs AreApart config
+    specs_pairs AreEndpointsApart config
     (λ l m one other below i i' kind kind'.
     let bdfs : eqb other.bdf one.bdf ≡ false = false_from_ne_true (eqb other.bdf one.bdf) (λ same.
     let linked : AreLinked one other = record { one_kind = kind; other_kind = kind'; place = sym (eqb-true other.bdf one.bdf same) } in
@@ -138,16 +138,16 @@ specs_apart_by config single =
       peers = and_left (eqb other.bdf one.bdf) (eqb other.shmem_dev_id one.shmem_dev_id) bdfs;
     })
 
-pub specs_apart : (system : SystemConfig) (configs : List CellConfig) (a : ℕ) (config : CellConfig) → IsClean system configs → IsNumbered system configs a config → AllPairs AreApart (specs_of config)
+pub specs_apart : (system : SystemConfig) (configs : List CellConfig) (a : ℕ) (config : CellConfig) → IsClean system configs → IsNumbered system configs a config → AllPairs AreEndpointsApart (specs_of config)
 specs_apart system configs a config clean numbered = specs_apart_by config (λ m n one other i i' linked. clean.single a config numbered m n one other i i' linked)
 
 pub devices_good : (system : SystemConfig) (configs : List CellConfig) (a : ℕ) (config : CellConfig) → IsClean system configs → IsNumbered system configs a config → HasGoodDevices config
 devices_good system configs a config clean numbered k d below kind =
     clean.devices a config numbered k (get_or config.pci_devices k d) (slice_get-get_or config.pci_devices k d below) kind
 
-pub specs_within : (system : SystemConfig) (configs : List CellConfig) (a : ℕ) (config : CellConfig) → IsClean system configs → IsNumbered system configs a config → All IsWithin (specs_of config)
+pub specs_within : (system : SystemConfig) (configs : List CellConfig) (a : ℕ) (config : CellConfig) → IsClean system configs → IsNumbered system configs a config → All IsInItsLimits (specs_of config)
 specs_within system configs a config clean numbered =
-    All_from_held IsWithin (specs_of config)
+    All_from_held IsInItsLimits (specs_of config)
     (λ spec held.
     let h = specs_device config spec held in
     let device : PciDevice = h.device in
@@ -162,19 +162,19 @@ specs_within system configs a config clean numbered =
     let some : 4096 ≤ table.size = (good.table table section).some in
     let end = join.table.3 in
     let at : place_of_section (section_at config device 0) ≡ table.phys_start = ap place_of_section item in
-    subst IsWithin (sym h.is) (record { id = good.own; peers = good.few; vectors = good.vectors; table = omega (arith, at, some, end) }))
+    subst IsInItsLimits (sym h.is) (record { id = good.own; peers = good.few; vectors = good.vectors; table = omega (arith, at, some, end) }))
 
 -- ---- two cells
 
 pub specs_apart_two : (system : SystemConfig) (configs : List CellConfig) (a b : ℕ) (one other : CellConfig) (s t : EndpointSpec) → IsClean system configs → a ≢ b → IsNumbered system configs a one → IsNumbered system configs b other → one.id ≢ other.id
-    → Contains (specs_of one) s → Contains (specs_of other) t → AreApart s t
+    → Contains (specs_of one) s → Contains (specs_of other) t → AreEndpointsApart s t
 specs_apart_two system configs a b one other s t clean differ numbered numbered' ids held held' =
     let h = specs_device one s held in
     let h' = specs_device other t held' in
     let d : PciDevice = h.device in
     let e : PciDevice = h'.device in
-    let P : EndpointSpec → Type 0 = λ x. AreApart x t in
-    let Q : EndpointSpec → Type 0 = AreApart (spec_of one h.number d) in
+    let P : EndpointSpec → Type 0 = λ x. AreEndpointsApart x t in
+    let Q : EndpointSpec → Type 0 = AreEndpointsApart (spec_of one h.number d) in
     let peers : eqb e.bdf d.bdf && eqb e.shmem_dev_id d.shmem_dev_id ≡ false = elim (cases_Bool (eqb e.bdf d.bdf)) [
       | inl same ↦
           let linked : AreLinked d e = record { one_kind = kind_from h.number d h.passes; other_kind = kind_from h'.number e h'.passes; place = sym (eqb-true e.bdf d.bdf same) } in
@@ -198,7 +198,7 @@ other_id cells new config unknown held same =
     both_ways (eqb config.id new.id) (or_parts (eqb config.id new.id) (pointwise nat_eq (name_of config) (name_of new)) none).0 (eq-eqb config.id new.id same)
 
 pub specs_apart_new : (system : SystemConfig) (configs : List CellConfig) (new config : CellConfig) (s t : EndpointSpec) → IsClean system (configs ++ new ∷ []) → is_known (system.root ∷ configs) new ≡ false → Contains (system.root ∷ configs) config
-    → Contains (specs_of config) s → Contains (specs_of new) t → AreApart s t
+    → Contains (specs_of config) s → Contains (specs_of new) t → AreEndpointsApart s t
 specs_apart_new system configs new config s t clean unknown held own others =
     let all : List CellConfig = configs ++ new ∷ [] in
     let front : Contains (system.root ∷ all) config = Contains-append_left (system.root ∷ configs) (new ∷ []) config held in

@@ -10,7 +10,7 @@ use Rattle.jh_check.specs.Clean.{SharesNoAddress, IsSoundBitmap}
 use Rattle.jh_check.specs.Refusals.{is_known}
 use Rattle.jh_ivshmem.specs.declared.endpoint.Endpoint.{Endpoint}
 use Rattle.jh_ivshmem.specs.declared.spec.Slot.{Slot}
-use Rattle.jh_ivshmem.specs.Specs.{IsWithin, slot_of}
+use Rattle.jh_ivshmem.specs.Specs.{IsInItsLimits, slot_of}
 use Rattle.jh_script.specs.declared.image.Image.{Image}
 use Rattle.jh_history.specs.declared.place.Place.{Place}
 use Rattle.jh_history.specs.declared.place.Place.TheVariants.{Physical, Page}
@@ -37,8 +37,8 @@ abbrev pub NamesCpu : CellConfig → Type 0
 NamesCpu config = (cpu : ℕ) × (is_cpu_set config.cpu_set cpu ≡ true)
 
 -- the cell with the configuration may live beside root and these: none of them has its name or its id, no two of its
--- regions have an address in common, each that isn't empty ends within the addresses and the places, and some byte of
--- its set isn't 0, none behind the second
+-- regions have an address in common, each that isn't empty ends within the addresses, and within the places where it has
+-- any, and some byte of its set isn't 0, none behind the second
 pub record MayLive (image : Image) (cells : List Live) (config : CellConfig) : Type 0 where
   pub unknown : is_known (image.system.root ∷ configs_of cells) config ≡ false
   pub apart : AllPairs SharesNoAddress config.memory_regions
@@ -79,7 +79,7 @@ ReachesCells cells Nothing = Unit {0}
 pub record IsWordOf (endpoints : List Endpoint) (slot : Slot) : Type 0 where
   pub endpoint : Endpoint
   pub there : Contains endpoints endpoint
-  pub within : IsWithin endpoint.spec
+  pub within : IsInItsLimits endpoint.spec
   pub is : slot ≡ slot_of endpoint.spec slot.value
 
 -- where the act is a write, each place that it reaches is one of physical memory, or of the page of a cell that lives

@@ -9,7 +9,7 @@ use Rattle.jh_vpci.specs.Space.{Space}
 use Rattle.jh_vpci.specs.Writes.{written as config_written}
 use Rattle.jh_ivshmem.specs.declared.endpoint.Endpoint.{Endpoint}
 use Rattle.jh_ivshmem.specs.declared.spec.EndpointSpec.{EndpointSpec}
-use Rattle.jh_ivshmem.specs.Specs.{is_device, slot_of, IsWithin, AreApart}
+use Rattle.jh_ivshmem.specs.Specs.{is_device, slot_of, IsInItsLimits, AreEndpointsApart}
 use Rattle.jh_ivshmem.specs.Changes.{changed}
 use Rattle.jh_ivshmem.specs.Links.{endpoint_at, joined, reset_of, left_by, pending_of, taken_of, written}
 use Rattle.jh_call.specs.declared.call.Call.{Call}
@@ -129,14 +129,14 @@ HasGoodDevices config = All (λ (d : PciDevice). IsShmem d → IsGoodDevice conf
 
 -- beside these endpoints one of this device may join
 abbrev pub MayJoinThem : List Endpoint → EndpointSpec → Type 0
-MayJoinThem endpoints spec = All (λ (e : Endpoint). AreApart e.spec spec) endpoints
+MayJoinThem endpoints spec = All (λ (e : Endpoint). AreEndpointsApart e.spec spec) endpoints
 
 -- the change may be made at all devices of the cell
 pub record MayChange (change : DeviceChange) (endpoints : List Endpoint) (config : CellConfig) : Type 0 where
   pub good : HasGoodDevices config
-  pub within : All IsWithin (specs_of config)
+  pub within : All IsInItsLimits (specs_of config)
   pub new : change ≡ Join → All (MayJoinThem endpoints) (specs_of config)
-  pub apart : change ≡ Join → AllPairs AreApart (specs_of config)
+  pub apart : change ≡ Join → AllPairs AreEndpointsApart (specs_of config)
 
 -- ---- words of state tables
 

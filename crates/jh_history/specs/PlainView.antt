@@ -54,8 +54,8 @@ put_in_page cell at bytes byte (Physical p) = byte (Physical p)
 put_in_page cell at bytes byte (Page other offset) =
     if other == cell then stored (λ k. byte (Page other k)) at bytes offset else byte (Page other offset)
 
--- at every moment the image is admitted, its root and the cells are sound, and these are few
-pub record IsFit (image : Image) (cells : List Live) : Type 0 where
+-- the image is admitted, its root and the cells are sound, and these are few
+pub record HasSoundCells (image : Image) (cells : List Live) : Type 0 where
   pub admitted : IsAdmitted image
   pub sound : AreSoundCells image.system (configs_of cells)
   pub few : length cells ≤ 15
@@ -93,7 +93,7 @@ abbrev pub MayCommit : PlainView → Act → Type 0
 MayCommit plain act = IfSome (changing_by plain.cells plain.call act) (MayChange (change_by plain.call) plain.endpoints)
 
 -- what is kept of devices lets the entry be followed
-pub record MayFollow (plain : PlainView) (entry : Entry) : Type 0 where
+pub record MayBeFollowed (plain : PlainView) (entry : Entry) : Type 0 where
   pub words : HasWords plain
   pub commit : MayCommit plain entry.act
   pub next : IsNextOf entry.cell plain.endpoints entry.act

@@ -15,7 +15,7 @@ use Rattle.jh_call.specs.Calls.{decoded, is_management}
 use Rattle.jh_vpci.specs.Windows.{AreWindows}
 use Rattle.jh_ivshmem.specs.declared.endpoint.Endpoint.{Endpoint}
 use Rattle.jh_ivshmem.specs.declared.spec.EndpointSpec.{EndpointSpec}
-use Rattle.jh_ivshmem.specs.Specs.{IsWithin, AreApart, ComesBefore}
+use Rattle.jh_ivshmem.specs.Specs.{IsInItsLimits, AreEndpointsApart, ComesBefore}
 use Rattle.jh_ivshmem.specs.Links.{endpoint_at}
 use Rattle.jh_script.specs.declared.image.Image.{Image}
 use Rattle.jh_script.specs.declared.image.Preload.{Preload}
@@ -177,7 +177,7 @@ HasEndpoint endpoints spec = (e : Endpoint) × (endpoint_at spec.cell spec.devic
 -- the endpoint is within its limits, shows its device's function, has room for 16 vectors, and its windows begin at
 -- multiples of their sizes
 pub record IsSoundEndpoint (e : Endpoint) : Type 0 where
-  pub within : IsWithin e.spec
+  pub within : IsInItsLimits e.spec
   pub function : e.space.spec ≡ e.spec.function
   pub windows : AreWindows e.space.bar0 e.space.bar1
   pub vectors : length e.vectors ≡ 16
@@ -187,7 +187,7 @@ pub record IsSoundEndpoint (e : Endpoint) : Type 0 where
 pub record AreEndpoints (image : Image) (configs : List CellConfig) (endpoints : List Endpoint) : Type 0 where
   pub own : All (λ (e : Endpoint). IsOfDevice image configs e.spec) endpoints
   pub whole : (config : CellConfig) → Contains (image.system.root ∷ configs) config → All (HasEndpoint endpoints) (specs_of config)
-  pub apart : AllPairs AreApart (map (λ (e : Endpoint). e.spec) endpoints)
+  pub apart : AllPairs AreEndpointsApart (map (λ (e : Endpoint). e.spec) endpoints)
   pub order : AllPairs ComesBefore (map (λ (e : Endpoint). e.spec) endpoints)
   pub sound : All IsSoundEndpoint endpoints
 
@@ -207,6 +207,6 @@ abbrev pub AreBytes : List ℕ → Type 0
 AreBytes numbers = All (λ (b : ℕ). b < 256) numbers
 
 -- what an image holds as bytes are bytes: so it is of each image that a program can have
-pub record HasBytes (image : Image) : Type 0 where
+pub record IsMadeOfBytes (image : Image) : Type 0 where
   pub set : AreBytes image.system.root.cpu_set
   pub preloads : All (λ (p : Preload). AreBytes p.bytes) image.preloads

@@ -2,7 +2,7 @@
 ghost use Rattle.std.specs.Prelude.{◌≡◌, ◌+◌, ◌<◌, ◌≤◌, All, List, IfOk, IsOk, OnOk, OnErr, Option, option_copied};
 ghost use Rattle.jh_call.specs.declared.call.Call.TheVariants.{Create};
 ghost use Rattle.jh_cellcfg.specs.declared.live.Live.{Live as TheLive};
-ghost use Rattle.jh_ivshmem.specs.Specs.{IsWithin, AreApart, slot_of};
+ghost use Rattle.jh_ivshmem.specs.Specs.{IsInItsLimits, AreEndpointsApart, slot_of};
 ghost use Rattle.jh_history.specs.declared.device_change.DeviceChange.TheVariants.{Join as Joins, Reset as Resets, Leave as Leaves};
 ghost use Rattle.jh_history.specs.Endpoints.{endpoint_changed, device_change, change_by, changing, changing_by};
 ghost use Rattle.jh_shape.specs.Lives.{configs_of};
@@ -25,7 +25,7 @@ pub enum DeviceChange {
 
 /// A write of 0 to the endpoint's word of its state table.
 fn cleared(spec: EndpointSpec) -> Slot
-    requires { IsWithin spec }
+    requires { IsInItsLimits spec }
     ensures { result ≡ slot_of spec 0 }
 {
     Slot {
@@ -36,7 +36,7 @@ fn cleared(spec: EndpointSpec) -> Slot
 
 /// Resets the endpoint, where it is there.
 fn reset(endpoints: &mut Endpoints, spec: EndpointSpec) -> Slot
-    requires { IsWithin spec }
+    requires { IsInItsLimits spec }
     ensures list { endpoints.new.list ≡ endpoint_changed Resets endpoints.old.list spec }
     ensures slot { result ≡ slot_of spec 0 }
     ensures spare { endpoints.new.spare ≡ endpoints.old.spare }
@@ -50,7 +50,7 @@ fn reset(endpoints: &mut Endpoints, spec: EndpointSpec) -> Slot
 
 /// Has the endpoint leave, where it is there.
 fn leave(endpoints: &mut Endpoints, spec: EndpointSpec) -> Slot
-    requires { IsWithin spec }
+    requires { IsInItsLimits spec }
     ensures list { endpoints.new.list ≡ endpoint_changed Leaves endpoints.old.list spec }
     ensures slot { result ≡ slot_of spec 0 }
     ensures spare { endpoints.old.spare ≤ endpoints.new.spare }
@@ -89,8 +89,8 @@ impl DeviceChange {
     /// Makes the change at the endpoint, and tells the write to its state table: its word becomes 0. Only one that joins
     /// may need memory, and it needs none with a positive spare.
     pub fn apply(self, endpoints: &mut Endpoints, spec: EndpointSpec) -> Result<Slot, NoMemory>
-        requires within { IsWithin spec }
-        requires new { self ≡ Joins → All (λ e. AreApart e.spec spec) endpoints.old.list }
+        requires within { IsInItsLimits spec }
+        requires new { self ≡ Joins → All (λ e. AreEndpointsApart e.spec spec) endpoints.old.list }
         ensures ok { OnOk result (endpoints.new.list ≡ endpoint_changed self endpoints.old.list spec) }
         ensures slot { IfOk result (λ slot. slot ≡ slot_of spec 0) }
         ensures err { OnErr result (endpoints.new.list ≡ endpoints.old.list) }

@@ -66,7 +66,7 @@ pub use journal::Journal;
 pub use known::Known;
 pub use laws::{admitted_roots_are_sound, root_lives_alone, rows_are_read_byte_by_byte};
 pub use locked::{is_any_locked, is_any_other_locked, is_locked};
-pub use next::{is_due, next_of, none_due};
+pub use next::{any_due, is_due, next_of};
 pub use pages::page_write;
 pub use place::{Place, Places, Row};
 pub use plain::{due, quiet};

@@ -1,5 +1,5 @@
 //! What a CPU does next, told by what is known.
-ghost use Rattle.std.specs.Prelude.{◌≡◌, ◌<◌, ◌≤◌, ℕ, None, IfSome, IfOk, IsTrue, ◌↔◌, is_some, option_map, option_copied};
+ghost use Rattle.std.specs.Prelude.{◌≡◌, ◌<◌, ◌≤◌, ℕ, None, IfSome, IfOk, IsTrue, IsSome, ◌↔◌, is_some, is_none, option_map, option_copied};
 ghost use Rattle.jh_script.specs.declared.image.Image.{Image as TheImage};
 ghost use Rattle.jh_script.specs.Operations.{IsWellFormed};
 ghost use Rattle.jh_cellcfg.specs.Cells.{is_cpu_set};
@@ -390,16 +390,18 @@ pub fn is_due<K: Known>(known: &K, cpu: u8) -> bool
     known.has_cpu(cpu) && is_next_due(known, cpu, known.cpu(cpu))
 }
 
-/// Whether nothing is due to any CPU. They are asked from `first` on, which had better be one that has
-/// something due.
-pub fn none_due<K: Known>(known: &K, first: u8) -> bool
+/// A CPU that has an entry due; `None` where nothing is due to any. They are asked from `first` on, which had better be
+/// one that has something due.
+pub fn any_due<K: Known>(known: &K, first: u8) -> Option<u8>
     requires { first < 16 }
-    ensures { (i : TheImage) (f : Facts) → K.Knows known.now i f → ((cpu : ℕ) → IsTrue (is_cpu_set i.system.root.cpu_set cpu) → cpu < 16) → IsTrue result ↔ ((cpu : ℕ) → due_at i f cpu ≡ None) }
+    ensures due { (i : TheImage) (f : Facts) → K.Knows known.now i f → IfSome result (λ cpu. IsSome (due_at i f cpu)) }
+    ensures quiet { (i : TheImage) (f : Facts) → K.Knows known.now i f → ((cpu : ℕ) → IsTrue (is_cpu_set i.system.root.cpu_set cpu) → cpu < 16) → IsTrue (is_none result) ↔ ((cpu : ℕ) → due_at i f cpu ≡ None) }
 {
     for k in 0..16u8 {
-        if is_due(known, (first + k) % 16) {
-            return false;
+        let cpu = (first + k) % 16;
+        if is_due(known, cpu) {
+            return Some(cpu);
         }
     }
-    true
+    None
 }

@@ -11,7 +11,7 @@ ghost use Rattle.jh_history.specs.Commits.{cells_by, created_by};
 ghost use Rattle.jh_history.specs.Cpus.{cpu_after};
 ghost use Rattle.jh_script.specs.declared.image.Image.{Image as TheImage};
 ghost use Rattle.jh_history.specs.declared.place.Place.{Place as ThePlace};
-ghost use Rattle.jh_ivshmem.specs.Specs.{IsWithin};
+ghost use Rattle.jh_ivshmem.specs.Specs.{IsInItsLimits};
 ghost use Rattle.jh_ivshmem.specs.Links.{pending_of, taken_of};
 ghost use Rattle.jh_history.specs.declared.device_change.DeviceChange.TheVariants.{Join as Joins};
 ghost use Rattle.jh_history.specs.declared.entry.Act.TheVariants.{Commit as Commits};
@@ -26,7 +26,7 @@ ghost use Rattle.jh_history.specs.Bytes.{byte_written, byte_after};
 ghost use Rattle.jh_history.specs.History.{facts, after, start, coming_by, coming_of};
 ghost use Rattle.jh_history.specs.Due.{due, IsLegal, IsQuiet};
 ghost use Rattle.jh_history.specs.Admitted.{IsAdmitted, IsWellFormedAct, IsWellFormedEntry};
-ghost use Rattle.jh_history.specs.PlainView.{last_byte, StandsFor, IsSameBut, IsDueBeside, HasWords, MayCommit, MayFollow};
+ghost use Rattle.jh_history.specs.PlainView.{last_byte, StandsFor, IsSameBut, IsDueBeside, HasWords, MayCommit, MayBeFollowed};
 
 use crate::access::{Access, Reach, Wanted};
 use crate::boxed::BoxedCell;
@@ -41,7 +41,7 @@ use crate::due_facts::devices_may_change;
 use crate::entry::{Act, Entry};
 use crate::journal::Journal;
 use crate::laws::admitted_roots_are_sound;
-use crate::next::{next_of, none_due};
+use crate::next::{any_due, next_of};
 use crate::pages::page_write;
 use crate::plain_cells::PlainCells;
 use crate::reading::read_config;
@@ -72,13 +72,13 @@ pub(crate) struct Plain<'a> {
 }
 
 impl<'a> Model for Plain<'a> {
-    ghost use Rattle.jh_history.specs.PlainView.{PlainView, IsFit};
+    ghost use Rattle.jh_history.specs.PlainView.{PlainView, HasSoundCells};
 
     ghost Value = { PlainView };
 
     ghost view = { λ p. record { image = p.image.now; cpus = p.cpus; cells = p.cells; endpoints = p.endpoints.list; call = p.call; bytes = p.bytes.items } };
 
-    ghost invariant = { λ p. IsFit p.image.now p.cells };
+    ghost invariant = { λ p. HasSoundCells p.image.now p.cells };
 }
 
 /// What call is open.
@@ -141,7 +141,7 @@ fn change_device(
 ) -> Result<(), NoMemory>
     requires number { number < length config.now.pci_devices }
     requires good { HasGoodDevices config.now }
-    requires within { All IsWithin (specs_at config.now number) }
+    requires within { All IsInItsLimits (specs_at config.now number) }
     requires new { change ≡ Joins → All (MayJoinThem endpoints.old.list) (specs_at config.now number) }
     ensures bytes { OnOk result ((image : TheImage) (q : ThePlace) → last_byte image bytes.new.items q ≡ with_words (specs_at config.now number) (last_byte image bytes.old.items) q) }
     ensures endpoints { OnOk result (endpoints.new.list ≡ endpoints_changed change (specs_at config.now number) endpoints.old.list) }
@@ -299,7 +299,7 @@ impl<'a> Plain<'a> {
     /// Changes CPUs, endpoints and bytes as the entry does.
     fn change(&mut self, entry: &Entry) -> Result<(), NoMemory>
         requires plain { IsWellFormedEntry entry.now }
-        requires may { MayFollow self.old entry.now }
+        requires may { MayBeFollowed self.old entry.now }
         ensures cpus { OnOk result ((i : TheImage) (f : Facts) → StandsFor self.old i f → (k : ℕ) → k < 16 → slice_get self.new.cpus k ≡ Some (cpu_after i f entry.now k)) }
         ensures bytes { OnOk result ((i : TheImage) (f : Facts) → StandsFor self.old i f → (q : ThePlace) → last_byte i self.new.bytes q ≡ byte_after i f entry.now q) }
         ensures endpoints { OnOk result ((i : TheImage) (f : Facts) → StandsFor self.old i f → self.new.endpoints ≡ endpoints_after i f entry.now) }
@@ -378,7 +378,7 @@ impl<'a> Plain<'a> {
     fn follow(&mut self, entry: &Entry) -> Result<(), NoMemory>
         requires plain { IsWellFormedEntry entry.now }
         requires due { IsDueBeside self.old.image self.old.cells self.old.call entry.now }
-        requires may { MayFollow self.old entry.now }
+        requires may { MayBeFollowed self.old entry.now }
         ensures { OnOk result ((i : TheImage) (f : Facts) → StandsFor self.old i f → StandsFor self.new i (after i f entry.now)) }
     {
         let coming = self.coming(entry)?;
@@ -430,5 +430,5 @@ pub fn quiet(alloc: Global, image: &Image, journal: &Journal) -> Result<bool, No
     admitted_roots_are_sound(image);
     legal_journals_are_sound();
     let plain = Plain::after(alloc, image, journal.as_slice())?;
-    Ok(none_due(&plain, 0))
+    Ok(any_due(&plain, 0).is_none())
 }

@@ -3,7 +3,7 @@ ghost use Rattle.std.specs.Prelude.{◌≡◌, ℕ, ◌+◌, ◌<◌, [], ◌++�
 ghost use Rattle.jh_cellcfg.specs.declared.live.Live.{Live as TheLive};
 ghost use Rattle.jh_history.specs.declared.call.Phase.{Phase as ThePhase};
 ghost use Rattle.jh_shape.specs.Shapes.{is_closed, holder_of_live};
-ghost use Rattle.jh_shape.specs.Lives.{configs_of, joined, marked};
+ghost use Rattle.jh_shape.specs.Lives.{configs_of, with_marks, marked};
 ghost use Rattle.jh_history.specs.Commits.{is_other, committed_cells, created as created_by};
 
 use crate::boxed::BoxedCell;
@@ -24,11 +24,11 @@ pub(crate) struct PlainCells {
 impl Model for PlainCells {
     ghost use Rattle.std.specs.Prelude.{◌≡◌, List, length};
     ghost use Rattle.jh_cellcfg.specs.declared.live.Live.{Live as TheLive};
-    ghost use Rattle.jh_shape.specs.Lives.{joined};
+    ghost use Rattle.jh_shape.specs.Lives.{with_marks};
 
     ghost Value = { List TheLive };
 
-    ghost view = { λ c. joined c.configs.items c.marks.items };
+    ghost view = { λ c. with_marks c.configs.items c.marks.items };
 
     ghost invariant = { λ c. length c.marks.items ≡ length c.configs.items };
 }
@@ -36,7 +36,7 @@ impl Model for PlainCells {
 /// Marks the cell with the id.
 fn mark(cells: &[CellConfig], marks: &mut [bool], id: u64, loadable: bool)
     requires { length marks.old ≡ length cells.now }
-    ensures { joined cells.now marks.new ≡ map (marked id loadable) (joined cells.now marks.old) }
+    ensures { with_marks cells.now marks.new ≡ map (marked id loadable) (with_marks cells.now marks.old) }
 {
     for (i, cell) in cells.iter().enumerate() {
         if u64::from(cell.id) == id {
@@ -49,7 +49,7 @@ fn mark(cells: &[CellConfig], marks: &mut [bool], id: u64, loadable: bool)
 fn leave(cells: &mut Vec<CellConfig>, marks: &mut Vec<bool>, id: u64)
     requires { length marks.old.items ≡ length cells.old.items }
     ensures even { length marks.new.items ≡ length cells.new.items }
-    ensures left { joined cells.new.items marks.new.items ≡ filter (is_other id) (joined cells.old.items marks.old.items) }
+    ensures left { with_marks cells.new.items marks.new.items ≡ filter (is_other id) (with_marks cells.old.items marks.old.items) }
 {
     for i in (0..cells.len()).rev() {
         if u64::from(cells[i].id) == id {
@@ -63,7 +63,7 @@ fn leave(cells: &mut Vec<CellConfig>, marks: &mut Vec<bool>, id: u64)
 /// Whether one of the cells, each with its mark, takes the place from root.
 fn any_closes(cells: &[CellConfig], marks: &[bool], place: u64) -> bool
     requires { length marks.now ≡ length cells.now }
-    ensures { result ≡ is_closed (map holder_of_live (joined cells.now marks.now)) place }
+    ensures { result ≡ is_closed (map holder_of_live (with_marks cells.now marks.now)) place }
 {
     for (i, cell) in cells.iter().enumerate() {
         if any_takes(cell.memory_regions.as_slice(), marks[i], place) {

@@ -23,7 +23,7 @@ use Rattle.jh_image.specs.declared.board.ProgramFile.{ProgramFile}
 use Rattle.jh_image.specs.declared.fault.ImageCause.{ImageCause}
 use Rattle.jh_image.specs.declared.fault.ImageCause.TheVariants.{ReadFault, Oversize, Json, Member, System, Findings, PoolSmall, Preload as BadPreload, Program as BadProgram}
 use Rattle.jh_image.specs.Boards.{board_told, IsListingAnswer}
-use Rattle.jh_image.specs.Opening.{IsFit}
+use Rattle.jh_image.specs.Opening.{IsFaultless}
 use Rattle.jh_image.specs.Files.{Contents, HasBytes, IsOversize, Lists, SpellsSystem, IsPreloadOf, IsProgramOf}
 use Rattle.jh_image.specs.Images.{SoFar, Stage, nothing, with_listing, with_system, IsNextPreload, IsComplete, IsNextProgram, IsNextFile, the_board, the_system, a_preload, a_program, ReadsNext, reads_board, reads_system, reads_preload, reads_program, IsImage}
 use Rattle.jh_image.specs.Causes.{Stops, cannot_be_read, is_too_large, is_no_object, has_bad_member, is_no_system, has_findings, has_small_pool, is_bad_preload, is_bad_program, StopsReading}
@@ -159,15 +159,15 @@ module _ (spelling : OneSpelling) (faultless : SpellingsAreFaultless) (contents 
 -- the preload whose turn came stops the reading
 data StopsPreload (contents : Contents) (board file : List ℕ) (hypervisor : Region) (before : List Preload) (entry : PreloadFile) : ImageCause → Type 0 where
   large_preload : file ≡ entry.file → IsOversize contents entry.file → StopsPreload contents board file hypervisor before entry Oversize
-  unfit_preload : (preload : Preload) → IsPreloadOf contents entry preload → ¬ IsFit hypervisor before preload → file ≡ board → StopsPreload contents board file hypervisor before entry (BadPreload (length before))
+  unfit_preload : (preload : Preload) → IsPreloadOf contents entry preload → ¬ IsFaultless hypervisor before preload → file ≡ board → StopsPreload contents board file hypervisor before entry (BadPreload (length before))
 
 -- one that is read and has no fault doesn't
 preload_goes_on : (contents : Contents) (board file : List ℕ) (cause : ImageCause) (hypervisor : Region) (before : List Preload) (entry : PreloadFile) (preload : Preload) → AreTold contents
-    → StopsPreload contents board file hypervisor before entry cause → IsPreloadOf contents entry preload → IsFit hypervisor before preload → ⊥
+    → StopsPreload contents board file hypervisor before entry cause → IsPreloadOf contents entry preload → IsFaultless hypervisor before preload → ⊥
 preload_goes_on contents board file cause hypervisor before entry preload told (large_preload is over) read fit =
     not_oversize contents entry.file preload.bytes told read.has over
 preload_goes_on contents board file cause hypervisor before entry preload told (unfit_preload bad is unfit named) read fit =
-    unfit (subst (IsFit hypervisor before) (preload_one contents entry preload bad told read is) fit)
+    unfit (subst (IsFaultless hypervisor before) (preload_one contents entry preload bad told read is) fit)
 
 preload_here : (contents : Contents) (board file other : List ℕ) (cause more : ImageCause) (hypervisor : Region) (before : List Preload) (entry : PreloadFile) → AreTold contents
     → StopsPreload contents board file hypervisor before entry cause → StopsPreload contents board other hypervisor before entry more → IsOne file other cause more

@@ -20,7 +20,7 @@ use Rattle.jh_image.specs.declared.board.Listing.{Listing}
 use Rattle.jh_image.specs.declared.board.PreloadFile.{PreloadFile}
 use Rattle.jh_image.specs.declared.board.ProgramFile.{ProgramFile}
 use Rattle.jh_image.specs.Boards.{Seat, seat_of, is_seat, are_distinct}
-use Rattle.jh_image.specs.Opening.{IsFit}
+use Rattle.jh_image.specs.Opening.{IsFaultless}
 use Rattle.jh_image.specs.Files.{Contents, IsPreloadOf, IsProgramOf}
 use Rattle.jh_image.specs.Images.{with_system, so_far_of, with_preload, with_program, IsNextPreload, IsComplete, IsNextProgram, reads_preload, reads_program, ReadsTo, one_more_read}
 
@@ -59,7 +59,7 @@ pub loaded_next : (contents : Contents) (board : List ℕ) (listing : Listing) (
 loaded_next contents board listing system i file preloads lt is so_far = file_next listing.preloads i (length preloads) file so_far.count_is lt is
 
 pub loaded_more : (contents : Contents) (board : List ℕ) (listing : Listing) (system : SystemConfig) (i : ℕ) (file : PreloadFile) (preloads : List Preload) (preload : Preload) → i < length listing.preloads → file ≡ get_or listing.preloads i file
-    → IsPreloadOf contents file preload → IsFit system.hypervisor_memory preloads preload → LoadedSoFar contents board listing system i preloads → LoadedSoFar contents board listing system (i + 1) (preloads ++ preload ∷ [])
+    → IsPreloadOf contents file preload → IsFaultless system.hypervisor_memory preloads preload → LoadedSoFar contents board listing system i preloads → LoadedSoFar contents board listing system (i + 1) (preloads ++ preload ∷ [])
 loaded_more contents board listing system i file preloads preload lt is of fit so_far =
     let before = so_far_of listing system preloads [] in
     record {

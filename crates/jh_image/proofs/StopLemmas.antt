@@ -18,7 +18,7 @@ use Rattle.jh_image.specs.declared.fault.ImageCause.TheVariants.{ReadFault, Over
 use Rattle.jh_image.specs.declared.fault.ImageFault.{ImageFault}
 use Rattle.jh_image.specs.declared.fault.ImageFault.TheVariants.{Refused, NoMemory}
 use Rattle.jh_image.specs.Boards.{IsListingAnswer}
-use Rattle.jh_image.specs.Opening.{IsFit}
+use Rattle.jh_image.specs.Opening.{IsFaultless}
 use Rattle.jh_image.specs.Files.{Contents, HasBytes, Lists, SpellsSystem, IsPreloadOf}
 use Rattle.jh_image.specs.Images.{SoFar, Stage, nothing, with_listing, with_system, so_far_of, IsNextPreload, IsNextProgram, IsNextFile, a_program, reads_board, reads_system, ReadsTo, nothing_read, one_more_read}
 use Rattle.jh_image.specs.Causes.{StopsReading, cannot_be_read, is_too_large, is_no_object, has_bad_member, is_no_system, has_findings, has_small_pool, is_bad_preload, is_bad_program, OnRefused, HandsOutNothing, IsRefusal, IsBoardRefusal, IsUnsound, IsPoolSmall, IsProgramUnread}
@@ -93,7 +93,7 @@ unsound_stops contents board listing system read spells file _ h = absurd h
 
 -- the next preload has a fault
 pub preload_stops : (contents : Contents) (board : List ℕ) (so_far : SoFar) (entry : PreloadFile) (preload : Preload) (number : ℕ) → ReadsTo contents board (with_system so_far) → IsNextPreload so_far entry
-    → IsPreloadOf contents entry preload → ¬ IsFit so_far.system.hypervisor_memory so_far.preloads preload → number ≡ length so_far.preloads → StopsReading contents board board (BadPreload number)
+    → IsPreloadOf contents entry preload → ¬ IsFaultless so_far.system.hypervisor_memory so_far.preloads preload → number ≡ length so_far.preloads → StopsReading contents board board (BadPreload number)
 preload_stops contents board so_far entry preload number read next is unfit number_is =
     subst (λ n. StopsReading contents board board (BadPreload n)) (sym number_is)
     (record { stage = with_system so_far; read = read; stops = is_bad_preload so_far entry preload next is unfit })

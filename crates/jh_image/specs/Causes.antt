@@ -21,7 +21,7 @@ use Rattle.jh_image.specs.declared.fault.ImageCause.TheVariants.{ReadFault, Over
 use Rattle.jh_image.specs.declared.fault.ImageFault.{ImageFault}
 use Rattle.jh_image.specs.declared.fault.ImageFault.TheVariants.{Refused, NoMemory}
 use Rattle.jh_image.specs.Boards.{IsListingAnswer}
-use Rattle.jh_image.specs.Opening.{IsFit}
+use Rattle.jh_image.specs.Opening.{IsFaultless}
 use Rattle.jh_image.specs.Files.{Contents, HasBytes, IsOversize, SpellsSystem, IsPreloadOf}
 use Rattle.jh_image.specs.Images.{SoFar, Stage, nothing, with_listing, with_system, IsNextPreload, IsNextProgram, IsNextFile, ReadsTo, IsImage}
 
@@ -43,7 +43,7 @@ pub data Stops (contents : Contents) (board : List ℕ) : Stage → List ℕ →
       → pool_pages system < root_pages system → Stops contents board (with_listing listing) board (PoolSmall (root_pages system) (pool_pages system))
   -- preloads are told by their numbers, from 0; where one comes to stand is the board's fault
   is_bad_preload : (so_far : SoFar) (file : PreloadFile) (preload : Preload) → IsNextPreload so_far file → IsPreloadOf contents file preload
-      → ¬ IsFit so_far.system.hypervisor_memory so_far.preloads preload → Stops contents board (with_system so_far) board (BadPreload (length so_far.preloads))
+      → ¬ IsFaultless so_far.system.hypervisor_memory so_far.preloads preload → Stops contents board (with_system so_far) board (BadPreload (length so_far.preloads))
   is_bad_program : (so_far : SoFar) (file : ProgramFile) (bytes : List ℕ) (fault : ScriptFault) → IsNextProgram so_far file → HasBytes contents file.file bytes
       → program_of bytes ≡ Err fault → Stops contents board (with_system so_far) file.file (BadProgram fault)
 

@@ -6,6 +6,6 @@ use Rattle.jh_history.specs.Admitted.{IsSoundPreload, IsOtherPreload}
 
 -- a preload has no fault: it ends within the places, and meets neither the hypervisor's memory nor one
 -- that stands before it
-pub record IsFit (hypervisor : Region) (earlier : List Preload) (preload : Preload) : Type 0 where
+pub record IsFaultless (hypervisor : Region) (earlier : List Preload) (preload : Preload) : Type 0 where
   pub sound : IsSoundPreload hypervisor preload
   pub apart : All (λ other. IsOtherPreload other preload) earlier

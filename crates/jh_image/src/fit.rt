@@ -2,7 +2,7 @@
 ghost use Rattle.std.specs.Prelude.{◌↔◌, ◌≤◌, ◌+◌, IsTrue, All, length};
 ghost use Rattle.jh_history.specs.Admitted.{IsSoundPreload, IsOtherPreload};
 ghost use Rattle.jh_script.specs.declared.image.Preload.{Preload as ThePreload};
-ghost use Rattle.jh_image.specs.Opening.{IsFit};
+ghost use Rattle.jh_image.specs.Opening.{IsFaultless};
 
 use jh_cellcfg::Region;
 use jh_history::{is_other_preload, is_sound_preload};
@@ -18,7 +18,7 @@ fn is_apart(earlier: &[Preload], preload: &Preload) -> bool
 /// Whether the preload ends within the places, and meets neither the hypervisor's memory nor one of the earlier
 /// preloads.
 pub(crate) fn is_fit(hypervisor: &Region, earlier: &[Preload], preload: &Preload) -> bool
-    ensures { IsTrue result ↔ IsFit hypervisor.now earlier.now preload.now }
+    ensures { IsTrue result ↔ IsFaultless hypervisor.now earlier.now preload.now }
 {
     is_sound_preload(hypervisor, preload) && is_apart(earlier, preload)
 }

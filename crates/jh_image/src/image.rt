@@ -3,7 +3,7 @@ ghost use Rattle.std.specs.Prelude.{◌≡◌, ◌≤◌, ◌<◌, ◌∷◌, []
 ghost use Rattle.jh_image.specs.declared.board.Listing.{Listing as TheListing};
 ghost use Rattle.jh_history.specs.Admitted.{IsSoundPreload, IsOtherPreload, IsSoundProgram, IsOtherProgram, IsAdmittedSystem, IsAdmitted};
 ghost use Rattle.jh_image.specs.Boards.{are_distinct, seat_of};
-ghost use Rattle.jh_image.specs.Opening.{IsFit};
+ghost use Rattle.jh_image.specs.Opening.{IsFaultless};
 ghost use Rattle.jh_image.specs.Files.{IsPreloadOf};
 ghost use Rattle.jh_outside.specs.Trail.{Asks, AsksAll, AsksUntil, handed};
 ghost use Rattle.jh_image.specs.Order.{ask_for, preload_name, program_name, AsksBoard, AsksBoardUntil};
@@ -56,7 +56,7 @@ fn next_preload<F: Files>(
     requires next { (listing : TheListing) × ReadsTo (F.contents files.old) board.now (with_system (so_far_of listing system.now preloads.now [])) × IsNextPreload (so_far_of listing system.now preloads.now []) file.now }
     requires few { length preloads.now < 64 }
     ensures ok { IfOk result (IsPreloadOf (F.contents files.old) file.now) }
-    ensures fit { IfOk result (IsFit system.now.hypervisor_memory preloads.now) }
+    ensures fit { IfOk result (IsFaultless system.now.hypervisor_memory preloads.now) }
     ensures err { IfErr result (OnRefused (StopsReading (F.contents files.old) board.now)) }
     ensures counted { IfErr result (IsCounted (F.faults files.old) (F.faults files.new) (F.failed files.new)) }
     ensures never_falls { F.faults files.old ≤ F.faults files.new }

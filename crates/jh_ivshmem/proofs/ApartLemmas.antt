@@ -6,7 +6,7 @@ use Rattle.std.proofs.lemmas.List.{length-set, length-map, get_or-map, get_or-se
 use Rattle.jh_vpci.proofs.BitLemmas.{equals}
 use Rattle.jh_ivshmem.specs.declared.endpoint.Endpoint.{Endpoint}
 use Rattle.jh_ivshmem.specs.declared.spec.EndpointSpec.{EndpointSpec}
-use Rattle.jh_ivshmem.specs.Specs.{is_device, is_peer, AreApart}
+use Rattle.jh_ivshmem.specs.Specs.{is_device, is_peer, AreEndpointsApart}
 use Rattle.jh_ivshmem.specs.Changes.{changed}
 use Rattle.jh_ivshmem.specs.Keys.{key_of, is_key_apart}
 
@@ -29,14 +29,14 @@ peer_is bdf id a h =
     (equals a.bdf bdf both.0, equals a.id id both.1)
 
 -- of two that are apart not both have the name
-pub devices_apart : (cell device : ℕ) (a b : EndpointSpec) → AreApart a b → is_device cell device a ≡ true
+pub devices_apart : (cell device : ℕ) (a b : EndpointSpec) → AreEndpointsApart a b → is_device cell device a ≡ true
     → is_device cell device b ≡ true → ⊥
 devices_apart cell device a b apart here there =
     let name = device_is cell device a here in
     never (is_device a.cell a.device b)
     (ap (λ n. is_device n a.device b) name.0 ∙ ap (λ n. is_device cell n b) name.1 ∙ there) apart.devices
 
-pub peers_apart : (bdf id : ℕ) (a b : EndpointSpec) → AreApart a b → is_peer bdf id a ≡ true
+pub peers_apart : (bdf id : ℕ) (a b : EndpointSpec) → AreEndpointsApart a b → is_peer bdf id a ≡ true
     → is_peer bdf id b ≡ true → ⊥
 peers_apart bdf id a b apart here there =
     let name = peer_is bdf id a here in
@@ -44,19 +44,19 @@ peers_apart bdf id a b apart here there =
     (ap (λ n. is_peer n a.id b) name.0 ∙ ap (λ n. is_peer bdf n b) name.1 ∙ there) apart.peers
 
 -- each at its index is apart from every other
-apart_at : (es : List Endpoint) (i j : ℕ) (d : Endpoint) → AllPairs AreApart (map (λ (o : Endpoint). o.spec) es) → i < j
-    → j < length es → AreApart (get_or es i d).spec (get_or es j d).spec
+apart_at : (es : List Endpoint) (i j : ℕ) (d : Endpoint) → AllPairs AreEndpointsApart (map (λ (o : Endpoint). o.spec) es) → i < j
+    → j < length es → AreEndpointsApart (get_or es i d).spec (get_or es j d).spec
 apart_at es i j d apart before within =
     let inside : j < length (map (λ (o : Endpoint). o.spec) es) = omega (arith, length-map es (λ (o : Endpoint). o.spec)) in
     let first : i < length es = omega arith in
-    subst (λ (s : EndpointSpec). AreApart s (get_or es j d).spec) (get_or-map (λ (o : Endpoint). o.spec) es i d d.spec first)
-    (subst (λ (s : EndpointSpec). AreApart (get_or (map (λ (o : Endpoint). o.spec) es) i d.spec) s)
+    subst (λ (s : EndpointSpec). AreEndpointsApart s (get_or es j d).spec) (get_or-map (λ (o : Endpoint). o.spec) es i d d.spec first)
+    (subst (λ (s : EndpointSpec). AreEndpointsApart (get_or (map (λ (o : Endpoint). o.spec) es) i d.spec) s)
     (get_or-map (λ (o : Endpoint). o.spec) es j d d.spec within)
     (apart i j d.spec before inside))
 
 -- no other endpoint has the name of this one
-pub single : (test : EndpointSpec → Bool) (none : (a b : EndpointSpec) → AreApart a b → test a ≡ true → test b ≡ true → ⊥)
-    (es : List Endpoint) (i k : ℕ) (d : Endpoint) → AllPairs AreApart (map (λ (o : Endpoint). o.spec) es)
+pub single : (test : EndpointSpec → Bool) (none : (a b : EndpointSpec) → AreEndpointsApart a b → test a ≡ true → test b ≡ true → ⊥)
+    (es : List Endpoint) (i k : ℕ) (d : Endpoint) → AllPairs AreEndpointsApart (map (λ (o : Endpoint). o.spec) es)
     → i < length es → test (get_or es i d).spec ≡ true → k < length es → k ≢ i → test (get_or es k d).spec ≡ false
 single test none es i k d apart within here inside other =
     elim (cases_Bool (test (get_or es k d).spec)) as (λ _. test (get_or es k d).spec ≡ false) [
@@ -116,7 +116,7 @@ set_changed test f es i e within read here others =
 
 -- the same for the endpoint of a device
 pub set_device : (cell device : ℕ) (f : Endpoint → Endpoint) (es : List Endpoint) (i : ℕ) (e : Endpoint)
-    → AllPairs AreApart (map (λ (o : Endpoint). o.spec) es) → i < length es → e ≡ get_or es i e
+    → AllPairs AreEndpointsApart (map (λ (o : Endpoint). o.spec) es) → i < length es → e ≡ get_or es i e
     → is_device cell device e.spec ≡ true → set es i (f e) ≡ changed (is_device cell device) f es
 set_device cell device f es i e apart within read here =
     set_changed (is_device cell device) f es i e within read here
@@ -146,12 +146,12 @@ pub peer_turned : (a b : EndpointSpec) → is_peer a.bdf a.id b ≡ is_peer b.bd
 peer_turned a b = rw (turned b.bdf a.bdf, turned b.id a.id) refl
 
 -- what a key tells of being apart
-pub apart_of_key : (e : Endpoint) (s : EndpointSpec) → is_key_apart s (key_of e) ≡ true → AreApart e.spec s
+pub apart_of_key : (e : Endpoint) (s : EndpointSpec) → is_key_apart s (key_of e) ≡ true → AreEndpointsApart e.spec s
 apart_of_key e s h =
     let both = both_false (is_device s.cell s.device e.spec) (is_peer s.bdf s.id e.spec) h in
     record { devices = device_turned e.spec s ∙ both.0; peers = peer_turned e.spec s ∙ both.1 }
 
-pub key_of_apart : (e : Endpoint) (s : EndpointSpec) → AreApart e.spec s → is_key_apart s (key_of e) ≡ true
+pub key_of_apart : (e : Endpoint) (s : EndpointSpec) → AreEndpointsApart e.spec s → is_key_apart s (key_of e) ≡ true
 key_of_apart e s apart =
     neither (is_device s.cell s.device e.spec) (is_peer s.bdf s.id e.spec)
     (device_turned s e.spec ∙ apart.devices) (peer_turned s e.spec ∙ apart.peers)

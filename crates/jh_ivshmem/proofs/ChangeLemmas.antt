@@ -7,8 +7,8 @@ use Rattle.jh_ivshmem.specs.declared.endpoint.Endpoint.{Endpoint}
 use Rattle.jh_ivshmem.specs.Endpoint.{raised, taken, cleared, is_open}
 use Rattle.jh_ivshmem.specs.Registers.{register_written, is_in_table}
 use Rattle.jh_ivshmem.specs.Changes.{after}
-use Rattle.jh_ivshmem.specs.Specs.{IsWithin}
-use Rattle.jh_ivshmem.specs.Keys.{IsSound}
+use Rattle.jh_ivshmem.specs.Specs.{IsInItsLimits}
+use Rattle.jh_ivshmem.specs.Keys.{IsWholeEndpoint}
 
 -- the endpoint keeps its spec and the number of its vectors
 pub record Keeps (old new : Endpoint) : Type 0 where
@@ -42,12 +42,12 @@ after_keeps (State value) e full = record { spec = refl; vectors = refl }
 after_keeps Reset e full = record { spec = refl; vectors = sym full }
 after_keeps (Take v) e full = record { spec = refl; vectors = length-set e.vectors v _ }
 
-pub after_sound : (change : EndpointChange) (e : Endpoint) → IsSound e → IsSound (after change e)
+pub after_sound : (change : EndpointChange) (e : Endpoint) → IsWholeEndpoint e → IsWholeEndpoint (after change e)
 after_sound change e sound =
     let keeps = after_keeps change e sound.vectors in
     record {
       vectors = keeps.vectors ∙ sound.vectors;
-      within = subst IsWithin (sym keeps.spec) sound.within;
+      within = subst IsInItsLimits (sym keeps.spec) sound.within;
     }
 
 -- each change keeps the spec

@@ -15,9 +15,9 @@ use Rattle.jh_ivshmem.specs.declared.change.Whom.TheVariants.{Device, Peer, Othe
 use Rattle.jh_ivshmem.specs.declared.endpoint.Endpoint.{Endpoint}
 use Rattle.jh_ivshmem.specs.declared.spec.EndpointSpec.{EndpointSpec}
 use Rattle.jh_ivshmem.specs.declared.key.Key.{Key}
-use Rattle.jh_ivshmem.specs.Specs.{AreApart, ComesBefore}
+use Rattle.jh_ivshmem.specs.Specs.{AreEndpointsApart, ComesBefore}
 use Rattle.jh_ivshmem.specs.Changes.{is_meant}
-use Rattle.jh_ivshmem.specs.Keys.{key_of, is_key_meant, IsSound, AreKept}
+use Rattle.jh_ivshmem.specs.Keys.{key_of, is_key_meant, IsWholeEndpoint, AreKept}
 
 pub key_meant : (whom : Whom) (e : Endpoint) → is_key_meant whom (key_of e) ≡ is_meant whom e.spec
 key_meant (Device cell device) e = refl
@@ -87,13 +87,13 @@ found_some whom es (Some i) is =
     ]
 
 -- the space of one endpoint is another
-pub kept_space : (es : List Endpoint) (ks : List Key) (i : ℕ) (e : Endpoint) (space : Space) → AreKept es ks → IsSound e
+pub kept_space : (es : List Endpoint) (ks : List Key) (i : ℕ) (e : Endpoint) (space : Space) → AreKept es ks → IsWholeEndpoint e
     → e ≡ get_or es i e → AreKept (set es i (record e { space = space })) ks
 kept_space es ks i e space kept sound read = record {
   keys = kept.keys ∙ sym (map-set_same key_of es i (record e { space = space }) e (ap key_of read));
-  sound = All-set IsSound es i (record e { space = space }) (record { vectors = sound.vectors; within = sound.within }) kept.sound;
+  sound = All-set IsWholeEndpoint es i (record e { space = space }) (record { vectors = sound.vectors; within = sound.within }) kept.sound;
   apart =
-      let P : List EndpointSpec → Type 0 = λ specs. AllPairs AreApart specs in
+      let P : List EndpointSpec → Type 0 = λ specs. AllPairs AreEndpointsApart specs in
       subst P (sym (map-set_same (λ (o : Endpoint). o.spec) es i (record e { space = space }) e (ap (λ (o : Endpoint). o.spec) read)))
       kept.apart;
   order =
@@ -104,12 +104,12 @@ kept_space es ks i e space kept sound read = record {
 
 -- one of the endpoints is another, sound, with the same spec
 pub kept_set : (es : List Endpoint) (ks : List Key) (i : ℕ) (e : Endpoint) (old : Endpoint) → AreKept es ks
-    → old ≡ get_or es i old → IsSound e → e.spec ≡ old.spec → AreKept (set es i e) (set ks i (key_of e))
+    → old ≡ get_or es i old → IsWholeEndpoint e → e.spec ≡ old.spec → AreKept (set es i e) (set ks i (key_of e))
 kept_set es ks i e old kept read sound same = record {
   keys = ap (λ k. set k i (key_of e)) kept.keys ∙ sym (map-set key_of es i e);
-  sound = All-set IsSound es i e sound kept.sound;
+  sound = All-set IsWholeEndpoint es i e sound kept.sound;
   apart =
-      let P : List EndpointSpec → Type 0 = λ specs. AllPairs AreApart specs in
+      let P : List EndpointSpec → Type 0 = λ specs. AllPairs AreEndpointsApart specs in
       subst P (sym (map-set_same (λ (o : Endpoint). o.spec) es i e old (same ∙ ap (λ (o : Endpoint). o.spec) read))) kept.apart;
   order =
       let P : List EndpointSpec → Type 0 = λ specs. AllPairs ComesBefore specs in
@@ -131,9 +131,9 @@ pub kept_filter : (es : List Endpoint) (ks : List Key) (p : Endpoint → Bool) (
     → AreKept es ks → AreKept (filter p es) (filter q ks)
 kept_filter es ks p q r same by_spec kept = record {
   keys = ap (filter q) kept.keys ∙ sym (map_filter key_of p q same es);
-  sound = All-filter p IsSound es kept.sound;
-  apart = subst (AllPairs AreApart) (sym (map_filter (λ (o : Endpoint). o.spec) p r by_spec es))
-      (AllPairs-filter AreApart r (map (λ (o : Endpoint). o.spec) es) kept.apart);
+  sound = All-filter p IsWholeEndpoint es kept.sound;
+  apart = subst (AllPairs AreEndpointsApart) (sym (map_filter (λ (o : Endpoint). o.spec) p r by_spec es))
+      (AllPairs-filter AreEndpointsApart r (map (λ (o : Endpoint). o.spec) es) kept.apart);
   order = subst (AllPairs ComesBefore) (sym (map_filter (λ (o : Endpoint). o.spec) p r by_spec es))
       (AllPairs-filter ComesBefore r (map (λ (o : Endpoint). o.spec) es) kept.order);
 }

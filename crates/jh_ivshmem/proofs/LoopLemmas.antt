@@ -13,7 +13,7 @@ use Rattle.jh_ivshmem.specs.Specs.{is_device}
 use Rattle.jh_ivshmem.specs.declared.key.Key.{Key}
 use Rattle.jh_ivshmem.specs.declared.endpoint.Endpoint.{Endpoint}
 use Rattle.jh_ivshmem.specs.Changes.{changed, after, is_meant}
-use Rattle.jh_ivshmem.specs.Keys.{IsSound, AreKept, key_of, is_key_meant}
+use Rattle.jh_ivshmem.specs.Keys.{IsWholeEndpoint, AreKept, key_of, is_key_meant}
 use Rattle.jh_ivshmem.proofs.ChangeLemmas.{after_keeps, after_sound}
 use Rattle.jh_ivshmem.proofs.KeyLemmas.{key_meant, kept_set, found_within, found_none}
 use Rattle.jh_ivshmem.proofs.ApartLemmas.{set_device}
@@ -40,8 +40,8 @@ meant_at whom now ks i key e kept within read is_e =
     ap (is_key_meant whom) (key_at now ks i key e kept within read is_e) ∙ key_meant whom e
 
 pub sound_at : (now : List Endpoint) (ks : List Key) (i : ℕ) (e : Endpoint) → AreKept now ks → i < length now
-    → e ≡ get_or now i e → IsSound e
-sound_at now ks i e kept within is_e = subst IsSound (sym is_e) (All-get_or IsSound now i e within kept.sound)
+    → e ≡ get_or now i e → IsWholeEndpoint e
+sound_at now ks i e kept within is_e = subst IsWholeEndpoint (sym is_e) (All-get_or IsWholeEndpoint now i e within kept.sound)
 
 pub step_meant : (whom : Whom) (change : EndpointChange) (before now : List Endpoint) (ks : List Key) (i : ℕ) (e : Endpoint)
     → Changes whom change before now ks i → i < length now → e ≡ get_or now i e → is_meant whom e.spec ≡ true

@@ -12,10 +12,10 @@ use Rattle.jh_ivshmem.specs.declared.change.Whom.TheVariants.{Device}
 use Rattle.jh_ivshmem.specs.declared.endpoint.Endpoint.{Endpoint}
 use Rattle.jh_ivshmem.specs.declared.spec.EndpointSpec.{EndpointSpec}
 use Rattle.jh_ivshmem.specs.declared.key.Key.{Key}
-use Rattle.jh_ivshmem.specs.Specs.{AreApart, ComesBefore, is_device, is_before}
+use Rattle.jh_ivshmem.specs.Specs.{AreEndpointsApart, ComesBefore, is_device, is_before}
 use Rattle.jh_ivshmem.specs.Endpoint.{fresh}
 use Rattle.jh_ivshmem.specs.Links.{joined, earlier}
-use Rattle.jh_ivshmem.specs.Keys.{AreKept, AreInOrder, IsSound, key_of, is_key_before, is_key_meant, is_search_end, pending_by}
+use Rattle.jh_ivshmem.specs.Keys.{AreKept, AreInOrder, IsWholeEndpoint, key_of, is_key_before, is_key_meant, is_search_end, pending_by}
 use Rattle.jh_ivshmem.proofs.ApartLemmas.{peer_turned, device_turned}
 
 -- two numbers, the first of which counts first, are lower than two others
@@ -268,24 +268,24 @@ inserted_joins s (e ∷ es) (suc i) bound split =
     ))
     ∙ sym (ap (λ b. cond b (e ∷ joined s es) (fresh s ∷ e ∷ es)) passes)
 
-pub apart_turned : (a b : EndpointSpec) → AreApart a b → AreApart b a
+pub apart_turned : (a b : EndpointSpec) → AreEndpointsApart a b → AreEndpointsApart b a
 apart_turned a b apart = record { devices = sym (device_turned a b) ∙ apart.devices; peers = sym (peer_turned a b) ∙ apart.peers }
 
 -- of two that are apart the one comes before the other that the other doesn't come before
-comes_before : (a s : EndpointSpec) → AreApart a s → is_before s.cell s.device a ≡ false → ComesBefore s a
+comes_before : (a s : EndpointSpec) → AreEndpointsApart a s → is_before s.cell s.device a ≡ false → ComesBefore s a
 unfolding lower
 comes_before a s apart fails = lower_other a.cell a.device s.cell s.device fails (λ cells devices.
     both_ways (is_device a.cell a.device s) apart.devices
     (and_from (s.cell == a.cell) (s.device == a.device) (eq-eqb s.cell a.cell (sym cells)) (eq-eqb s.device a.device (sym devices))))
 
-one_sound : (e : Endpoint) → IsSound e → All IsSound (e ∷ [])
+one_sound : (e : Endpoint) → IsWholeEndpoint e → All IsWholeEndpoint (e ∷ [])
 one_sound e sound zero d lt = sound
 one_sound e sound (suc k) d lt = absurd (let no : ⊥ = omega arith in no)
 
-sound_insert : (es : List Endpoint) (i : ℕ) (e : Endpoint) → All IsSound es → IsSound e → All IsSound (insert es i e)
+sound_insert : (es : List Endpoint) (i : ℕ) (e : Endpoint) → All IsWholeEndpoint es → IsWholeEndpoint e → All IsWholeEndpoint (insert es i e)
 sound_insert es i e all sound =
-    subst (All IsSound) (two_appends (take i es) e (drop i es))
-    (All-append IsSound (take i es) (e ∷ [] ++ drop i es) (All-take IsSound i es all) (All-append IsSound (e ∷ []) (drop i es) (one_sound e sound) (All-drop IsSound i es all)))
+    subst (All IsWholeEndpoint) (two_appends (take i es) e (drop i es))
+    (All-append IsWholeEndpoint (take i es) (e ∷ [] ++ drop i es) (All-take IsWholeEndpoint i es all) (All-append IsWholeEndpoint (e ∷ []) (drop i es) (one_sound e sound) (All-drop IsWholeEndpoint i es all)))
   where
     two_appends : (xs : List Endpoint) (y : Endpoint) (ys : List Endpoint) → xs ++ (y ∷ [] ++ ys) ≡ xs ++ y ∷ ys
     two_appends xs y ys = refl
@@ -298,12 +298,12 @@ keys_insert es i e =
 
 -- an endpoint that is apart from all is put where it belongs
 pub kept_insert : (s : EndpointSpec) (es : List Endpoint) (i : ℕ) → i ≤ length es → AreKept es (map key_of es) → StandsAt s.cell s.device es i
-    → IsSound (fresh s) → All (λ (o : Endpoint). AreApart o.spec s) es → AreKept (insert es i (fresh s)) (insert (map key_of es) i (key_of (fresh s)))
+    → IsWholeEndpoint (fresh s) → All (λ (o : Endpoint). AreEndpointsApart o.spec s) es → AreKept (insert es i (fresh s)) (insert (map key_of es) i (key_of (fresh s)))
 kept_insert s es i bound kept split sound new = record {
   keys = keys_insert es i (fresh s);
   sound = sound_insert es i (fresh s) kept.sound sound;
-  apart = pairs_map (λ (o : Endpoint). o.spec) AreApart (insert es i (fresh s))
-      (pairs_insert (λ (a b : Endpoint). AreApart a.spec b.spec) es i (fresh s) bound (pairs_of (λ (o : Endpoint). o.spec) AreApart es kept.apart)
+  apart = pairs_map (λ (o : Endpoint). o.spec) AreEndpointsApart (insert es i (fresh s))
+      (pairs_insert (λ (a b : Endpoint). AreEndpointsApart a.spec b.spec) es i (fresh s) bound (pairs_of (λ (o : Endpoint). o.spec) AreEndpointsApart es kept.apart)
       (λ k d before. let inside : k < length es = omega arith in new k d inside)
       (λ k d past inside. apart_turned (get_or es k d).spec s (new k d inside)));
   order = pairs_map (λ (o : Endpoint). o.spec) ComesBefore (insert es i (fresh s))
@@ -319,7 +319,7 @@ pub record Joins (s : EndpointSpec) (es now : List Endpoint) (keys : List Key) :
 
 pub joins : (s : EndpointSpec) (es now : List Endpoint) (ks keys : List Key) (e : Endpoint) (key : Key) (i : ℕ) → AreKept es ks → i ≤ length ks
     → IsIndex s.cell s.device ks i → e ≡ fresh s → key ≡ key_of e → now ≡ insert es i e → keys ≡ insert ks i key
-    → IsSound (fresh s) → All (λ (o : Endpoint). AreApart o.spec s) es → Joins s es now keys
+    → IsWholeEndpoint (fresh s) → All (λ (o : Endpoint). AreEndpointsApart o.spec s) es → Joins s es now keys
 joins s es now ks keys e key i kept bound split is_e is_key put keyed sound new =
     let counted = length-map es key_of in
     let lengths = ap length kept.keys in

@@ -7,7 +7,7 @@ use Rattle.jh_vpci.specs.Space.{Space}
 use Rattle.jh_ivshmem.specs.declared.endpoint.Endpoint.{Endpoint}
 use Rattle.jh_ivshmem.specs.declared.spec.EndpointSpec.{EndpointSpec}
 use Rattle.jh_ivshmem.specs.declared.vector.Vector.{Vector}
-use Rattle.jh_ivshmem.specs.Specs.{AreApart, is_device, is_before, is_peer, is_other}
+use Rattle.jh_ivshmem.specs.Specs.{AreEndpointsApart, is_device, is_before, is_peer, is_other}
 use Rattle.jh_ivshmem.specs.Endpoint.{raised, taken, cleared, fresh, vector_at, fresh_vector}
 use Rattle.jh_ivshmem.specs.Registers.{register_written}
 use Rattle.jh_ivshmem.specs.Changes.{changed}
@@ -141,7 +141,7 @@ pub pending_left : (e : Endpoint) (list : List Endpoint) (cell device v : ℕ) �
 pending_left e list cell device v away h = pending_filter cell device v e.spec away (told_of e 0 list) (pending_told cell device v e 0 list h)
 
 -- the device of a pending vector isn't one that may join
-not_joining : (cell device v : ℕ) (s : EndpointSpec) (list : List Endpoint) → All (λ (o : Endpoint). AreApart o.spec s) list
+not_joining : (cell device v : ℕ) (s : EndpointSpec) (list : List Endpoint) → All (λ (o : Endpoint). AreEndpointsApart o.spec s) list
     → is_pending cell device v list ≡ true → is_device cell device s ≡ false
 not_joining cell device v s [] new h = absurd (false≢true h)
 not_joining cell device v s (e ∷ list) new h =
@@ -168,7 +168,7 @@ pending_beside s cell device v away (e ∷ list) h =
           ])
     ]
 
-pub pending_joined : (s : EndpointSpec) (list : List Endpoint) (cell device v : ℕ) → All (λ (o : Endpoint). AreApart o.spec s) list
+pub pending_joined : (s : EndpointSpec) (list : List Endpoint) (cell device v : ℕ) → All (λ (o : Endpoint). AreEndpointsApart o.spec s) list
     → is_pending cell device v list ≡ true → is_pending cell device v (joined s list) ≡ true
 pending_joined s list cell device v new h = pending_beside s cell device v (not_joining cell device v s list new h) list h
 

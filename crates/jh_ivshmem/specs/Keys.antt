@@ -5,7 +5,7 @@ use Rattle.jh_ivshmem.specs.declared.spec.EndpointSpec.{EndpointSpec}
 use Rattle.jh_ivshmem.specs.declared.key.Key.{Key}
 use Rattle.jh_ivshmem.specs.declared.change.Whom.{Whom}
 use Rattle.jh_ivshmem.specs.declared.change.Whom.TheVariants.{Device, Peer, Others}
-use Rattle.jh_ivshmem.specs.Specs.{IsWithin, AreApart, ComesBefore}
+use Rattle.jh_ivshmem.specs.Specs.{IsInItsLimits, AreEndpointsApart, ComesBefore}
 use Rattle.jh_ivshmem.specs.Endpoint.{pending_in}
 
 -- the key of the endpoint: its cell, its device, its bdf, its number, and its lowest pending vector
@@ -19,15 +19,15 @@ key_of e = record {
 }
 
 -- the endpoint has room for 16 vectors, and is within its limits
-pub record IsSound (e : Endpoint) : Type 0 where
+pub record IsWholeEndpoint (e : Endpoint) : Type 0 where
   pub vectors : length e.vectors ≡ 16
-  pub within : IsWithin e.spec
+  pub within : IsInItsLimits e.spec
 
 -- the keys are those of the endpoints, which are sound, apart and in order
 pub record AreKept (endpoints : List Endpoint) (kept : List Key) : Type 0 where
   pub keys : kept ≡ map key_of endpoints
-  pub sound : All IsSound endpoints
-  pub apart : AllPairs AreApart (map (λ (e : Endpoint). e.spec) endpoints)
+  pub sound : All IsWholeEndpoint endpoints
+  pub apart : AllPairs AreEndpointsApart (map (λ (e : Endpoint). e.spec) endpoints)
   pub order : AllPairs ComesBefore (map (λ (e : Endpoint). e.spec) endpoints)
 
 -- the key's endpoint is of a lower cell, or of a lower device of this cell

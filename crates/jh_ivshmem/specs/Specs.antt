@@ -5,7 +5,7 @@ use Rattle.jh_ivshmem.specs.declared.spec.EndpointSpec.{EndpointSpec}
 use Rattle.jh_ivshmem.specs.declared.spec.Slot.{Slot}
 
 -- the endpoint is within its limits, which is what joining asks of it by itself
-pub record IsWithin (spec : EndpointSpec) : Type 0 where
+pub record IsInItsLimits (spec : EndpointSpec) : Type 0 where
   pub id : spec.id < spec.peers
   pub peers : spec.peers ≤ 16
   pub vectors : spec.function.vectors ≤ 16
@@ -36,7 +36,7 @@ abbrev pub is_other : ℕ → ℕ → EndpointSpec → Bool
 is_other bdf id spec = (spec.bdf == bdf) && not (spec.id == id)
 
 -- two endpoints are apart: neither the same device of the same cell nor the same number of one link
-pub record AreApart (one other : EndpointSpec) : Type 0 where
+pub record AreEndpointsApart (one other : EndpointSpec) : Type 0 where
   pub devices : is_device one.cell one.device other ≡ false
   pub peers : is_peer one.bdf one.id other ≡ false
 

@@ -30,7 +30,7 @@ fn first_pending(vectors: &[Vector]) -> Option<usize>
 impl Endpoint {
     ghost use Rattle.jh_ivshmem.specs.Changes.{after};
     ghost use Rattle.jh_ivshmem.specs.Endpoint.{fresh, is_open, raised, taken, cleared, pending_in};
-    ghost use Rattle.jh_ivshmem.specs.Keys.{IsSound};
+    ghost use Rattle.jh_ivshmem.specs.Keys.{IsWholeEndpoint};
     ghost use Rattle.jh_ivshmem.specs.Registers.{register_of, register_written, is_in_table};
 
     /// An endpoint as after a reset.
@@ -48,7 +48,7 @@ impl Endpoint {
 
     /// Whether raising the vector makes it pending.
     fn is_open(&self, v: usize) -> bool
-        requires sound { IsSound self.now }
+        requires sound { IsWholeEndpoint self.now }
         ensures value { result ≡ is_open self.now v }
     {
         self.control
@@ -60,7 +60,7 @@ impl Endpoint {
     /// Makes the vector pending, where it is open.
     #[tactic(auto, unfolding(crate::specs::Endpoint::raised))]
     fn raise(&mut self, v: u16)
-        requires sound { IsSound self.old }
+        requires sound { IsWholeEndpoint self.old }
         ensures { self.new ≡ raised v self.old }
     {
         let v = usize::from(v);
@@ -72,7 +72,7 @@ impl Endpoint {
 
     /// The lowest pending vector.
     pub(crate) fn pending(&self) -> Option<u8>
-        requires sound { IsSound self.now }
+        requires sound { IsWholeEndpoint self.now }
         ensures { result ≡ pending_in self.now }
     {
         match first_pending(&self.vectors) {
@@ -84,7 +84,7 @@ impl Endpoint {
     /// Takes a pending vector.
     #[tactic(auto, unfolding(crate::specs::Endpoint::taken))]
     fn take(&mut self, v: u8)
-        requires sound { IsSound self.old }
+        requires sound { IsWholeEndpoint self.old }
         ensures { self.new ≡ taken v self.old }
     {
         let v = usize::from(v);
@@ -114,7 +114,7 @@ impl Endpoint {
     /// What the register reads.
     #[tactic(auto, unfolding(crate::specs::Registers::register_of))]
     pub(crate) fn register(&self, bar: u8, at: u32) -> u32
-        requires sound { IsSound self.now }
+        requires sound { IsWholeEndpoint self.now }
         ensures { result ≡ register_of self.now bar at }
     {
         if bar == 0 {
@@ -135,7 +135,7 @@ impl Endpoint {
     /// Writes a register that concerns this endpoint alone: interrupt control or a vector's word.
     #[tactic(auto, unfolding(crate::specs::Registers::register_written))]
     fn write(&mut self, bar: u8, at: u32, value: u32)
-        requires sound { IsSound self.old }
+        requires sound { IsWholeEndpoint self.old }
         ensures { self.new ≡ register_written bar at value self.old }
     {
         if bar == 0 {
@@ -150,7 +150,7 @@ impl Endpoint {
 
     /// Makes the change.
     pub(crate) fn apply(&mut self, change: EndpointChange)
-        requires sound { IsSound self.old }
+        requires sound { IsWholeEndpoint self.old }
         ensures { self.new ≡ after change self.old }
     {
         match change {

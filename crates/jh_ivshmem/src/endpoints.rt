@@ -3,11 +3,11 @@ ghost use Rattle.std.specs.Prelude.{◌≡◌, ℕ, ◌+◌, ◌*◌, ◌%◌, �
 ghost use Rattle.std.specs.List.{list_all, insert};
 ghost use Rattle.std.specs.List.Sorted.{IsPartitionPoint};
 ghost use Rattle.jh_vpci.specs.Space.{Space};
-ghost use Rattle.jh_ivshmem.specs.Specs.{IsWithin, AreApart, is_device, is_concerned, slot_of};
+ghost use Rattle.jh_ivshmem.specs.Specs.{IsInItsLimits, AreEndpointsApart, is_device, is_concerned, slot_of};
 ghost use Rattle.jh_ivshmem.specs.Registers.{register_of};
 ghost use Rattle.jh_ivshmem.specs.Changes.{changed, is_meant, after};
 ghost use Rattle.jh_ivshmem.specs.declared.change.Whom.TheVariants.{Device};
-ghost use Rattle.jh_ivshmem.specs.Keys.{AreKept, AreInOrder, IsSound, is_key_apart, is_key_before, is_key_meant, pending_by};
+ghost use Rattle.jh_ivshmem.specs.Keys.{AreKept, AreInOrder, IsWholeEndpoint, is_key_apart, is_key_before, is_key_meant, pending_by};
 ghost use Rattle.jh_ivshmem.specs.Links.{endpoint_at, ForEndpoint, besides, joined, told_of, rung, state_written, written, slot_written, reset_of, left_by, pending_of, taken_of, earlier};
 
 use crate::change::{EndpointChange, Whom};
@@ -230,7 +230,7 @@ impl Endpoints {
     fn named(&self, cell: u32, device: u32) -> &Endpoint
         requires there { IsSome (endpoint_at cell device self.now.list) }
         ensures value { endpoint_at cell device self.now.list ≡ Some result.now }
-        ensures sound { IsSound result.now }
+        ensures sound { IsWholeEndpoint result.now }
     {
         &self.endpoints[self.index_of(cell, device)]
     }
@@ -249,7 +249,7 @@ impl Endpoints {
 
     /// Whether an endpoint may join: neither its device nor its number of the link is taken.
     pub fn is_free(&self, s: &EndpointSpec) -> bool
-        ensures { IsTrue result ↔ All (λ e. AreApart e.spec s.now) self.now.list }
+        ensures { IsTrue result ↔ All (λ e. AreEndpointsApart e.spec s.now) self.now.list }
     {
         all_apart(&self.keys, s)
     }
@@ -257,8 +257,8 @@ impl Endpoints {
     /// An endpoint joins its link, as after a reset, and its word of the state table becomes 0. With a
     /// positive spare it needs no memory.
     pub fn join(&mut self, s: EndpointSpec) -> Result<Slot, NoMemory>
-        requires within { IsWithin s }
-        requires new { All (λ e. AreApart e.spec s) self.old.list }
+        requires within { IsInItsLimits s }
+        requires new { All (λ e. AreEndpointsApart e.spec s) self.old.list }
         ensures ok { OnOk result (self.new.list ≡ joined s self.old.list) }
         ensures slot { IfOk result (λ slot. slot ≡ slot_of s 0) }
         ensures err { OnErr result (self.new.list ≡ self.old.list) }

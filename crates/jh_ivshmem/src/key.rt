@@ -17,11 +17,11 @@ pub(crate) struct Key {
 }
 
 impl Key {
-    ghost use Rattle.jh_ivshmem.specs.Keys.{key_of, IsSound, is_key_apart, is_key_before, is_key_meant, is_search_end, pending_by};
+    ghost use Rattle.jh_ivshmem.specs.Keys.{key_of, IsWholeEndpoint, is_key_apart, is_key_before, is_key_meant, is_search_end, pending_by};
 
     /// The names of the endpoint, and its lowest pending vector.
     pub(crate) fn of(endpoint: &Endpoint) -> Key
-        requires sound { IsSound endpoint.now }
+        requires sound { IsWholeEndpoint endpoint.now }
         ensures { result ≡ key_of endpoint.now }
     {
         let spec = &endpoint.spec;

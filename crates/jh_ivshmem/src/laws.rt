@@ -2,7 +2,7 @@
 //! its contract is the law.
 ghost use Rattle.std.specs.Prelude.{◌≡◌, ◌≢◌, ℕ, ◌<◌, ◌≤◌, true, false, not, All, Some, List, length, slice_index_or};
 ghost use Rattle.jh_vpci.specs.Space.{Space, has_vectors};
-ghost use Rattle.jh_ivshmem.specs.Specs.{AreApart, count_of, is_device, is_peer};
+ghost use Rattle.jh_ivshmem.specs.Specs.{AreEndpointsApart, count_of, is_device, is_peer};
 ghost use Rattle.jh_ivshmem.specs.Endpoint.{is_open, raised, vector_at};
 ghost use Rattle.jh_ivshmem.specs.Changes.{changed};
 ghost use Rattle.jh_ivshmem.specs.Links.{ForEndpoint, is_pending, joined, rung, written, reset_of, left_by, pending_of, taken_of};
@@ -72,7 +72,7 @@ pub fn a_pending_vector_goes_only_by_its_own()
         → is_pending cell device v (written e bar at value list) ≡ true }
     ensures configured { (at_cell at_device : ℕ) (space : Space) (list : List Endpoint) (cell device v : ℕ) → is_pending cell device v list ≡ true
         → is_pending cell device v (changed (is_device at_cell at_device) (λ (e : Endpoint). record e { space = space }) list) ≡ true }
-    ensures joined { (s : EndpointSpec) (list : List Endpoint) (cell device v : ℕ) → All (λ (o : Endpoint). AreApart o.spec s) list
+    ensures joined { (s : EndpointSpec) (list : List Endpoint) (cell device v : ℕ) → All (λ (o : Endpoint). AreEndpointsApart o.spec s) list
         → is_pending cell device v list ≡ true → is_pending cell device v (joined s list) ≡ true }
     ensures reset { (e : Endpoint) (list : List Endpoint) (cell device v : ℕ) → is_device cell device e.spec ≡ false
         → is_pending cell device v list ≡ true → is_pending cell device v (reset_of e list) ≡ true }

@@ -32,7 +32,7 @@ use Rattle.jh_history.specs.Grants.{devices_of}
 use Rattle.jh_history.specs.Lives.{cell_in}
 use Rattle.jh_shape.specs.Lives.{configs_of}
 use Rattle.jh_history.specs.Sound.{IsOfDevice, IsSoundEndpoint, IsSound}
-use Rattle.jh_laws.specs.Held.{IsLive}
+use Rattle.jh_laws.specs.Held.{IsRootOrLive}
 use Rattle.jh_laws.specs.Ends.{IsDeviceOf, LiesInBar, IsFirstBar, IsAnsweredByRegister, HasFunction}
 use Rattle.jh_laws.proofs.HeldLemmas.{live_cell, cell_live, number_of_holds}
 use Rattle.jh_laws.proofs.WindowLemmas.{window_at, windows_are, windows_have, IsLower, IsFirst, windows_first, spec_is, function_found, function_some}
@@ -58,7 +58,7 @@ endpoint_few image f id n e sound there =
 list_by : (image : Image) (cells : List Live) (id : ℕ) (cell : CellConfig) → cell_in image cells id ≡ Some cell → list_in image cells id ≡ cell.pci_devices
 list_by image cells id cell is = ap (λ (o : Option CellConfig). option_map_or (λ (c : CellConfig). c.pci_devices) o []) is
 
-pub cell_named : (image : Image) (f : Facts) (id : ℕ) (cell : CellConfig) → IsSound image f → IsLive image f.cells cell → cell.id ≡ id → cell_in image f.cells id ≡ Some cell
+pub cell_named : (image : Image) (f : Facts) (id : ℕ) (cell : CellConfig) → IsSound image f → IsRootOrLive image f.cells cell → cell.id ≡ id → cell_in image f.cells id ≡ Some cell
 cell_named image f id cell sound live named =
     let P : ℕ → Type 0 = λ i. cell_in image f.cells i ≡ Some cell in
     subst P named (live_cell image f.cells cell sound.cells live)

@@ -26,7 +26,7 @@ use Rattle.jh_history.specs.Admitted.{IsAdmitted}
 use Rattle.jh_history.proofs.LegalLemmas.{due_split, IsLegal_begin}
 use Rattle.jh_history.specs.Sound.{IsCalm, IsSound}
 use Rattle.jh_laws.specs.Ways.{is_phase}
-use Rattle.jh_laws.specs.Held.{IsLive}
+use Rattle.jh_laws.specs.Held.{IsRootOrLive}
 use Rattle.jh_laws.specs.Operations.{op_of}
 use Rattle.jh_laws.specs.States.{is_stop_act}
 use Rattle.jh_history.proofs.SoundCpusLemmas.{goes_calm, goes_running, running_mode}
@@ -80,7 +80,7 @@ phase_none Stop h = absurd (false≢true h)
 -- the operation of a live cell's program
 abbrev pub IsOperationOf : Image → Facts → ℕ → ℕ → Op → Type 0
 IsOperationOf image f id cpu op =
-    (cell : CellConfig) × IsLive image f.cells cell × (cell.id ≡ id) × (slice_get (program_of image (name_of cell) cpu) (f.cpu cpu).position ≡ Some op)
+    (cell : CellConfig) × IsRootOrLive image f.cells cell × (cell.id ≡ id) × (slice_get (program_of image (name_of cell) cpu) (f.cpu cpu).position ≡ Some op)
 
 cell_of_op : (image : Image) (f : Facts) (id cpu : ℕ) (op : Op) (o : Option CellConfig) → cell_in image f.cells id ≡ o → slice_get (option_map_or (λ (c : CellConfig). program_of image (name_of c) cpu) o []) (f.cpu cpu).position ≡ Some op → IsOperationOf image f id cpu op
 cell_of_op image f id cpu op None is h = absurd (none-some op h)

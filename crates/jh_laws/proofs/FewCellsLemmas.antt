@@ -50,7 +50,7 @@ use Rattle.jh_history.specs.Pages.{is_left, failing, unless_good, asking, commit
 use Rattle.jh_shape.specs.Lives.{configs_of, marked}
 use Rattle.jh_history.specs.Due.{due_at, IsLegal, IsLegalFrom}
 use Rattle.jh_history.specs.Admitted.{IsAdmitted}
-use Rattle.jh_history.specs.Sound.{HasBytes, IsSound}
+use Rattle.jh_history.specs.Sound.{IsMadeOfBytes, IsSound}
 use Rattle.jh_laws.specs.Ways.{is_commit}
 use Rattle.jh_history.proofs.SoundCommitLemmas.{configs_joined, configs_marked, configs_others, is_other_config}
 use Rattle.jh_history.proofs.SoundCpusLemmas.{changed_owner}
@@ -482,7 +482,7 @@ pub legal_typed : (image : Image) (entries : List Entry) → IsAdmitted image �
 unfolding IsLegal facts
 legal_typed image entries admitted bytes legal = typed_from image (start image) entries (sound_start image admitted) (typed_start image bytes) legal
 
-root_start : (image : Image) → IsAdmitted image → HasBytes image → HasCpu image (start image).cpu
+root_start : (image : Image) → IsAdmitted image → IsMadeOfBytes image → HasCpu image (start image).cpu
 root_start image admitted bytes =
     let sound = sound_start image admitted in
     let set = sound_set image.system.root.cpu_set (λ i. index_small image.system.root.cpu_set i bytes.set) (sound.cells.clean.cpus 0 image.system.root refl) in
@@ -494,7 +494,7 @@ root_from image f (entry ∷ entries) sound has legal =
     let next = sound_after image f entry sound legal.0 in
     root_from image (after image f entry) entries next (root_by image f entry entry.act refl next has) legal.1
 
-legal_root : (image : Image) (entries : List Entry) → IsAdmitted image → HasBytes image → IsLegal image entries → HasCpu image (facts image entries).cpu
+legal_root : (image : Image) (entries : List Entry) → IsAdmitted image → IsMadeOfBytes image → IsLegal image entries → HasCpu image (facts image entries).cpu
 unfolding IsLegal facts
 legal_root image entries admitted bytes legal = root_from image (start image) entries (sound_start image admitted) (root_start image admitted bytes) legal
 
@@ -536,7 +536,7 @@ few_typed image f sound typed =
     let apart : AllPairs AreTwo configs = λ i j d lt within. sound.cells.differ (suc i) (suc j) d (omega (arith, lt)) (omega (arith, within)) in
     picked_few (λ i. (f.cpu i).owner) configs (picked (λ i. (f.cpu i).owner) configs (λ config held. cell_cpu image f config sound typed held)) (each_apart configs image.system.root apart)
 
-pub few_cells : (image : Image) (entries : List Entry) → IsAdmitted image → HasBytes image → IsLegal image entries → length (configs_of (facts image entries).cells) ≤ 15
+pub few_cells : (image : Image) (entries : List Entry) → IsAdmitted image → IsMadeOfBytes image → IsLegal image entries → length (configs_of (facts image entries).cells) ≤ 15
 few_cells image entries admitted bytes legal =
     let f : Facts = facts image entries in
     let sound = legal_sound image entries admitted legal in

@@ -31,7 +31,7 @@ use Rattle.jh_history.specs.Grants.{is_kept, unless, granted_by, granted_in, gra
 use Rattle.jh_shape.specs.Lives.{configs_of}
 use Rattle.jh_history.specs.Sound.{AreSoundCells}
 use Rattle.jh_laws.specs.Grants.{may, IsGranted}
-use Rattle.jh_laws.specs.Held.{IsLive, IsLeft, IsGrantedTo}
+use Rattle.jh_laws.specs.Held.{IsRootOrLive, IsLeft, IsGrantedTo}
 use Rattle.jh_laws.proofs.RootLemmas.{has_address_first, has_address_last, has_address_from, gives_address, gives_pages, gives_right, gives_from}
 use Rattle.jh_history.proofs.SoundCpusLemmas.{other_root}
 use Rattle.jh_history.proofs.SoundDecideLemmas.{found_live}
@@ -76,7 +76,7 @@ found_by_id image cells cell sound held =
     let found = found_live cells cell.id some.0 some.1 in
     ap (option_map (λ (l : Live). l.config)) some.1 ∙ ap Some (same_id image.system (configs_of cells) some.0.config cell sound found.0 held found.1)
 
-pub live_cell : (image : Image) (cells : List Live) (cell : CellConfig) → AreSoundCells image.system (configs_of cells) → IsLive image cells cell → cell_in image cells cell.id ≡ Some cell
+pub live_cell : (image : Image) (cells : List Live) (cell : CellConfig) → AreSoundCells image.system (configs_of cells) → IsRootOrLive image cells cell → cell_in image cells cell.id ≡ Some cell
 live_cell image cells cell sound live =
     ⊎_elim
     (λ (is : cell ≡ image.system.root).
@@ -95,19 +95,19 @@ live_found cells id (Some live) cell is h =
     let P : CellConfig → Type 0 = λ c. Contains (configs_of cells) c × (c.id ≡ id) in
     subst P (same_Some live.config cell h) (found_live cells id live is)
 
-cell_by : (image : Image) (cells : List Live) (id : ℕ) (cell : CellConfig) (b : Bool) → eqb id image.system.root.id ≡ b → cond b (Some image.system.root) (live_in cells id) ≡ Some cell → IsLive image cells cell × (cell.id ≡ id)
+cell_by : (image : Image) (cells : List Live) (id : ℕ) (cell : CellConfig) (b : Bool) → eqb id image.system.root.id ≡ b → cond b (Some image.system.root) (live_in cells id) ≡ Some cell → IsRootOrLive image cells cell × (cell.id ≡ id)
 cell_by image cells id cell true is h =
     let e : image.system.root ≡ cell = same_Some image.system.root cell h in
     (inl (sym e), sym (ap (λ (c : CellConfig). c.id) e) ∙ sym (eqb-true id image.system.root.id is))
 cell_by image cells id cell false is h = let found = live_found cells id (find (has_id id) cells) cell refl h in (inr found.0, found.1)
 
-pub cell_live : (image : Image) (cells : List Live) (id : ℕ) (cell : CellConfig) → cell_in image cells id ≡ Some cell → IsLive image cells cell × (cell.id ≡ id)
+pub cell_live : (image : Image) (cells : List Live) (id : ℕ) (cell : CellConfig) → cell_in image cells id ≡ Some cell → IsRootOrLive image cells cell × (cell.id ≡ id)
 cell_live image cells id cell h = cell_by image cells id cell (eqb id image.system.root.id) refl h
 
 -- ---- regions of a live cell
 
 -- the number of a live cell
-pub number_of_holds : (image : Image) (cells : List Live) (cell : CellConfig) → IsLive image cells cell → (a : ℕ) × IsNumbered image.system (configs_of cells) a cell
+pub number_of_holds : (image : Image) (cells : List Live) (cell : CellConfig) → IsRootOrLive image cells cell → (a : ℕ) × IsNumbered image.system (configs_of cells) a cell
 number_of_holds image cells cell live =
     ⊎_elim
     (λ (is : cell ≡ image.system.root). (0, ap Some (sym is)))
@@ -115,7 +115,7 @@ number_of_holds image cells cell live =
     live
 
 -- at most one of its regions gives an address
-only_region : (image : Image) (cells : List Live) (cell : CellConfig) (access : Access) (at : ℕ) → AreSoundCells image.system (configs_of cells) → IsLive image cells cell → IsOnly (gives access at) cell.memory_regions
+only_region : (image : Image) (cells : List Live) (cell : CellConfig) (access : Access) (at : ℕ) → AreSoundCells image.system (configs_of cells) → IsRootOrLive image cells cell → IsOnly (gives access at) cell.memory_regions
 only_region image cells cell access at sound live j k d lt within at_j at_k =
     let number = number_of_holds image cells cell live in
     let regions : List Region = cell.memory_regions in
@@ -125,7 +125,7 @@ only_region image cells cell access at sound live j k d lt within at_j at_k =
     omega arith
 
 -- a region that has an address ends within the addresses
-region_within : (image : Image) (cells : List Live) (cell : CellConfig) (r : Region) (at : ℕ) → AreSoundCells image.system (configs_of cells) → IsLive image cells cell → Contains cell.memory_regions r → has_address r at ≡ true → virt_end r ≤ ADDRESS_END
+region_within : (image : Image) (cells : List Live) (cell : CellConfig) (r : Region) (at : ℕ) → AreSoundCells image.system (configs_of cells) → IsRootOrLive image cells cell → Contains cell.memory_regions r → has_address r at ≡ true → virt_end r ≤ ADDRESS_END
 region_within image cells cell r at sound live held has =
     let number = number_of_holds image cells cell live in
     let first : r.virt_start ≤ at = has_address_first r at has in
@@ -140,7 +140,7 @@ may_right ToWrite r = refl
 may_right ToFetch r = refl
 
 -- what the cell's regions give an address
-pub given_place : (image : Image) (cells : List Live) (cell : CellConfig) (access : Access) (at : ℕ) (place : Place) → AreSoundCells image.system (configs_of cells) → IsLive image cells cell → IsGranted cell access at place
+pub given_place : (image : Image) (cells : List Live) (cell : CellConfig) (access : Access) (at : ℕ) (place : Place) → AreSoundCells image.system (configs_of cells) → IsRootOrLive image cells cell → IsGranted cell access at place
     → place_of cell.id cell.memory_regions access at ≡ Some place
 unfolding place_of
 given_place image cells cell access at place sound live given =
@@ -153,7 +153,7 @@ given_place image cells cell access at place sound live given =
     let found : find (gives access at) regions ≡ Some r = find_only (gives access at) regions i r given.held.1 there (only_region image cells cell access at sound live) ∙ ap Some same in
     ap (option_map (λ (s : Region). place_in_cell cell.id s at)) found ∙ ap Some (sym given.given)
 
-place_by : (image : Image) (cells : List Live) (cell : CellConfig) (access : Access) (at : ℕ) (place : Place) (o : Option Region) → AreSoundCells image.system (configs_of cells) → IsLive image cells cell → region_of cell.memory_regions access at ≡ o
+place_by : (image : Image) (cells : List Live) (cell : CellConfig) (access : Access) (at : ℕ) (place : Place) (o : Option Region) → AreSoundCells image.system (configs_of cells) → IsRootOrLive image cells cell → region_of cell.memory_regions access at ≡ o
     → option_map (λ (s : Region). place_in_cell cell.id s at) o ≡ Some place → IsGranted cell access at place
 place_by image cells cell access at place None sound live is e = absurd (none-some place e)
 place_by image cells cell access at place (Some r) sound live is e =
@@ -172,7 +172,7 @@ place_by image cells cell access at place (Some r) sound live is e =
       given = sym (same_Some (place_in_cell cell.id r at) place e);
     }
 
-pub place_given : (image : Image) (cells : List Live) (cell : CellConfig) (access : Access) (at : ℕ) (place : Place) → AreSoundCells image.system (configs_of cells) → IsLive image cells cell → place_of cell.id cell.memory_regions access at ≡ Some place
+pub place_given : (image : Image) (cells : List Live) (cell : CellConfig) (access : Access) (at : ℕ) (place : Place) → AreSoundCells image.system (configs_of cells) → IsRootOrLive image cells cell → place_of cell.id cell.memory_regions access at ≡ Some place
     → IsGranted cell access at place
 unfolding place_of
 place_given image cells cell access at place sound live e = place_by image cells cell access at place (region_of cell.memory_regions access at) sound live refl e
@@ -195,10 +195,10 @@ free_left image cells cell (Physical p) free = λ root taken.
 
 -- ---- what is granted
 
-pub regions_of_live : (image : Image) (cells : List Live) (cell : CellConfig) → AreSoundCells image.system (configs_of cells) → IsLive image cells cell → regions_in image cells cell.id ≡ cell.memory_regions
+pub regions_of_live : (image : Image) (cells : List Live) (cell : CellConfig) → AreSoundCells image.system (configs_of cells) → IsRootOrLive image cells cell → regions_in image cells cell.id ≡ cell.memory_regions
 regions_of_live image cells cell sound live = ap (λ (o : Option CellConfig). option_map_or (λ (c : CellConfig). c.memory_regions) o []) (live_cell image cells cell sound live)
 
-granted_live : (image : Image) (cells : List Live) (cell : CellConfig) (access : Access) (at : ℕ) (place : Place) → AreSoundCells image.system (configs_of cells) → IsLive image cells cell → IsGranted cell access at place → IsLeft image cells cell place
+granted_live : (image : Image) (cells : List Live) (cell : CellConfig) (access : Access) (at : ℕ) (place : Place) → AreSoundCells image.system (configs_of cells) → IsRootOrLive image cells cell → IsGranted cell access at place → IsLeft image cells cell place
     → granted_in image cells cell.id access at ≡ Some place
 granted_live image cells cell access at place sound live given left =
     let free : is_kept image cells cell.id place ≡ false = left_free image cells cell place left in
@@ -222,7 +222,7 @@ unless_some kept p place h =
     unless_by true is e = absurd (none-some place e)
     unless_by false is e = (same_Some p place e, is)
 
-granted_at : (image : Image) (cells : List Live) (cell : CellConfig) (access : Access) (at : ℕ) (place : Place) (o : Option Place) → AreSoundCells image.system (configs_of cells) → IsLive image cells cell → place_of cell.id cell.memory_regions access at ≡ o
+granted_at : (image : Image) (cells : List Live) (cell : CellConfig) (access : Access) (at : ℕ) (place : Place) (o : Option Place) → AreSoundCells image.system (configs_of cells) → IsRootOrLive image cells cell → place_of cell.id cell.memory_regions access at ≡ o
     → option_and_then (unless (is_kept image cells cell.id)) o ≡ Some place → IsGrantedTo image cells cell.id access at place
 granted_at image cells cell access at place None sound live is h = absurd (none-some place h)
 granted_at image cells cell access at place (Some p) sound live is h =

@@ -13,7 +13,7 @@ use Rattle.jh_ivshmem.specs.declared.endpoint.Endpoint.{Endpoint}
 use Rattle.jh_ivshmem.specs.declared.vector.Vector.{Vector}
 use Rattle.jh_ivshmem.specs.Endpoint.{fresh_vector, vector_at, pending_in}
 use Rattle.jh_ivshmem.specs.Links.{endpoint_at, earlier, pending_at, pending_of}
-use Rattle.jh_ivshmem.specs.Specs.{is_device, AreApart}
+use Rattle.jh_ivshmem.specs.Specs.{is_device, AreEndpointsApart}
 use Rattle.jh_ivshmem.proofs.NamedLemmas.{named_cell, named_device}
 use Rattle.jh_ivshmem.proofs.OrderLemmas.{pairs_of}
 use Rattle.jh_history.specs.Facts.{Facts}
@@ -25,10 +25,10 @@ use Rattle.jh_laws.specs.Vectors.{IsPendingIn, IsNext}
 -- ---- one endpoint
 
 abbrev ApartAs : Endpoint → Endpoint → Type 0
-ApartAs a b = AreApart a.spec b.spec
+ApartAs a b = AreEndpointsApart a.spec b.spec
 
 pub endpoints_apart : (image : Image) (f : Facts) → IsSound image f → AllPairs ApartAs f.endpoints
-endpoints_apart image f sound = pairs_of (λ (e : Endpoint). e.spec) AreApart f.endpoints sound.endpoints.apart
+endpoints_apart image f sound = pairs_of (λ (e : Endpoint). e.spec) AreEndpointsApart f.endpoints sound.endpoints.apart
 
 -- two endpoints of one device of one cell are one
 abbrev IsOneDevice : Endpoint → Endpoint → Type 0

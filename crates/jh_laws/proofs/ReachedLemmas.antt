@@ -39,8 +39,8 @@ use Rattle.jh_history.proofs.PlaceLemmas.{further_none, further_next}
 use Rattle.jh_history.proofs.GrantLemmas.{place_in_cell_further}
 use Rattle.jh_history.proofs.BehindLemmas.{takes_all_subpage, kept_row, answer_within, answer_beyond}
 use Rattle.jh_laws.specs.Grants.{may}
-use Rattle.jh_laws.specs.Held.{IsLive, IsGrantedTo, AreGrantedTo}
-use Rattle.jh_laws.specs.Ends.{HasAccess, LetsThrough, IsBehindMemory, IsAnsweredBy, IsInWindow, IsAnsweredByWindow, IsAnsweredByRegister, IsAnswered, GivesPlaces, AreItsPlaces}
+use Rattle.jh_laws.specs.Held.{IsRootOrLive, IsGrantedTo, AreGrantedTo}
+use Rattle.jh_laws.specs.Ends.{HasAccess, LetsThrough, IsBehindMemory, IsAnsweredBy, IsInEcam, IsAnsweredByWindow, IsAnsweredByRegister, IsAnswered, GivesPlaces, AreItsPlaces}
 use Rattle.jh_laws.proofs.RootLemmas.{has_address_from}
 use Rattle.jh_laws.proofs.DevicesLemmas.{position_single, window_lies, window_none, found_passes}
 use Rattle.jh_laws.proofs.ListedLemmas.{places_from_listed, places_from_each, places_from_some}
@@ -165,7 +165,7 @@ pub takes_has : (image : Image) (cells : List Live) (id at width : ℕ) (r : Reg
 takes_has image cells id at width r some held takes = has_of_cell image cells id at width r (cell_in image cells id) some refl held takes
 
 -- one region has it at most
-same_at : (image : Image) (cells : List Live) (cell : CellConfig) (r s : Region) (at : ℕ) → AreSoundCells image.system (configs_of cells) → IsLive image cells cell → Contains cell.memory_regions r → Contains cell.memory_regions s
+same_at : (image : Image) (cells : List Live) (cell : CellConfig) (r s : Region) (at : ℕ) → AreSoundCells image.system (configs_of cells) → IsRootOrLive image cells cell → Contains cell.memory_regions r → Contains cell.memory_regions s
     → has_address r at ≡ true → has_address s at ≡ true → r ≡ s
 same_at image cells cell r s at sound live in_r in_s has_r has_s =
     let number = number_of_holds image cells cell live in
@@ -236,10 +236,10 @@ window_parts base end_bus at width false is some lies =
     let last : at + width ≤ min (base + (end_bus + 1) * 0x100000) 0xffffffffffffffff = parts.1 in
     (λ zero. both_ways (eqb base 0) is (eq-eqb base 0 zero), parts.0, omega arith)
 
-in_window : (system : SystemConfig) (at width : ℕ) → at + width ≤ ADDRESS_END → IsInWindow system at width → lies_between (ecam_start system) (ecam_end system) at width ≡ true
+in_window : (system : SystemConfig) (at width : ℕ) → at + width ≤ ADDRESS_END → IsInEcam system at width → lies_between (ecam_start system) (ecam_end system) at width ≡ true
 in_window system at width below h = window_from system.pci_mmconfig_base system.pci_mmconfig_end_bus at width (eqb system.pci_mmconfig_base 0) refl below h.some h.first h.last
 
-window_in : (system : SystemConfig) (at width : ℕ) → 0 < width → lies_between (ecam_start system) (ecam_end system) at width ≡ true → IsInWindow system at width
+window_in : (system : SystemConfig) (at width : ℕ) → 0 < width → lies_between (ecam_start system) (ecam_end system) at width ≡ true → IsInEcam system at width
 window_in system at width some lies =
     let parts = window_parts system.pci_mmconfig_base system.pci_mmconfig_end_bus at width (eqb system.pci_mmconfig_base 0) refl some lies in
     record { some = parts.0; first = parts.1; last = parts.2 }
@@ -308,7 +308,7 @@ abbrev NoRegion : Image → Facts → ℕ → ℕ → ℕ → Type 0
 NoRegion image f id at width = (r : Region) → HasAccess image f.cells id at width r → ⊥
 
 -- the access lies in the window of configuration space
-config_way : (image : Image) (f : Facts) (id : ℕ) (access : Access) (at width : ℕ) (window : Option TheWindow) (b : Bool) → Behind image f id access at width → NoRegion image f id at width → IsInWindow image.system at width
+config_way : (image : Image) (f : Facts) (id : ℕ) (access : Access) (at width : ℕ) (window : Option TheWindow) (b : Bool) → Behind image f id access at width → NoRegion image f id at width → IsInEcam image.system at width
     → (is_wide width && eqb ((at - image.system.pci_mmconfig_base) % width) 0) ≡ b → reach image f id access at width ≡ by_device image.system.pci_mmconfig_base window at width (cond b Ecam HitsNothing) → Way image f id access at width
 config_way image f id access at width window true behind none within is e =
     let parts = and_parts (is_wide width) (eqb ((at - image.system.pci_mmconfig_base) % width) 0) is in
@@ -323,7 +323,7 @@ config_way image f id access at width window false behind none within is e =
 
 -- the access lies outside it
 abbrev Outside : Image → ℕ → ℕ → Type 0
-Outside image at width = IsInWindow image.system at width → ⊥
+Outside image at width = IsInEcam image.system at width → ⊥
 
 abbrev is_word : ℕ → ℕ → Bool
 is_word at width = eqb width 4 && eqb (at % 4) 0

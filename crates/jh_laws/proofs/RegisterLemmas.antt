@@ -6,7 +6,7 @@ use Rattle.std.proofs.lemmas.List.Elements.{All-nil, All-cons, All-head, All-tai
 use Rattle.jh_ivshmem.specs.declared.vector.Vector.{Vector}
 use Rattle.jh_ivshmem.specs.declared.endpoint.Endpoint.{Endpoint}
 use Rattle.jh_ivshmem.specs.declared.spec.EndpointSpec.{EndpointSpec}
-use Rattle.jh_ivshmem.specs.Specs.{IsWithin, is_device, is_peer, is_other, is_before}
+use Rattle.jh_ivshmem.specs.Specs.{IsInItsLimits, is_device, is_peer, is_other, is_before}
 use Rattle.jh_ivshmem.specs.Endpoint.{raised, taken, cleared, fresh, fresh_vector, vector_at, is_open}
 use Rattle.jh_ivshmem.specs.Registers.{word_of, with_word, register_of, register_written, is_in_table}
 use Rattle.jh_ivshmem.specs.Changes.{changed}
@@ -99,7 +99,7 @@ word_small vector n h =
     (λ _. cond_both (n == 2) _ _ P (λ _. h.message)
     (λ _. cond_both vector.masked 1 0 P (λ _. omega arith) (λ _. omega arith))))
 
-pub register_small : (e : Endpoint) (bar at : ℕ) → IsWithin e.spec → HasRegisters e → register_of e bar at < 2 ^ 32
+pub register_small : (e : Endpoint) (bar at : ℕ) → IsInItsLimits e.spec → HasRegisters e → register_of e bar at < 2 ^ 32
 unfolding register_of
 register_small e bar at within h =
     let P : ℕ → Type 0 = λ k. k < 2 ^ 32 in

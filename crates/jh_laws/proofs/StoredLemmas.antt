@@ -26,7 +26,7 @@ use Rattle.jh_history.proofs.BehindLemmas.{answer_beyond}
 use Rattle.jh_shape.specs.Lives.{configs_of}
 use Rattle.jh_history.specs.Sound.{AreSoundCells, IsSound}
 use Rattle.jh_laws.specs.Grants.{place_behind}
-use Rattle.jh_laws.specs.Held.{IsLive, IsLeft, IsGrantedTo}
+use Rattle.jh_laws.specs.Held.{IsRootOrLive, IsLeft, IsGrantedTo}
 use Rattle.jh_laws.specs.Ends.{IsAnsweredByRegister, IsAnswered, AreItsPlaces, GivesPlaces}
 use Rattle.jh_laws.proofs.DevicesLemmas.{same_register}
 use Rattle.jh_laws.proofs.ReachedLemmas.{Way, OnMemory, OnRegion, OnWindow, OnRegister, OnNothing, way, places_of_memory, places_of_region, region_places}
@@ -145,7 +145,7 @@ placed image f id at (suc n) sound = let some : 0 < suc n = omega arith in place
 -- a region of the live cell with the id gives the address the place, which is left to the cell
 pub record IsGivenTo (image : Image) (cells : List Live) (id at : ℕ) (place : Place) : Type 0 where
   pub cell : CellConfig
-  pub live : IsLive image cells cell
+  pub live : IsRootOrLive image cells cell
   pub named : cell.id ≡ id
   pub region : Region
   pub held : Contains cell.memory_regions region

@@ -40,7 +40,7 @@ use Rattle.jh_history.proofs.PlaceLemmas.{written_over}
 use Rattle.jh_history.proofs.LegalLemmas.{IsLegal_begin}
 use Rattle.jh_history.specs.Sound.{AreSoundCells, IsSound}
 use Rattle.jh_laws.specs.Grants.{IsGranted}
-use Rattle.jh_laws.specs.Held.{IsLive, IsGrantedTo}
+use Rattle.jh_laws.specs.Held.{IsRootOrLive, IsGrantedTo}
 use Rattle.jh_laws.specs.Written.{IsByteBy, Puts, IsByteOfPage, WritesWord, IsByteOfWord, WritesByte, NoneWrites}
 use Rattle.jh_laws.specs.Vectors.{PutsRegister}
 use Rattle.jh_laws.specs.Ways.{is_commit}
@@ -85,7 +85,7 @@ comm_only image configs zero cell r s x y sound is item_x item_y some_x some_y c
 comm_only image configs (suc a) cell r s x y sound is item_x item_y some_x some_y comm_x comm_y =
     sym ((sound.clean.comms (suc a) cell (omega arith) is r x item_x some_x comm_x).only s y item_y some_y comm_y)
 
-single_by : (image : Image) (cells : List Live) (cell : CellConfig) (access : Access) (a b : ℕ) (q : Place) (g : IsGranted cell access a q) (h : IsGranted cell access b q) (one other : Bool) → AreSoundCells image.system (configs_of cells) → IsLive image cells cell
+single_by : (image : Image) (cells : List Live) (cell : CellConfig) (access : Access) (a b : ℕ) (q : Place) (g : IsGranted cell access a q) (h : IsGranted cell access b q) (one other : Bool) → AreSoundCells image.system (configs_of cells) → IsRootOrLive image cells cell
     → is_comm g.region ≡ one → is_comm h.region ≡ other
     → q ≡ cond one (Page cell.id (a - g.region.virt_start)) (Physical (g.region.phys_start + (a - g.region.virt_start)))
     → q ≡ cond other (Page cell.id (b - h.region.virt_start)) (Physical (h.region.phys_start + (b - h.region.virt_start))) → a ≡ b

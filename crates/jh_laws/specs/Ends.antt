@@ -22,13 +22,13 @@ use Rattle.jh_history.specs.declared.entry.Act.{Act}
 use Rattle.jh_history.specs.declared.entry.Act.TheVariants.{Read, Write, Fetch, Await}
 use Rattle.jh_history.specs.Facts.{Facts}
 use Rattle.jh_laws.specs.Grants.{may, place_behind}
-use Rattle.jh_laws.specs.Held.{IsLive, IsLeft, IsGrantedTo, AreGrantedTo}
+use Rattle.jh_laws.specs.Held.{IsRootOrLive, IsLeft, IsGrantedTo, AreGrantedTo}
 
 -- the region has the access of the live cell with the id: it is one of the cell's own, a subpage region, and has each
 -- of the addresses, and each place that it gives them is left to the cell
 pub record HasAccess (image : Image) (cells : List Live) (id at width : ℕ) (region : Region) : Type 0 where
   pub cell : CellConfig
-  pub live : IsLive image cells cell
+  pub live : IsRootOrLive image cells cell
   pub named : cell.id ≡ id
   pub held : Contains cell.memory_regions region
   pub part : is_page_mapped region ≡ false
@@ -56,7 +56,7 @@ pub record IsAnsweredBy (image : Image) (cells : List Live) (id : ℕ) (access :
   pub through : LetsThrough access at width region
 
 -- the access lies in the ECAM window of the system, which has 1 MiB for each bus
-pub record IsInWindow (system : SystemConfig) (at width : ℕ) : Type 0 where
+pub record IsInEcam (system : SystemConfig) (at width : ℕ) : Type 0 where
   pub some : system.pci_mmconfig_base ≢ 0
   pub first : system.pci_mmconfig_base ≤ at
   pub last : at + width ≤ system.pci_mmconfig_base + (system.pci_mmconfig_end_bus + 1) * 2 ^ 20
@@ -66,7 +66,7 @@ pub record IsInWindow (system : SystemConfig) (at width : ℕ) : Type 0 where
 pub record IsAnsweredByWindow (image : Image) (cells : List Live) (id : ℕ) (access : Access) (at width : ℕ) : Type 0 where
   pub behind : IsBehindMemory image cells id access at width
   pub none : (region : Region) → HasAccess image cells id at width region → ⊥
-  pub within : IsInWindow image.system at width
+  pub within : IsInEcam image.system at width
   pub wide : (width ≡ 1) ⊎ (width ≡ 2) ⊎ (width ≡ 4)
   pub aligned : (at - image.system.pci_mmconfig_base) % width ≡ 0
 
@@ -75,7 +75,7 @@ pub record IsAnsweredByWindow (image : Image) (cells : List Live) (id : ℕ) (ac
 -- the device with that number of the live cell with the id is an ivshmem device, and this is its endpoint
 pub record IsDeviceOf (image : Image) (f : Facts) (id n : ℕ) (device : PciDevice) (e : Endpoint) : Type 0 where
   pub cell : CellConfig
-  pub live : IsLive image f.cells cell
+  pub live : IsRootOrLive image f.cells cell
   pub named : cell.id ≡ id
   pub item : slice_get cell.pci_devices n ≡ Some device
   pub kind : IsShmem device
@@ -101,7 +101,7 @@ IsFirstBar image f id n bar at width =
 pub record IsAnsweredByRegister (image : Image) (f : Facts) (id : ℕ) (access : Access) (at width n bar offset : ℕ) (e : Endpoint) : Type 0 where
   pub behind : IsBehindMemory image f.cells id access at width
   pub none : (region : Region) → HasAccess image f.cells id at width region → ⊥
-  pub outside : IsInWindow image.system at width → ⊥
+  pub outside : IsInEcam image.system at width → ⊥
   pub within : LiesInBar image f id n bar at width e
   pub earliest : IsFirstBar image f id n bar at width
   pub wide : width ≡ 4

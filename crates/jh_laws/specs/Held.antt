@@ -14,8 +14,8 @@ use Rattle.jh_shape.specs.Lives.{configs_of}
 use Rattle.jh_laws.specs.Grants.{IsGranted}
 
 -- the cell is root, or one of those that live besides it
-abbrev pub IsLive : Image → List Live → CellConfig → Type 0
-IsLive image cells cell = (cell ≡ image.system.root) ⊎ Contains (configs_of cells) cell
+abbrev pub IsRootOrLive : Image → List Live → CellConfig → Type 0
+IsRootOrLive image cells cell = (cell ≡ image.system.root) ⊎ Contains (configs_of cells) cell
 
 -- the place is left to the cell: another cell, which holds it for itself, keeps root from it, and no other cell from
 -- what its own regions give
@@ -26,7 +26,7 @@ IsLeft image cells cell (Page id offset) = Unit {0}
 -- the live cell with the id is granted the place at the address: by one of its own regions, and it is left to it
 pub record IsGrantedTo (image : Image) (cells : List Live) (id : ℕ) (access : Access) (at : ℕ) (place : Place) : Type 0 where
   pub cell : CellConfig
-  pub live : IsLive image cells cell
+  pub live : IsRootOrLive image cells cell
   pub named : cell.id ≡ id
   pub given : IsGranted cell access at place
   pub left : IsLeft image cells cell place

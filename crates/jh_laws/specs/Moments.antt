@@ -40,8 +40,8 @@ abbrev pub facts_behind : AdmittedMoment → Facts
 facts_behind m = facts m.image (m.before ++ m.entry ∷ [])
 
 -- the configurations of the cells that live besides root after the journal, in order of creation
-abbrev pub cells_of : AdmittedJournal → List CellConfig
-cells_of j = configs_of (facts_of j).cells
+abbrev pub live_configs : AdmittedJournal → List CellConfig
+live_configs j = configs_of (facts_of j).cells
 
 -- the configurations of the cells that live besides root just before the entry, in order of creation
 abbrev pub cells_before : AdmittedMoment → List CellConfig

@@ -12,7 +12,7 @@ ghost use Rattle.jh_history.specs.declared.comm.PageWrite.{PageWrite as ThePageW
 ghost use Rattle.jh_history.specs.Pages.{page_write_by};
 ghost use Rattle.jh_history.specs.Admitted.{IsAdmitted};
 ghost use Rattle.jh_history.specs.Grants.{granted};
-ghost use Rattle.jh_laws.specs.Moments.{AdmittedJournal, AdmittedMoment, facts_of, facts_before, facts_behind, cells_of};
+ghost use Rattle.jh_laws.specs.Moments.{AdmittedJournal, AdmittedMoment, facts_of, facts_before, facts_behind, live_configs};
 ghost use Rattle.jh_laws.specs.Grants.{IsGranted};
 ghost use Rattle.jh_laws.specs.Ends.{EndsAsGranted};
 ghost use Rattle.jh_laws.specs.Held.{IsGrantedTo, IsHeld, IsOwnOrLinked};
@@ -40,7 +40,7 @@ pub fn root_is_granted_the_rest()
     ensures address { (j : AdmittedJournal) (access : TheAccess) (at : ℕ) (place : ThePlace) →
         IsGrantedTo j.image (facts_of j).cells j.image.system.root.id access at place → place ≡ Physical at }
     ensures cells { (j : AdmittedJournal) (cell : TheConfig) (access : TheAccess) (at : ℕ) (place : ThePlace) →
-        Contains (cells_of j) cell →
+        Contains (live_configs j) cell →
         (IsGrantedTo j.image (facts_of j).cells cell.id access at place ↔ IsGranted cell access at place) }
 {}
 

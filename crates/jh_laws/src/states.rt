@@ -18,7 +18,7 @@ ghost use Rattle.jh_script.specs.declared.image.Image.{Image as TheImage};
 ghost use Rattle.jh_laws.specs.Ready.{IsReadyAt};
 ghost use Rattle.jh_history.specs.Sound.{IsCalm};
 ghost use Rattle.jh_history.specs.Calls.{is_call};
-ghost use Rattle.jh_laws.specs.Held.{IsLive};
+ghost use Rattle.jh_laws.specs.Held.{IsRootOrLive};
 ghost use Rattle.jh_laws.specs.Operations.{op_of};
 ghost use Rattle.jh_laws.specs.Moves.{stepped, ended};
 ghost use Rattle.jh_laws.specs.Outcomes.{is_violation};
@@ -60,7 +60,7 @@ pub fn entries_are_their_cpus_own()
     ensures runs { (m : AdmittedMoment) → is_stop_act m.entry.act ≡ false →
         IsCalm (state_before m m.entry.cpu) × ((state_before m m.entry.cpu).mode ≡ Runs) }
     ensures operation { (m : AdmittedMoment) (op : TheOp) → op_of m.entry.act ≡ Some op →
-        (cell : TheConfig) × IsLive m.image (facts_before m).cells cell × (cell.id ≡ m.entry.cell) ×
+        (cell : TheConfig) × IsRootOrLive m.image (facts_before m).cells cell × (cell.id ≡ m.entry.cell) ×
         (slice_get (program_of m.image (name_of cell) m.entry.cpu) (state_before m m.entry.cpu).position ≡ Some op) }
 {}
 

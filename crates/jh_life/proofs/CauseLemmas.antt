@@ -19,10 +19,10 @@ use Rattle.jh_check.proofs.RuleLemmas.{broken_from_listed, listed_from_broken}
 use Rattle.jh_num.specs.Bits.{has_bit}
 use Rattle.jh_shape.specs.Pages.{pages_of}
 use Rattle.jh_life.specs.Seen.{Seen}
-use Rattle.jh_life.specs.Lives.{cells_of}
+use Rattle.jh_life.specs.Lives.{numbered_cells}
 use Rattle.jh_shape.specs.Lives.{configs_of}
 use Rattle.jh_life.specs.Verdict.{may_have}
-use Rattle.jh_life.specs.Causes.{Create, verdict_on, Cause, Locked, Known, TakenCpu, BrokenRule, Overlap, FewPages, place_in_order, number_for, IsKnownTo, NamesTakenCpu, BreaksRule, Holds, IsFirst}
+use Rattle.jh_life.specs.Causes.{Create, verdict_on, Cause, Locked, Known, TakenCpu, BrokenRule, Overlap, FewPages, place_in_order, number_for, IsKnownTo, NamesTakenCpu, BreaksRule, SpeaksAgainst, IsFirst}
 
 -- ---- by tests
 
@@ -112,7 +112,7 @@ one_first test one other first second =
 
 abbrev test_of : Seen → Create → Cause → Bool
 test_of seen create Locked = create.locked
-test_of seen create Known = is_known (cells_of seen) create.new
+test_of seen create Known = is_known (numbered_cells seen) create.new
 test_of seen create TakenCpu = names_beyond (may_have create.owned create.caller) create.new.cpu_set
 test_of seen create BrokenRule = list_any (is_invalid (length (configs_of seen.lives) + 1)) (findings seen.system (configs_of seen.lives ++ create.new ∷ []))
 test_of seen create Overlap = list_any (is_busy (length (configs_of seen.lives) + 1)) (findings seen.system (configs_of seen.lives ++ create.new ∷ []))
@@ -136,13 +136,13 @@ words_namesake : (new cell : CellConfig) → (cell.id ≡ new.id) ⊎ (name_of c
 words_namesake new cell (inl same) = or_left (cell.id == new.id) (pointwise nat_eq (name_of cell) (name_of new)) (eq-eqb cell.id new.id same)
 words_namesake new cell (inr same) = or_right (cell.id == new.id) (pointwise nat_eq (name_of cell) (name_of new)) (named_same (name_of cell) (name_of new) same)
 
-known_words : (seen : Seen) (new : CellConfig) → is_known (cells_of seen) new ≡ true → IsKnownTo seen new
+known_words : (seen : Seen) (new : CellConfig) → is_known (numbered_cells seen) new ≡ true → IsKnownTo seen new
 known_words seen new t =
-    let r = IsFound_from_list_any (is_namesake new) (cells_of seen) t in
+    let r = IsFound_from_list_any (is_namesake new) (numbered_cells seen) t in
     record { cell = r.0; lives = r.1.held; same = namesake_words new r.0 r.1.passes }
 
-words_known : (seen : Seen) (new : CellConfig) → IsKnownTo seen new → is_known (cells_of seen) new ≡ true
-words_known seen new h = list_any_from_Contains (is_namesake new) (cells_of seen) h.cell h.lives (words_namesake new h.cell h.same)
+words_known : (seen : Seen) (new : CellConfig) → IsKnownTo seen new → is_known (numbered_cells seen) new ≡ true
+words_known seen new h = list_any_from_Contains (is_namesake new) (numbered_cells seen) h.cell h.lives (words_namesake new h.cell h.same)
 
 taken_words : (owned caller cpu : ℕ) → may_have owned caller cpu ≡ false → (has_bit owned cpu ≡ false) ⊎ (cpu ≡ caller)
 taken_words owned caller cpu f =
@@ -215,7 +215,7 @@ words_found seen new overlaps test kind h =
     list_any_from_Contains test (findings seen.system cells) h.finding (listed_from_broken seen.system cells h.finding h.broken)
     ((kind h.finding).1 (words_names (length (configs_of seen.lives) + 1) h.finding h.named, h.kind))
 
-holds_from : (seen : Seen) (create : Create) (cause : Cause) → test_of seen create cause ≡ true → Holds seen create cause
+holds_from : (seen : Seen) (create : Create) (cause : Cause) → test_of seen create cause ≡ true → SpeaksAgainst seen create cause
 holds_from seen create Locked t = t
 holds_from seen create Known t = known_words seen create.new t
 holds_from seen create TakenCpu t = cpu_words seen create t
@@ -223,7 +223,7 @@ holds_from seen create BrokenRule t = found_words seen create.new false (is_inva
 holds_from seen create Overlap t = found_words seen create.new true (is_busy (length (configs_of seen.lives) + 1)) (busy_kind (length (configs_of seen.lives) + 1)) t
 holds_from seen create FewPages t = ltb-true create.pool (pages_of seen.system.root.memory_regions (configs_of seen.lives ++ create.new ∷ [])) t
 
-holds_to : (seen : Seen) (create : Create) (cause : Cause) → Holds seen create cause → test_of seen create cause ≡ true
+holds_to : (seen : Seen) (create : Create) (cause : Cause) → SpeaksAgainst seen create cause → test_of seen create cause ≡ true
 holds_to seen create Locked h = h
 holds_to seen create Known h = words_known seen create.new h
 holds_to seen create TakenCpu h = words_cpu seen create h
@@ -266,14 +266,14 @@ cause_to seen create cause first =
       | inr n ↦ absurd (false≢true (sym (n.0 cause) ∙ is.passes))
     ]
 
-pub none_from : (seen : Seen) (create : Create) → verdict_on seen create ≡ None → (cause : Cause) → Holds seen create cause → ⊥
+pub none_from : (seen : Seen) (create : Create) → verdict_on seen create ≡ None → (cause : Cause) → SpeaksAgainst seen create cause → ⊥
 none_from seen create e cause h =
     elim (told seen create) [
       | inl s ↦ none-some (number_for s.0) (sym e ∙ s.2)
       | inr n ↦ false≢true (sym (n.0 cause) ∙ holds_to seen create cause h)
     ]
 
-pub none_to : (seen : Seen) (create : Create) → ((cause : Cause) → Holds seen create cause → ⊥) → verdict_on seen create ≡ None
+pub none_to : (seen : Seen) (create : Create) → ((cause : Cause) → SpeaksAgainst seen create cause → ⊥) → verdict_on seen create ≡ None
 none_to seen create h =
     elim (told seen create) [
       | inl s ↦ absurd (h s.0 (holds_from seen create s.0 s.1.passes))

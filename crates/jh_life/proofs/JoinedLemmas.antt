@@ -11,38 +11,38 @@ use Rattle.jh_cellcfg.specs.declared.config.CellConfig.{CellConfig}
 use Rattle.jh_cellcfg.specs.declared.live.Live.{Live}
 use Rattle.jh_check.specs.Refusals.{is_namesake, is_known, AreTwo}
 use Rattle.jh_life.specs.Lives.{marks_of}
-use Rattle.jh_shape.specs.Lives.{configs_of, joined}
+use Rattle.jh_shape.specs.Lives.{configs_of, with_marks}
 use Rattle.jh_life.specs.SoundRecords.{AreSoundRecords}
 use Rattle.jh_shape.proofs.PageLemmas.{own_pages}
 
 abbrev live_of : CellConfig → Bool → Live
 live_of config mark = record { config = config; loadable = mark }
 
-pub list_joined : (configs : List CellConfig) (marks : List Bool) → length marks ≡ length configs → configs_of (joined configs marks) ≡ configs
+pub list_joined : (configs : List CellConfig) (marks : List Bool) → length marks ≡ length configs → configs_of (with_marks configs marks) ≡ configs
 list_joined [] marks e = refl
 list_joined (c ∷ cs) [] e = absurd (omega arith)
 list_joined (c ∷ cs) (m ∷ ms) e = ap (λ (rest : List CellConfig). c ∷ rest) (list_joined cs ms (omega arith))
 
-pub marks_joined : (configs : List CellConfig) (marks : List Bool) → length marks ≡ length configs → marks_of (joined configs marks) ≡ marks
+pub marks_joined : (configs : List CellConfig) (marks : List Bool) → length marks ≡ length configs → marks_of (with_marks configs marks) ≡ marks
 marks_joined [] [] e = refl
 marks_joined [] (m ∷ ms) e = absurd (omega arith)
 marks_joined (c ∷ cs) [] e = absurd (omega arith)
 marks_joined (c ∷ cs) (m ∷ ms) e = ap (λ (rest : List Bool). m ∷ rest) (marks_joined cs ms (omega arith))
 
-pub length_joined : (configs : List CellConfig) (marks : List Bool) → length marks ≡ length configs → length (joined configs marks) ≡ length configs
+pub length_joined : (configs : List CellConfig) (marks : List Bool) → length marks ≡ length configs → length (with_marks configs marks) ≡ length configs
 length_joined [] marks e = refl
 length_joined (c ∷ cs) [] e = absurd (omega arith)
 length_joined (c ∷ cs) (m ∷ ms) e = ap (λ n. suc n) (length_joined cs ms (omega arith))
 
 -- one more at the end
-pub joined_push : (configs : List CellConfig) (marks : List Bool) (config : CellConfig) (mark : Bool) → length marks ≡ length configs → joined (configs ++ config ∷ []) (marks ++ mark ∷ []) ≡ joined configs marks ++ live_of config mark ∷ []
+pub joined_push : (configs : List CellConfig) (marks : List Bool) (config : CellConfig) (mark : Bool) → length marks ≡ length configs → with_marks (configs ++ config ∷ []) (marks ++ mark ∷ []) ≡ with_marks configs marks ++ live_of config mark ∷ []
 joined_push [] [] config mark e = refl
 joined_push [] (m ∷ ms) config mark e = absurd (omega arith)
 joined_push (c ∷ cs) [] config mark e = absurd (omega arith)
 joined_push (c ∷ cs) (m ∷ ms) config mark e = ap (λ (rest : List Live). live_of c m ∷ rest) (joined_push cs ms config mark (omega arith))
 
 -- one less
-pub joined_remove : (i : ℕ) (configs : List CellConfig) (marks : List Bool) → length marks ≡ length configs → i < length configs → joined (remove configs i) (remove marks i) ≡ remove (joined configs marks) i
+pub joined_remove : (i : ℕ) (configs : List CellConfig) (marks : List Bool) → length marks ≡ length configs → i < length configs → with_marks (remove configs i) (remove marks i) ≡ remove (with_marks configs marks) i
 joined_remove i [] marks e l = absurd (omega arith)
 joined_remove i (c ∷ cs) [] e l = absurd (omega arith)
 joined_remove zero (c ∷ cs) (m ∷ ms) e l = refl

@@ -9,7 +9,7 @@ use Rattle.jh_check.specs.Verdicts.{is_overlap}
 use Rattle.jh_num.specs.Bits.{has_bit}
 use Rattle.jh_shape.specs.Pages.{pages_of}
 use Rattle.jh_life.specs.Seen.{Seen}
-use Rattle.jh_life.specs.Lives.{cells_of}
+use Rattle.jh_life.specs.Lives.{numbered_cells}
 use Rattle.jh_shape.specs.Lives.{configs_of}
 use Rattle.jh_life.specs.Verdict.{verdict_of_create}
 
@@ -56,7 +56,7 @@ number_for FewPages = ENOMEM
 -- root or a live cell has the new one's id or its name
 pub record IsKnownTo (seen : Seen) (new : CellConfig) : Type 0 where
   pub cell : CellConfig
-  pub lives : Contains (cells_of seen) cell
+  pub lives : Contains (numbered_cells seen) cell
   pub same : (cell.id ≡ new.id) ⊎ (name_of cell ≡ name_of new)
 
 -- the new cell names a CPU that isn't root's, or the one that asks
@@ -78,15 +78,15 @@ abbrev pub LacksPages : Seen → Create → Type 0
 LacksPages seen create = create.pool < pages_of seen.system.root.memory_regions (configs_of seen.lives ++ create.new ∷ [])
 
 -- the cause speaks against the create
-abbrev pub Holds : Seen → Create → Cause → Type 0
-Holds seen create Locked = create.locked ≡ true
-Holds seen create Known = IsKnownTo seen create.new
-Holds seen create TakenCpu = NamesTakenCpu create
-Holds seen create BrokenRule = BreaksRule seen create.new false
-Holds seen create Overlap = BreaksRule seen create.new true
-Holds seen create FewPages = LacksPages seen create
+abbrev pub SpeaksAgainst : Seen → Create → Cause → Type 0
+SpeaksAgainst seen create Locked = create.locked ≡ true
+SpeaksAgainst seen create Known = IsKnownTo seen create.new
+SpeaksAgainst seen create TakenCpu = NamesTakenCpu create
+SpeaksAgainst seen create BrokenRule = BreaksRule seen create.new false
+SpeaksAgainst seen create Overlap = BreaksRule seen create.new true
+SpeaksAgainst seen create FewPages = LacksPages seen create
 
 -- the cause holds, and none before it
 pub record IsFirst (seen : Seen) (create : Create) (cause : Cause) : Type 0 where
-  pub holds : Holds seen create cause
-  pub none : (other : Cause) → place_in_order other < place_in_order cause → Holds seen create other → ⊥
+  pub holds : SpeaksAgainst seen create cause
+  pub none : (other : Cause) → place_in_order other < place_in_order cause → SpeaksAgainst seen create other → ⊥

@@ -14,16 +14,16 @@ abbrev pub marks_of : List Live → List Bool
 marks_of lives = map (λ (live : Live). live.loadable) lives
 
 -- root and then the other live cells: a cell's number is its index here
-abbrev pub cells_of : Seen → List CellConfig
-cells_of seen = seen.system.root ∷ configs_of seen.lives
+abbrev pub numbered_cells : Seen → List CellConfig
+numbered_cells seen = seen.system.root ∷ configs_of seen.lives
 
 -- the cell of the configuration has the id
 abbrev pub has_config_id : ℕ → CellConfig → Bool
 has_config_id id config = config.id == id
 
 -- the number of the cell with the id
-abbrev pub number_of : Seen → ℕ → Option ℕ
-number_of seen id = position (has_config_id id) (cells_of seen)
+abbrev pub number_with_id : Seen → ℕ → Option ℕ
+number_with_id seen id = position (has_config_id id) (numbered_cells seen)
 
 -- the cell at that index of the others is loadable
 abbrev pub is_loadable_at : List Live → ℕ → Bool

@@ -5,7 +5,7 @@ ghost use Rattle.jh_cellcfg.specs.declared.live.Live.{Live};
 ghost use Rattle.jh_check.specs.Refusals.{is_known, AreTwo};
 ghost use Rattle.jh_num.specs.Bits.{has_bit};
 ghost use Rattle.jh_shape.specs.Pages.{pages_of};
-ghost use Rattle.jh_life.specs.Lives.{new_live, has_config_id, marks_of, cells_of, is_loadable_at, number_of};
+ghost use Rattle.jh_life.specs.Lives.{new_live, has_config_id, marks_of, numbered_cells, is_loadable_at, number_with_id};
 ghost use Rattle.jh_shape.specs.Lives.{configs_of};
 ghost use Rattle.jh_life.specs.Verdict.{verdict_of_create};
 
@@ -39,14 +39,14 @@ pub struct Cells {
 impl Model for Cells {
     ghost use Rattle.std.specs.Prelude.{◌-◌, min, vec_len, vec_capacity};
     ghost use Rattle.jh_life.specs.Seen.{Seen};
-    ghost use Rattle.jh_shape.specs.Lives.{joined};
+    ghost use Rattle.jh_shape.specs.Lives.{with_marks};
     ghost use Rattle.jh_life.specs.SoundRecords.{AreSoundRecords};
 
     ghost Value = { Seen };
 
     ghost view = { λ c. record {
       system = c.system;
-      lives = joined c.configs.items c.marks.items;
+      lives = with_marks c.configs.items c.marks.items;
       spare = min (min (vec_capacity c.configs - vec_len c.configs) (vec_capacity c.marks - vec_len c.marks)) (vec_capacity c.own - vec_len c.own);
     } };
 
@@ -84,7 +84,7 @@ impl Cells {
 
     /// The number of the cell with the id; `None` where none that lives has it.
     pub fn find(&self, id: u32) -> Option<u32>
-        ensures { result ≡ number_of self.now id }
+        ensures { result ≡ number_with_id self.now id }
     {
         if self.system.root.id == id {
             return Some(0);
@@ -124,7 +124,7 @@ impl Cells {
     ) -> Result<Option<i64>, NoMemory>
         requires { length self.now.lives ≡ 15 → (cpu : ℕ) → IsTrue (has_bit owned cpu) → cpu ≡ caller }
         ensures value { IfOk result (λ refusal. refusal ≡ verdict_of_create self.now locked new.now owned caller pool) }
-        ensures unknown { IfOk result (λ refusal. IfNone refusal (is_known (cells_of self.now) new.now ≡ false)) }
+        ensures unknown { IfOk result (λ refusal. IfNone refusal (is_known (numbered_cells self.now) new.now ≡ false)) }
         ensures room { IfOk result (λ refusal. IfNone refusal (length self.now.lives < 15)) }
     {
         if locked {
@@ -175,7 +175,7 @@ impl Cells {
     /// A new cell lives, as the last, and isn't loadable. With a positive spare it takes no memory.
     pub fn add(&mut self, new: CellConfig) -> Result<(), NoMemory>
         requires few { length self.old.lives < 15 }
-        requires unknown { is_known (cells_of self.old) new ≡ false }
+        requires unknown { is_known (numbered_cells self.old) new ≡ false }
         ensures system { self.new.system ≡ self.old.system }
         ensures ok { OnOk result (self.new.lives ≡ self.old.lives ++ new_live new ∷ []) }
         ensures err { OnErr result (self.new.lives ≡ self.old.lives) }
@@ -224,7 +224,7 @@ impl Cells {
 
 /// No two of root and the live cells have one name or one id, and at most 15 live besides root.
 pub fn live_cells_differ(cells: &Cells)
-    ensures differ { AllPairs AreTwo (cells_of cells.now) }
+    ensures differ { AllPairs AreTwo (numbered_cells cells.now) }
     ensures few { length cells.now.lives ≤ 15 }
 {
     // for the proof: the invariant of the records

@@ -11,7 +11,7 @@ ghost use Rattle.jh_life.specs.Changes.{CellChange, without, after, live_after, 
 ghost use Rattle.jh_check.specs.Refusals.{IsAccepted};
 ghost use Rattle.jh_shape.specs.Pages.{pages_of};
 ghost use Rattle.jh_life.specs.Verdict.{may_have, verdict_of_create};
-ghost use Rattle.jh_life.specs.Causes.{Create, verdict_on, Cause, Known, TakenCpu, BrokenRule, Overlap, FewPages, number_for, Holds, IsFirst};
+ghost use Rattle.jh_life.specs.Causes.{Create, verdict_on, Cause, Known, TakenCpu, BrokenRule, Overlap, FewPages, number_for, SpeaksAgainst, IsFirst};
 
 use crate::cells::{Cells, live_cells_differ};
 use jh_cellcfg::CellConfig;
@@ -75,5 +75,5 @@ pub fn each_number_has_its_causes()
     ensures busy { (seen : Seen) (create : Create) → (verdict_on seen create ≡ Some EBUSY) ↔ (IsFirst seen create TakenCpu ⊎ IsFirst seen create Overlap) }
     ensures invalid { (seen : Seen) (create : Create) → (verdict_on seen create ≡ Some EINVAL) ↔ IsFirst seen create BrokenRule }
     ensures pages { (seen : Seen) (create : Create) → (verdict_on seen create ≡ Some ENOMEM) ↔ IsFirst seen create FewPages }
-    ensures none { (seen : Seen) (create : Create) → (verdict_on seen create ≡ None) ↔ ((cause : Cause) → Holds seen create cause → ⊥) }
+    ensures none { (seen : Seen) (create : Create) → (verdict_on seen create ≡ None) ↔ ((cause : Cause) → SpeaksAgainst seen create cause → ⊥) }
 {}

@@ -12,7 +12,7 @@ use Rattle.jh_cellcfg.specs.declared.region.Region.{Region}
 use Rattle.jh_cellcfg.specs.Regions.{has_address, is_comm, place_in, virt_end}
 use Rattle.jh_check.specs.Clean.{SharesNoAddress}
 use Rattle.jh_map.specs.declared.run.Run.{Run}
-use Rattle.jh_map.specs.Maps.{is_granted, IsRunOf, IsRunIn, IsTold, EndsBefore, IsMap}
+use Rattle.jh_map.specs.Maps.{is_granted, IsRunOf, IsRunIn, IsInRun, EndsBefore, IsMap}
 use Rattle.jh_map.proofs.ListLemmas.{all_pairs_append, all_pairs_moved}
 
 -- an address between the region's ends is its own
@@ -57,10 +57,10 @@ own_left closed xs ys run is = record { region = is.region; held = Contains-appe
 own_right : (closed : ℕ → Bool) (xs ys : List Region) (run : Run) → IsRunIn closed ys run → IsRunIn closed (xs ++ ys) run
 own_right closed xs ys run is = record { region = is.region; held = Contains-append_right xs ys is.region is.held; of = is.of }
 
-told_left : (closed : ℕ → Bool) (rs ss : List Run) (r : Region) (at : ℕ) → IsTold closed rs r at → IsTold closed (rs ++ ss) r at
+told_left : (closed : ℕ → Bool) (rs ss : List Run) (r : Region) (at : ℕ) → IsInRun closed rs r at → IsInRun closed (rs ++ ss) r at
 told_left closed rs ss r at is = record { run = is.run; held = Contains-append_left rs ss is.run is.held; of = is.of; has = is.has }
 
-told_right : (closed : ℕ → Bool) (rs ss : List Run) (r : Region) (at : ℕ) → IsTold closed ss r at → IsTold closed (rs ++ ss) r at
+told_right : (closed : ℕ → Bool) (rs ss : List Run) (r : Region) (at : ℕ) → IsInRun closed ss r at → IsInRun closed (rs ++ ss) r at
 told_right closed rs ss r at is = record { run = is.run; held = Contains-append_right rs ss is.run is.held; of = is.of; has = is.has }
 
 -- the map of regions, and that of others whose addresses are above

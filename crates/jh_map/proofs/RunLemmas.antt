@@ -12,7 +12,7 @@ use Rattle.jh_num.proofs.Lists.{IsFound_from_list_any, list_any_from_Contains, C
 use Rattle.jh_cellcfg.specs.declared.region.Region.{Region}
 use Rattle.jh_cellcfg.specs.Regions.{has_address, has_place, is_comm, place_in, byte_in, virt_end, phys_end, IsInRange}
 use Rattle.jh_map.specs.declared.run.Run.{Run}
-use Rattle.jh_map.specs.Maps.{is_granted, IsRunOf, IsRunIn, IsTold, EndsBefore, IsMap}
+use Rattle.jh_map.specs.Maps.{is_granted, IsRunOf, IsRunIn, IsInRun, EndsBefore, IsMap}
 use Rattle.jh_map.specs.Private.Places.{AreFree, run_to}
 use Rattle.jh_map.proofs.MapLemmas.{has_low, has_high, has_from, granted_has, alone}
 
@@ -193,7 +193,7 @@ run_of closed r ranges x left is low high =
         (cases_Bool (has_address r at))
 
 -- the run of an address that is granted
-told_at : (closed : ℕ → Bool) (r : Region) (ranges : List Range) (at : ℕ) → AreLeft closed r ranges → All (λ (x : Range). (r.phys_start ≤ x.start) × (x.end ≤ phys_end r)) ranges → is_granted closed r at ≡ true → IsTold closed (map (run_to r) ranges) r at
+told_at : (closed : ℕ → Bool) (r : Region) (ranges : List Range) (at : ℕ) → AreLeft closed r ranges → All (λ (x : Range). (r.phys_start ≤ x.start) × (x.end ≤ phys_end r)) ranges → is_granted closed r at ≡ true → IsInRun closed (map (run_to r) ranges) r at
 told_at closed r ranges at left own granted =
     let has = granted_has closed r at granted in
     let low = has_low r at has in
@@ -221,7 +221,7 @@ ranges_map closed r ranges left own = record {
   whole = λ s at held granted.
       let same = alone r s held in
       let P : Region → Type 0 = λ y. is_granted closed y at ≡ true in
-      let Q : Region → Type 0 = λ y. IsTold closed (map (run_to r) ranges) y at in
+      let Q : Region → Type 0 = λ y. IsInRun closed (map (run_to r) ranges) y at in
       subst Q same (told_at closed r ranges at left own (subst P (sym same) granted));
   order = λ i j d lt jl. ordered i j d lt jl;
 }

@@ -37,7 +37,7 @@ pub record IsRunIn (closed : ℕ → Bool) (regions : List Region) (run : Run) :
   pub of : IsRunOf closed region run
 
 -- the address is in one of the runs, which is one of the region's
-pub record IsTold (closed : ℕ → Bool) (runs : List Run) (region : Region) (at : ℕ) : Type 0 where
+pub record IsInRun (closed : ℕ → Bool) (runs : List Run) (region : Region) (at : ℕ) : Type 0 where
   pub run : Run
   pub held : Contains runs run
   pub of : IsRunOf closed region run
@@ -51,5 +51,5 @@ EndsBefore one other = one.end ≤ other.start
 -- the order of their addresses
 pub record IsMap (closed : ℕ → Bool) (regions : List Region) (runs : List Run) : Type 0 where
   pub own : All (IsRunIn closed regions) runs
-  pub whole : (region : Region) (at : ℕ) → Contains regions region → is_granted closed region at ≡ true → IsTold closed runs region at
+  pub whole : (region : Region) (at : ℕ) → Contains regions region → is_granted closed region at ≡ true → IsInRun closed runs region at
   pub order : AllPairs EndsBefore runs

@@ -1,7 +1,7 @@
 //! The one link that whole runs of the program don't show: with sixteen peers.
 
 ghost use Rattle.std.specs.Prelude.{◌≡◌, ◌%◌, ◌<◌};
-ghost use Rattle.jh_ivshmem.specs.Specs.{IsWithin};
+ghost use Rattle.jh_ivshmem.specs.Specs.{IsInItsLimits};
 
 use jh_ivshmem::{EndpointSpec, Endpoints, Slot};
 use jh_num::NoMemory;
@@ -14,7 +14,7 @@ const TABLE: u64 = 0x7fb0_0000;
 /// Device 0 of the cell, without vectors.
 fn endpoint(cell: u32, id: u8) -> EndpointSpec
     requires { id < 16 }
-    ensures { IsWithin result }
+    ensures { IsInItsLimits result }
 {
     EndpointSpec {
         cell,

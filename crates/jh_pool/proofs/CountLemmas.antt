@@ -5,7 +5,7 @@ use Rattle.std.specs.Prelude.{map, ◌↔◌, not}
 use Rattle.std.proofs.lemmas.Bool.{cases_eq}
 use Rattle.std.proofs.lemmas.Bool.Decides.{nat_tests}
 use Rattle.std.proofs.lemmas.List.Sums.{sum_by-cons}
-use Rattle.jh_pool.specs.Pages.{IsPageIn, IsTaken}
+use Rattle.jh_pool.specs.Pages.{IsPageIn, IsTakenPage}
 use Rattle.jh_pool.specs.SoundPool.{often, IsSoundPool}
 use Rattle.jh_pool.proofs.ListLemmas.{often_from_any, none_from_any}
 
@@ -119,7 +119,7 @@ had_by_cases false had free a b there none not_had is_had =
     let zero' : free ≡ 0 = none refl in omega arith
 
 -- where each taken page is had once and no other page is, as many are had as aren't free
-pub had_pages : (base n capacity : ℕ) (xs : List ℕ) (had : ℕ → ℕ) → IsSoundPool base n xs capacity → ((page : ℕ) → IsPageIn base n page → had page ≤ 1) → ((page : ℕ) → IsPageIn base n page → 0 < had page ↔ IsTaken (record { base = base; size = n; free = xs }) page) → sum_by had (pages_from base 0 n) ≡ n - length xs
+pub had_pages : (base n capacity : ℕ) (xs : List ℕ) (had : ℕ → ℕ) → IsSoundPool base n xs capacity → ((page : ℕ) → IsPageIn base n page → had page ≤ 1) → ((page : ℕ) → IsPageIn base n page → 0 < had page ↔ IsTakenPage (record { base = base; size = n; free = xs }) page) → sum_by had (pages_from base 0 n) ≡ n - length xs
 had_pages base n capacity xs had stands most each =
     let all : sum_by (λ q. had q + often q xs) (pages_from base 0 n) ≡ n = sum_ones (λ q. had q + often q xs) base 0 n (λ k low high.
     let at : IsPageIn base n (base + 4096 * k) = page_at base n k stands.aligned (omega arith) in

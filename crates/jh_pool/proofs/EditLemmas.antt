@@ -3,7 +3,7 @@ use Rattle.std.proofs.Common.{◌≡◌, ℕ, ◌+◌, ◌<◌, ◌≤◌, ◌�
 use Rattle.std.specs.List.{list_any}
 use Rattle.std.specs.Prelude.{Result, Ok, Err, IsOk, is_ok, if◌then◌else◌, Option, Some, None, IfSome, option_to_list}
 use Rattle.std.proofs.lemmas.Bool.{cases_eq}
-use Rattle.jh_pool.specs.Pages.{IsPageIn, IsTaken}
+use Rattle.jh_pool.specs.Pages.{IsPageIn, IsTakenPage}
 use Rattle.jh_pool.specs.SoundPool.{often, IsSoundPool}
 use Rattle.jh_pool.proofs.ListLemmas.{often_same, often_other, none_from_any, any_from_none, any_from_often, any_alike}
 use Rattle.jh_pool.proofs.CountLemmas.{few_pages}
@@ -80,7 +80,7 @@ pub popped_page : (base n capacity : ℕ) (r : Option ℕ) (old new : List ℕ) 
 popped_page base n capacity None old new e stands = tt
 popped_page base n capacity (Some page) old new e stands = last_in_range base n capacity page new (subst (λ z. IsSoundPool base n z capacity) e stands)
 
-pub popped_taken : (base n capacity : ℕ) (r : Option ℕ) (old new : List ℕ) → old ≡ new ++ option_to_list r → IsSoundPool base n old capacity → IfSome r (λ page. IsTaken (record { base = base; size = n; free = new }) page)
+pub popped_taken : (base n capacity : ℕ) (r : Option ℕ) (old new : List ℕ) → old ≡ new ++ option_to_list r → IsSoundPool base n old capacity → IfSome r (λ page. IsTakenPage (record { base = base; size = n; free = new }) page)
 popped_taken base n capacity None old new e stands = tt
 popped_taken base n capacity (Some page) old new e stands =
     let was : IsSoundPool base n (new ++ page ∷ []) capacity = subst (λ z. IsSoundPool base n z capacity) e stands in

@@ -24,7 +24,7 @@ abbrev pub is_free : PoolView → ℕ → Bool
 is_free pool page = list_any (λ free. free == page) pool.free
 
 -- the address is that of a page of the pool that is taken: it isn't free
-pub record IsTaken (pool : PoolView) (page : ℕ) : Type 0 where
+pub record IsTakenPage (pool : PoolView) (page : ℕ) : Type 0 where
   pub in_range : IsPageOf pool page
   pub taken : is_free pool page ≡ false
 

@@ -1,7 +1,7 @@
 //! The pages of one range: those that are free, and those that somebody took.
 ghost use Rattle.std.specs.Prelude.{◌≡◌, ◌≢◌, ℕ, ◌+◌, ◌*◌, ◌%◌, ◌≤◌, ◌↔◌, [], true, false, not, IsNone, IfNone, IfSome, OnSome, IfOk, count_by, sum_by, ◌<◌};
 ghost use Rattle.jh_num.specs.declared.address.TheConstants.{ADDRESS_END};
-ghost use Rattle.jh_pool.specs.Pages.{is_free, pages_of, used_of, IsPageOf, IsTaken};
+ghost use Rattle.jh_pool.specs.Pages.{is_free, pages_of, used_of, IsPageOf, IsTakenPage};
 
 use jh_num::{NoMemory, PAGE_SIZE};
 use std::alloc::Global;
@@ -54,7 +54,7 @@ impl Pool {
         ensures unchanged { IfNone result (self.new ≡ self.old) }
         ensures page { IfSome result (IsPageOf self.old) }
         ensures was_free { IfSome result (λ page. is_free self.old page ≡ true) }
-        ensures taken { IfSome result (IsTaken self.new) }
+        ensures taken { IfSome result (IsTakenPage self.new) }
         ensures others { IfSome result (λ page. (q : ℕ) → q ≢ page → is_free self.new q ≡ is_free self.old q) }
         ensures base { self.new.base ≡ self.old.base }
         ensures size { self.new.size ≡ self.old.size }
@@ -65,7 +65,7 @@ impl Pool {
 
     /// Gives back a page that was taken.
     pub fn give(&mut self, page: u64)
-        requires { IsTaken self.old page }
+        requires { IsTakenPage self.old page }
         ensures given { is_free self.new page ≡ true }
         ensures others { (q : ℕ) → q ≢ page → is_free self.new q ≡ is_free self.old q }
         ensures base { self.new.base ≡ self.old.base }
@@ -96,7 +96,7 @@ impl Pool {
 /// often each is had is how many are taken.
 pub fn pages_taken_once_are_counted(pool: &Pool)
     ensures { (had : ℕ → ℕ) → ((page : ℕ) → IsPageOf pool.now page → had page ≤ 1)
-        → ((page : ℕ) → IsPageOf pool.now page → 0 < had page ↔ IsTaken pool.now page)
+        → ((page : ℕ) → IsPageOf pool.now page → 0 < had page ↔ IsTakenPage pool.now page)
         → sum_by had (pages_of pool.now) ≡ used_of pool.now }
 {
     // for the proof: the invariant of the pool

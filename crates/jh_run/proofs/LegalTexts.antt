@@ -18,7 +18,7 @@ use Rattle.jh_history.specs.declared.entry.Act.TheVariants.{Read, Write, Fetch, 
 use Rattle.jh_history.specs.Admitted.{IsAdmitted}
 use Rattle.jh_history.specs.Due.{IsLegal}
 use Rattle.jh_history.specs.Lives.{is_program_of, program_of}
-use Rattle.jh_laws.specs.Held.{IsLive}
+use Rattle.jh_laws.specs.Held.{IsRootOrLive}
 use Rattle.jh_laws.specs.Moments.{AdmittedMoment, facts_before, state_before}
 use Rattle.jh_laws.specs.Operations.{op_of}
 use Rattle.jh_laws.specs.Typed.{OpensTyped, TellsTyped}
@@ -35,7 +35,7 @@ pub record JournalLaws : Type 0 where
   pub cell : (m : AdmittedMoment) → OpensTyped m.image → m.entry.cell < 2 ^ 32
   pub told : (m : AdmittedMoment) → OpensTyped m.image → TellsTyped m.entry.act
   pub operation : (m : AdmittedMoment) (op : Op) → op_of m.entry.act ≡ Some op
-      → (cell : CellConfig) × IsLive m.image (facts_before m).cells cell × (cell.id ≡ m.entry.cell) × (slice_get (program_of m.image (name_of cell) m.entry.cpu) (state_before m m.entry.cpu).position ≡ Some op)
+      → (cell : CellConfig) × IsRootOrLive m.image (facts_before m).cells cell × (cell.id ≡ m.entry.cell) × (slice_get (program_of m.image (name_of cell) m.entry.cpu) (state_before m m.entry.cpu).position ≡ Some op)
 
 -- ---- the operations of programs
 

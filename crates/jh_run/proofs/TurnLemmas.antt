@@ -44,7 +44,7 @@ takes_so old cpu (Err fault) new ok err = err
 pub Takes_grows : (old : BoardView) (cpu : ℕ) (answer : Result Turn TurnFault) (new : BoardView) → Takes old cpu answer new → Grows whose_entry cpu old.entries new.entries
 Takes_grows old cpu (Ok (Made entry)) new h = inr (entry, due_own old.image old.entries cpu entry h.0, ap entries h.2)
 Takes_grows old cpu (Ok (Edited left)) new h = absurd h
-Takes_grows old cpu (Ok NotNow) new h = inl (ap entries h.2)
+Takes_grows old cpu (Ok (NotNow other)) new h = inl (ap entries h.2)
 Takes_grows old cpu (Ok Done) new h = inl (ap entries h.1)
 Takes_grows old cpu (Err Full) new h = inl (ap entries h.2)
 Takes_grows old cpu (Err NoMemory) new h = inl (ap entries h)
@@ -62,6 +62,6 @@ refused_tells origin cpu before after NoMemory h = tt
 pub turn_tells : (origin : Origin) (cpu : ℕ) (before after : List Entry) (answer : Result Turn TurnFault) → IsTurnAnswer origin cpu before after answer → IfSome (drive_end_after answer) (λ end. ExplainsEnd origin end after)
 turn_tells origin cpu before after (Ok (Made entry)) h = tt
 turn_tells origin cpu before after (Ok (Edited left)) h = tt
-turn_tells origin cpu before after (Ok NotNow) h = tt
+turn_tells origin cpu before after (Ok (NotNow other)) h = tt
 turn_tells origin cpu before after (Ok Done) h = done_tells origin cpu before after h
 turn_tells origin cpu before after (Err fault) h = refused_tells origin cpu before after fault h

@@ -24,7 +24,7 @@ drive_end (Some fault) = Refused fault
 abbrev pub drive_end_after : Result Turn TurnFault → Option DriveEnd
 drive_end_after (Ok (Made entry)) = None
 drive_end_after (Ok (Edited left)) = None
-drive_end_after (Ok NotNow) = None
+drive_end_after (Ok (NotNow other)) = None
 drive_end_after (Ok Done) = Some Quiet
 drive_end_after (Err fault) = Some (Refused fault)
 

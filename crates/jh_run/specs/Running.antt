@@ -1,5 +1,5 @@
 -- A running board as what callers take turns on: its meaning for the lock.
-use Rattle.std.specs.Prelude.{◌≡◌, ◌<◌, ℕ, List, [], ◌∷◌, ◌++◌, length, Some, None, Result, Ok, Err, IsTrue}
+use Rattle.std.specs.Prelude.{◌≡◌, ◌<◌, ℕ, List, [], ◌∷◌, ◌++◌, length, Some, None, IsSome, Result, Ok, Err, IsTrue}
 use Rattle.jh_history.specs.declared.entry.Entry.{Entry}
 use Rattle.jh_history.specs.Lives.{is_on_board}
 use Rattle.jh_history.specs.Due.{due, IsQuiet}
@@ -30,7 +30,7 @@ entries_of running = running.board.entries
 abbrev pub IsTurnAnswer : Origin → ℕ → List Entry → List Entry → Result Turn TurnFault → Type 0
 IsTurnAnswer origin cpu before after (Ok (Made entry)) = (due origin.image before cpu ≡ Some entry) × (length before < origin.limit) × (after ≡ before ++ entry ∷ [])
 IsTurnAnswer origin cpu before after (Ok (Edited left)) = ⊥
-IsTurnAnswer origin cpu before after (Ok NotNow) = (due origin.image before cpu ≡ None) × ¬ IsQuiet origin.image before × (after ≡ before)
+IsTurnAnswer origin cpu before after (Ok (NotNow other)) = (due origin.image before cpu ≡ None) × IsSome (due origin.image before other) × (after ≡ before)
 IsTurnAnswer origin cpu before after (Ok Done) = IsQuiet origin.image before × (after ≡ before)
 IsTurnAnswer origin cpu before after (Err Full) = (length before ≡ origin.limit) × ¬ IsQuiet origin.image before × (after ≡ before)
 IsTurnAnswer origin cpu before after (Err NoMemory) = after ≡ before

@@ -5,6 +5,7 @@ ghost use Rattle.jh_turn.specs.PortSets.{IsSameSet};
 ghost use Rattle.jh_run.specs.Drives.{Shows, SomeShows, drive_end, drive_end_after};
 ghost use Rattle.jh_run.specs.Running.{origin_of};
 
+use crate::bells::Bells;
 use crate::running::Running;
 use jh_board::{Turn, TurnFault};
 use jh_outside::Gate;
@@ -38,32 +39,25 @@ fn end_after(answer: Result<Turn, TurnFault>) -> Option<DriveEnd>
     ensures { result ≡ drive_end_after answer }
 {
     match answer {
-        Ok(Turn::Made(_) | Turn::Edited { .. } | Turn::NotNow) => None,
+        Ok(Turn::Made(_) | Turn::Edited { .. } | Turn::NotNow { .. }) => None,
         Ok(Turn::Done) => Some(DriveEnd::Quiet),
         Err(fault) => Some(DriveEnd::Refused(fault)),
     }
 }
 
-/// How often a thread looks for a new entry before its next turn, where the last one found nothing due to its CPU. A turn
-/// of another thread may be refused, which adds none, so it doesn't look for ever.
-const LOOKS: u32 = 64;
-
-/// Lets other threads go first until there is a new entry, which may have made one due to the port's CPU.
-fn wait_for_news(shared: &Shared<Running>, port: &Port<Running>) {
-    for _ in 0..LOOKS {
-        thread::yield_now();
-        if shared.has_news(port) {
-            return;
-        }
+/// Lets other threads go first where a turn at each of the ports made no entry. A thread that drives one port alone has
+/// nothing to do until the bell of its CPU rings.
+fn give_way(ports: &[Port<Running>], bells: &Bells) {
+    match ports {
+        [port] => bells.wait(port.caller()),
+        _ => thread::yield_now(),
     }
 }
 
-/// Lets other threads go first where a turn at each of the ports made no entry. A thread that drives one port alone has
-/// nothing to do until there is a new entry.
-fn give_way(shared: &Shared<Running>, ports: &[Port<Running>]) {
-    match ports {
-        [port] => wait_for_news(shared, port),
-        _ => thread::yield_now(),
+/// Rings the bell of the CPU that has an entry due, where the turn found that it is another one.
+fn call_other(answer: &Result<Turn, TurnFault>, bells: &Bells) {
+    if let Ok(Turn::NotNow { due_to }) = answer {
+        bells.ring(*due_to);
     }
 }
 
@@ -79,6 +73,7 @@ fn drive_port<R: Wait, G: Gate>(
     shared: &Shared<Running>,
     port: &mut Port<Running>,
     gate: &G,
+    bells: &Bells,
     round: u64,
     idle: &mut bool,
 ) -> Option<DriveEnd>
@@ -90,6 +85,7 @@ fn drive_port<R: Wait, G: Gate>(
     gate.pass(port.caller(), round);
     let answer = shared.turn(rt, port);
     *idle &= !has_made(&answer);
+    call_other(&answer, bells);
     end_after(answer)
 }
 
@@ -99,6 +95,7 @@ fn drive_round<R: Wait, G: Gate>(
     shared: &Shared<Running>,
     ports: &mut [Port<Running>],
     gate: &G,
+    bells: &Bells,
     round: u64,
 ) -> Option<DriveEnd>
     requires { All (IsPortOf shared.now) ports.old }
@@ -107,13 +104,13 @@ fn drive_round<R: Wait, G: Gate>(
 {
     let mut idle = true;
     for i in 0..ports.len() {
-        let end = drive_port(rt, shared, &mut ports[i], gate, round, &mut idle);
+        let end = drive_port(rt, shared, &mut ports[i], gate, bells, round, &mut idle);
         if end.is_some() {
             return end;
         }
     }
     if idle {
-        give_way(shared, ports);
+        give_way(ports, bells);
     }
     None
 }
@@ -126,6 +123,7 @@ pub fn drive<R: Wait, G: Gate>(
     shared: &Shared<Running>,
     ports: &mut [Port<Running>],
     gate: &G,
+    bells: &Bells,
 ) -> Option<TurnFault>
     requires some { 0 < length ports.old }
     requires own { All (IsPortOf shared.now) ports.old }
@@ -134,7 +132,8 @@ pub fn drive<R: Wait, G: Gate>(
 {
     let mut round: u64 = 0;
     for _ in rt.forever() {
-        if let Some(end) = drive_round(rt, shared, ports, gate, round) {
+        if let Some(end) = drive_round(rt, shared, ports, gate, bells, round) {
+            bells.ring_all();
             return end.fault();
         }
         round = round.saturating_add(1);

@@ -1,6 +1,7 @@
 //! Schedules on a board, and a worker for each of its CPUs.
 #![tactic(auto)]
 
+mod bells;
 mod crossing;
 mod driving;
 mod ended;

@@ -6,6 +6,7 @@ ghost use Rattle.jh_run.specs.Drives.{SomeShows, drive_end};
 ghost use Rattle.jh_run.specs.Running.{origin_of};
 ghost use Rattle.jh_run.specs.Workers.{AreBack};
 
+use crate::bells::Bells;
 use crate::driving::drive;
 use crate::running::Running;
 use jh_board::TurnFault;
@@ -45,13 +46,14 @@ fn work<R: Wait, G: Gate>(
     shared: &Shared<Running>,
     mut port: Port<Running>,
     gate: &G,
+    bells: &Bells,
     stays: &AtomicBool,
 ) -> Port<Running>
     requires { IsPortOf shared.now port }
     ensures { IsPortOf shared.now result × (port_caller result ≡ port_caller port) }
 {
     if !stays.load(Ordering::SeqCst) {
-        drive(rt, shared, slice::from_mut(&mut port), gate);
+        drive(rt, shared, slice::from_mut(&mut port), gate, bells);
     }
     port
 }
@@ -63,6 +65,7 @@ fn start<'s, E, R: Threads + Wait + Sync, G: Gate + Sync>(
     shared: &'s Shared<Running>,
     port: Port<Running>,
     gate: &'s G,
+    bells: &'s Bells,
     stays: &'s AtomicBool,
 ) -> Result<PromisedHandle<Port<Running>, Given<'s>>, Port<Running>>
     requires { IsPortOf shared.now port }
@@ -76,7 +79,7 @@ fn start<'s, E, R: Threads + Wait + Sync, G: Gate + Sync>(
         move || -> Port<Running>
             requires { IsPortOf shared.now port }
             ensures { IsPortOf shared.entry.now result × (port_caller result ≡ port_caller port) }
-        { work(rt, shared, port, gate, stays) },
+        { work(rt, shared, port, gate, bells, stays) },
     );
     match begun {
         Ok(child) => Ok(child),
@@ -112,6 +115,7 @@ fn finish<'s, R: Threads + Wait, G: Gate>(
     shared: &Shared<Running>,
     mut own: Vec<Port<Running>>,
     gate: &G,
+    bells: &Bells,
     children: Vec<PromisedHandle<Port<Running>, Given<'s>>>,
 ) -> Driven
     requires own { All (IsPortOf shared.now) own.items }
@@ -122,7 +126,7 @@ fn finish<'s, R: Threads + Wait, G: Gate>(
     ensures each { (who : ℕ) → Contains (map port_caller own.items) who ⊎ Contains (map (λ child. child.promise.caller) children.entry.items) who → Contains (map port_caller result.ports.items) who }
     ensures shows { SomeShows (origin_of (opened_value shared.now)) (drive_end result.refused) result.ports.items }
 {
-    let refused = drive(rt, shared, own.as_mut_slice(), gate);
+    let refused = drive(rt, shared, own.as_mut_slice(), gate, bells);
     gather(rt, shared, &mut own, children);
     Driven {
         ports: own,
@@ -138,6 +142,7 @@ fn spread<'s, E, R: Threads + Wait + Sync, G: Gate + Sync>(
     shared: &'s Shared<Running>,
     ports: Vec<Port<Running>>,
     gate: &'s G,
+    bells: &'s Bells,
     stays: &'s [AtomicBool],
     mut own: Vec<Port<Running>>,
     mut children: Vec<PromisedHandle<Port<Running>, Given<'s>>>,
@@ -151,14 +156,14 @@ fn spread<'s, E, R: Threads + Wait + Sync, G: Gate + Sync>(
 {
     for port in ports {
         match stays.get(own.len() + children.len()) {
-            Some(stays) => match start(scope, rt, shared, port, gate, stays) {
+            Some(stays) => match start(scope, rt, shared, port, gate, bells, stays) {
                 Ok(child) => children.push_reserved(child),
                 Err(port) => own.push_reserved(port),
             },
             None => own.push_reserved(port),
         }
     }
-    finish(rt, shared, own, gate, children)
+    finish(rt, shared, own, gate, bells, children)
 }
 
 /// As many marks as `count`, none of them set.
@@ -189,6 +194,7 @@ pub fn drive_all<R: Threads + Wait + Sync, G: Gate + Sync>(
     let own = Vec::with_capacity(alloc, ports.len())?;
     let stays = marks(alloc, ports.len().saturating_sub(1))?;
     let stays = stays.as_slice();
+    let bells = &Bells::new(alloc)?;
     thread::scope(
         thread::scope_env(),
         rt,
@@ -198,7 +204,7 @@ pub fn drive_all<R: Threads + Wait + Sync, G: Gate + Sync>(
             ensures shows { IfOk result (λ driven. SomeShows (origin_of (opened_value shared.entry.now)) (drive_end driven.refused) driven.ports.items) }
         {
             let children = Vec::with_capacity(alloc, ports.len())?;
-            Ok(spread(scope, rt, shared, ports, gate, stays, own, children))
+            Ok(spread(scope, rt, shared, ports, gate, bells, stays, own, children))
         },
     )
 }

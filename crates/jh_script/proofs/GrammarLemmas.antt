@@ -16,7 +16,7 @@ use Rattle.std.proofs.Math.Nat.{pow-le-pow_right}
 use Rattle.jh_script.specs.declared.op.Op.{Op}
 use Rattle.jh_script.specs.declared.op.Op.TheVariants.{Read, Write, Fetch, Await, Irq, Hvc}
 use Rattle.jh_script.specs.declared.line.Line.TheVariants.{Blank, Operation, Syntax, Width}
-use Rattle.jh_script.specs.Numbers.{are_digits, value_of, decimal_of, hexadecimal_of, number_of}
+use Rattle.jh_script.specs.Numbers.{are_digits, value_of, decimal_of, hexadecimal_of, number_written}
 use Rattle.jh_script.specs.Words.{words, blanks}
 use Rattle.jh_script.specs.Operations.{none_of, one_of, two_of, three_of, op_of, is_well_formed, IsWellFormed, line_of, line_of_op, line_of_words}
 use Rattle.jh_script.specs.Grammar.{IsDecimal, IsNumber, IsCallOf0, IsCallOf1, IsCallOf2, IsCallOf3, are_ascii, IsSkipped, IsTooWide, Writes}
@@ -128,8 +128,8 @@ marked (a ∷ b ∷ rest) h =
     let second = both (eqb 120 b) true parts.1 in
     ap (λ x. x ∷ b ∷ rest) (sym (eqb-true 48 a parts.0)) ∙ ap (λ x. 48 ∷ x ∷ rest) (sym (eqb-true 120 b second.0))
 
-pub number_to : (word : List ℕ) (n : ℕ) → number_of word ≡ Some n → IsNumber word n
-unfolding number_of
+pub number_to : (word : List ℕ) (n : ℕ) → number_written word ≡ Some n → IsNumber word n
+unfolding number_written
 number_to word n e = by (starts_with nat_eq word (codes "0x")) refl e
   where
     by : (t : Bool) → starts_with nat_eq word (codes "0x") ≡ t → cond t (hexadecimal_of (drop 2 word)) (decimal_of word) ≡ Some n → IsNumber word n
@@ -146,8 +146,8 @@ unmarked word true all h =
     let digits = subst (AllDigits 10) (marked word h) all in
     absurd (omega (arith, digits.1.0))
 
-pub number_from : (word : List ℕ) (n : ℕ) → IsNumber word n → number_of word ≡ Some n
-unfolding number_of
+pub number_from : (word : List ℕ) (n : ℕ) → IsNumber word n → number_written word ≡ Some n
+unfolding number_written
 number_from word n (inl d) =
     let value = decimal_value n d.small in
     let all : AllDigits 10 word = subst (AllDigits 10) (sym d.text) value.all in
@@ -158,7 +158,7 @@ number_from word n (inr h) =
     let most : 16 ^ length digits ≤ 16 ^ 16 = pow-le-pow_right {n = 16} (omega arith) {i = length digits} {j = 16} h.few in
     let value = h.value in
     let small : n < 2 ^ 64 = omega arith in
-    ap number_of h.text ∙ hexadecimal_from digits n h.some h.few (record { all = h.are; value = sym h.value; small = small })
+    ap number_written h.text ∙ hexadecimal_from digits n h.some h.few (record { all = h.are; value = sym h.value; small = small })
 
 -- ---- the words of an operation
 
@@ -177,9 +177,9 @@ two_to : (name : List ℕ) (behind : List (List ℕ)) (n : ℕ × ℕ) → two_o
 unfolding two_of
 two_to name [] n e = absurd (none-some _ e)
 two_to name (a ∷ []) n e = absurd (none-some _ e)
-two_to name (a ∷ b ∷ []) n e = by (number_of a) (number_of b) refl refl e
+two_to name (a ∷ b ∷ []) n e = by (number_written a) (number_written b) refl refl e
   where
-    by : (s t : Option ℕ) → number_of a ≡ s → number_of b ≡ t → option_and_then (λ x. option_and_then (λ y. Some (x, y)) t) s ≡ Some n → IsCallOf2 name (name ∷ a ∷ b ∷ []) n.0 n.1
+    by : (s t : Option ℕ) → number_written a ≡ s → number_written b ≡ t → option_and_then (λ x. option_and_then (λ y. Some (x, y)) t) s ≡ Some n → IsCallOf2 name (name ∷ a ∷ b ∷ []) n.0 n.1
     by None t f g e = absurd (none-some _ e)
     by (Some x) None f g e = absurd (none-some _ e)
     by (Some x) (Some y) f g e =
@@ -192,9 +192,9 @@ unfolding three_of
 three_to name [] n e = absurd (none-some _ e)
 three_to name (a ∷ []) n e = absurd (none-some _ e)
 three_to name (a ∷ b ∷ []) n e = absurd (none-some _ e)
-three_to name (a ∷ b ∷ c ∷ []) n e = by (number_of a) (number_of b) (number_of c) refl refl refl e
+three_to name (a ∷ b ∷ c ∷ []) n e = by (number_written a) (number_written b) (number_written c) refl refl refl e
   where
-    by : (r s t : Option ℕ) → number_of a ≡ r → number_of b ≡ s → number_of c ≡ t → option_and_then (λ x. option_and_then (λ y. option_and_then (λ z. Some (x, y, z)) t) s) r ≡ Some n → IsCallOf3 name (name ∷ a ∷ b ∷ c ∷ []) n.0 n.1 n.2
+    by : (r s t : Option ℕ) → number_written a ≡ r → number_written b ≡ s → number_written c ≡ t → option_and_then (λ x. option_and_then (λ y. option_and_then (λ z. Some (x, y, z)) t) s) r ≡ Some n → IsCallOf3 name (name ∷ a ∷ b ∷ c ∷ []) n.0 n.1 n.2
     by None s t f g h e = absurd (none-some _ e)
     by (Some x) None t f g h e = absurd (none-some _ e)
     by (Some x) (Some y) None f g h e = absurd (none-some _ e)

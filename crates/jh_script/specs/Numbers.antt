@@ -24,5 +24,5 @@ unfoldable pub hexadecimal_of : List ℕ → Option ℕ
 hexadecimal_of digits = if nat_lt 0 (length digits) && nat_le (length digits) 16 then value_of 16 digits else None
 
 -- the number that a word writes: in hexadecimal where it begins with `0x`, else in decimal
-unfoldable pub number_of : List ℕ → Option ℕ
-number_of word = if starts_with nat_eq word (codes "0x") then hexadecimal_of (drop 2 word) else decimal_of word
+unfoldable pub number_written : List ℕ → Option ℕ
+number_written word = if starts_with nat_eq word (codes "0x") then hexadecimal_of (drop 2 word) else decimal_of word

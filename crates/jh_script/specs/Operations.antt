@@ -7,7 +7,7 @@ use Rattle.jh_script.specs.declared.op.Op.{Op}
 use Rattle.jh_script.specs.declared.op.Op.TheVariants.{Read, Write, Fetch, Await, Irq, Hvc}
 use Rattle.jh_script.specs.declared.line.Line.{Line}
 use Rattle.jh_script.specs.declared.line.Line.TheVariants.{Blank, Operation, Syntax, Width}
-use Rattle.jh_script.specs.Numbers.{number_of}
+use Rattle.jh_script.specs.Numbers.{number_written}
 use Rattle.jh_script.specs.Words.{words, blanks}
 
 infixl 10 ◌>>=◌
@@ -23,7 +23,7 @@ none_of (a ∷ more) = None
 -- the number of the words, where they are just one and it is a number
 unfoldable pub one_of : List (List ℕ) → Option ℕ
 one_of [] = None
-one_of (a ∷ []) = number_of a
+one_of (a ∷ []) = number_written a
 one_of (a ∷ b ∷ more) = None
 
 -- the numbers of the words, where they are just two and each is a number
@@ -31,8 +31,8 @@ unfoldable pub two_of : List (List ℕ) → Option (ℕ × ℕ)
 two_of [] = None
 two_of (a ∷ []) = None
 two_of (a ∷ b ∷ []) = do
-  x ← number_of a
-  y ← number_of b
+  x ← number_written a
+  y ← number_written b
   Some (x, y)
 two_of (a ∷ b ∷ c ∷ more) = None
 
@@ -42,9 +42,9 @@ three_of [] = None
 three_of (a ∷ []) = None
 three_of (a ∷ b ∷ []) = None
 three_of (a ∷ b ∷ c ∷ []) = do
-  x ← number_of a
-  y ← number_of b
-  z ← number_of c
+  x ← number_written a
+  y ← number_written b
+  z ← number_written c
   Some (x, y, z)
 three_of (a ∷ b ∷ c ∷ d ∷ more) = None
 

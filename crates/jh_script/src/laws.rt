@@ -8,7 +8,7 @@ ghost use Rattle.jh_script.specs.declared.fault.ScriptFault.TheVariants as fault
 ghost use Rattle.jh_script.specs.declared.fault.ScheduleFault.TheVariants as refusals;
 ghost use Rattle.jh_script.specs.Laws.{IsProgram, IsFirstBad, HasTooMany, IsSchedule, IsFirstRefused, HasTooManyItems};
 ghost use Rattle.jh_script.specs.Grammar.{IsNumber, IsSkipped, IsTooWide, Writes, are_ascii};
-ghost use Rattle.jh_script.specs.Numbers.{number_of};
+ghost use Rattle.jh_script.specs.Numbers.{number_written};
 ghost use Rattle.jh_script.specs.Operations.{IsWellFormed, line_of};
 ghost use Rattle.jh_script.specs.Programs.{lines_of, program_of};
 ghost use Rattle.jh_script.specs.Schedules.{schedule_of};
@@ -45,7 +45,7 @@ pub fn lines_are_words_of_operations()
 /// A word is a number exactly where it is the number in decimal, or `0x` and 1 to 16 hexadecimal digits that
 /// write it.
 pub fn numbers_are_decimal_or_hexadecimal()
-    ensures { (word : List ℕ) (n : ℕ) → (number_of word ≡ Some n) ↔ IsNumber word n }
+    ensures { (word : List ℕ) (n : ℕ) → (number_written word ≡ Some n) ↔ IsNumber word n }
 {}
 
 /// Blank lines and comments change no operation: a text with one more of them is the same program.

@@ -1,15 +1,15 @@
 //! The numbers of a text.
 ghost use Rattle.std.specs.Prelude.{◌≡◌, ◌≤◌};
-ghost use Rattle.jh_script.specs.Numbers.{decimal_of, hexadecimal_of, number_of, value_of};
+ghost use Rattle.jh_script.specs.Numbers.{decimal_of, hexadecimal_of, number_written, value_of};
 ghost use Rattle.jh_script.specs.Private.Reading.{next_value};
 
 use crate::words::behind;
 
 /// The number below 2^64 that the word is: decimal without leading zeros, or `0x` and 1 to 16 hexadecimal digits of
 /// either case.
-#[tactic(auto, unfolding(crate::specs::Numbers::number_of))]
+#[tactic(auto, unfolding(crate::specs::Numbers::number_written))]
 pub(crate) fn number(word: &[u8]) -> Option<u64>
-    ensures { result ≡ number_of word.now }
+    ensures { result ≡ number_written word.now }
 {
     if word.starts_with(b"0x") {
         hexadecimal(behind(word, 2))

@@ -15,7 +15,7 @@ use Rattle.jh_shape.specs.declared.want.Want.TheVariants.{Nothing, Leaf}
 use Rattle.jh_shape.specs.Claims.{Claims, Holder}
 use Rattle.jh_shape.specs.Intervals.{touches, spans}
 use Rattle.jh_shape.specs.Shapes.{slot_size, is_mapped, meets_in_part, are_cut, takes, is_closed, fits_blocks, may_be_block, is_leaf_by, leaf_region, is_met, is_met_by, is_kept_from, leaf_of, out_of}
-use Rattle.jh_shape.specs.Suits.{SharesNoAddress, IsFit, IsWhole, IsSound, IsSlot}
+use Rattle.jh_shape.specs.Suits.{SharesNoAddress, IsFit, IsWhole, AreSoundClaims, IsSlot}
 use Rattle.jh_num.specs.declared.rights.Rights.{Rights}
 use Rattle.jh_shape.specs.Grants.{place_at, IsGranted, TellsGrants}
 use Rattle.jh_shape.proofs.WantLemmas.{LeafBy, found, leaf_parts}
@@ -87,7 +87,7 @@ closed_alike holders place size k l e =
     holders e
 
 -- a page of root's region is kept from it wholly, or nothing of it
-page_alike : (claims : Claims) (region : Region) (page k : ℕ) → IsSound claims → Contains claims.regions region → is_mapped region ≡ true → page % 4096 ≡ 0 → has_address region page ≡ true → k < 4096 → is_kept_from claims region (page + k) ≡ is_kept_from claims region page
+page_alike : (claims : Claims) (region : Region) (page k : ℕ) → AreSoundClaims claims → Contains claims.regions region → is_mapped region ≡ true → page % 4096 ≡ 0 → has_address region page ≡ true → k < 4096 → is_kept_from claims region (page + k) ≡ is_kept_from claims region page
 page_alike claims region page k sound held mapped begins has l =
     let here = is_closed claims.holders (place_in region page) in
     let later = is_closed claims.holders (place_in region (page + k)) in
@@ -194,7 +194,7 @@ out_later claims level start k region h fit bound =
     ∙ sym (ap (λ v. cond v (claims.comm + (start + k - region.virt_start)) later) plain))
     (cases_Bool (is_comm region))
 
-pub leaf_tells : (claims : Claims) (level start : ℕ) (region : Region) → IsSound claims → IsSlot level start → leaf_region claims level start ≡ Some region → TellsGrants claims level start (leaf_of claims region start)
+pub leaf_tells : (claims : Claims) (level start : ℕ) (region : Region) → AreSoundClaims claims → IsSlot level start → leaf_region claims level start ≡ Some region → TellsGrants claims level start (leaf_of claims region start)
 leaf_tells claims level start region sound slot e =
     let p : Region → Bool = λ (r : Region). is_leaf_by claims level start r in
     let fit = found p IsFit claims.regions region e sound.fit in
@@ -287,7 +287,7 @@ page_leads claims region page place j k low h =
     f ∙ sym (ap (λ b. here b (page + k)) plain))
     (cases_Bool (is_comm region))
 
-pub page_granted : (claims : Claims) (page place j k : ℕ) (rights : Rights) (device : Bool) → IsSound claims → page % 4096 ≡ 0 → j < 4096 → k < 4096 → IsGranted claims (page + j) (place + j) rights device → IsGranted claims (page + k) (place + k) rights device
+pub page_granted : (claims : Claims) (page place j k : ℕ) (rights : Rights) (device : Bool) → AreSoundClaims claims → page % 4096 ≡ 0 → j < 4096 → k < 4096 → IsGranted claims (page + j) (place + j) rights device → IsGranted claims (page + k) (place + k) rights device
 page_granted claims page place j k rights device sound begins l m (region, g) =
     let same : page + 0 ≡ page = omega arith in
     let P : ℕ → Type 0 = λ at. has_address region at ≡ true in

@@ -11,7 +11,7 @@ use Rattle.jh_cellcfg.specs.Regions.{virt_end, place_in}
 use Rattle.jh_shape.specs.declared.target.Target.{Target}
 use Rattle.jh_shape.specs.declared.level.TheConstants.{FIRST_LEVEL, LAST_LEVEL}
 use Rattle.jh_num.specs.Bits.{has_bit}
-use Rattle.jh_shape.specs.Claims.{Claims, Holder, held_from, one_more, claims_of}
+use Rattle.jh_shape.specs.Claims.{Claims, Holder, held_from, holder_to_come, claims_of}
 use Rattle.jh_shape.specs.Intervals.{spans}
 use Rattle.jh_shape.specs.Shapes.{slot_size, is_mapped, meets_in_part, are_cut, fits_blocks, may_be_block, is_leaf_by, is_leaf, is_met, is_met_by, is_table}
 use Rattle.jh_shape.specs.Pages.{count_below, tables_at, tables_from, tables_of, holder_of, root_claims, cell_claims, pages_of}
@@ -145,9 +145,9 @@ loadable_alike target one other =
       regions = refl;
       root = refl;
       cut = λ place size e.
-          are_cut_append (held_from target.held other 0 target.cells.now) (one_more target.extra) place size
-          ∙ ap (λ v. v || are_cut (one_more target.extra) place size) (held_alike target.held other one 0 target.cells.now place size)
-          ∙ sym (are_cut_append (held_from target.held one 0 target.cells.now) (one_more target.extra) place size)
+          are_cut_append (held_from target.held other 0 target.cells.now) (holder_to_come target.extra) place size
+          ∙ ap (λ v. v || are_cut (holder_to_come target.extra) place size) (held_alike target.held other one 0 target.cells.now place size)
+          ∙ sym (are_cut_append (held_from target.held one 0 target.cells.now) (holder_to_come target.extra) place size)
           ∙ e;
     }
 

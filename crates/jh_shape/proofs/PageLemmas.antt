@@ -9,7 +9,7 @@ use Rattle.std.proofs.lemmas.Nat.Bits.{bit_at-zero, bit_at_ones}
 use Rattle.jh_num.specs.declared.address.TheConstants.{ADDRESS_END}
 use Rattle.jh_cellcfg.specs.declared.config.CellConfig.{CellConfig}
 use Rattle.jh_num.specs.Bits.{has_bit}
-use Rattle.jh_shape.specs.Claims.{Claims, Holder, held_from, one_more}
+use Rattle.jh_shape.specs.Claims.{Claims, Holder, held_from, holder_to_come}
 use Rattle.jh_shape.specs.Pages.{tables_at, tables_of, cell_claims, holder_of}
 use Rattle.jh_shape.specs.Shapes.{slot_size, is_table}
 use Rattle.jh_shape.proofs.CountLemmas.{count_below_le}
@@ -48,12 +48,12 @@ held_all index (c ∷ cs) few =
     let rest = held_all (index + 1) cs (omega arith) in
     rw (set, unset) (ap (λ (hs : List Holder). holder_of c ∷ hs) rest)
 
-one_held : (extra : Option (Bor CellConfig)) → one_more extra ≡ map holder_of (option_to_list (option_copied extra))
+one_held : (extra : Option (Bor CellConfig)) → holder_to_come extra ≡ map holder_of (option_to_list (option_copied extra))
 one_held None = refl
 one_held (Some cell) = refl
 
-pub all_held : (cells : List CellConfig) (extra : Option (Bor CellConfig)) → length cells ≤ 15 → held_from 65535 0 0 cells ++ one_more extra ≡ map holder_of (cells ++ option_to_list (option_copied extra))
+pub all_held : (cells : List CellConfig) (extra : Option (Bor CellConfig)) → length cells ≤ 15 → held_from 65535 0 0 cells ++ holder_to_come extra ≡ map holder_of (cells ++ option_to_list (option_copied extra))
 all_held cells extra few =
-    ap (λ (hs : List Holder). hs ++ one_more extra) (held_all 0 cells (omega arith))
+    ap (λ (hs : List Holder). hs ++ holder_to_come extra) (held_all 0 cells (omega arith))
     ∙ ap (λ (hs : List Holder). map holder_of cells ++ hs) (one_held extra)
     ∙ sym (map-append holder_of cells (option_to_list (option_copied extra)))

@@ -10,7 +10,7 @@ use Rattle.jh_cellcfg.specs.Regions.{virt_end, is_comm, is_page_mapped, place_in
 use Rattle.jh_shape.specs.Claims.{Claims}
 use Rattle.jh_shape.specs.Intervals.{spans}
 use Rattle.jh_shape.specs.Shapes.{slot_size, is_mapped, may_be_block, is_leaf_by, leaf_region}
-use Rattle.jh_shape.specs.Suits.{IsFit, IsSound}
+use Rattle.jh_shape.specs.Suits.{IsFit, AreSoundClaims}
 
 -- what `find` gives passes the test, and has what all have
 pub found : (p : Region → Bool) (Q : Region → Type 0) (xs : List Region) (x : Region) → find p xs ≡ Some x → All Q xs → (p x ≡ true) × Q x
@@ -44,7 +44,7 @@ leaf_parts claims level start region h =
       high = leb-true (start + slot_size level) (virt_end region) s.1;
     }
 
-pub leaf_place : (claims : Claims) (level start : ℕ) (region : Region) → IsSound claims → leaf_region claims level start ≡ Some region → is_comm region ≡ false → place_in region start < ADDRESS_END
+pub leaf_place : (claims : Claims) (level start : ℕ) (region : Region) → AreSoundClaims claims → leaf_region claims level start ≡ Some region → is_comm region ≡ false → place_in region start < ADDRESS_END
 leaf_place claims level start region sound e plain =
     let f = found (λ (r : Region). is_leaf_by claims level start r) IsFit claims.regions region e sound.fit in
     let l = leaf_parts claims level start region f.0 in

@@ -29,9 +29,9 @@ held_from held loadable index (cell ∷ cells) =
     else held_from held loadable (index + 1) cells
 
 -- one cell more, if there is one, which isn't loadable
-abbrev pub one_more : Option (Bor CellConfig) → List Holder
-one_more None = []
-one_more (Some cell) = record { regions = cell.now.memory_regions; loadable = false } ∷ []
+abbrev pub holder_to_come : Option (Bor CellConfig) → List Holder
+holder_to_come None = []
+holder_to_come (Some cell) = record { regions = cell.now.memory_regions; loadable = false } ∷ []
 
 -- what the tables of the target are made from
 abbrev pub claims_of : Target → Claims
@@ -39,6 +39,6 @@ claims_of target =
     record {
       regions = target.regions.now;
       root = target.root;
-      holders = held_from target.held target.loadable 0 target.cells.now ++ one_more target.extra;
+      holders = held_from target.held target.loadable 0 target.cells.now ++ holder_to_come target.extra;
       comm = target.comm;
     }

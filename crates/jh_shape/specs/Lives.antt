@@ -9,10 +9,10 @@ abbrev pub configs_of : List Live → List CellConfig
 configs_of lives = map (λ (live : Live). live.config) lives
 
 -- the configurations, each with its mark
-abbrev pub joined : List CellConfig → List Bool → List Live
-joined [] marks = []
-joined (config ∷ configs) [] = []
-joined (config ∷ configs) (mark ∷ marks) = record { config = config; loadable = mark } ∷ joined configs marks
+abbrev pub with_marks : List CellConfig → List Bool → List Live
+with_marks [] marks = []
+with_marks (config ∷ configs) [] = []
+with_marks (config ∷ configs) (mark ∷ marks) = record { config = config; loadable = mark } ∷ with_marks configs marks
 
 -- the cell, loadable or not where it is the one with the id
 abbrev pub marked : ℕ → Bool → Live → Live

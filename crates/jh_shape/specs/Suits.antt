@@ -27,7 +27,7 @@ IsWhole claims region =
     is_mapped region ≡ true → is_comm region ≡ false → (at : ℕ) → at % PAGE_SIZE ≡ 0 → IsTrue (has_address region at) → are_cut claims.holders (place_in region at) PAGE_SIZE ≡ false
 
 -- the claims are sound: what must hold of a cell's regions where a descriptor is asked for
-pub record IsSound (claims : Claims) : Type 0 where
+pub record AreSoundClaims (claims : Claims) : Type 0 where
   pub comm_aligned : claims.comm % PAGE_SIZE ≡ 0
   pub comm_bound : claims.comm < ADDRESS_END
   pub disjoint : AllPairs SharesNoAddress claims.regions

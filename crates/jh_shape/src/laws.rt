@@ -8,7 +8,7 @@ ghost use Rattle.jh_shape.specs.Grants.{IsGranted};
 ghost use Rattle.jh_shape.specs.Laws.{IsMet, IsServed, IsTaken, tables_by};
 ghost use Rattle.jh_shape.specs.Pages.{pages_of, tables_of};
 ghost use Rattle.jh_shape.specs.Shapes.{holder_of_live, slot_size, is_closed, is_leaf, is_met, is_table, want_of};
-ghost use Rattle.jh_shape.specs.Suits.{IsSound};
+ghost use Rattle.jh_shape.specs.Suits.{AreSoundClaims};
 
 use crate::level::{FIRST_LEVEL, LAST_LEVEL};
 use crate::target::Target;
@@ -76,7 +76,7 @@ pub fn tables_stand_below_tables()
 /// A page of a page-mapped region is granted wholly or not at all: what one byte of a page of addresses
 /// is granted, each is, at the places beside it.
 pub fn a_page_is_granted_wholly_or_not_at_all()
-    ensures { (claims : Claims) (page place j k : ℕ) (rights : RightsOf) (device : Bool) → IsSound claims → page % 4096 ≡ 0
+    ensures { (claims : Claims) (page place j k : ℕ) (rights : RightsOf) (device : Bool) → AreSoundClaims claims → page % 4096 ≡ 0
         → j < 4096 → k < 4096 → IsGranted claims (page + j) (place + j) rights device
         → IsGranted claims (page + k) (place + k) rights device }
 {}

@@ -27,11 +27,11 @@ pub struct Target<'a> {
 ghost use Rattle.jh_shape.specs.Claims.{claims_of};
 
 impl<'a> Target<'a> {
-    ghost use Rattle.jh_shape.specs.Claims.{held_from, one_more};
+    ghost use Rattle.jh_shape.specs.Claims.{held_from, holder_to_come};
     ghost use Rattle.jh_cellcfg.specs.Regions.{is_comm, place_in};
     ghost use Rattle.jh_shape.specs.Shapes.{are_cut, is_closed, may_be_block, is_leaf_by, leaf_region, is_met, leaf_of, want_of};
     ghost use Rattle.jh_shape.specs.Grants.{TellsGrants};
-    ghost use Rattle.jh_shape.specs.Suits.{IsSound, IsSlot};
+    ghost use Rattle.jh_shape.specs.Suits.{AreSoundClaims, IsSlot};
 
     /// Whether an unshared region of a holder has some of those places but not all.
     pub(crate) fn are_cut(&self, place: u128, size: u128) -> bool
@@ -147,7 +147,7 @@ impl<'a> Target<'a> {
     /// What the descriptor of the slot is to be that begins at the address `start`.
     pub fn want(&self, level: u8, start: u64) -> Want
         requires cells { length self.now.cells.now ≤ 15 }
-        requires sound { IsSound (claims_of self.now) }
+        requires sound { AreSoundClaims (claims_of self.now) }
         requires slot { IsSlot level start }
         ensures value { result ≡ want_of (claims_of self.now) level start }
         ensures tells { TellsGrants (claims_of self.now) level start result }

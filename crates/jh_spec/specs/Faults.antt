@@ -32,12 +32,12 @@ IsFaultOf name Json = ⊥
 IsFaultOf name NoMemory = ⊤
 
 -- the answer is the one that is wanted, or want of memory, whichever it is
-abbrev pub IsAnswer : {X : Type 0} → Result X SpecFault → Result X SpecFault → Type 0
-IsAnswer wanted (Ok x) = wanted ≡ Ok x
-IsAnswer wanted (Err NoMemory) = ⊤
-IsAnswer wanted (Err Json) = wanted ≡ Err Json
-IsAnswer wanted (Err (Member name)) = wanted ≡ Err (Member name)
+abbrev pub IsWantedReading : {X : Type 0} → Result X SpecFault → Result X SpecFault → Type 0
+IsWantedReading wanted (Ok x) = wanted ≡ Ok x
+IsWantedReading wanted (Err NoMemory) = ⊤
+IsWantedReading wanted (Err Json) = wanted ≡ Err Json
+IsWantedReading wanted (Err (Member name)) = wanted ≡ Err (Member name)
 
 -- an answer is the one that is wanted, or want of memory
 pub record IsAsWanted {X : Type 0} (wanted result : Result X SpecFault) : Type 0 where
-  pub answer : IsAnswer wanted result
+  pub answer : IsWantedReading wanted result

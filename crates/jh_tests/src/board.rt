@@ -93,7 +93,7 @@ fn a_full_board_goes_on_from_the_same_journal(rt: HostRuntime) -> Result<(), Fai
     };
     assert_eq!(rt; turn(&rt, &mut board, 0), Ok(Turn::Made(first)));
     assert_eq!(rt; turn(&rt, &mut board, 0), Err(TurnFault::Full));
-    assert_eq!(rt; turn(&rt, &mut board, 1), Ok(Turn::NotNow));
+    assert_eq!(rt; turn(&rt, &mut board, 1), Ok(Turn::NotNow { due_to: 0 }));
     assert_eq!(rt; board.journal().as_slice(), [first].as_slice());
     Ok(())
 }

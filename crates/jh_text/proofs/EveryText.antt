@@ -12,7 +12,7 @@ use Rattle.jh_history.specs.declared.entry.Act.TheVariants.{Read, Write, Fetch, 
 use Rattle.jh_text.specs.declared.fault.TheConstants.{MAX_ENTRIES}
 use Rattle.jh_text.specs.Ranges.{is_width, IsReadableAct, IsReadable}
 use Rattle.jh_text.specs.Text.{entry_text, line, journal_text}
-use Rattle.jh_text.specs.Faults.{BeginsWithNoLine, HasAnswer}
+use Rattle.jh_text.specs.Faults.{BeginsWithLine, BeginsWithNoLine, HasAnswer}
 use Rattle.jh_text.specs.Private.Reading.{entry_of}
 use Rattle.jh_text.proofs.Lines.{no_line, first_entry, all_push, text_push, too_long}
 
@@ -89,21 +89,15 @@ readable entry = elim (three (below entry.cpu 16) (below entry.cell (2 ^ 32)) (r
 
 -- ---- a text begins with a line, or with none
 
-record FirstLine (text : List ℕ) : Type 0 where
-  entry : Entry
-  rest : List ℕ
-  readable : IsReadable entry
-  whole : text ≡ line entry ++ rest
-
-line_by : (text rest : List ℕ) (found : Entry) → entry_of text ≡ Some (found, rest) → text ≡ line found ++ rest → FirstLine text ⊎ BeginsWithNoLine text
-line_by text rest found read spelled = elim (readable found) as (λ _. FirstLine text ⊎ BeginsWithNoLine text) [
+line_by : (text rest : List ℕ) (found : Entry) → entry_of text ≡ Some (found, rest) → text ≡ line found ++ rest → BeginsWithLine text ⊎ BeginsWithNoLine text
+line_by text rest found read spelled = elim (readable found) as (λ _. BeginsWithLine text ⊎ BeginsWithNoLine text) [
   | inl h ↦ inl (record { entry = found; rest = rest; readable = h; whole = spelled })
   | inr never ↦ inr (λ entry more h e. never (subst IsReadable (sym (first_entry text rest more found entry read h e).0) h))
 ]
 
 -- an entry is read, with this line or with another
-line_if : (text rest : List ℕ) (found : Entry) → entry_of text ≡ Some (found, rest) → FirstLine text ⊎ BeginsWithNoLine text
-line_if text rest found read = elim (cases_Bool (bytes_eq text (line found ++ rest))) as (λ _. FirstLine text ⊎ BeginsWithNoLine text) [
+line_if : (text rest : List ℕ) (found : Entry) → entry_of text ≡ Some (found, rest) → BeginsWithLine text ⊎ BeginsWithNoLine text
+line_if text rest found read = elim (cases_Bool (bytes_eq text (line found ++ rest))) as (λ _. BeginsWithLine text ⊎ BeginsWithNoLine text) [
   | inl same ↦ line_by text rest found read ((bytes_eq-Decides text (line found ++ rest)).0 same)
   | inr differ ↦ inr (λ entry more h e.
       let is = first_entry text rest more found entry read h e in
@@ -111,7 +105,7 @@ line_if text rest found read = elim (cases_Bool (bytes_eq text (line found ++ re
       false≢true (sym differ ∙ (bytes_eq-Decides text (line found ++ rest)).1 spelled))
 ]
 
-first_by : (text : List ℕ) (o : Option (Entry × List ℕ)) → entry_of text ≡ o → FirstLine text ⊎ BeginsWithNoLine text
+first_by : (text : List ℕ) (o : Option (Entry × List ℕ)) → entry_of text ≡ o → BeginsWithLine text ⊎ BeginsWithNoLine text
 first_by text None none = inr (no_line text none)
 first_by text (Some x) read = line_if text x.1 x.0 read
 

@@ -5,6 +5,7 @@ pub mod EveryText
 pub mod Lines
 pub mod Numbers
 pub mod Plain
+pub mod ReadLines
 pub mod Spellings
 pub mod Splits
 pub mod Texts

@@ -8,7 +8,7 @@ use Rattle.std.proofs.lemmas.Bool.{lt-ltb, lt-leb, ltb-true, le-leb, ne_eqb, eq-
 use Rattle.std.proofs.lemmas.Fmt.{digits_is_IsNumeral}
 use Rattle.std.proofs.lemmas.Option.{none-some, same_Some}
 use Rattle.std.proofs.Math.Nat.{pow-le-pow_left}
-use Rattle.jh_text.specs.Private.Reading.{◌>>=◌, is_lower, lower_digit, with_digit, one_more, digits_until, begins_plain, number_until}
+use Rattle.jh_text.specs.Private.Reading.{◌>>=◌, is_lower, lower_digit, with_digit, with_written_digit, digits_until, begins_plain, number_until}
 use Rattle.jh_text.proofs.Plain.{is_plain, digits_of_plain, plain_digits, several_plain, value_ge}
 use Rattle.jh_text.proofs.Splits.{Lacks, Lacks_cons}
 
@@ -40,7 +40,7 @@ until_end radix end n [] some is = absurd (let no : ⊥ = omega arith in no)
 until_end radix end n (c ∷ text) some is = rw (eq-eqb c end is) refl
 
 -- a digit stands at the front
-pub until_digit : (radix end n m : ℕ) (text : List ℕ) → radix ≤ 16 → digit_value end ≡ 36 → 1 ≤ length text → one_more radix n (get_or text 0 0) ≡ Some m
+pub until_digit : (radix end n m : ℕ) (text : List ℕ) → radix ≤ 16 → digit_value end ≡ 36 → 1 ≤ length text → with_written_digit radix n (get_or text 0 0) ≡ Some m
     → digits_until radix end n text ≡ digits_until radix end m (drop 1 text)
 unfolding digits_until
 until_digit radix end n m [] high none some more = absurd (let no : ⊥ = omega arith in no)
@@ -52,7 +52,7 @@ until_digit radix end n m (c ∷ text) high none some more = by (lower_digit rad
     by (Some d) e more = rw (end_is_no_digit radix end c d high none e, more) refl
 
 -- neither the end stands there nor a digit that makes a number
-pub until_other : (radix end n : ℕ) (text : List ℕ) → 1 ≤ length text → get_or text 0 0 ≢ end → one_more radix n (get_or text 0 0) ≡ None → digits_until radix end n text ≡ None
+pub until_other : (radix end n : ℕ) (text : List ℕ) → 1 ≤ length text → get_or text 0 0 ≢ end → with_written_digit radix n (get_or text 0 0) ≡ None → digits_until radix end n text ≡ None
 unfolding digits_until
 until_other radix end n [] some other none = absurd (let no : ⊥ = omega arith in no)
 until_other radix end n (c ∷ text) some other none = by (lower_digit radix c) none

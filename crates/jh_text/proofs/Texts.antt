@@ -1,16 +1,12 @@
 -- A text has one answer.
-use Rattle.std.proofs.Common.{◌≡◌, ◌≢◌, ℕ, ◌≤◌, List, [], ◌∷◌, ◌++◌, length, Result, Ok, Err, refl, sym, ap, ◌∙◌, subst, arith, append_assoc, length-append, ◌⊎◌, inl, inr, ⊎_elim}
-use Rattle.std.specs.Result.{IfOk, IfErr, IsOkAnd}
+use Rattle.std.proofs.Common.{◌≡◌, ℕ, ◌≤◌, List, [], ◌∷◌, ◌++◌, length, refl, sym, ap, ◌∙◌, arith, append_assoc, length-append, ◌⊎◌, inl, inr, ⊎_elim}
 use Rattle.std.specs.List.{AllByRecursion}
 use Rattle.std.proofs.lemmas.List.{append-nil}
 use Rattle.std.proofs.lemmas.Bool.{cases_lt}
-use Rattle.jh_history.specs.Log.{Log}
 use Rattle.jh_history.specs.declared.entry.Entry.{Entry}
-use Rattle.jh_text.specs.declared.fault.JournalFault.{JournalFault}
-use Rattle.jh_text.specs.declared.fault.JournalFault.TheVariants.{Line, TooLong, NoMemory}
 use Rattle.jh_text.specs.Ranges.{IsReadable}
 use Rattle.jh_text.specs.Text.{entry_text, line, journal_text}
-use Rattle.jh_text.specs.Faults.{IsJournalText, BeginsWithNoLine, IsFirstBadLine, IsTooLong, IsFault}
+use Rattle.jh_text.specs.Faults.{IsJournalText, BeginsWithNoLine, IsFirstBadLine, IsTooLong}
 use Rattle.jh_text.proofs.Lines.{one_line}
 
 either_way : (m n : ℕ) → (m ≤ n) ⊎ (n ≤ m)
@@ -81,31 +77,3 @@ pub journal_not_long : (text : List ℕ) (es : List Entry) → IsJournalText tex
 journal_not_long text es j t =
     let on = goes_on es t.first [] t.rest j.readable t.readable (omega (arith, j.within, t.long)) (whole_text es text j.whole ∙ t.whole) in
     omega (arith, j.within, t.long, ap length (on.entries ∙ ap (λ gs. es ++ gs) (nothing on.more t.rest on.text).0 ∙ append-nil es))
-
--- an answer that is right is the one that is right
-pub only_journal : (text : List ℕ) (r : Result Log JournalFault) → IfOk r (λ journal. IsJournalText text journal.entries) → IfErr r (IsFault text) → r ≢ Err NoMemory
-    → (entries : List Entry) → IsJournalText text entries → IsOkAnd r (λ journal. journal.entries ≡ entries)
-only_journal text (Ok journal) ok err room entries j = one_journal text journal.entries entries ok j
-only_journal text (Err (Line number)) ok err room entries j = absurd (journal_not_bad text entries number j err)
-only_journal text (Err TooLong) ok err room entries j = absurd (journal_not_long text entries j err)
-only_journal text (Err NoMemory) ok err room entries j = absurd (room refl)
-
-pub only_line : (text : List ℕ) (r : Result Log JournalFault) → IfOk r (λ journal. IsJournalText text journal.entries) → IfErr r (IsFault text) → r ≢ Err NoMemory
-    → (number : ℕ) → IsFirstBadLine text number → r ≡ Err (Line number)
-only_line text (Ok journal) ok err room number b = absurd (journal_not_bad text journal.entries number ok b)
-only_line text (Err (Line other)) ok err room number b = ap (λ n. Err (Line n)) (one_bad_line text other number err b)
-only_line text (Err TooLong) ok err room number b = absurd (bad_not_long text number b err)
-only_line text (Err NoMemory) ok err room number b = absurd (room refl)
-
-pub only_too_long : (text : List ℕ) (r : Result Log JournalFault) → IfOk r (λ journal. IsJournalText text journal.entries) → IfErr r (IsFault text) → r ≢ Err NoMemory
-    → IsTooLong text → r ≡ Err TooLong
-only_too_long text (Ok journal) ok err room t = absurd (journal_not_long text journal.entries ok t)
-only_too_long text (Err (Line other)) ok err room t = absurd (bad_not_long text other err t)
-only_too_long text (Err TooLong) ok err room t = refl
-only_too_long text (Err NoMemory) ok err room t = absurd (room refl)
-
-pub line_is : (text : List ℕ) (r : Result Log JournalFault) → IfErr r (IsFault text) → (number : ℕ) → r ≡ Err (Line number) → IsFirstBadLine text number
-line_is text r err number e = let P : Result Log JournalFault → Type 0 = λ x. IfErr x (IsFault text) in subst P e err
-
-pub too_long_is : (text : List ℕ) (r : Result Log JournalFault) → IfErr r (IsFault text) → r ≡ Err TooLong → IsTooLong text
-too_long_is text r err e = let P : Result Log JournalFault → Type 0 = λ x. IfErr x (IsFault text) in subst P e err

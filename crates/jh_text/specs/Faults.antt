@@ -17,6 +17,13 @@ pub record IsJournalText (text : List ℕ) (entries : List Entry) : Type 0 where
   pub within : length entries ≤ max_entries
   pub whole : text ≡ journal_text entries
 
+-- the text begins with the line of this entry, and then comes the rest
+pub record BeginsWithLine (text : List ℕ) : Type 0 where
+  pub entry : Entry
+  pub rest : List ℕ
+  pub readable : IsReadable entry
+  pub whole : text ≡ line entry ++ rest
+
 -- the text begins with the line of no entry
 abbrev pub BeginsWithNoLine : List ℕ → Type 0
 BeginsWithNoLine text = (entry : Entry) (rest : List ℕ) → IsReadable entry → text ≢ line entry ++ rest

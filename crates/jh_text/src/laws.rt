@@ -1,10 +1,13 @@
 //! What holds of all texts of journals, as the contracts of functions that do nothing.
-ghost use Rattle.std.specs.Prelude.{◌≡◌, ◌≤◌, ℕ, List, length};
+ghost use Rattle.std.specs.Prelude.{◌≡◌, ◌≤◌, ℕ, List, [], ◌∷◌, ◌++◌, length, Some, None};
 ghost use Rattle.std.specs.List.{AllByRecursion};
 ghost use Rattle.jh_history.specs.declared.entry.Entry.{Entry};
 ghost use Rattle.jh_text.specs.Text.{entry_text, journal_text};
 ghost use Rattle.jh_text.specs.Ranges.{IsReadable, IsTyped};
-ghost use Rattle.jh_text.specs.Faults.{HasAnswer, IsFirstBadLine, IsJournalText, IsTooLong, max_entries};
+ghost use Rattle.jh_text.specs.Faults.{HasAnswer, IsFault, IsFirstBadLine, IsJournalText, IsTooLong, max_entries};
+ghost use Rattle.jh_text.specs.Lines.{IsReadTo, PassesLine, RefusesLine};
+ghost use Rattle.jh_text.specs.LinesView.{LinesView};
+ghost use Rattle.jh_text.specs.declared.fault.JournalFault.{JournalFault};
 
 /// Entries with the same text are the same, and so are journals with the same text, whatever numbers of their types
 /// they have.
@@ -34,4 +37,16 @@ pub fn one_answer()
 /// Every text is a journal's, or has a first bad line, or is too long.
 pub fn every_text_has_an_answer()
     ensures { (text : List ℕ) → HasAnswer text }
+{}
+
+/// What is read line by line is read of the whole text: no line is read at first, each entry stands behind those
+/// before it, where nothing is left the text is a journal's, and the fault of a line is the first of the text.
+pub fn lines_tell_the_text()
+    ensures begins { (text : List ℕ) → IsReadTo text [] (record { count = 0; rest = text }) }
+    ensures goes_on { (text : List ℕ) (entries : List Entry) (old new : LinesView) (entry : Entry)
+        → IsReadTo text entries old → PassesLine old (Some entry) new → IsReadTo text (entries ++ entry ∷ []) new }
+    ensures ends { (text : List ℕ) (entries : List Entry) (old new : LinesView)
+        → IsReadTo text entries old → PassesLine old None new → IsJournalText text entries }
+    ensures refused { (text : List ℕ) (entries : List Entry) (old new : LinesView) (fault : JournalFault)
+        → IsReadTo text entries old → RefusesLine old fault new → IsFault text fault }
 {}

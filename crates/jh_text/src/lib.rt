@@ -12,7 +12,9 @@ mod read;
 mod reader;
 
 pub use fault::{JournalFault, MAX_ENTRIES};
-pub use laws::{every_text_has_an_answer, one_answer, texts_differ, texts_go_both_ways};
+pub use laws::{
+    every_text_has_an_answer, lines_tell_the_text, one_answer, texts_differ, texts_go_both_ways,
+};
 pub use map::push_map;
 pub use print::{print_entry, print_journal};
-pub use read::read_journal;
+pub use read::JournalLines;

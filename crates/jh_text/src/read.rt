@@ -1,39 +1,39 @@
 //! From a text to its entries.
-ghost use Rattle.std.specs.Prelude.{◌≡◌, ◌≢◌, ◌++◌, ◌↔◌, ℕ, List, length, IsTrue, IfOk, IfErr, IfSome, IfNone, IsOkAnd};
-ghost use Rattle.jh_history.specs.declared.entry.Entry.{Entry};
+ghost use Rattle.std.specs.Prelude.{◌≡◌, ◌++◌, ℕ, List, length, IsTrue, IfOk, IfErr, IfSome, IfNone};
 ghost use Rattle.jh_text.specs.Text.{line};
 ghost use Rattle.jh_text.specs.Ranges.{IsReadable};
-ghost use Rattle.jh_text.specs.Faults.{BeginsWithNoLine, IsFault, IsFirstBadLine, IsJournalText, IsTooLong};
+ghost use Rattle.jh_text.specs.Faults.{BeginsWithNoLine};
+ghost use Rattle.jh_text.specs.Lines.{PassesLine, RefusesLine};
 
 use crate::entries::entry;
 use crate::fault::{JournalFault, MAX_ENTRIES};
 use crate::reader::Reader;
-use jh_history::{Entry, Journal};
-use std::alloc::Global;
+use jh_history::Entry;
+use std::marker::Model;
 
-/// The journal whose text this is. An entry's numbers are within their ranges where the CPU is below 16, ids and
-/// devices are below 2^32, vectors below 256, widths 1, 2, 4 or 8, values as wide as their access (4 bytes of a
-/// fetch), codes, addresses and arguments below 2^64, and answers numbers of 64 bits with a sign.
-///
-/// # Errors
-///
-/// The first line that isn't such an entry's, counted from 1, or a line of an entry behind the last that a journal
-/// may have, whichever comes first in the text; or want of memory.
-pub fn read_journal(alloc: Global, text: &[u8]) -> Result<Journal, JournalFault>
-    ensures ok { IfOk result (λ journal. IsJournalText text.now journal.entries) }
-    ensures only { result ≢ Err JournalFault.NoMemory
-        → (entries : List Entry) → IsJournalText text.now entries
-        → IsOkAnd result (λ journal. journal.entries ≡ entries) }
-    ensures line { result ≢ Err JournalFault.NoMemory
-        → (number : ℕ) → (result ≡ Err (JournalFault.Line number)) ↔ IsFirstBadLine text.now number }
-    ensures too_long { result ≢ Err JournalFault.NoMemory
-        → (result ≡ Err JournalFault.TooLong) ↔ IsTooLong text.now }
-{
-    entries(alloc, text)
+/// The text of a journal, read from its front line by line. Contracts see how many lines it has read, and what is left
+/// of the text.
+#[derive(Drop)]
+pub struct JournalLines<'a> {
+    rest: &'a [u8],
+    count: u32,
+}
+
+impl<'a> Model for JournalLines<'a> {
+    ghost use Rattle.std.specs.Prelude.{◌≤◌};
+    ghost use Rattle.jh_text.specs.Faults.{max_entries};
+    ghost use Rattle.jh_text.specs.LinesView.{LinesView};
+
+    ghost Value = { LinesView };
+
+    ghost view = { λ s. record { count = s.count; rest = s.rest.now } };
+
+    ghost invariant = { λ s. s.count ≤ max_entries };
 }
 
 /// The entry of the first line, and what stands behind the line; `None` where the text begins with the
 /// line of no entry.
+#[inline(always)]
 fn first_line(text: &[u8]) -> Option<(Entry, &[u8])>
     ensures readable { IfSome result (λ x. IsReadable x.0) }
     ensures whole { IfSome result (λ x. text.now ≡ line x.0 ++ x.1.now) }
@@ -44,31 +44,52 @@ fn first_line(text: &[u8]) -> Option<(Entry, &[u8])>
     Some((entry, reader.rest()))
 }
 
-/// Whether the journal has as many entries as it may.
-fn is_full(journal: &Journal) -> bool
-    ensures { IsTrue result ↔ (length journal.now.entries ≡ MAX_ENTRIES) }
-{
-    journal.len() == MAX_ENTRIES
-}
+impl<'a> JournalLines<'a> {
+    /// No line is read yet.
+    pub fn new(text: &'a [u8]) -> Self
+        ensures { result ≡ record { count = 0; rest = text.now } }
+    {
+        JournalLines {
+            rest: text,
+            count: 0,
+        }
+    }
 
-/// The entries of the text, or its first fault.
-fn entries(alloc: Global, text: &[u8]) -> Result<Journal, JournalFault>
-    ensures ok { IfOk result (λ journal. IsJournalText text.now journal.entries) }
-    ensures err { IfErr result (IsFault text.now) }
-{
-    let mut journal = Journal::new(alloc);
-    let mut rest = text;
-    while !rest.is_empty() {
-        let Some((entry, after)) = first_line(rest) else {
+    /// How many lines are read, 262,144 at most, which is the number of the last of them.
+    #[inline(always)]
+    pub fn count(&self) -> u32
+        ensures { result ≡ self.now.count }
+    {
+        self.count
+    }
+
+    /// The entry of the next line, which is passed over; `None` where nothing is left. An entry's numbers are within
+    /// their ranges where the CPU is below 16, ids and devices are below 2^32, vectors below 256, widths 1, 2, 4 or 8,
+    /// values as wide as their access (4 bytes of a fetch), codes, addresses and arguments below 2^64, and answers
+    /// numbers of 64 bits with a sign.
+    ///
+    /// # Errors
+    ///
+    /// The number of the next line, counted from 1, where it isn't such an entry's with a line feed behind it, or that
+    /// it is an entry's behind the last that a journal may have. The line stays the next.
+    #[inline(always)]
+    pub fn next(&mut self) -> Result<Option<Entry>, JournalFault>
+        ensures ok { IfOk result (λ next. PassesLine self.old next self.new) }
+        ensures err { IfErr result (λ fault. RefusesLine self.old fault self.new) }
+    {
+        if self.rest.is_empty() {
+            return Ok(None);
+        }
+        let Some((entry, rest)) = first_line(self.rest) else {
             return Err(JournalFault::Line {
-                number: journal.len() as u32 + 1,
+                number: self.count + 1,
             });
         };
-        if is_full(&journal) {
+        if self.count as usize == MAX_ENTRIES {
             return Err(JournalFault::TooLong);
         }
-        journal.push(entry)?;
-        rest = after;
+        self.rest = rest;
+        self.count += 1;
+        Ok(Some(entry))
     }
-    Ok(journal)
 }

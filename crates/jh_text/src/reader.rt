@@ -4,7 +4,7 @@ ghost use Rattle.std.specs.Char.{digit_value};
 ghost use Rattle.std.specs.Fmt.{decimal, signed_decimal, digits};
 ghost use Rattle.jh_text.specs.Ranges.{is_width};
 ghost use Rattle.jh_text.specs.Text.{hexadecimal};
-ghost use Rattle.jh_text.specs.Private.Reading.{Finds, Reads, begins, behind, lower_digit, with_digit, one_more, digits_until, begins_plain, number_until, hexadecimal_until, negative, answer_of, width_digit, width_of};
+ghost use Rattle.jh_text.specs.Private.Reading.{Finds, Reads, begins, behind, lower_digit, with_digit, with_written_digit, digits_until, begins_plain, number_until, hexadecimal_until, negative, answer_of, width_digit, width_of};
 
 use std::marker::Model;
 
@@ -55,10 +55,10 @@ fn with_digit(radix: u32, n: u64, digit: u64) -> Option<u64>
 
 /// The number with the byte as one more digit; `None` where the byte is no digit, or the number is too large.
 #[inline(always)]
-fn one_more(radix: u32, n: u64, byte: u8) -> Option<u64>
+fn with_written_digit(radix: u32, n: u64, byte: u8) -> Option<u64>
     requires low { 2 ≤ radix }
     requires high { radix ≤ 16 }
-    ensures { result ≡ one_more radix n byte }
+    ensures { result ≡ with_written_digit radix n byte }
 {
     with_digit(radix, n, lower_digit(radix, byte)?)
 }
@@ -86,7 +86,7 @@ fn digits(radix: u32, end: u8, text: &[u8]) -> Option<(u64, &[u8])>
     let mut n = 0;
     let mut rest = text;
     while let [byte, behind @ ..] = rest {
-        let Some(more) = one_more(radix, n, *byte) else {
+        let Some(more) = with_written_digit(radix, n, *byte) else {
             break;
         };
         n = more;

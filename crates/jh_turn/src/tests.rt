@@ -214,21 +214,3 @@ fn one_port_alone_goes_up_to_the_limit(rt: HostRuntime) -> Result<(), Fail> {
     assert_eq!(rt; closed.callers.as_slice(), [255, 255].as_slice());
     Ok(())
 }
-
-#[test]
-fn a_port_has_news_until_its_next_turn(rt: HostRuntime) -> Result<(), Fail> {
-    let opened = Shared::open(rt.alloc(), no_calls(rt.alloc(), 2), &[3, 9]);
-    let Ok((shared, mut ports)) = opened else {
-        panic!(rt; "no memory")
-    };
-    let (Some(mut second), Some(mut first)) = (ports.pop(), ports.pop()) else {
-        panic!(rt; "there are no two ports")
-    };
-    let at_opening = shared.has_news(&second);
-    shared.turn(&rt, &mut first);
-    let behind = shared.has_news(&second);
-    shared.turn(&rt, &mut second);
-    let after = shared.has_news(&second);
-    assert_eq!(rt; (at_opening, behind, after), (false, true, false));
-    Ok(())
-}

@@ -5,19 +5,19 @@ use Rattle.jh_desc.specs.declared.descriptor.Hit.{Hit}
 use Rattle.jh_desc.specs.Descriptors.{read_of}
 use Rattle.jh_desc.specs.Levels.{index_of, last_level, slot_size}
 use Rattle.jh_walk.specs.Walks.{walk_of, levels}
-use Rattle.jh_walk.specs.Paths.{EndsAtLeaf, IsLeafAt, LeadsTo, moved}
+use Rattle.jh_walk.specs.Paths.{EndsAtLeaf, IsLeafAt, LeadsTo, shifted}
 use Rattle.jh_walk.proofs.PathLemmas.{ends_found, only_ends}
 
 further : (out a b : ℕ) → (out + a) - a + b ≡ out + b
 further out a b = omega arith
 
-leaf_moved : (w : ℕ → ℕ) (level t at other : ℕ) (hit : Hit) → index_of level other ≡ index_of level at → IsLeafAt w level t at hit → IsLeafAt w level t other (moved at other hit)
+leaf_moved : (w : ℕ → ℕ) (level t at other : ℕ) (hit : Hit) → index_of level other ≡ index_of level at → IsLeafAt w level t at hit → IsLeafAt w level t other (shifted at other hit)
 leaf_moved w level t at other hit same leaf = record {
   out = leaf.out;
   rights = leaf.rights;
   device = leaf.device;
   descriptor = subst (λ i. read_of (w (t + 8 * i)) level ≡ Leaf leaf.out leaf.rights leaf.device) (sym same) leaf.descriptor;
-  gives = ap (moved at other) leaf.gives
+  gives = ap (shifted at other) leaf.gives
       ∙ ap (λ (o : ℕ). record { out = o; rights = leaf.rights; device = leaf.device; span = slot_size level }) (further leaf.out (at % slot_size level) (other % slot_size level));
 }
 
@@ -49,7 +49,7 @@ coarse w (suc n) t at other hit few same (inr (next, (leads, ends))) =
     let above : last_level - n ≡ suc (last_level - suc n) = omega arith in
     coarser at other (last_level - suc n) (omega arith) (subst (λ l. other / slot_size l ≡ at / slot_size l) above below)
 
-ends_moved : (w : ℕ → ℕ) (n t at other : ℕ) (hit : Hit) → n ≤ last_level + 1 → other / hit.span ≡ at / hit.span → EndsAtLeaf w n t at hit → EndsAtLeaf w n t other (moved at other hit)
+ends_moved : (w : ℕ → ℕ) (n t at other : ℕ) (hit : Hit) → n ≤ last_level + 1 → other / hit.span ≡ at / hit.span → EndsAtLeaf w n t at hit → EndsAtLeaf w n t other (shifted at other hit)
 ends_moved w zero t at other hit few same ends = elim ends [ ]
 ends_moved w (suc n) t at other hit few same (inl leaf) =
     let slot : other / slot_size (last_level - n) ≡ at / slot_size (last_level - n) = coarse w n t at other hit (omega arith) same (inl leaf) in
@@ -58,6 +58,6 @@ ends_moved w (suc n) t at other hit few same (inr (next, (leads, ends))) =
     let slot : other / slot_size (last_level - n) ≡ at / slot_size (last_level - n) = coarse w n t at other hit (omega arith) same (inr (next, (leads, ends))) in
     inr (next, (led_moved w (last_level - n) t at other next (ap (λ i. i % 512) slot) leads, ends_moved w n next at other hit (omega arith) same ends))
 
-pub hit_covers : (w : ℕ → ℕ) (t at other : ℕ) (hit : Hit) → walk_of w levels t at ≡ Some hit → other / hit.span ≡ at / hit.span → walk_of w levels t other ≡ Some (moved at other hit)
+pub hit_covers : (w : ℕ → ℕ) (t at other : ℕ) (hit : Hit) → walk_of w levels t at ≡ Some hit → other / hit.span ≡ at / hit.span → walk_of w levels t other ≡ Some (shifted at other hit)
 hit_covers w t at other hit found same =
-    ends_found w levels t other (moved at other hit) (ends_moved w levels t at other hit (omega arith) same (only_ends w levels t at hit found))
+    ends_found w levels t other (shifted at other hit) (ends_moved w levels t at other hit (omega arith) same (only_ends w levels t at hit found))

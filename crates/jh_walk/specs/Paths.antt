@@ -28,5 +28,5 @@ EndsAtLeaf word (suc n) table at hit =
     IsLeafAt word (last_level - n) table at hit ⊎ ((next : ℕ) × (LeadsTo word (last_level - n) table at next × EndsAtLeaf word n next at hit))
 
 -- what the same leaf gives another address of its slot
-abbrev pub moved : ℕ → ℕ → Hit → Hit
-moved at other hit = record hit { out = hit.out - at % hit.span + other % hit.span }
+abbrev pub shifted : ℕ → ℕ → Hit → Hit
+shifted at other hit = record hit { out = hit.out - at % hit.span + other % hit.span }

@@ -2,7 +2,7 @@
 ghost use Rattle.std.specs.Prelude.{◌≡◌, ◌≢◌, ℕ, ◌+◌, ◌/◌, ◌<◌, ◌≤◌, ◌⊎◌, List, length, Some};
 ghost use Rattle.jh_desc.specs.declared.descriptor.Hit.{Hit as AnyHit};
 ghost use Rattle.jh_walk.specs.Walks.{levels, probes_of, walk_of};
-ghost use Rattle.jh_walk.specs.Paths.{moved, EndsAtLeaf};
+ghost use Rattle.jh_walk.specs.Paths.{shifted, EndsAtLeaf};
 ghost use Rattle.jh_walk.specs.Pages.{count, times, AlikeBut, AreAligned, Grows, IsReached, SameTables, Weight};
 
 /// A walk gives something exactly where table descriptors, level by level from its first table on, lead to a
@@ -15,7 +15,7 @@ pub fn a_walk_ends_at_a_leaf()
 /// What an address is given, each other address of the slot is given at its own offset.
 pub fn a_hit_covers_its_slot()
     ensures { (word : ℕ → ℕ) (table at other : ℕ) (hit : AnyHit) → walk_of word levels table at ≡ Some hit
-        → other / hit.span ≡ at / hit.span → walk_of word levels table other ≡ Some (moved at other hit) }
+        → other / hit.span ≡ at / hit.span → walk_of word levels table other ≡ Some (shifted at other hit) }
 {}
 
 /// A walk reads a descriptor a level at most.

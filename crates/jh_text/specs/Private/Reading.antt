@@ -63,8 +63,8 @@ abbrev pub with_digit : ℕ → ℕ → ℕ → Option ℕ
 with_digit radix n digit = if nat_lt (n * radix + digit) (2 ^ 64) then Some (n * radix + digit) else None
 
 -- the number with one more digit, which the byte is
-abbrev pub one_more : ℕ → ℕ → ℕ → Option ℕ
-one_more radix n c = lower_digit radix c >>= with_digit radix n
+abbrev pub with_written_digit : ℕ → ℕ → ℕ → Option ℕ
+with_written_digit radix n c = lower_digit radix c >>= with_digit radix n
 
 -- the number that the digits before the end write behind those of n
 unfoldable pub digits_until : ℕ → ℕ → ℕ → List ℕ → Option (ℕ × List ℕ)

@@ -32,12 +32,6 @@ impl<T: Turner> Shared<T> {
         answer
     }
 
-    /// Whether the history seems to have grown since the port's last turn, by a look that waits for nobody. It may have
-    /// grown by the time that the answer is there, so only a turn tells for sure.
-    pub fn has_news(&self, port: &Port<T>) -> bool {
-        self.table.shared.peek(LENGTH) != port.seen
-    }
-
     /// Takes the turn. A claim that fails is tried again.
     fn claim<R: Wait>(&self, rt: &R, seat: &mut Seat<Option<Box<T>>, View<T, T::Entry>>, caller: u8)
         requires own { seat.old.table_id ≡ self.now.table.shared.table_id }

@@ -4,7 +4,7 @@ use Rattle.std.specs.Prelude.{All}
 use Rattle.std.proofs.lemmas.List.{length-append}
 use Rattle.jh_ivshmem.specs.declared.endpoint.Endpoint.{Endpoint}
 use Rattle.jh_ivshmem.specs.declared.spec.EndpointSpec.{EndpointSpec}
-use Rattle.jh_ivshmem.specs.Specs.{IsWithin}
+use Rattle.jh_ivshmem.specs.Specs.{IsInItsLimits}
 use Rattle.jh_history.specs.declared.device_change.DeviceChange.{DeviceChange}
 use Rattle.jh_history.specs.declared.device_change.DeviceChange.TheVariants.{Join}
 use Rattle.jh_history.specs.Devices.{specs_at}
@@ -16,7 +16,7 @@ use Rattle.jh_board.proofs.devices.change_devices.Goals as goal
 
 pub change_device-requires-clause-within : goal.change_device-requires-clause-within
 change_device-requires-clause-within c =
-    let lt : c.loop-number.number < length c.args.config.now.pci_devices = omega arith in all_at IsWithin c.args.config.now c.loop-number.number lt c.requires.may.within
+    let lt : c.loop-number.number < length c.args.config.now.pci_devices = omega arith in all_at IsInItsLimits c.args.config.now c.loop-number.number lt c.requires.may.within
 
 pub change_device-requires-clause-new : goal.change_device-requires-clause-new
 change_device-requires-clause-new c = λ joins.

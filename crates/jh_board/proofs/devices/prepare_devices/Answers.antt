@@ -3,7 +3,7 @@ use Rattle.std.proofs.Common.{◌<◌, ◌≤◌, length, List, ◌∙◌, sym, 
 use Rattle.std.specs.Prelude.{All}
 use Rattle.std.proofs.lemmas.List.Elements.{All-append}
 use Rattle.jh_ivshmem.specs.declared.spec.EndpointSpec.{EndpointSpec}
-use Rattle.jh_ivshmem.specs.Specs.{IsWithin}
+use Rattle.jh_ivshmem.specs.Specs.{IsInItsLimits}
 use Rattle.jh_history.specs.Devices.{specs_at}
 use Rattle.jh_board.specs.Pages.{HoldsWord}
 use Rattle.jh_board.proofs.DevicesLemmas.{specs_before, specs_more, specs_all, specs_few, all_at}
@@ -12,7 +12,7 @@ use Rattle.jh_board.proofs.devices.prepare_devices.Goals as goal
 
 pub hold_device-requires-clause-within : goal.hold_device-requires-clause-within
 hold_device-requires-clause-within c =
-    let lt : c.loop-number.number < length c.args.config.now.pci_devices = omega arith in all_at IsWithin c.args.config.now c.loop-number.number lt c.requires.within
+    let lt : c.loop-number.number < length c.args.config.now.pci_devices = omega arith in all_at IsInItsLimits c.args.config.now c.loop-number.number lt c.requires.within
 
 pub loop-number-preserved : goal.loop-number-preserved
 loop-number-preserved c =

@@ -20,7 +20,7 @@ use Rattle.jh_board.specs.Indexed.{AreFound}
 use Rattle.jh_board.specs.LiveView.{LiveView}
 use Rattle.jh_board.specs.Means.{Means}
 use Rattle.jh_board.specs.Pages.{byte_of, HoldsComm}
-use Rattle.jh_board.specs.Steps.{MayJoin, devices_held, endpoints_acted_by}
+use Rattle.jh_board.specs.Steps.{MayJoinCells, devices_held, endpoints_acted_by}
 use Rattle.jh_board.proofs.ActedLemmas.{entry_bytes, entry_devices}
 use Rattle.jh_board.proofs.AfterLemmas.{if_some, on_err, may_write, page_held, created_is, may_join, join_kept, Means_made}
 use Rattle.jh_board.proofs.CommitLemmas.{same_devices, may_write_slot, may_commit}
@@ -106,7 +106,7 @@ make_call-requires c =
     let acted = c.make_devices.ensures.others in
     let changed = c.make_commit.ensures.others in
     join_kept held c.make_commit.new.held entry.act (changed.call ∙ acted.call) (changed.cells ∙ acted.cells) (changed.index ∙ acted.index)
-    (if_some (created_by held.call entry.act) (MayJoin held.cells held.index) (λ config made.
+    (if_some (created_by held.call entry.act) (MayJoinCells held.cells held.index) (λ config made.
     let coming = created_is held.call entry.act config made in
     let is : f.call ≡ Some coming.begun = sym means.call ∙ coming.is in
     may_join image held f coming.begun config means is coming.phase

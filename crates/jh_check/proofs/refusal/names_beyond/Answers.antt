@@ -1,6 +1,6 @@
 use Rattle.std.proofs.Common.{◌≡◌, ◌<◌, ℕ, ◌∙◌, sym, subst, get_or, drop, not, List}
 use Rattle.std.specs.List.{list_all}
-use Rattle.jh_check.specs.Devices.{is_zero}
+use Rattle.jh_cellcfg.specs.Limits.{is_zero}
 use Rattle.jh_check.proofs.RefusalLemmas.{beyond_low, beyond_high}
 use Rattle.jh_check.proofs.refusal.names_beyond.Goals as goal
 

@@ -1,5 +1,5 @@
 -- Memory where each byte has a place.
-use Rattle.std.proofs.Common.{◌<◌, ◌≤◌, ◌+◌, inl, inr, sym, ◌∙◌, arith}
+use Rattle.std.proofs.Common.{◌<◌, ◌+◌, inl, inr, sym, ◌∙◌, arith}
 use Rattle.std.proofs.lemmas.Bool.{cases_lt, false≢true}
 use Rattle.jh_num.specs.declared.address.TheConstants.{ADDRESS_END}
 use Rattle.jh_history.specs.Access.{place_of}

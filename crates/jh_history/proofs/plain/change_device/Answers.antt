@@ -2,7 +2,7 @@
 use Rattle.std.proofs.Common.{List, sym, ap, ◌∙◌}
 use Rattle.jh_ivshmem.specs.declared.spec.EndpointSpec.{EndpointSpec}
 use Rattle.jh_ivshmem.specs.declared.spec.Slot.{Slot}
-use Rattle.jh_ivshmem.specs.Specs.{IsWithin}
+use Rattle.jh_ivshmem.specs.Specs.{IsInItsLimits}
 use Rattle.jh_history.specs.Access.{with_slot}
 use Rattle.jh_history.specs.Devices.{specs_at}
 use Rattle.jh_history.specs.Endpoints.{endpoints_changed, with_words, MayJoinThem}
@@ -18,7 +18,7 @@ apply-requires-clause-new c = λ join.
 pub write_slot-requires : goal.write_slot-requires
 write_slot-requires c =
     let one = at_some c.args.config.now c.as_slice.result.now c.args.number _ c.endpoint_of.result c.in-Some.spec c.as_slice.ensures.value c.requires.number c.endpoint_of.ensures c.in-Some.is in
-    word_ends c.in-Some.spec c.in_ok-slot-in-Some.slot (first IsWithin (specs_at c.args.config.now c.args.number) c.in-Some.spec one c.requires.within) c.in_ok-slot-in-Some.ensures.slot
+    word_ends c.in-Some.spec c.in_ok-slot-in-Some.slot (first IsInItsLimits (specs_at c.args.config.now c.args.number) c.in-Some.spec one c.requires.within) c.in_ok-slot-in-Some.ensures.slot
 
 pub returns-in_ok-write_slot-in-Some-clause-bytes : goal.returns-in_ok-write_slot-in-Some-clause-bytes
 returns-in_ok-write_slot-in-Some-clause-bytes c = λ image q.

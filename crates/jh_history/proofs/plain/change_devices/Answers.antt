@@ -1,7 +1,7 @@
 -- One device more.
 use Rattle.std.proofs.Common.{◌<◌, ◌≤◌, List, length, sym, ap, ◌∙◌, arith}
 use Rattle.jh_ivshmem.specs.declared.spec.EndpointSpec.{EndpointSpec}
-use Rattle.jh_ivshmem.specs.Specs.{IsWithin}
+use Rattle.jh_ivshmem.specs.Specs.{IsInItsLimits}
 use Rattle.jh_history.specs.Endpoints.{endpoints_changed, with_words, MayJoinThem}
 use Rattle.jh_history.specs.PlainView.{last_byte}
 use Rattle.jh_history.proofs.DeviceLoopLemmas.{left_all, left_end, endpoints_next, words_next, may_begin, All_next, may_next}
@@ -32,7 +32,7 @@ loop-number-preserved c =
 pub change_device-requires-clause-within : goal.change_device-requires-clause-within
 change_device-requires-clause-within c =
     let lt : c.loop-number.number < length c.args.config.now.pci_devices = omega arith in
-    All_next IsWithin c.args.config.now c.loop-number.number lt c.loop-number.invariant.may.within
+    All_next IsInItsLimits c.args.config.now c.loop-number.number lt c.loop-number.invariant.may.within
 
 pub change_device-requires-clause-new : goal.change_device-requires-clause-new
 change_device-requires-clause-new c = λ join.

@@ -3,6 +3,7 @@ use Rattle.jh_history.specs.History.{facts}
 use Rattle.jh_history.specs.Due.{IsLegal}
 use Rattle.jh_history.specs.Sound.{IsSound}
 use Rattle.jh_history.specs.PlainView.{StandsFor}
+use Rattle.jh_history.proofs.DueLemmas.{none_found}
 use Rattle.jh_history.proofs.plain.quiet.Goals as goal
 
 pub after-requires-clause-legal : goal.after-requires-clause-legal
@@ -13,4 +14,4 @@ returns c =
     let legal : IsLegal c.args.image.now c.as_slice.result.now = rw c.as_slice.ensures c.requires.legal in
     let f = facts c.args.image.now c.as_slice.result.now in
     let stands : StandsFor c.in_ok-plain.plain c.args.image.now f × IsSound c.args.image.now f = (c.in_ok-plain.ensures, c.legal_journals_are_sound.ensures.legal c.args.image.now c.as_slice.result.now c.requires.admitted legal) in
-    rw (← c.as_slice.ensures) (c.none_due.ensures c.args.image.now (facts c.args.image.now c.as_slice.result.now) stands (c.admitted_roots_are_sound.ensures.cpus c.requires.admitted))
+    rw (← c.as_slice.ensures) (none_found c.any_due.result c.is_none.result c.is_none.ensures (c.any_due.ensures.quiet c.args.image.now f stands (c.admitted_roots_are_sound.ensures.cpus c.requires.admitted)))

@@ -4,14 +4,14 @@ use Rattle.std.specs.List.{list_any}
 use Rattle.jh_cellcfg.specs.declared.live.Live.{Live}
 use Rattle.jh_cellcfg.specs.declared.region.Region.{Region}
 use Rattle.jh_shape.specs.Shapes.{takes}
-use Rattle.jh_shape.specs.Lives.{joined}
+use Rattle.jh_shape.specs.Lives.{with_marks}
 use Rattle.jh_history.proofs.LiveLemmas.{length_joined}
 use Rattle.jh_history.proofs.LoopLemmas.{any_found, any_next, any_end, closing, closed_by, live_of, joined_read}
 use Rattle.jh_history.proofs.plain_cells.any_closes.Goals as goal
 
 pub returns-then-any_takes : goal.returns-then-any_takes
 returns-then-any_takes c =
-    let lives = joined c.args.cells.now c.args.marks.now in
+    let lives = with_marks c.args.cells.now c.args.marks.now in
     let mark : Bool = get_or c.args.marks.now c.loop-i.i false in
     let live : Live = live_of c.index-cells-i.result mark in
     let within : c.loop-i.i < length lives = (let e = length_joined c.args.cells.now c.args.marks.now c.requires in omega arith) in
@@ -21,7 +21,7 @@ returns-then-any_takes c =
 
 pub loop-i-preserved : goal.loop-i-preserved
 loop-i-preserved c =
-    let lives = joined c.args.cells.now c.args.marks.now in
+    let lives = with_marks c.args.cells.now c.args.marks.now in
     let mark : Bool = get_or c.args.marks.now c.loop-i.i false in
     let live : Live = live_of c.index-cells-i.result mark in
     let within : c.loop-i.i < length lives = (let e = length_joined c.args.cells.now c.args.marks.now c.requires in omega arith) in
@@ -31,5 +31,5 @@ loop-i-preserved c =
 
 pub returns : goal.returns
 returns c =
-    let lives = joined c.args.cells.now c.args.marks.now in
+    let lives = with_marks c.args.cells.now c.args.marks.now in
     sym (closed_by lives c.args.place ∙ any_end (closing c.args.place) lives c.loop-i.i (let e = length_joined c.args.cells.now c.args.marks.now c.requires in omega arith) c.loop-i.invariant)

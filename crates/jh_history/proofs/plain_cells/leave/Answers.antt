@@ -1,7 +1,7 @@
 -- One cell more, from the last one on.
 use Rattle.std.proofs.Common.{◌≡◌, ◌-◌, ◌<◌, true, false, length, vec_len, rules, ◌∙◌, sym, eq-eqb, arith}
 use Rattle.std.proofs.lemmas.Bool.{ne_eqb}
-use Rattle.jh_shape.specs.Lives.{joined}
+use Rattle.jh_shape.specs.Lives.{with_marks}
 use Rattle.jh_history.proofs.LiveLemmas.{has_number, leave_so_far, leave_begin, leave_within, leave_keep, leave_drop, leave_even}
 use Rattle.jh_history.proofs.plain_cells.leave.Goals as goal
 
@@ -19,7 +19,7 @@ index-requires c =
     let now : vec_len c.loop-i.cells ≡ length c.loop-i.cells.items = search rules in
     let lt : c.loop-i.i - 1 < length c.args.cells.now.items = omega arith in
     let within = leave_within (c.loop-i.i - 1) c.args.id c.args.cells.now.items c.loop-i.cells.items c.args.marks.now.items c.loop-i.marks.items c.requires c.loop-i.invariant.even lt
-    (leave_so_far c.loop-i.i c.args.id (joined c.loop-i.cells.items c.loop-i.marks.items) (joined c.args.cells.now.items c.args.marks.now.items) c.loop-i-test.true c.loop-i.invariant.left) in
+    (leave_so_far c.loop-i.i c.args.id (with_marks c.loop-i.cells.items c.loop-i.marks.items) (with_marks c.args.cells.now.items c.args.marks.now.items) c.loop-i-test.true c.loop-i.invariant.left) in
     omega arith
 
 pub remove-requires : goal.remove-requires
@@ -28,7 +28,7 @@ remove-requires c =
     let now : vec_len c.loop-i.cells ≡ length c.loop-i.cells.items = search rules in
     let lt : c.loop-i.i - 1 < length c.args.cells.now.items = omega arith in
     let within = leave_within (c.loop-i.i - 1) c.args.id c.args.cells.now.items c.loop-i.cells.items c.args.marks.now.items c.loop-i.marks.items c.requires c.loop-i.invariant.even lt
-    (leave_so_far c.loop-i.i c.args.id (joined c.loop-i.cells.items c.loop-i.marks.items) (joined c.args.cells.now.items c.args.marks.now.items) c.loop-i-test.true c.loop-i.invariant.left) in
+    (leave_so_far c.loop-i.i c.args.id (with_marks c.loop-i.cells.items c.loop-i.marks.items) (with_marks c.args.cells.now.items c.args.marks.now.items) c.loop-i-test.true c.loop-i.invariant.left) in
     omega arith
 
 pub remove-requires-then-from-id : goal.remove-requires-then-from-id
@@ -38,7 +38,7 @@ remove-requires-then-from-id c =
     let lt : c.loop-i.i - 1 < length c.args.cells.now.items = omega arith in
     let even = c.loop-i.invariant.even in
     let within = leave_within (c.loop-i.i - 1) c.args.id c.args.cells.now.items c.loop-i.cells.items c.args.marks.now.items c.loop-i.marks.items c.requires even lt
-    (leave_so_far c.loop-i.i c.args.id (joined c.loop-i.cells.items c.loop-i.marks.items) (joined c.args.cells.now.items c.args.marks.now.items) c.loop-i-test.true c.loop-i.invariant.left) in
+    (leave_so_far c.loop-i.i c.args.id (with_marks c.loop-i.cells.items c.loop-i.marks.items) (with_marks c.args.cells.now.items c.args.marks.now.items) c.loop-i-test.true c.loop-i.invariant.left) in
     omega arith
 
 pub loop-i-preserved : goal.loop-i-preserved
@@ -50,7 +50,7 @@ loop-i-preserved c =
     record {
       even = c.loop-i.invariant.even;
       left = leave_keep (c.loop-i.i - 1) c.args.id c.args.cells.now.items c.loop-i.cells.items c.args.marks.now.items c.loop-i.marks.items cell c.requires c.loop-i.invariant.even lt c.index.ensures
-          (leave_so_far c.loop-i.i c.args.id (joined c.loop-i.cells.items c.loop-i.marks.items) (joined c.args.cells.now.items c.args.marks.now.items) c.loop-i-test.true c.loop-i.invariant.left)
+          (leave_so_far c.loop-i.i c.args.id (with_marks c.loop-i.cells.items c.loop-i.marks.items) (with_marks c.args.cells.now.items c.args.marks.now.items) c.loop-i-test.true c.loop-i.invariant.left)
           other;
     }
 
@@ -60,7 +60,7 @@ loop-i-preserved-then-from-id c =
     let cell = c.index.result.now in
     let lt : c.loop-i.i - 1 < length c.args.cells.now.items = omega arith in
     let it : has_number c.args.id cell ≡ true = eq-eqb cell.id c.args.id (sym c.from.ensures ∙ c.if-from-id.true) in
-    let so_far = leave_so_far c.loop-i.i c.args.id (joined c.loop-i.cells.items c.loop-i.marks.items) (joined c.args.cells.now.items c.args.marks.now.items) c.loop-i-test.true c.loop-i.invariant.left in
+    let so_far = leave_so_far c.loop-i.i c.args.id (with_marks c.loop-i.cells.items c.loop-i.marks.items) (with_marks c.args.cells.now.items c.args.marks.now.items) c.loop-i-test.true c.loop-i.invariant.left in
     let within = leave_within (c.loop-i.i - 1) c.args.id c.args.cells.now.items c.loop-i.cells.items c.args.marks.now.items c.loop-i.marks.items c.requires c.loop-i.invariant.even lt so_far in
     rw (c.remove.ensures.items, c.remove-then-from-id.ensures.items) (record {
       even = leave_even (c.loop-i.i - 1) c.loop-i.cells.items c.loop-i.marks.items c.loop-i.invariant.even within;

@@ -1,7 +1,7 @@
 -- One cell more.
 use Rattle.std.proofs.Common.{◌≡◌, ℕ, suc, ◌+◌, true, false, length, set, ◌∙◌, ap, sym, eq-eqb, arith, List, Bool}
 use Rattle.std.proofs.lemmas.Bool.{ne_eqb}
-use Rattle.jh_shape.specs.Lives.{joined}
+use Rattle.jh_shape.specs.Lives.{with_marks}
 use Rattle.jh_history.proofs.LiveLemmas.{has_number, marks_to, marks_to_all, marks_to_put, marks_to_skip}
 use Rattle.jh_history.proofs.plain_cells.mark.Goals as goal
 use Rattle.jh_history.proofs.plain_cells.mark.Goals.{then-from-id, else-from-id}
@@ -30,5 +30,5 @@ loop-i-preserved c =
 pub returns : goal.returns
 returns c =
     let end : c.loop-i.i ≡ length c.args.cells.now = omega arith in
-    ap (joined c.args.cells.now) (c.loop-i.invariant ∙ ap (λ (n : ℕ). marks_to n c.args.id c.args.loadable c.args.cells.now c.args.marks.now) end)
+    ap (with_marks c.args.cells.now) (c.loop-i.invariant ∙ ap (λ (n : ℕ). marks_to n c.args.id c.args.loadable c.args.cells.now c.args.marks.now) end)
     ∙ marks_to_all c.args.id c.args.loadable c.args.cells.now c.args.marks.now c.requires

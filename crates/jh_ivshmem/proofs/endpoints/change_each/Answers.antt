@@ -1,6 +1,6 @@
 use Rattle.std.proofs.Common.{◌<◌, ◌≤◌, length, arith, sym, ◌∙◌, ap, subst}
 use Rattle.std.proofs.lemmas.List.{length-map}
-use Rattle.jh_ivshmem.specs.Keys.{key_of, IsSound}
+use Rattle.jh_ivshmem.specs.Keys.{key_of, IsWholeEndpoint}
 use Rattle.jh_ivshmem.proofs.LoopLemmas.{step_meant, step_other, at_end, sound_at, meant_at}
 use Rattle.jh_ivshmem.proofs.ChangeLemmas.{after_sound}
 use Rattle.jh_ivshmem.proofs.endpoints.change_each.Goals as goal
@@ -17,7 +17,7 @@ of-requires c =
       c.args.keys.now.ok.0,
     ) in
     record {
-      sound = subst IsSound (sym c.apply.ensures)
+      sound = subst IsWholeEndpoint (sym c.apply.ensures)
           (after_sound c.args.change c.index_mut-endpoint.result.now
           (sound_at c.loop-i.endpoints.items c.loop-i.keys.items c.loop-i.i c.index_mut-endpoint.result.now
           c.loop-i.invariant.0.kept inside c.index_mut-endpoint.ensures.value));

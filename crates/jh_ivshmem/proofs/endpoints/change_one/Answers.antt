@@ -1,7 +1,7 @@
 -- The endpoint at the index of the device's key is changed, or none is.
 use Rattle.std.proofs.Common.{◌∙◌, position, set, sym, ap, subst}
 use Rattle.jh_ivshmem.specs.declared.change.Whom.TheVariants.{Device}
-use Rattle.jh_ivshmem.specs.Keys.{AreInOrder, IsSound, key_of, is_key_meant}
+use Rattle.jh_ivshmem.specs.Keys.{AreInOrder, IsWholeEndpoint, key_of, is_key_meant}
 use Rattle.jh_ivshmem.proofs.ChangeLemmas.{after_sound}
 use Rattle.jh_ivshmem.proofs.LoopLemmas.{device_at, change_found, change_none, sound_at}
 use Rattle.jh_ivshmem.proofs.OrderLemmas.{keys_in_order}
@@ -19,7 +19,7 @@ of-requires c =
     let is = c.in-Some.ensures ∙ ap (position (is_key_meant (Device c.args.cell c.args.device))) c.deref.ensures.value in
     let at = device_at c.args.cell c.args.device es ks c.in-Some.i e c.requires.kept is c.index_mut-endpoint.ensures.value in
     record {
-      sound = subst IsSound (sym c.apply.ensures)
+      sound = subst IsWholeEndpoint (sym c.apply.ensures)
           (after_sound c.args.change e (sound_at es ks c.in-Some.i e c.requires.kept at.0 c.index_mut-endpoint.ensures.value));
     }
 

@@ -1,6 +1,6 @@
 use Rattle.std.proofs.Common.{List, AllPairs, map, ap, subst}
 use Rattle.jh_ivshmem.specs.declared.endpoint.Endpoint.{Endpoint}
-use Rattle.jh_ivshmem.specs.Specs.{is_peer, AreApart}
+use Rattle.jh_ivshmem.specs.Specs.{is_peer, AreEndpointsApart}
 use Rattle.jh_ivshmem.specs.Endpoint.{raised}
 use Rattle.jh_ivshmem.specs.Seen.{Seen}
 use Rattle.jh_ivshmem.proofs.ApartLemmas.{single, peers_apart}
@@ -16,6 +16,6 @@ returns-clause-others c = λ bdf target v k d within other. stays_at (is_peer bd
 pub returns-clause-one : goal.returns-clause-one
 returns-clause-one c = λ bdf target i k d within inside other here.
     single (is_peer bdf target) (peers_apart bdf target) c.args._links.now.list i k d
-    (subst (λ (list : List Endpoint). AllPairs AreApart (map (λ (o : Endpoint). o.spec) list))
+    (subst (λ (list : List Endpoint). AllPairs AreEndpointsApart (map (λ (o : Endpoint). o.spec) list))
     (ap (λ (seen : Seen). seen.list) c._links.view_is) c._links.invariant.apart)
     within here inside other

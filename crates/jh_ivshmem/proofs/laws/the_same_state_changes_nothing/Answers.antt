@@ -5,7 +5,7 @@ use Rattle.std.proofs.lemmas.List.{set-get_or}
 use Rattle.std.proofs.lemmas.List.Folds.{find_at}
 use Rattle.std.proofs.lemmas.Option.{get_or_from_slice_get, slice_get_within}
 use Rattle.jh_ivshmem.specs.declared.endpoint.Endpoint.{Endpoint}
-use Rattle.jh_ivshmem.specs.Specs.{is_device, AreApart}
+use Rattle.jh_ivshmem.specs.Specs.{is_device, AreEndpointsApart}
 use Rattle.jh_ivshmem.specs.Changes.{changed}
 use Rattle.jh_ivshmem.specs.Links.{written, told_of, endpoint_at}
 use Rattle.jh_ivshmem.specs.Seen.{Seen}
@@ -19,7 +19,7 @@ untold : (e : Endpoint) (list : List Endpoint) → told_of e e.state list ≡ li
 untold e list = rw (same_number e.state) refl
 
 -- the endpoint itself gets the state that it has
-itself : (cell device : ℕ) (list : List Endpoint) (e : Endpoint) → AllPairs AreApart (map (λ (o : Endpoint). o.spec) list)
+itself : (cell device : ℕ) (list : List Endpoint) (e : Endpoint) → AllPairs AreEndpointsApart (map (λ (o : Endpoint). o.spec) list)
     → endpoint_at cell device list ≡ Some e
     → changed (is_device e.spec.cell e.spec.device) (λ (o : Endpoint). record o { state = e.state }) list ≡ list
 itself cell device list e apart named =
@@ -39,6 +39,6 @@ returns c = λ e named.
     ap (changed (is_device e.spec.cell e.spec.device) (λ (o : Endpoint). record o { state = e.state }))
     (untold e c.args._links.now.list)
     ∙ itself c.args._cell c.args._device c.args._links.now.list e
-    (subst (λ (list : List Endpoint). AllPairs AreApart (map (λ (o : Endpoint). o.spec) list))
+    (subst (λ (list : List Endpoint). AllPairs AreEndpointsApart (map (λ (o : Endpoint). o.spec) list))
     (ap (λ (seen : Seen). seen.list) c._links.view_is) c._links.invariant.apart)
     named

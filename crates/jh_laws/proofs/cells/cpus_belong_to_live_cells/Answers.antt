@@ -2,7 +2,7 @@
 use Rattle.std.proofs.Common.{sym, ◌∙◌, ⊎_elim}
 use Rattle.std.proofs.lemmas.Bool.{both_ways, false_from_ne_true}
 use Rattle.jh_cellcfg.specs.Cells.{is_cpu_set}
-use Rattle.jh_laws.specs.Moments.{cells_of}
+use Rattle.jh_laws.specs.Moments.{live_configs}
 use Rattle.jh_history.proofs.SoundCpusLemmas.{other_root}
 use Rattle.jh_history.proofs.SoundLemmas.{legal_sound}
 use Rattle.jh_laws.proofs.cells.cpus_belong_to_live_cells.Goals as goal
@@ -13,7 +13,7 @@ returns-clause-cells c = λ j cell cpu held. let has = (legal_sound j.image j.en
 pub returns-clause-root : goal.returns-clause-root
 returns-clause-root c = λ j cpu.
     let sound = legal_sound j.image j.entries j.admitted j.legal in (
-      λ is cell held. false_from_ne_true (is_cpu_set cell.cpu_set cpu) (λ set. other_root j.image.system (cells_of j) cell sound.cells held (sym ((sound.cpus.cells cell held).owned cpu set) ∙ is)),
+      λ is cell held. false_from_ne_true (is_cpu_set cell.cpu_set cpu) (λ set. other_root j.image.system (live_configs j) cell sound.cells held (sym ((sound.cpus.cells cell held).owned cpu set) ∙ is)),
       λ none.
           ⊎_elim
           (λ root. root)

@@ -1,12 +1,12 @@
 -- The cells are sound.
 use Rattle.jh_check.proofs.JoinLemmas.{nothing_from_clean}
-use Rattle.jh_laws.specs.Moments.{cells_of}
+use Rattle.jh_laws.specs.Moments.{live_configs}
 use Rattle.jh_laws.proofs.FewCellsLemmas.{few_cells}
 use Rattle.jh_history.proofs.SoundLemmas.{legal_sound}
 use Rattle.jh_laws.proofs.cells.the_check_holds_of_live_cells.Goals as goal
 
 pub returns-clause-findings : goal.returns-clause-findings
-returns-clause-findings c = λ j. nothing_from_clean j.image.system (cells_of j) (legal_sound j.image j.entries j.admitted j.legal).cells.clean
+returns-clause-findings c = λ j. nothing_from_clean j.image.system (live_configs j) (legal_sound j.image j.entries j.admitted j.legal).cells.clean
 
 pub returns-clause-pages : goal.returns-clause-pages
 returns-clause-pages c = λ j. (legal_sound j.image j.entries j.admitted j.legal).cells.room

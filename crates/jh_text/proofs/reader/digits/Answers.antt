@@ -1,14 +1,14 @@
 use Rattle.std.proofs.Common.{rules, ◌≡◌, ◌-◌, ◌≤◌, ◌<◌, None, Some, length, drop, get_or, length-drop, take_all, sym, ◌∙◌, arith}
-use Rattle.jh_text.specs.Private.Reading.{one_more, digits_until}
+use Rattle.jh_text.specs.Private.Reading.{with_written_digit, digits_until}
 use Rattle.jh_text.proofs.Numbers.{until_end, until_digit, until_other, until_nothing}
 use Rattle.jh_text.proofs.reader.digits.Goals as goal
-use Rattle.jh_text.proofs.reader.digits.Goals.{in_default, in-len1-up+in_default-one_more, in_default-rest-via-then-rest-lt1-2, in_default-rest-via-in-len1-up-rest+else-last-end}
+use Rattle.jh_text.proofs.reader.digits.Goals.{in_default, in-len1-up+in_default-with_written_digit, in_default-rest-via-then-rest-lt1-2, in_default-rest-via-in-len1-up-rest+else-last-end}
 
 pub loop-rest-preserved : goal.loop-rest-preserved
 loop-rest-preserved c =
     let rest = c.loop-rest.rest.now in
     let some : 1 ≤ length rest = search rules in
-    let more : one_more c.args.radix c.loop-rest.n (get_or rest 0 0) ≡ Some c.in-Some.more = search rules in
+    let more : with_written_digit c.args.radix c.loop-rest.n (get_or rest 0 0) ≡ Some c.in-Some.more = search rules in
     let all : length (drop 1 rest) ≤ length rest - 1 = omega (arith, length-drop 1 rest) in
     rw (take_all (length rest - 1) (drop 1 rest) all)
     (sym (until_digit c.args.radix c.args.end c.loop-rest.n c.in-Some.more rest c.requires.high c.requires.end some more) ∙ c.loop-rest.invariant)
@@ -32,8 +32,8 @@ returns-in_default-rest c =
           let some : 1 ≤ length rest = w.in-len1-up-rest.len_at_least in
           elim c.if-rest-lt1.branch as (λ _. digits_until c.args.radix c.args.end c.loop-rest.n rest ≡ None) [
             | in_default v ↦ absurd (let none : length rest < 1 = search rules in let no : ⊥ = omega arith in no)
-            | in-len1-up+in_default-one_more v ↦
-                let none : one_more c.args.radix c.loop-rest.n (get_or rest 0 0) ≡ None = search rules in
+            | in-len1-up+in_default-with_written_digit v ↦
+                let none : with_written_digit c.args.radix c.loop-rest.n (get_or rest 0 0) ≡ None = search rules in
                 until_other c.args.radix c.args.end c.loop-rest.n rest some w.if-last-end.false none
           ]
     ]

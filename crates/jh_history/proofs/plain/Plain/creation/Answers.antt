@@ -10,7 +10,7 @@ use Rattle.jh_history.specs.Configs.{ReadCell}
 use Rattle.jh_history.specs.LiveView.{is_locked_by}
 use Rattle.jh_history.specs.Phases.{is_locked, creation_of, creation_by}
 use Rattle.jh_shape.specs.Lives.{configs_of}
-use Rattle.jh_history.specs.PlainView.{PlainView, IsFit, last_byte}
+use Rattle.jh_history.specs.PlainView.{PlainView, HasSoundCells, last_byte}
 use Rattle.jh_history.specs.ReadView.{as_read}
 use Rattle.jh_history.proofs.FactsLemmas.{same_function}
 use Rattle.jh_history.proofs.PlainReadLemmas.{read_in, plain_reads}
@@ -37,7 +37,7 @@ returns-in-Some c = λ i f h.
     let cells_too : configs_of f.cells ≡ c.configs-cells.result.now = sym (c.configs-cells.ensures ∙ ap (λ (lives : List Live). configs_of lives) kept) in
     let locked : list_any (is_locked f) f.cells ≡ false =
     ap (λ (b : Place → ℕ). list_any (λ (live : Live). is_locked_by b live.config) f.cells) (sym byte) ∙ sym (c.is_any_locked.ensures f.cells cells) ∙ c.if-is_any_locked.false in
-    let fit : IsFit p.image p.cells = subst (λ (v : PlainView). IsFit v.image v.cells) c.self.view_is c.self.invariant in
+    let fit : HasSoundCells p.image p.cells = subst (λ (v : PlainView). HasSoundCells v.image v.cells) c.self.view_is c.self.invariant in
     let image : c.self.inside.image.now ≡ i = ap (λ (v : PlainView). v.image) c.self.view_is ∙ sym h.0.same in
     let P : Option Creation → Type 0 = λ told. IfSome told (λ creation. creation ≡ creation_by c.self.inside.image.now f c.args.caller (as_read c.in_ok-read.read)) in
     rw locked

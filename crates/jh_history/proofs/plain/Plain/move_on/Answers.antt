@@ -11,7 +11,7 @@ use Rattle.jh_history.specs.declared.call.OpenCall.{OpenCall}
 use Rattle.jh_history.specs.Calls.{call_by}
 use Rattle.jh_history.specs.Commits.{cells_by}
 use Rattle.jh_shape.specs.Lives.{configs_of}
-use Rattle.jh_history.specs.PlainView.{PlainView, IsFit}
+use Rattle.jh_history.specs.PlainView.{PlainView, HasSoundCells}
 use Rattle.jh_history.proofs.PlainStepLemmas.{fit_after}
 use Rattle.jh_history.proofs.plain.Plain.move_on.Goals as goal
 
@@ -34,7 +34,7 @@ returns-clause-call c =
     ∙ ap (λ (k : Option OpenCall). call_by c.args.self.now.cells c.args.coming k entry entry.act) call
 
 pub invariant_of-self : goal.invariant_of-self
-invariant_of-self c = subst (λ (lives : List Live). IsFit c.self.inside.image.now lives) (sym c.in_err-cells_after.ensures.err) c.self.invariant
+invariant_of-self c = subst (λ (lives : List Live). HasSoundCells c.self.inside.image.now lives) (sym c.in_err-cells_after.ensures.err) c.self.invariant
 
 pub invariant_of-self-2 : goal.invariant_of-self-2
 invariant_of-self-2 c =

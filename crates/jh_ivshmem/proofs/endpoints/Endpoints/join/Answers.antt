@@ -2,7 +2,7 @@ use Rattle.std.proofs.Common.{◌≤◌, List, All, length, refl, sym, ◌∙◌
 use Rattle.std.specs.List.{insert}
 use Rattle.jh_ivshmem.specs.declared.endpoint.Endpoint.{Endpoint}
 use Rattle.jh_ivshmem.specs.declared.key.Key.{Key}
-use Rattle.jh_ivshmem.specs.Specs.{AreApart, is_device}
+use Rattle.jh_ivshmem.specs.Specs.{AreEndpointsApart, is_device}
 use Rattle.jh_ivshmem.specs.Seen.{Seen}
 use Rattle.jh_ivshmem.specs.Keys.{AreInOrder}
 use Rattle.jh_ivshmem.specs.Links.{besides, joined}
@@ -26,7 +26,7 @@ joining c =
     (c.put.ensures.items ∙ ap (λ (l : List Endpoint). insert l c.insertion_index-index.result c.new-endpoint.result) c.in_ok-make_room.ensures.items)
     (c.put-2.ensures.items ∙ ap (λ (l : List Key). insert l c.insertion_index-index.result c.of-key.result) c.in_ok-make_room-2.ensures.items)
     (record { vectors = refl; within = c.requires.within })
-    (subst (λ (list : List Endpoint). All (λ (o : Endpoint). AreApart o.spec c.args.s) list)
+    (subst (λ (list : List Endpoint). All (λ (o : Endpoint). AreEndpointsApart o.spec c.args.s) list)
     (sym (ap (λ (seen : Seen). seen.list) c.self.view_is)) c.requires.new)
 
 pub invariant_of-self-2 : goal.invariant_of-self-2

@@ -7,7 +7,7 @@ use Rattle.jh_cellcfg.specs.declared.config.SystemConfig.{SystemConfig}
 use Rattle.jh_check.specs.Refusals.{is_known, nobody, refusal_of}
 use Rattle.jh_shape.specs.Pages.{pages_of}
 use Rattle.jh_life.specs.Seen.{Seen}
-use Rattle.jh_life.specs.Lives.{cells_of}
+use Rattle.jh_life.specs.Lives.{numbered_cells}
 use Rattle.jh_shape.specs.Lives.{configs_of}
 use Rattle.jh_life.specs.Verdict.{may_have}
 use Rattle.jh_life.proofs.JoinedLemmas.{list_joined, length_joined}
@@ -92,7 +92,7 @@ returns-in-None-clause-unknown c =
     let before : refusal_of now.system (configs_of now.lives) new (may_have c.args.owned c.args.caller) 0 0 ≡ None =
     sym (same_cells c.self.inside.system now.system live (configs_of now.lives) new free (may_have c.args.owned c.args.caller) 0 0 system cells c.free_cpus-free.ensures)
     ∙ sym c.in_ok-refusal.ensures ∙ c.in-None.is in
-    if_none_from c.refusal_by_pages.result (is_known (cells_of now) new ≡ false)
+    if_none_from c.refusal_by_pages.result (is_known (numbered_cells now) new ≡ false)
     (accepted_none now.system (configs_of now.lives) new (may_have c.args.owned c.args.caller) 0 0 before)
 
 pub returns-in-None-clause-room : goal.returns-in-None-clause-room

@@ -5,7 +5,7 @@ use Rattle.jh_text.specs.FaultText.{fault_text}
 use Rattle.jh_cli.specs.Lines.{refusal_line}
 use Rattle.jh_cli.proofs.OrderLemmas.{refuses_one}
 use Rattle.jh_cli.proofs.JournalLemmas.{IsTold, is_fault, ends_there, no_fault_there}
-use Rattle.jh_cli.proofs.audit.journal.Goals as goal
+use Rattle.jh_cli.proofs.audit.judge.Goals as goal
 
 pub returns : goal.returns
 returns g c =
@@ -15,11 +15,8 @@ returns g c =
     subst (λ (t : List ℕ). IsTold t fault) c.as_slice.ensures.value (is_fault c.as_slice.result.now fault (Err fault) (Err NoMemory) refl refl c.in-Err.ensures.line c.in-Err.ensures.too_long) in
     record {
       ok = tt;
-      few = tt;
       err = ends_there (g.F.Files.contents c.args.files.now) c.args.name.now text fault first c.in_ok-bytes.ensures.ok c.in_ok-bytes.ensures.within c.unread.result c.unread.ensures.told c.unread.ensures.memory;
       counted = no_fault_there (g.F.Files.faults c.args.files.now) (g.F.Files.faults c.read_below.new.files) (g.F.Files.failed c.read_below.new.files) c.args.name.now fault c.unread.result c.unread.ensures.told;
-      never_falls = c.read_below.ensures.never_falls;
-      kept = c.read_below.ensures.kept;
       asked = tt;
       asked_until = refuses_one g.F.Files.asks g.F.Files.failed c.args.name.now (refusal_line c.args.name.now (fault_text fault)) c.args.files.now c.read_below.new.files c.unread.result c.in_ok-bytes.ensures.asked c.unread.ensures.told;
     }

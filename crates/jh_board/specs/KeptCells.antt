@@ -8,7 +8,7 @@ use Rattle.jh_board.specs.declared.cells.LiveCells.TheInside.{Inside}
 
 -- what is kept beside the live cells is theirs: their regions, what they close to root, and how many pages all cells
 -- take
-pub record IsLive (s : Inside) : Type 0 where
+pub record FitsItsCells (s : Inside) : Type 0 where
   pub indexes : s.indexes.items ≡ all_regions s.cells.lives
   pub within : All AreInRange s.indexes.items
   pub closed : (place : ℕ) → has_byte s.closed.ranges place ≡ is_closed_by s.cells.lives place

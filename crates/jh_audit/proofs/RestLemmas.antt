@@ -1,0 +1,35 @@
+-- The lines behind the first illegal entry.
+use Rattle.std.proofs.Common.{◌≡◌, ℕ, List, [], ◌∷◌, ◌++◌, Some, Result, Ok, Err, sym, subst, append_assoc}
+use Rattle.std.specs.Result.{IfErr, IsErrAnd}
+use Rattle.jh_history.specs.declared.entry.Entry.{Entry}
+use Rattle.jh_text.specs.declared.fault.JournalFault.{JournalFault}
+use Rattle.jh_text.specs.Faults.{IsFault}
+use Rattle.jh_text.specs.LinesView.{LinesView}
+use Rattle.jh_text.specs.Lines.{IsReadTo, PassesLine, RefusesLine}
+use Rattle.jh_audit.specs.Rest.{ReadsOn, EndsAtFault}
+
+-- what is known of the lines of a text
+
+abbrev pub GoesOn : Type 0
+GoesOn = (text : List ℕ) (entries : List Entry) (old new : LinesView) (entry : Entry) → IsReadTo text entries old → PassesLine old (Some entry) new → IsReadTo text (entries ++ entry ∷ []) new
+
+abbrev pub Refused : Type 0
+Refused = (text : List ℕ) (entries : List Entry) (old new : LinesView) (fault : JournalFault) → IsReadTo text entries old → RefusesLine old fault new → IsFault text fault
+
+-- one line more is read
+pub reads_on : GoesOn → (first old new : LinesView) (entry : Entry) → ReadsOn first old → PassesLine old (Some entry) new → ReadsOn first new
+reads_on goes_on first old new entry so_far passes = record {
+  between = so_far.between ++ entry ∷ [];
+  told = λ text before h.
+      subst (λ (es : List Entry). IsReadTo text es new) (append_assoc before so_far.between (entry ∷ []))
+      (goes_on text (before ++ so_far.between) old new entry (so_far.told text before h) passes);
+}
+
+-- a line is refused for the fault of the text
+pub ends_at : Refused → (first old new : LinesView) (fault : JournalFault) → ReadsOn first old → RefusesLine old fault new → EndsAtFault first fault
+ends_at refused first old new fault so_far refuses = λ text before h. refused text (before ++ so_far.between) old new fault (so_far.told text before h) refuses
+
+-- a fault that is passed up
+pub passed_up : {X E : Type 0} (r : Result X E) (e : E) (P : E → Type 0) → IsErrAnd r (λ y. y ≡ e) → P e → IfErr r P
+passed_up (Ok x) e P is p = tt
+passed_up (Err y) e P is p = subst P (sym is) p

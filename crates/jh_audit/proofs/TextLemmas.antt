@@ -1,0 +1,55 @@
+-- A text has one answer.
+use Rattle.std.proofs.Common.{◌≡◌, ◌≢◌, ℕ, List, Result, Ok, Err, refl, ap, subst}
+use Rattle.std.specs.Result.{IfOk, IfErr, IsOkAnd}
+use Rattle.jh_script.specs.declared.image.Image.{Image}
+use Rattle.jh_history.specs.declared.entry.Entry.{Entry}
+use Rattle.jh_text.specs.declared.fault.JournalFault.{JournalFault}
+use Rattle.jh_text.specs.declared.fault.JournalFault.TheVariants.{Line, TooLong, NoMemory}
+use Rattle.jh_text.specs.Faults.{IsJournalText, IsFirstBadLine, IsTooLong, IsFault}
+use Rattle.jh_audit.specs.declared.verdict.Verdict.{Verdict}
+use Rattle.jh_audit.specs.Judges.{Judges, JudgesText}
+
+-- what is known of all texts
+
+abbrev pub OneJournal : Type 0
+OneJournal = (text : List ℕ) (a b : List Entry) → IsJournalText text a → IsJournalText text b → a ≡ b
+
+abbrev pub NoBadLine : Type 0
+NoBadLine = (text : List ℕ) (entries : List Entry) (number : ℕ) → IsJournalText text entries → IsFirstBadLine text number → ⊥
+
+abbrev pub NotLong : Type 0
+NotLong = (text : List ℕ) (entries : List Entry) → IsJournalText text entries → IsTooLong text → ⊥
+
+abbrev pub NotBoth : Type 0
+NotBoth = (text : List ℕ) (number : ℕ) → IsFirstBadLine text number → IsTooLong text → ⊥
+
+abbrev pub OneLine : Type 0
+OneLine = (text : List ℕ) (m n : ℕ) → IsFirstBadLine text m → IsFirstBadLine text n → m ≡ n
+
+-- an answer that is right is the one that is right
+pub only_verdict : OneJournal → NoBadLine → NotLong → (image : Image) (text : List ℕ) (r : Result Verdict JournalFault) → IfOk r (JudgesText image text) → IfErr r (IsFault text) → r ≢ Err NoMemory
+    → (entries : List Entry) → IsJournalText text entries → IsOkAnd r (Judges image entries)
+only_verdict one no_bad not_long image text (Ok verdict) ok err room entries j = subst (λ (es : List Entry). Judges image es verdict) (one text ok.entries entries ok.told j) ok.judged
+only_verdict one no_bad not_long image text (Err (Line number)) ok err room entries j = absurd (no_bad text entries number j err)
+only_verdict one no_bad not_long image text (Err TooLong) ok err room entries j = absurd (not_long text entries j err)
+only_verdict one no_bad not_long image text (Err NoMemory) ok err room entries j = absurd (room refl)
+
+pub only_line : NoBadLine → NotBoth → OneLine → (image : Image) (text : List ℕ) (r : Result Verdict JournalFault) → IfOk r (JudgesText image text) → IfErr r (IsFault text) → r ≢ Err NoMemory
+    → (number : ℕ) → IsFirstBadLine text number → r ≡ Err (Line number)
+only_line no_bad not_both one_line image text (Ok verdict) ok err room number b = absurd (no_bad text ok.entries number ok.told b)
+only_line no_bad not_both one_line image text (Err (Line other)) ok err room number b = ap (λ n. Err (Line n)) (one_line text other number err b)
+only_line no_bad not_both one_line image text (Err TooLong) ok err room number b = absurd (not_both text number b err)
+only_line no_bad not_both one_line image text (Err NoMemory) ok err room number b = absurd (room refl)
+
+pub only_too_long : NotLong → NotBoth → (image : Image) (text : List ℕ) (r : Result Verdict JournalFault) → IfOk r (JudgesText image text) → IfErr r (IsFault text) → r ≢ Err NoMemory
+    → IsTooLong text → r ≡ Err TooLong
+only_too_long not_long not_both image text (Ok verdict) ok err room t = absurd (not_long text ok.entries ok.told t)
+only_too_long not_long not_both image text (Err (Line other)) ok err room t = absurd (not_both text other err t)
+only_too_long not_long not_both image text (Err TooLong) ok err room t = refl
+only_too_long not_long not_both image text (Err NoMemory) ok err room t = absurd (room refl)
+
+pub line_is : (text : List ℕ) (r : Result Verdict JournalFault) → IfErr r (IsFault text) → (number : ℕ) → r ≡ Err (Line number) → IsFirstBadLine text number
+line_is text r err number e = let P : Result Verdict JournalFault → Type 0 = λ x. IfErr x (IsFault text) in subst P e err
+
+pub too_long_is : (text : List ℕ) (r : Result Verdict JournalFault) → IfErr r (IsFault text) → r ≡ Err TooLong → IsTooLong text
+too_long_is text r err e = let P : Result Verdict JournalFault → Type 0 = λ x. IfErr x (IsFault text) in subst P e err

@@ -1,0 +1,28 @@
+-- The first entry that isn't due ends the audit, where the rest has no fault.
+use Rattle.std.proofs.Common.{[], ◌∷◌, ◌++◌}
+use Rattle.jh_text.specs.Faults.{IsFault}
+use Rattle.jh_text.specs.Lines.{IsReadTo}
+use Rattle.jh_audit.proofs.JudgeLemmas.{is_illegal}
+use Rattle.jh_audit.proofs.RestLemmas.{passed_up}
+use Rattle.jh_audit.proofs.judge.judge_text.Goals as goal
+
+pub returns-in_err-read_rest-clause-err : goal.returns-in_err-read_rest-clause-err
+returns-in_err-read_rest-clause-err c =
+    let text = c.args.text.now in
+    let before = c.loop-entry.board.entries in
+    let entry = c.in-Some.entry in
+    let read : IsReadTo text (before ++ entry ∷ []) c.next.new.self =
+    c.lines_tell_the_text.ensures.goes_on text before c.loop-entry.lines c.next.new.self entry c.loop-entry.invariant.read (rw c.in-Some.is at c.in_ok-entry.ensures.ok) in
+    passed_up c.from_residual-in_err-read_rest.result c.in_err-read_rest.field-0.0 (IsFault text) c.from_residual-in_err-read_rest.ensures.1
+    (c.in_err-read_rest.ensures.err text (before ++ entry ∷ []) read)
+
+pub returns-in-Differs-clause-ok : goal.returns-in-Differs-clause-ok
+returns-in-Differs-clause-ok c =
+    let text = c.args.text.now in
+    let before = c.loop-entry.board.entries in
+    let entry = c.in-Some.entry in
+    let read : IsReadTo text (before ++ entry ∷ []) c.next.new.self =
+    c.lines_tell_the_text.ensures.goes_on text before c.loop-entry.lines c.next.new.self entry c.loop-entry.invariant.read (rw c.in-Some.is at c.in_ok-entry.ensures.ok) in
+    let compared = rw (c.loop-entry.invariant.image, c.in-Differs.is) at c.in_ok-expected.ensures in
+    is_illegal c.args.board.now.image text before entry c.next.new.self c.count-line.result c.in-Differs.expected
+    read c.count-line.ensures c.in_ok-read_rest.ensures.ok compared.0 compared.1 compared.2
