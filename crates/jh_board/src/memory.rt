@@ -5,7 +5,8 @@ ghost use Rattle.jh_history.specs.declared.place.Place.{Place as ThePlace};
 ghost use Rattle.jh_history.specs.Access.{with_slot};
 ghost use Rattle.jh_history.specs.Pages.{with_page};
 ghost use Rattle.jh_history.specs.Places.{number_of, places_in_row, places_of_row, IsRow, with_byte, written, over};
-ghost use Rattle.jh_board.specs.Pages.{byte_at, byte_of, HoldsComm, HoldsPlace, HoldsSlot, MayHold};
+ghost use Rattle.jh_board.specs.Pages.{byte_of, HoldsComm, HoldsPlace, HoldsSlot, MayHold};
+ghost use Rattle.jh_num.specs.Pages.{paged_byte};
 
 use crate::comm_pages::{CommPages, Word};
 use crate::physical::{Physical, Piece};
@@ -238,7 +239,7 @@ impl Memory {
     /// Puts the bytes into physical memory from `at` on.
     pub fn store(&mut self, at: u64, bytes: &[u8]) -> Result<(), NoMemory>
         requires { at + length bytes.now < 2 ^ 64 }
-        ensures bytes { OnOk result ((q : ℕ) → byte_of self.new (Place.Physical q) ≡ stored (byte_at self.old.physical) at bytes.now q) }
+        ensures bytes { OnOk result ((q : ℕ) → byte_of self.new (Place.Physical q) ≡ stored (paged_byte self.old.physical) at bytes.now q) }
         ensures comms { self.new.comms ≡ self.old.comms }
     {
         self.physical.store(at, bytes)

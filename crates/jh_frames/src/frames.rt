@@ -3,7 +3,8 @@ ghost use Rattle.std.specs.Prelude.{◌≡◌, ◌≢◌, ℕ, ◌+◌, ◌-◌,
 ghost use Rattle.std.specs.List.{range_with_len};
 ghost use Rattle.jh_num.specs.declared.address.TheConstants.{ADDRESS_END};
 ghost use Rattle.jh_num.specs.Memory.{spelled, stored};
-ghost use Rattle.jh_frames.specs.Memory.{byte_at, holds, missing, missing_from, page_at, pages_in, word_in, IsOwn};
+ghost use Rattle.jh_frames.specs.Memory.{byte_at, holds, missing, missing_from, pages_in, word_in, IsOwn};
+ghost use Rattle.jh_num.specs.Pages.{page_at};
 ghost use Rattle.jh_frames.specs.Kept.{IsWhole};
 
 use crate::bytes::number_of;

@@ -5,3 +5,4 @@ pub mod Counted
 pub mod Errors
 pub mod Levels
 pub mod Memory
+pub mod Pages
