@@ -5,4 +5,5 @@ pub mod Counted
 pub mod Errors
 pub mod Levels
 pub mod Memory
+pub mod Numbers
 pub mod Pages

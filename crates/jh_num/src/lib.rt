@@ -10,6 +10,7 @@ pub mod error;
 mod laws;
 mod level;
 mod no_memory;
+mod number;
 mod range;
 mod rights;
 mod room;
@@ -26,6 +27,7 @@ pub use laws::{
 };
 pub use level::{FIRST_LEVEL, LAST_LEVEL, slot_of, slot_size};
 pub use no_memory::NoMemory;
+pub use number::item_number;
 pub use range::Range;
 pub use rights::Rights;
 pub use room::make_room;
