@@ -98,11 +98,11 @@ whole_typed image f (Some places) config small h =
     let P : CellConfig → Type 0 = IsTyped in
     subst P (same_Some (config_of (map f.byte places)) config h) (config_typed (map f.byte places) (read_bytes f.byte places small))
 
-behind_typed : (image : Image) (f : Facts) (at : ℕ) (header : List ℕ) (fault : Option ConfigFault) (config : CellConfig) → ((q : Place) → f.byte q < 256) → config_read (read_behind image f at header fault) ≡ Some config → IsTyped config
+behind_typed : (image : Image) (f : Facts) (at : ℕ) (header : List ℕ) (fault : Option ConfigFault) (config : CellConfig) → ((q : Place) → f.byte q < 256) → config_read (read_behind (bytes_at image f at) header fault) ≡ Some config → IsTyped config
 behind_typed image f at header None config small h = whole_typed image f (places_from (granted image f image.system.root.id ToRead) at (header_size header)) config small h
 behind_typed image f at header (Some fault) config small h = absurd (none-some config h)
 
-from_typed : (image : Image) (f : Facts) (at : ℕ) (o : Option (List ℕ)) (config : CellConfig) → ((q : Place) → f.byte q < 256) → config_read (read_from image f at o) ≡ Some config → IsTyped config
+from_typed : (image : Image) (f : Facts) (at : ℕ) (o : Option (List ℕ)) (config : CellConfig) → ((q : Place) → f.byte q < 256) → config_read (read_from (bytes_at image f at) o) ≡ Some config → IsTyped config
 from_typed image f at None config small h = absurd (none-some config h)
 from_typed image f at (Some header) config small h = behind_typed image f at header (header_fault header) config small h
 
