@@ -14,7 +14,7 @@ ghost use Rattle.jh_check.specs.Private.Seats.{HasSeats, AreByBdf};
 ghost use Rattle.jh_check.specs.Private.Sound.{AreSound, AreSoundEach};
 ghost use Rattle.jh_check.specs.Findings.{finding_of, beside, in_cell, in_regions, in_hypervisor, in_devices_of, in_devices, in_cpus};
 
-use crate::bus::{is_marked, is_marked_by, mark, marks};
+use crate::bus::{has_mark, has_mark_of, mark, marks};
 use crate::checking::MAX_FINDINGS;
 use crate::devices::{agrees_with_linked, cpus_break, device_breaks};
 use crate::finding::{Finding, HYPERVISOR};
@@ -182,7 +182,7 @@ fn may_differ(
     requires seated { IsSeated (cells_of setup.now) seats.now a cell.now device.now }
     ensures { result ≡ false → agrees_with_all (take a (cells_of setup.now)) cell.now.memory_regions device.now ≡ true }
 {
-    if !is_marked(marks, device) {
+    if !has_mark(marks, device) {
         return false;
     }
     if is_sure(sure, device) {
@@ -219,7 +219,7 @@ fn in_devices_of(
     for (n, device) in devices.iter().enumerate() {
         let known = marks.as_slice();
         let doubted = may_differ(setup, known, seats, sure, a, cell, device);
-        let repeated = is_marked_by(known, a, device);
+        let repeated = has_mark_of(known, a, device);
         let breaks = device_breaks(setup, a, cell, &devices[..n], device, repeated, doubted);
         put(found, breaks, finding(Rule::Shmem, a, n, 0, 0))?;
         mark(marks, a, device);

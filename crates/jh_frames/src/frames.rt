@@ -7,7 +7,7 @@ ghost use Rattle.jh_frames.specs.Memory.{byte_at, holds, missing, missing_from, 
 ghost use Rattle.jh_num.specs.Pages.{page_at};
 ghost use Rattle.jh_frames.specs.Kept.{IsWhole};
 
-use crate::bytes::number_of;
+use crate::bytes::spelled;
 use crate::guest::Guest;
 use crate::own::Own;
 use crate::page::Page;
@@ -117,7 +117,7 @@ impl Frames {
         for k in 0..width {
             bytes[k] = self.byte_of_two(number, first, second, at + k as u64);
         }
-        number_of(&bytes[0..width])
+        spelled(&bytes[0..width])
     }
 
     /// The number that the bytes from the place on spell, the lowest first; at most eight.
