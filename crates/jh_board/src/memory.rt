@@ -12,7 +12,7 @@ use crate::comm_pages::{CommPages, Word};
 use crate::physical::{Physical, Piece};
 use jh_history::{Bytes, PageWrite, Place, Places, Row, slot_places, value_of};
 use jh_ivshmem::Slot;
-use jh_num::NoMemory;
+use jh_num::{NoMemory, PAGE_SIZE};
 use std::alloc::Global;
 use std::marker::Model;
 
@@ -41,7 +41,7 @@ fn piece_of(places: &Places) -> Option<Piece>
     match low.first {
         Place::Physical(at) => {
             let count = usize::from(low.count);
-            if high.count == 0 && (at % 4096) as usize + count <= 4096 {
+            if high.count == 0 && (at % PAGE_SIZE) as usize + count <= PAGE_SIZE as usize {
                 Some(Piece { at, count })
             } else {
                 None
@@ -61,7 +61,7 @@ fn word_of(places: &Places) -> Option<Word>
     match low.first {
         Place::Page { cell, offset } => {
             let count = usize::from(low.count);
-            if high.count == 0 && offset <= 4096 - count as u64 {
+            if high.count == 0 && offset <= PAGE_SIZE - count as u64 {
                 Some(Word {
                     cell,
                     offset: offset as usize,

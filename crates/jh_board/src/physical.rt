@@ -6,7 +6,7 @@ ghost use Rattle.jh_num.specs.Pages.{paged_byte};
 
 use crate::page::Page;
 use indexmap::IndexMap;
-use jh_num::NoMemory;
+use jh_num::{NoMemory, PAGE_SIZE};
 use std::alloc::Global;
 use std::marker::Model;
 
@@ -57,9 +57,9 @@ impl Physical {
     pub fn read(&self, place: u64) -> u8
         ensures { result ≡ paged_byte self.now place }
     {
-        match self.pages.get(&(place / 4096)) {
+        match self.pages.get(&(place / PAGE_SIZE)) {
             None => 0,
-            Some(page) => page.get((place % 4096) as usize),
+            Some(page) => page.get((place % PAGE_SIZE) as usize),
         }
     }
 
@@ -70,8 +70,8 @@ impl Physical {
         ensures spells { result ≡ spelled (bytes_from (paged_byte self.now) piece.at piece.count) }
         ensures fits { result < 256 ^ piece.count }
     {
-        match self.pages.get(&(piece.at / 4096)) {
-            Some(page) => page.value((piece.at % 4096) as usize, piece.count),
+        match self.pages.get(&(piece.at / PAGE_SIZE)) {
+            Some(page) => page.value((piece.at % PAGE_SIZE) as usize, piece.count),
             None => 0,
         }
     }
@@ -81,8 +81,8 @@ impl Physical {
         requires { at % 4096 + count ≤ 4096 }
         ensures { OnOk result (bytes.new.items ≡ bytes.old.items ++ bytes_from (paged_byte self.now) at count) }
     {
-        match self.pages.get(&(at / 4096)) {
-            Some(page) => page.append(bytes, (at % 4096) as usize, count),
+        match self.pages.get(&(at / PAGE_SIZE)) {
+            Some(page) => page.append(bytes, (at % PAGE_SIZE) as usize, count),
             None => append_zeros(bytes, count),
         }
     }
@@ -95,7 +95,7 @@ impl Physical {
         let mut done = 0;
         while done < count {
             let from = at + done as u64;
-            let room = 4096 - (from % 4096) as usize;
+            let room = (PAGE_SIZE - from % PAGE_SIZE) as usize;
             let here = room.min(count - done);
             self.append_piece(bytes, from, here)?;
             done += here;
@@ -111,8 +111,8 @@ impl Physical {
         ensures err { OnErr result ((q : ℕ) → paged_byte self.new q ≡ paged_byte self.old q) }
         ensures held { (q : ℕ) → HoldsPage self.old q → HoldsPage self.new q }
     {
-        let number = at / 4096;
-        let offset = (at % 4096) as usize;
+        let number = at / PAGE_SIZE;
+        let offset = (at % PAGE_SIZE) as usize;
         if let Some(page) = self.pages.get_mut(&number) {
             page.put(offset, bytes);
             return Ok(());
@@ -129,7 +129,7 @@ impl Physical {
         ensures held { OnOk result (HoldsPage self.new place) }
         ensures others { (q : ℕ) → HoldsPage self.old q → HoldsPage self.new q }
     {
-        let number = place / 4096;
+        let number = place / PAGE_SIZE;
         if !self.pages.contains_key(&number) {
             let page = Page::zero(self.alloc)?;
             self.pages.insert(number, page)?;
@@ -144,8 +144,8 @@ impl Physical {
         ensures others { (q : ℕ) → q ≢ place → paged_byte self.new q ≡ paged_byte self.old q }
         ensures held { (q : ℕ) → HoldsPage self.old q → HoldsPage self.new q }
     {
-        if let Some(page) = self.pages.get_mut(&(place / 4096)) {
-            page.set((place % 4096) as usize, byte);
+        if let Some(page) = self.pages.get_mut(&(place / PAGE_SIZE)) {
+            page.set((place % PAGE_SIZE) as usize, byte);
         }
     }
 
@@ -158,7 +158,7 @@ impl Physical {
         let mut done = 0;
         while done < bytes.len() {
             let from = at + done as u64;
-            let room = 4096 - (from % 4096) as usize;
+            let room = (PAGE_SIZE - from % PAGE_SIZE) as usize;
             let end = bytes.len().min(done + room);
             self.put(from, &bytes[done..end])?;
             done = end;

@@ -5,7 +5,7 @@ ghost use Rattle.jh_num.specs.Levels.{slot_size};
 
 use crate::descriptor::Descriptor;
 use crate::levels::offset;
-use jh_num::{FIRST_LEVEL, LAST_LEVEL, Rights};
+use jh_num::{FIRST_LEVEL, LAST_LEVEL, PAGE_SIZE, Rights};
 
 const VALID: u64 = 1;
 
@@ -68,7 +68,7 @@ pub fn read(word: u64, level: u8) -> Descriptor
         } else {
             let place = word % PLACE_END;
             Descriptor::Table {
-                next: place - place % 4096,
+                next: place - place % PAGE_SIZE,
             }
         }
     } else if 0 < level && level < LAST_LEVEL {
