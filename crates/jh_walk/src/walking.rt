@@ -10,7 +10,7 @@ ghost use Rattle.jh_walk.specs.Walks.{all_counted, counted, levels, probes_of, s
 
 use jh_desc::{Descriptor, Hit, index, offset, read};
 use jh_frames::Frames;
-use jh_num::{ADDRESS_END, FIRST_LEVEL, LAST_LEVEL, Probe, Rights, Steps, slot_size};
+use jh_num::{ADDRESS_END, FIRST_LEVEL, LAST_LEVEL, Probe, Steps, slot_size};
 
 /// How many levels tables have.
 const LEVELS: u8 = LAST_LEVEL + 1 - FIRST_LEVEL;
