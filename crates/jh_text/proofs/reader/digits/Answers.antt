@@ -2,7 +2,7 @@ use Rattle.std.proofs.Common.{rules, ◌≡◌, ◌-◌, ◌≤◌, ◌<◌, Non
 use Rattle.jh_text.specs.Private.Reading.{with_written_digit, digits_until}
 use Rattle.jh_text.proofs.Numbers.{until_end, until_digit, until_other, until_nothing}
 use Rattle.jh_text.proofs.reader.digits.Goals as goal
-use Rattle.jh_text.proofs.reader.digits.Goals.{in_default, in-len1-up+in_default-one_more, in_default-rest-via-then-rest-lt1-2, in_default-rest-via-in-len1-up-rest+else-last-end}
+use Rattle.jh_text.proofs.reader.digits.Goals.{in_default, in-len1-up+in_default-with_written_digit, in_default-rest-via-then-rest-lt1-2, in_default-rest-via-in-len1-up-rest+else-last-end}
 
 pub loop-rest-preserved : goal.loop-rest-preserved
 loop-rest-preserved c =
@@ -32,7 +32,7 @@ returns-in_default-rest c =
           let some : 1 ≤ length rest = w.in-len1-up-rest.len_at_least in
           elim c.if-rest-lt1.branch as (λ _. digits_until c.args.radix c.args.end c.loop-rest.n rest ≡ None) [
             | in_default v ↦ absurd (let none : length rest < 1 = search rules in let no : ⊥ = omega arith in no)
-            | in-len1-up+in_default-one_more v ↦
+            | in-len1-up+in_default-with_written_digit v ↦
                 let none : with_written_digit c.args.radix c.loop-rest.n (get_or rest 0 0) ≡ None = search rules in
                 until_other c.args.radix c.args.end c.loop-rest.n rest some w.if-last-end.false none
           ]
