@@ -1,4 +1,4 @@
-pub mod AbsentLemmas
-pub mod JudgeLemmas
-pub mod RestLemmas
-pub mod TextLemmas
+mod AbsentLemmas
+mod JudgeLemmas
+mod RestLemmas
+mod TextLemmas

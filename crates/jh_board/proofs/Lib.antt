@@ -1,18 +1,18 @@
-pub mod PagesLemmas
-pub mod BytesLemmas
-pub mod PieceLemmas
-pub mod MeansLemmas
-pub mod IndexLemmas
-pub mod ClosedLemmas
-pub mod CellsLemmas
-pub mod GrantedLemmas
-pub mod ReadyLemmas
-pub mod KeptLemmas
-pub mod MadeLemmas
-pub mod AfterLemmas
-pub mod RootReadLemmas
-pub mod ToldLemmas
-pub mod DevicesLemmas
-pub mod ActedLemmas
-pub mod CommitLemmas
-pub mod RowLemmas
+mod PagesLemmas
+mod BytesLemmas
+mod PieceLemmas
+mod MeansLemmas
+mod IndexLemmas
+mod ClosedLemmas
+mod CellsLemmas
+mod GrantedLemmas
+mod ReadyLemmas
+mod KeptLemmas
+mod MadeLemmas
+mod AfterLemmas
+mod RootReadLemmas
+mod ToldLemmas
+mod DevicesLemmas
+mod ActedLemmas
+mod CommitLemmas
+mod RowLemmas

@@ -10,10 +10,9 @@ ghost use Rattle.jh_board.specs.Means.{Means};
 
 use crate::held::Held;
 use crate::indexed::IndexedImage;
-use jh_check::with_bit;
+use jh_check::{MOST_CELLS, with_bit};
 use jh_cpu::Cpu;
 use jh_history::{BoxedCell, Creation, unless_refused};
-use jh_life::MOST_CELLS;
 use jh_num::{NoMemory, has_bit};
 
 /// Whether the CPU is on the board and root's.

@@ -5,13 +5,14 @@ ghost use Rattle.jh_history.specs.declared.place.Place.{Place as ThePlace};
 ghost use Rattle.jh_history.specs.Access.{with_slot};
 ghost use Rattle.jh_history.specs.Pages.{with_page};
 ghost use Rattle.jh_history.specs.Places.{number_of, places_in_row, places_of_row, IsRow, with_byte, written, over};
-ghost use Rattle.jh_board.specs.Pages.{byte_at, byte_of, HoldsComm, HoldsPlace, HoldsSlot, MayHold};
+ghost use Rattle.jh_board.specs.Pages.{byte_of, HoldsComm, HoldsPlace, HoldsSlot, MayHold};
+ghost use Rattle.jh_num.specs.Pages.{paged_byte};
 
 use crate::comm_pages::{CommPages, Word};
 use crate::physical::{Physical, Piece};
 use jh_history::{Bytes, PageWrite, Place, Places, Row, slot_places, value_of};
 use jh_ivshmem::Slot;
-use jh_num::NoMemory;
+use jh_num::{NoMemory, PAGE_SIZE};
 use std::alloc::Global;
 use std::marker::Model;
 
@@ -40,7 +41,7 @@ fn piece_of(places: &Places) -> Option<Piece>
     match low.first {
         Place::Physical(at) => {
             let count = usize::from(low.count);
-            if high.count == 0 && (at % 4096) as usize + count <= 4096 {
+            if high.count == 0 && (at % PAGE_SIZE) as usize + count <= PAGE_SIZE as usize {
                 Some(Piece { at, count })
             } else {
                 None
@@ -60,7 +61,7 @@ fn word_of(places: &Places) -> Option<Word>
     match low.first {
         Place::Page { cell, offset } => {
             let count = usize::from(low.count);
-            if high.count == 0 && offset <= 4096 - count as u64 {
+            if high.count == 0 && offset <= PAGE_SIZE - count as u64 {
                 Some(Word {
                     cell,
                     offset: offset as usize,
@@ -238,7 +239,7 @@ impl Memory {
     /// Puts the bytes into physical memory from `at` on.
     pub fn store(&mut self, at: u64, bytes: &[u8]) -> Result<(), NoMemory>
         requires { at + length bytes.now < 2 ^ 64 }
-        ensures bytes { OnOk result ((q : ℕ) → byte_of self.new (Place.Physical q) ≡ stored (byte_at self.old.physical) at bytes.now q) }
+        ensures bytes { OnOk result ((q : ℕ) → byte_of self.new (Place.Physical q) ≡ stored (paged_byte self.old.physical) at bytes.now q) }
         ensures comms { self.new.comms ≡ self.old.comms }
     {
         self.physical.store(at, bytes)

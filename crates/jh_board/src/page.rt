@@ -6,7 +6,7 @@ ghost use Rattle.jh_board.specs.Pages.{bytes_from};
 
 use jh_comm::{fresh, send, set_state};
 use jh_history::PageChange;
-use jh_num::NoMemory;
+use jh_num::{NoMemory, PAGE_SIZE};
 use std::alloc::Global;
 use std::marker::Model;
 
@@ -47,7 +47,7 @@ impl Page {
     pub fn zero(alloc: Global) -> Result<Self, NoMemory>
         ensures { IfOk result (λ p. (k : ℕ) → slice_index p k ≡ 0) }
     {
-        let bytes = vec![in alloc; 0; 4096]?;
+        let bytes = vec![in alloc; 0; PAGE_SIZE as usize]?;
         Ok(Page { bytes })
     }
 

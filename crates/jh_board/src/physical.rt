@@ -1,11 +1,12 @@
 //! Bytes of physical memory; a page that isn't held is zero.
 ghost use Rattle.std.specs.Prelude.{◌≡◌, ◌≢◌, ℕ, ◌+◌, ◌%◌, ◌<◌, ◌≤◌, ◌^◌, ◌++◌, OnOk, OnErr, length};
 ghost use Rattle.jh_num.specs.Memory.{spelled, stored};
-ghost use Rattle.jh_board.specs.Pages.{byte_at, bytes_from, HoldsPage};
+ghost use Rattle.jh_board.specs.Pages.{bytes_from, HoldsPage};
+ghost use Rattle.jh_num.specs.Pages.{paged_byte};
 
 use crate::page::Page;
 use indexmap::IndexMap;
-use jh_num::NoMemory;
+use jh_num::{NoMemory, PAGE_SIZE};
 use std::alloc::Global;
 use std::marker::Model;
 
@@ -44,7 +45,7 @@ fn append_zeros(bytes: &mut Vec<u8>, count: usize) -> Result<(), NoMemory>
 impl Physical {
     /// Physical memory of zeros, of which no page is held.
     pub fn new(alloc: Global) -> Self
-        ensures { (place : ℕ) → byte_at result place ≡ 0 }
+        ensures { (place : ℕ) → paged_byte result place ≡ 0 }
     {
         Physical {
             pages: IndexMap::new(alloc),
@@ -54,11 +55,11 @@ impl Physical {
 
     /// The byte at the place.
     pub fn read(&self, place: u64) -> u8
-        ensures { result ≡ byte_at self.now place }
+        ensures { result ≡ paged_byte self.now place }
     {
-        match self.pages.get(&(place / 4096)) {
+        match self.pages.get(&(place / PAGE_SIZE)) {
             None => 0,
-            Some(page) => page.get((place % 4096) as usize),
+            Some(page) => page.get((place % PAGE_SIZE) as usize),
         }
     }
 
@@ -66,11 +67,11 @@ impl Physical {
     pub fn value(&self, piece: Piece) -> u64
         requires page { piece.at % 4096 + piece.count ≤ 4096 }
         requires few { piece.count ≤ 8 }
-        ensures spells { result ≡ spelled (bytes_from (byte_at self.now) piece.at piece.count) }
+        ensures spells { result ≡ spelled (bytes_from (paged_byte self.now) piece.at piece.count) }
         ensures fits { result < 256 ^ piece.count }
     {
-        match self.pages.get(&(piece.at / 4096)) {
-            Some(page) => page.value((piece.at % 4096) as usize, piece.count),
+        match self.pages.get(&(piece.at / PAGE_SIZE)) {
+            Some(page) => page.value((piece.at % PAGE_SIZE) as usize, piece.count),
             None => 0,
         }
     }
@@ -78,10 +79,10 @@ impl Physical {
     /// Puts so many bytes of one page, from the address on, behind those of the buffer.
     fn append_piece(&self, bytes: &mut Vec<u8>, at: u64, count: usize) -> Result<(), NoMemory>
         requires { at % 4096 + count ≤ 4096 }
-        ensures { OnOk result (bytes.new.items ≡ bytes.old.items ++ bytes_from (byte_at self.now) at count) }
+        ensures { OnOk result (bytes.new.items ≡ bytes.old.items ++ bytes_from (paged_byte self.now) at count) }
     {
-        match self.pages.get(&(at / 4096)) {
-            Some(page) => page.append(bytes, (at % 4096) as usize, count),
+        match self.pages.get(&(at / PAGE_SIZE)) {
+            Some(page) => page.append(bytes, (at % PAGE_SIZE) as usize, count),
             None => append_zeros(bytes, count),
         }
     }
@@ -89,12 +90,12 @@ impl Physical {
     /// Puts `count` bytes, from the place `at` on, behind those of the buffer.
     pub fn append(&self, bytes: &mut Vec<u8>, at: u64, count: usize) -> Result<(), NoMemory>
         requires { at + count < 2 ^ 64 }
-        ensures { OnOk result (bytes.new.items ≡ bytes.old.items ++ bytes_from (byte_at self.now) at count) }
+        ensures { OnOk result (bytes.new.items ≡ bytes.old.items ++ bytes_from (paged_byte self.now) at count) }
     {
         let mut done = 0;
         while done < count {
             let from = at + done as u64;
-            let room = 4096 - (from % 4096) as usize;
+            let room = (PAGE_SIZE - from % PAGE_SIZE) as usize;
             let here = room.min(count - done);
             self.append_piece(bytes, from, here)?;
             done += here;
@@ -106,12 +107,12 @@ impl Physical {
     /// then on.
     pub fn put(&mut self, at: u64, bytes: &[u8]) -> Result<(), NoMemory>
         requires { at % 4096 + length bytes.now ≤ 4096 }
-        ensures ok { OnOk result ((q : ℕ) → byte_at self.new q ≡ stored (byte_at self.old) at bytes.now q) }
-        ensures err { OnErr result ((q : ℕ) → byte_at self.new q ≡ byte_at self.old q) }
+        ensures ok { OnOk result ((q : ℕ) → paged_byte self.new q ≡ stored (paged_byte self.old) at bytes.now q) }
+        ensures err { OnErr result ((q : ℕ) → paged_byte self.new q ≡ paged_byte self.old q) }
         ensures held { (q : ℕ) → HoldsPage self.old q → HoldsPage self.new q }
     {
-        let number = at / 4096;
-        let offset = (at % 4096) as usize;
+        let number = at / PAGE_SIZE;
+        let offset = (at % PAGE_SIZE) as usize;
         if let Some(page) = self.pages.get_mut(&number) {
             page.put(offset, bytes);
             return Ok(());
@@ -124,11 +125,11 @@ impl Physical {
 
     /// HoldsPage the page of the place. No byte changes.
     pub fn hold(&mut self, place: u64) -> Result<(), NoMemory>
-        ensures bytes { (q : ℕ) → byte_at self.new q ≡ byte_at self.old q }
+        ensures bytes { (q : ℕ) → paged_byte self.new q ≡ paged_byte self.old q }
         ensures held { OnOk result (HoldsPage self.new place) }
         ensures others { (q : ℕ) → HoldsPage self.old q → HoldsPage self.new q }
     {
-        let number = place / 4096;
+        let number = place / PAGE_SIZE;
         if !self.pages.contains_key(&number) {
             let page = Page::zero(self.alloc)?;
             self.pages.insert(number, page)?;
@@ -139,12 +140,12 @@ impl Physical {
     /// Writes the byte at a place that is held.
     pub fn write(&mut self, place: u64, byte: u8)
         requires { HoldsPage self.old place }
-        ensures at { byte_at self.new place ≡ byte }
-        ensures others { (q : ℕ) → q ≢ place → byte_at self.new q ≡ byte_at self.old q }
+        ensures at { paged_byte self.new place ≡ byte }
+        ensures others { (q : ℕ) → q ≢ place → paged_byte self.new q ≡ paged_byte self.old q }
         ensures held { (q : ℕ) → HoldsPage self.old q → HoldsPage self.new q }
     {
-        if let Some(page) = self.pages.get_mut(&(place / 4096)) {
-            page.set((place % 4096) as usize, byte);
+        if let Some(page) = self.pages.get_mut(&(place / PAGE_SIZE)) {
+            page.set((place % PAGE_SIZE) as usize, byte);
         }
     }
 
@@ -152,12 +153,12 @@ impl Physical {
     /// be written.
     pub fn store(&mut self, at: u64, bytes: &[u8]) -> Result<(), NoMemory>
         requires { at + length bytes.now < 2 ^ 64 }
-        ensures { OnOk result ((q : ℕ) → byte_at self.new q ≡ stored (byte_at self.old) at bytes.now q) }
+        ensures { OnOk result ((q : ℕ) → paged_byte self.new q ≡ stored (paged_byte self.old) at bytes.now q) }
     {
         let mut done = 0;
         while done < bytes.len() {
             let from = at + done as u64;
-            let room = 4096 - (from % 4096) as usize;
+            let room = (PAGE_SIZE - from % PAGE_SIZE) as usize;
             let end = bytes.len().min(done + room);
             self.put(from, &bytes[done..end])?;
             done = end;

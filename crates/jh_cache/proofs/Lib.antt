@@ -1,2 +1,2 @@
-pub mod ListLemmas
-pub mod LawLemmas
+mod ListLemmas
+mod LawLemmas

@@ -1,8 +1,8 @@
-pub mod Lists
-pub mod Headers
+mod Lists
+mod Headers
 pub mod Splits
 pub mod Faultless
 pub mod Fields
 pub mod Found
-pub mod Told
-pub mod Writing
+mod Told
+mod Writing

@@ -1,6 +1,9 @@
-//! The header of a cell's configuration, from its name on.
+//! The header of a cell's configuration.
 
-/// The fields from the name to the console: 124 bytes.
+/// The revision of the format: the number behind a file's signature.
+pub const REVISION: u16 = 13;
+
+/// The header's fields from the name to the console: 124 bytes.
 #[derive(Clone, Copy, PartialEq, Eq, Debug)]
 pub struct Header {
     pub name: [u8; 32],

@@ -19,7 +19,7 @@ mod writer;
 pub use config::{CellConfig, Console, Irqchip, PciDevice, SystemConfig};
 pub use fault::{ConfigFault, Part};
 pub use flags::{CellFlags, RegionFlags};
-pub use header::{Counts, Header};
+pub use header::{Counts, Header, REVISION};
 pub use laws::{
     a_body_tells_its_configuration, a_spelling_tells_its_configuration, body_has_no_fault,
     no_fault_is_a_body, no_fault_is_a_spelling, one_body, one_spelling, size_is_length,

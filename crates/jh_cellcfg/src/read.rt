@@ -9,7 +9,7 @@ ghost use Rattle.jh_cellcfg.specs.declared.config.CellConfig.{CellConfig};
 
 use crate::config::CellConfig;
 use crate::fault::ConfigFault;
-use crate::header::Header;
+use crate::header::{Header, REVISION};
 use crate::reader::Reader;
 use crate::record::{Record, read_list};
 use jh_num::{NoMemory, Seq};
@@ -112,7 +112,7 @@ fn check_start(bytes: &[u8]) -> Result<(), ConfigFault>
         return Err(ConfigFault::Signature);
     }
     let found = u16::from_le_bytes([bytes[6], bytes[7]]);
-    if found != 13 {
+    if found != REVISION {
         return Err(ConfigFault::Revision { found });
     }
     Ok(())

@@ -1,26 +1,26 @@
 pub mod BoolLemmas
 pub mod ListLemmas
-pub mod BreakLemmas
-pub mod SectionLemmas
-pub mod SpanLemmas
-pub mod ReachLemmas
-pub mod BlockLemmas
-pub mod RisingLemmas
-pub mod SoundLemmas
-pub mod BusLemmas
-pub mod LinkLemmas
-pub mod SeatLemmas
-pub mod FitLemmas
-pub mod VerdictLemmas
-pub mod Tested
-pub mod FoundLemmas
-pub mod CleanLemmas
-pub mod DeviceLemmas
+mod BreakLemmas
+mod SectionLemmas
+mod SpanLemmas
+mod ReachLemmas
+mod BlockLemmas
+mod RisingLemmas
+mod SoundLemmas
+mod BusLemmas
+mod LinkLemmas
+mod SeatLemmas
+mod FitLemmas
+mod VerdictLemmas
+mod Tested
+mod FoundLemmas
+mod CleanLemmas
+mod DeviceLemmas
 pub mod JoinLemmas
 pub mod RuleLemmas
-pub mod OrderLemmas
+mod OrderLemmas
 pub mod GivenLemmas
 pub mod RefusalLemmas
 pub mod CappedLemmas
-pub mod IdleLemmas
-pub mod MaskLemmas
+mod IdleLemmas
+mod MaskLemmas

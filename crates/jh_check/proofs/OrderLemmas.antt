@@ -15,7 +15,8 @@ use Rattle.jh_check.specs.declared.rule.Rule.TheVariants.{VirtOverlap, PhysOverl
 use Rattle.jh_check.specs.Regions.{Spot, pair_breaks, region_breaks, hypervisor_breaks}
 use Rattle.jh_check.specs.Devices.{device_breaks, cpus_break}
 use Rattle.jh_check.specs.Lists.{found_from, only_if}
-use Rattle.jh_check.specs.Findings.{item_of, rule_number, spot, finding_of, beside, beside_at, between, between_at, from_cell, in_pairs, in_cell, in_cell_at, in_regions, in_regions_at, in_hypervisor, device_at, in_devices_of, in_devices_at, in_devices, in_cpus_at, in_cpus, found_by, found_at, rules_in_order, findings}
+use Rattle.jh_check.specs.Findings.{rule_number, spot, finding_of, beside, beside_at, between, between_at, from_cell, in_pairs, in_cell, in_cell_at, in_regions, in_regions_at, in_hypervisor, device_at, in_devices_of, in_devices_at, in_devices, in_cpus_at, in_cpus, found_by, found_at, rules_in_order, findings}
+use Rattle.jh_num.specs.Numbers.{item_number}
 use Rattle.jh_check.specs.Order.{Precedes, IsCountable}
 use Rattle.jh_check.proofs.Tested.{OfRegion, OfMemory, OfRule}
 use Rattle.jh_check.proofs.FoundLemmas.{found_at_holds, found_at0, only_at, found_of}
@@ -87,7 +88,7 @@ by_other rule a b r s b' r' s' f g e e' l =
     let base : Precedes (finding_of rule a r b s) (finding_of rule a r' b' s') = inr (refl, inr (refl, inl l)) in
     subst (λ h. Precedes h g) (sym e) (subst (λ h. Precedes (finding_of rule a r b s) h) (sym e') base)
 
-less_items : (r r' : ℕ) → r < r' → r' < 2 ^ 32 → item_of r < item_of r'
+less_items : (r r' : ℕ) → r < r' → r' < 2 ^ 32 → item_number r < item_number r'
 less_items r r' l m = omega arith
 
 by_item : (rule : Rule) (a b r s r' s' : ℕ) (f g : Finding) → f ≡ finding_of rule a r b s → g ≡ finding_of rule a r' b s' → r < r' → r' < 2 ^ 32 → Precedes f g

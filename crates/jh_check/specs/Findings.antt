@@ -1,6 +1,7 @@
 -- The findings of a system and its cells: by number, then cells, then regions. Root has the number 0, and the
 -- others follow in order; the hypervisor's memory is told as cell 16, after all.
-use Rattle.std.specs.Prelude.{ℕ, List, [], ◌∷◌, ◌++◌, take, min}
+use Rattle.std.specs.Prelude.{ℕ, List, [], ◌∷◌, ◌++◌, take}
+use Rattle.jh_num.specs.Numbers.{item_number}
 use Rattle.jh_cellcfg.specs.declared.region.Region.{Region}
 use Rattle.jh_cellcfg.specs.declared.config.PciDevice.{PciDevice}
 use Rattle.jh_cellcfg.specs.declared.config.CellConfig.{CellConfig}
@@ -28,14 +29,10 @@ rule_number Shmem = 11
 rule_number NoCpu = 12
 rule_number PhysAlign = 13
 
--- the number of an item as a finding tells it: of 32 bits, and the last of these for all past it
-abbrev pub item_of : ℕ → ℕ
-item_of n = min n 0xffffffff
-
 -- the finding that the rule is broken by these: an item of a cell, and one of another cell
 unfoldable pub finding_of : Rule → ℕ → ℕ → ℕ → ℕ → Finding
 finding_of rule cell item other_cell other_item =
-    record { number = rule_number rule; cell = cell; item = item_of item; other_cell = other_cell; other_item = item_of other_item }
+    record { number = rule_number rule; cell = cell; item = item_number item; other_cell = other_cell; other_item = item_number other_item }
 
 -- the region with its cell, and the numbers of both
 abbrev pub spot : ℕ → CellConfig → ℕ → Region → Spot

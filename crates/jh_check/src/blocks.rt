@@ -30,8 +30,8 @@ const NOWHERE: Span = Span {
     item: 0,
 };
 
-/// The least that has both.
-fn joined(one: Span, other: Span) -> Span
+/// The least span that has both.
+fn hull(one: Span, other: Span) -> Span
     ensures one { IsInside one result }
     ensures other { IsInside other result }
 {
@@ -54,11 +54,11 @@ fn widened(extents: Extents, rule: Rule, item: usize, region: &Region) -> Extent
     if passes_shared(rule, region) {
         Extents {
             any: extents.any,
-            unshared: joined(extents.unshared, span),
+            unshared: hull(extents.unshared, span),
         }
     } else {
         Extents {
-            any: joined(extents.any, span),
+            any: hull(extents.any, span),
             unshared: extents.unshared,
         }
     }
@@ -105,8 +105,8 @@ pub(crate) fn extents_of(blocks: &[Extents]) -> Extents
     };
     for block in blocks {
         extents = Extents {
-            any: joined(extents.any, block.any),
-            unshared: joined(extents.unshared, block.unshared),
+            any: hull(extents.any, block.any),
+            unshared: hull(extents.unshared, block.unshared),
         };
     }
     extents

@@ -1,6 +1,6 @@
 //! The bdfs at which devices of cells stand, by which most devices are told at once to be linked with none, and to be
 //! the first of their cell there.
-ghost use Rattle.std.specs.Prelude.{◌≡◌, ◌≢◌, ◌+◌, ◌<◌, ℕ, false, length, slice_index_or, IfOk};
+ghost use Rattle.std.specs.Prelude.{◌≡◌, ◌≢◌, ◌+◌, ◌<◌, ℕ, true, false, length, slice_index_or, IfOk};
 
 use jh_cellcfg::PciDevice;
 use jh_num::NoMemory;
@@ -46,19 +46,21 @@ pub(crate) fn mark(marks: &mut Vec<u8>, cell: u32, device: &PciDevice)
     marks[at] = own;
 }
 
-/// Whether the bdf of the device is marked.
-pub(crate) fn is_marked(marks: &[u8], device: &PciDevice) -> bool
+/// Whether a cell has marked the bdf of the device.
+pub(crate) fn has_mark(marks: &[u8], device: &PciDevice) -> bool
     requires { length marks.now ≡ 65536 }
-    ensures { result ≡ false → slice_index_or marks.now device.now.bdf 0 ≡ 0 }
+    ensures marked { result ≡ true → slice_index_or marks.now device.now.bdf 0 ≢ 0 }
+    ensures unmarked { result ≡ false → slice_index_or marks.now device.now.bdf 0 ≡ 0 }
 {
     marks[bdf_of(device)] != 0
 }
 
-/// Whether the bdf of the device is marked by the cell of that number.
-pub(crate) fn is_marked_by(marks: &[u8], cell: u32, device: &PciDevice) -> bool
+/// Whether the cell of that number was the last to mark the bdf of the device.
+pub(crate) fn has_mark_of(marks: &[u8], cell: u32, device: &PciDevice) -> bool
     requires length { length marks.now ≡ 65536 }
     requires few { cell < 255 }
-    ensures { result ≡ false → slice_index_or marks.now device.now.bdf 0 ≢ cell + 1 }
+    ensures own { result ≡ true → slice_index_or marks.now device.now.bdf 0 ≡ cell + 1 }
+    ensures another { result ≡ false → slice_index_or marks.now device.now.bdf 0 ≢ cell + 1 }
 {
     marks[bdf_of(device)] == mark_of(cell)
 }

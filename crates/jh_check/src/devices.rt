@@ -11,6 +11,7 @@ ghost use Rattle.jh_check.specs.Devices.{is_shmem, are_linked, section_count, is
 use crate::seats::{Seat, at_bdf};
 use crate::setup::Setup;
 use jh_cellcfg::{CellConfig, PciDevice, Region, RegionFlags};
+use jh_num::PAGE_SIZE;
 
 const PAGE_BAR: u32 = 0xffff_f000;
 
@@ -127,7 +128,7 @@ fn has_all_sections(regions: &[Region], device: &PciDevice) -> bool
 fn is_good_table(region: &Region) -> bool
     ensures { result ≡ is_good_table region.now }
 {
-    4096 <= region.size
+    PAGE_SIZE <= region.size
         && region.size <= 65_536
         && region.has(RegionFlags::READ)
         && !region.has(RegionFlags::WRITE)

@@ -12,9 +12,9 @@ ghost use Rattle.jh_check.specs.Private.Fits.{AreSure, IsSeated};
 ghost use Rattle.jh_cellcfg.specs.declared.config.PciDevice.{PciDevice};
 ghost use Rattle.jh_check.specs.Private.Seats.{HasSeats, AreByBdf};
 ghost use Rattle.jh_check.specs.Private.Sound.{AreSound, AreSoundEach};
-ghost use Rattle.jh_check.specs.Findings.{item_of, finding_of, beside, in_cell, in_regions, in_hypervisor, in_devices_of, in_devices, in_cpus};
+ghost use Rattle.jh_check.specs.Findings.{finding_of, beside, in_cell, in_regions, in_hypervisor, in_devices_of, in_devices, in_cpus};
 
-use crate::bus::{is_marked, is_marked_by, mark, marks};
+use crate::bus::{has_mark, has_mark_of, mark, marks};
 use crate::checking::MAX_FINDINGS;
 use crate::devices::{agrees_with_linked, cpus_break, device_breaks};
 use crate::finding::{Finding, HYPERVISOR};
@@ -27,15 +27,8 @@ use crate::rule::Rule;
 use crate::seats::{Seat, seats_of};
 use crate::setup::Setup;
 use jh_cellcfg::{CellConfig, PciDevice, Region};
-use jh_num::{NoMemory, Seq};
+use jh_num::{NoMemory, Seq, item_number};
 use std::alloc::Global;
-
-/// The number of an item as a finding tells it.
-fn item_of(n: usize) -> u32
-    ensures { result ≡ item_of n }
-{
-    n.min(u32::MAX as usize) as u32
-}
 
 /// The finding that the rule is broken by the one item and the other, told by the numbers of their cells and their own.
 #[tactic(auto, unfolding(crate::specs::Findings::finding_of))]
@@ -45,9 +38,9 @@ fn finding(rule: Rule, cell: u32, item: usize, other_cell: u32, other_item: usiz
     Finding {
         number: rule.number(),
         cell,
-        item: item_of(item),
+        item: item_number(item),
         other_cell,
-        other_item: item_of(other_item),
+        other_item: item_number(other_item),
     }
 }
 
@@ -189,7 +182,7 @@ fn may_differ(
     requires seated { IsSeated (cells_of setup.now) seats.now a cell.now device.now }
     ensures { result ≡ false → agrees_with_all (take a (cells_of setup.now)) cell.now.memory_regions device.now ≡ true }
 {
-    if !is_marked(marks, device) {
+    if !has_mark(marks, device) {
         return false;
     }
     if is_sure(sure, device) {
@@ -226,7 +219,7 @@ fn in_devices_of(
     for (n, device) in devices.iter().enumerate() {
         let known = marks.as_slice();
         let doubted = may_differ(setup, known, seats, sure, a, cell, device);
-        let repeated = is_marked_by(known, a, device);
+        let repeated = has_mark_of(known, a, device);
         let breaks = device_breaks(setup, a, cell, &devices[..n], device, repeated, doubted);
         put(found, breaks, finding(Rule::Shmem, a, n, 0, 0))?;
         mark(marks, a, device);

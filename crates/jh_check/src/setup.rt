@@ -3,6 +3,9 @@ ghost use Rattle.std.specs.Prelude.{◌≡◌, ◌+◌, ◌<◌, ◌≤◌, leng
 
 use jh_cellcfg::{CellConfig, Region};
 
+/// How many cells may live besides root.
+pub const MOST_CELLS: usize = 15;
+
 /// A system and the cells besides root.
 #[derive(Clone, Copy)]
 pub(crate) struct Setup<'a> {

@@ -16,7 +16,7 @@ use Rattle.jh_syscfg.specs.SystemFaults.{system_fault}
 use Rattle.jh_check.specs.Lists.{is_any, capped}
 use Rattle.jh_check.specs.Findings.{findings}
 use Rattle.jh_spec.specs.declared.spec.Spec.{Spec}
-use Rattle.jh_spec.specs.declared.spec.SpecFault.TheVariants as specs
+use Rattle.jh_spec.specs.declared.fault.JsonFault.TheVariants as specs
 use Rattle.jh_spec.specs.Specs.{spec_told}
 use Rattle.jh_script.specs.declared.image.Image.{Image}
 use Rattle.jh_script.specs.Numbers.{decimal_of}

@@ -1,15 +1,15 @@
-pub mod BoardLemmas
-pub mod CallLemmas
-pub mod CellLemmas
-pub mod CpuLemmas
-pub mod GoodLemmas
-pub mod JournalLemmas
+mod BoardLemmas
+mod CallLemmas
+mod CellLemmas
+mod CpuLemmas
+mod GoodLemmas
+mod JournalLemmas
 mod OneLemmas
-pub mod OrderLemmas
+mod OrderLemmas
 mod OutcomeLemmas
-pub mod PlayedLemmas
-pub mod RoundsLemmas
-pub mod RunLemmas
-pub mod StatusLemmas
-pub mod StopLemmas
+mod PlayedLemmas
+mod RoundsLemmas
+mod RunLemmas
+mod StatusLemmas
+mod StopLemmas
 mod ToldLemmas

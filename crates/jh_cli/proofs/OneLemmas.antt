@@ -11,8 +11,8 @@ use Rattle.jh_cellcfg.specs.Texts.{fault_text as config_text}
 use Rattle.jh_cellcfg.specs.Widths.{IsCell}
 use Rattle.jh_syscfg.specs.SystemFaults.{system_fault}
 use Rattle.jh_spec.specs.declared.spec.Spec.{Spec}
-use Rattle.jh_spec.specs.declared.spec.SpecFault.{SpecFault}
-use Rattle.jh_spec.specs.declared.spec.SpecFault.TheVariants as specs
+use Rattle.jh_spec.specs.declared.fault.JsonFault.{JsonFault}
+use Rattle.jh_spec.specs.declared.fault.JsonFault.TheVariants as specs
 use Rattle.jh_spec.specs.Specs.{spec_told}
 use Rattle.jh_script.specs.declared.image.Image.{Image}
 use Rattle.jh_script.specs.FaultText.{schedule_fault_text}
@@ -193,10 +193,10 @@ module _ (faultless : CellsAreFaultless) (one_cell : OneCell) (contents : Conten
 
 -- ---- pack
 
-json_or_member : (r : Result Spec SpecFault) (name : List ℕ) → r ≡ Err specs.Json → r ≡ Err (specs.Member name) → ⊥
+json_or_member : (r : Result Spec JsonFault) (name : List ℕ) → r ≡ Err specs.Json → r ≡ Err (specs.Member name) → ⊥
 json_or_member r name h k = cc
 
-one_member : (r : Result Spec SpecFault) (a b : List ℕ) → r ≡ Err (specs.Member a) → r ≡ Err (specs.Member b) → a ≡ b
+one_member : (r : Result Spec JsonFault) (a b : List ℕ) → r ≡ Err (specs.Member a) → r ≡ Err (specs.Member b) → a ≡ b
 one_member r a b h k = cc
 
 pub spec_words : (bytes v w : List ℕ) → SpecRefusal bytes v → SpecRefusal bytes w → v ≡ w

@@ -5,7 +5,7 @@ use Rattle.jh_syscfg.specs.Layout.{system_spelling}
 use Rattle.jh_spec.specs.Specs.{IsSpecAnswer}
 use Rattle.jh_spec.specs.declared.spec.Spec.{Spec}
 use Rattle.jh_spec.specs.declared.spec.Spec.TheVariants.{Cell, System}
-use Rattle.jh_spec.specs.declared.spec.SpecFault.TheVariants.{Json, Member}
+use Rattle.jh_spec.specs.declared.fault.JsonFault.TheVariants.{Json, Member}
 use Rattle.jh_image.specs.Files.{Contents}
 use Rattle.jh_cli.specs.Reading.{Reply, Reads, IsOversize}
 use Rattle.jh_cli.specs.declared.status.Status.TheVariants.{Good}

@@ -4,8 +4,7 @@ ghost use Rattle.std.specs.List.{list_all};
 ghost use Rattle.std.specs.Option.{option_map};
 ghost use Rattle.jh_cli.specs.Words.{is_operand, check_of, pack_of, play_of, run_of, map_of, audit_of, soak_of, asked_for, command_of, asked_by, HasFewCells};
 
-/// How many cells are checked at most.
-const MOST_CELLS: usize = 15;
+use jh_check::MOST_CELLS;
 
 /// A command with its operands.
 #[derive(Clone, Copy)]

@@ -13,7 +13,7 @@ use crate::status::Status;
 use jh_cellcfg::write_cell;
 use jh_num::NoMemory;
 use jh_outside::Files;
-use jh_spec::{Spec, SpecFault, read_spec};
+use jh_spec::{JsonFault, Spec, read_spec};
 use jh_syscfg::write_system;
 use std::alloc::Global;
 
@@ -40,12 +40,12 @@ fn spec<F: Files>(alloc: Global, files: &mut F, name: &str) -> Result<Spec, Stop
     let bytes = read_below(alloc, files, name, MOST)?;
     match read_spec(alloc, bytes.as_slice()) {
         Ok(spec) => Ok(spec),
-        Err(SpecFault::Json) => Err(refused(alloc, name.as_bytes(), b"json")),
-        Err(SpecFault::Member(member)) => {
+        Err(JsonFault::Json) => Err(refused(alloc, name.as_bytes(), b"json")),
+        Err(JsonFault::Member(member)) => {
             let words = member_words(alloc, member.as_slice())?;
             Err(refused(alloc, name.as_bytes(), words.as_slice()))
         }
-        Err(SpecFault::NoMemory) => Err(Stop::NoMemory),
+        Err(JsonFault::NoMemory) => Err(Stop::NoMemory),
     }
 }
 

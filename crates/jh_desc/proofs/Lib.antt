@@ -1,1 +1,1 @@
-pub mod WordLemmas
+mod WordLemmas

@@ -7,7 +7,8 @@ use Rattle.jh_num.specs.declared.rights.Rights.{Rights}
 use Rattle.jh_desc.specs.declared.descriptor.Descriptor.{Descriptor}
 use Rattle.jh_desc.specs.declared.descriptor.Descriptor.TheVariants.{Invalid, Table, Leaf}
 use Rattle.jh_desc.specs.Descriptors.{bit, address_in, rights_in, is_device, may_block, read_of, where_true, leaf_bits, word_of, IsWritable}
-use Rattle.jh_desc.specs.Levels.{slot_size, last_level}
+use Rattle.jh_num.specs.declared.level.TheConstants.{LAST_LEVEL}
+use Rattle.jh_num.specs.Levels.{slot_size}
 
 -- a fact as a number
 abbrev num : Bool → ℕ
@@ -89,7 +90,7 @@ same_rights a b c rights p q r = rw (p, q, r) refl
 block_reads : (level word out : ℕ) (rights : Rights) (device : Bool) → bit word 0 ≡ true → bit word 1 ≡ false → may_block level ≡ true → address_in (slot_size level) word ≡ out → rights_in word ≡ rights → is_device word ≡ device → read_of word level ≡ Leaf out rights device
 block_reads level word out rights device valid block may at can memory = rw (valid, block, may, at, can, memory) refl
 
-page_reads : (level word out : ℕ) (rights : Rights) (device : Bool) → bit word 0 ≡ true → bit word 1 ≡ true → (level == last_level) ≡ true → address_in (slot_size level) word ≡ out → rights_in word ≡ rights → is_device word ≡ device → read_of word level ≡ Leaf out rights device
+page_reads : (level word out : ℕ) (rights : Rights) (device : Bool) → bit word 0 ≡ true → bit word 1 ≡ true → (level == LAST_LEVEL) ≡ true → address_in (slot_size level) word ≡ out → rights_in word ≡ rights → is_device word ≡ device → read_of word level ≡ Leaf out rights device
 page_reads level word out rights device valid page last at can memory = rw (valid, page, last, at, can, memory) refl
 
 abbrev WordOf : ℕ → ℕ → Rights → Bool → ℕ → Type 0
@@ -164,7 +165,7 @@ leaf_by_cases level out rights device low' high aligned place (inr ne) (inr ne')
     let e : level ≡ 3 = omega (arith, low', high, ne, ne') in
     subst (λ l. read_of (word_of (Leaf out rights device) l) l ≡ Leaf out rights device) (sym e) (leaf_3 out rights device (subst (λ l. out % slot_size l ≡ 0) e aligned) place)
 
-table_reads : (level word next : ℕ) → bit word 0 ≡ true → bit word 1 ≡ true → (level == last_level) ≡ false → address_in 4096 word ≡ next → read_of word level ≡ Table next
+table_reads : (level word next : ℕ) → bit word 0 ≡ true → bit word 1 ≡ true → (level == LAST_LEVEL) ≡ false → address_in 4096 word ≡ next → read_of word level ≡ Table next
 table_reads level word next valid table above at = rw (valid, table, above, at) refl
 
 table_written : (level next : ℕ) → level < 3 → next % 4096 ≡ 0 → next < 2 ^ 48 → read_of (next + 3) level ≡ Table next

@@ -12,7 +12,8 @@ use Rattle.std.specs.Prelude.{◌≡◌, ℕ, ◌+◌, ◌-◌, ◌*◌, ◌/◌
 use Rattle.jh_num.specs.declared.rights.Rights.{Rights}
 use Rattle.jh_desc.specs.declared.descriptor.Descriptor.{Descriptor}
 use Rattle.jh_desc.specs.declared.descriptor.Descriptor.TheVariants.{Invalid, Table, Leaf}
-use Rattle.jh_desc.specs.Levels.{last_level, slot_size}
+use Rattle.jh_num.specs.declared.level.TheConstants.{LAST_LEVEL}
+use Rattle.jh_num.specs.Levels.{slot_size}
 
 -- the bit of that number is set in the word
 abbrev pub bit : ℕ → ℕ → Bool
@@ -36,14 +37,14 @@ leaf_in level word = Leaf (address_in (slot_size level) word) (rights_in word) (
 
 -- a block may stand at the level, which is 1 or 2
 abbrev pub may_block : ℕ → Bool
-may_block level = nat_lt 0 level && nat_lt level last_level
+may_block level = nat_lt 0 level && nat_lt level LAST_LEVEL
 
 -- what the word says at the level
 abbrev pub read_of : ℕ → ℕ → Descriptor
 read_of word level =
     if bit word 0
     then (if bit word 1
-    then (if level == last_level then leaf_in level word else Table (address_in 4096 word))
+    then (if level == LAST_LEVEL then leaf_in level word else Table (address_in 4096 word))
     else (if may_block level then leaf_in level word else Invalid))
     else Invalid
 
@@ -54,7 +55,7 @@ where_true fact n = if fact then n else 0
 -- the bits of a leaf below its address, and bit 54
 abbrev pub leaf_bits : ℕ → Rights → Bool → ℕ
 leaf_bits level rights device =
-    1 + where_true (level == last_level) 2 + (if device then 1 else 15) * 2 ^ 2
+    1 + where_true (level == LAST_LEVEL) 2 + (if device then 1 else 15) * 2 ^ 2
     + where_true rights.read (2 ^ 6) + where_true rights.write (2 ^ 7) + 3 * 2 ^ 8 + 2 ^ 10
     + where_true (not rights.execute) (2 ^ 54)
 
@@ -68,5 +69,5 @@ word_of (Leaf out rights device) level = out + leaf_bits level rights device
 -- at a multiple of the level's slots; either below 2^48
 abbrev pub IsWritable : Descriptor → ℕ → Type 0
 IsWritable Invalid level = Unit {0}
-IsWritable (Table next) level = (level < last_level) × (next % 4096 ≡ 0) × (next < 2 ^ 48)
+IsWritable (Table next) level = (level < LAST_LEVEL) × (next % 4096 ≡ 0) × (next < 2 ^ 48)
 IsWritable (Leaf out rights device) level = (0 < level) × (out % slot_size level ≡ 0) × (out < 2 ^ 48)

@@ -3,12 +3,13 @@ ghost use Rattle.std.specs.Prelude.{◌≡◌, ℕ, ◌+◌, ◌*◌, ◌/◌, �
 ghost use Rattle.jh_desc.specs.declared.descriptor.Descriptor.{Descriptor as AnyDescriptor};
 ghost use Rattle.jh_desc.specs.declared.descriptor.Descriptor.TheVariants.{Table as TableOf};
 ghost use Rattle.jh_desc.specs.Descriptors.{read_of, word_of, IsWritable};
-ghost use Rattle.jh_desc.specs.Levels.{last_level};
+
+use jh_num::LAST_LEVEL;
 
 /// What is written as a word is read from it again, and each such word has 64 bits.
 pub fn what_is_written_is_read()
-    ensures read { (d : AnyDescriptor) (level : ℕ) → level ≤ last_level → IsWritable d level → read_of (word_of d level) level ≡ d }
-    ensures fits { (d : AnyDescriptor) (level : ℕ) → level ≤ last_level → IsWritable d level → word_of d level < 2 ^ 64 }
+    ensures read { (d : AnyDescriptor) (level : ℕ) → level ≤ LAST_LEVEL → IsWritable d level → read_of (word_of d level) level ≡ d }
+    ensures fits { (d : AnyDescriptor) (level : ℕ) → level ≤ LAST_LEVEL → IsWritable d level → word_of d level < 2 ^ 64 }
 {}
 
 /// A table descriptor, whatever word says it, leads to the start of a page.

@@ -9,7 +9,7 @@ mod words;
 
 pub use descriptor::{Descriptor, Hit};
 pub use laws::{addresses_of_tables_are_aligned, other_bits_say_nothing, what_is_written_is_read};
-pub use levels::{FIRST_LEVEL, LAST_LEVEL, index, offset, slot_size};
+pub use levels::{index, offset};
 pub use words::{read, word};
 
 #[cfg(test)]

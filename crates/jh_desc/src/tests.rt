@@ -1,9 +1,9 @@
 //! The words of the format's examples, each right and kind of memory at each level, and words that nothing here writes.
 ghost use Rattle.std.specs.Prelude.{◌≡◌, ◌≤◌, ◌%◌};
-ghost use Rattle.jh_desc.specs.Levels.{first_level, last_level, slot_size};
+ghost use Rattle.jh_num.specs.Levels.{slot_size};
 
-use crate::{Descriptor, index, offset, read, slot_size, word};
-use jh_num::Rights;
+use crate::{Descriptor, index, offset, read, word};
+use jh_num::{FIRST_LEVEL, LAST_LEVEL, Rights, slot_size};
 use std::process::Abort;
 
 /// A 2 MB block at 0x40000000, rwx, normal memory.
@@ -66,8 +66,8 @@ const fn rights(read: bool, write: bool, execute: bool) -> Rights {
 
 /// The leaf at 0x40000000 has this word, both ways.
 fn is_word(rt: &impl Abort, level: u8, rights: Rights, device: bool, said: u64)
-    requires first { first_level ≤ level }
-    requires last { level ≤ last_level }
+    requires first { FIRST_LEVEL ≤ level }
+    requires last { level ≤ LAST_LEVEL }
     requires slot { 0x40000000 % slot_size level ≡ 0 }
 {
     let leaf = Descriptor::Leaf {
@@ -81,8 +81,8 @@ fn is_word(rt: &impl Abort, level: u8, rights: Rights, device: bool, said: u64)
 
 /// The leaves at 0x40000000 have these words, of no right, r, w, rw, x, rx, wx and rwx.
 fn are_words(rt: &impl Abort, level: u8, device: bool, said: [u64; 8])
-    requires first { first_level ≤ level }
-    requires last { level ≤ last_level }
+    requires first { FIRST_LEVEL ≤ level }
+    requires last { level ≤ LAST_LEVEL }
     requires slot { 0x40000000 % slot_size level ≡ 0 }
 {
     is_word(rt, level, rights(false, false, false), device, said[0]);

@@ -1,11 +1,11 @@
 //! Descriptors as words, and words as descriptors.
 ghost use Rattle.std.specs.Prelude.{◌≡◌, ◌+◌, ◌*◌, ◌^◌, ◌/◌, ◌%◌, ◌<◌, ◌≤◌, ◌==◌};
 ghost use Rattle.jh_desc.specs.Descriptors.{address_in, bit, is_device, leaf_bits, leaf_in, read_of, rights_in, where_true, word_of, IsWritable};
-ghost use Rattle.jh_desc.specs.Levels.{first_level, last_level, slot_size};
+ghost use Rattle.jh_num.specs.Levels.{slot_size};
 
 use crate::descriptor::Descriptor;
-use crate::levels::{LAST_LEVEL, offset};
-use jh_num::Rights;
+use crate::levels::offset;
+use jh_num::{FIRST_LEVEL, LAST_LEVEL, PAGE_SIZE, Rights};
 
 const VALID: u64 = 1;
 
@@ -42,7 +42,7 @@ fn rights_in(word: u64) -> Rights
 /// The leaf that the word says at the level: its place, with which a slot of the level begins, its rights, and whether
 /// it is memory of a device.
 fn leaf_in(level: u8, word: u64) -> Descriptor
-    requires { level ≤ last_level }
+    requires { level ≤ LAST_LEVEL }
     ensures { result ≡ leaf_in level word }
 {
     let place = word % PLACE_END;
@@ -56,8 +56,8 @@ fn leaf_in(level: u8, word: u64) -> Descriptor
 /// What the word says as a descriptor of the level, by the Arm Architecture Reference Manual, VMSAv8-64 stage 2 with a
 /// granule of 4 KB. Other bits than those of the address, the kind, the rights and the memory aren't looked at.
 pub fn read(word: u64, level: u8) -> Descriptor
-    requires first { first_level ≤ level }
-    requires last { level ≤ last_level }
+    requires first { FIRST_LEVEL ≤ level }
+    requires last { level ≤ LAST_LEVEL }
     ensures { result ≡ read_of word level }
 {
     if word % 2 != 1 {
@@ -68,7 +68,7 @@ pub fn read(word: u64, level: u8) -> Descriptor
         } else {
             let place = word % PLACE_END;
             Descriptor::Table {
-                next: place - place % 4096,
+                next: place - place % PAGE_SIZE,
             }
         }
     } else if 0 < level && level < LAST_LEVEL {
@@ -101,8 +101,8 @@ fn leaf_bits(level: u8, rights: Rights, device: bool) -> u64
 /// The word of the descriptor at the level, as `read` reads it. A table's place is a page's and a leaf's begins a slot
 /// of the level, each below 2^48.
 pub fn word(d: Descriptor, level: u8) -> u64
-    requires first { first_level ≤ level }
-    requires last { level ≤ last_level }
+    requires first { FIRST_LEVEL ≤ level }
+    requires last { level ≤ LAST_LEVEL }
     requires writable { IsWritable d level }
     ensures value { result ≡ word_of d level }
     ensures read { read_of result level ≡ d }

@@ -1,7 +1,7 @@
-pub mod ByteLemmas
-pub mod RangeLemmas
-pub mod WordLemmas
-pub mod MemoryLemmas
-pub mod HeldLemmas
+mod ByteLemmas
+mod RangeLemmas
+mod WordLemmas
+mod MemoryLemmas
+mod HeldLemmas
 mod LentLemmas
 pub mod RoomLemmas

@@ -4,7 +4,8 @@ use Rattle.std.specs.List.{range_with_len}
 use Rattle.std.proofs.lemmas.Bool.{and_parts, and_from, le-leb, lt-ltb, leb-true, ltb-true}
 use Rattle.jh_num.specs.Memory.{spelled}
 use Rattle.jh_num.proofs.Booleans.{same_test}
-use Rattle.jh_frames.specs.Memory.{OwnView, FramesView, IsOwn, is_own, own_byte, page_at, byte_in, guest_byte, byte_at}
+use Rattle.jh_frames.specs.Memory.{OwnView, FramesView, IsOwn, is_own, own_byte, byte_at}
+use Rattle.jh_num.specs.Pages.{page_at, byte_of_page, paged_byte}
 use Rattle.jh_frames.specs.Kept.{IsWhole}
 use Rattle.jh_frames.proofs.RangeLemmas.{alike_over, zero_over, read_over, range_read}
 
@@ -24,7 +25,7 @@ own_read own q is = rw is refl
 pub byte_own : (v : FramesView) (q : ℕ) → is_own v.own q ≡ true → byte_at v q ≡ own_byte v.own q
 byte_own v q is = rw is refl
 
-pub byte_guest : (v : FramesView) (q : ℕ) → is_own v.own q ≡ false → byte_at v q ≡ guest_byte v.guest.pages q
+pub byte_guest : (v : FramesView) (q : ℕ) → is_own v.own q ≡ false → byte_at v q ≡ paged_byte v.guest.pages q
 byte_guest v q is = rw is refl
 
 -- a place of the hypervisor's, from the first of several
@@ -67,27 +68,27 @@ own_value v at n is =
     byte_own v x there ∙ own_read v.own x there ∙ ap (λ k. get_or v.own.bytes k 0) same)))
 
 -- and those of a guest's page
-pub guest_value : (pages : List (ℕ × List ℕ)) (page : List ℕ) (at n : ℕ) → page_at pages (at / 4096) ≡ Some page → length page ≡ 4096 → at % 4096 + n ≤ 4096 → spelled (slice_range page (at % 4096) (at % 4096 + n)) ≡ spelled (map (guest_byte pages) (range_with_len at n))
+pub guest_value : (pages : List (ℕ × List ℕ)) (page : List ℕ) (at n : ℕ) → page_at pages (at / 4096) ≡ Some page → length page ≡ 4096 → at % 4096 + n ≤ 4096 → spelled (slice_range page (at % 4096) (at % 4096 + n)) ≡ spelled (map (paged_byte pages) (range_with_len at n))
 guest_value pages page at n there long within =
     ap spelled (range_read page (at % 4096) n (omega arith)
-    ∙ sym (alike_over (guest_byte pages) (slice_index page) at (at % 4096) n (λ j x y lt p q.
+    ∙ sym (alike_over (paged_byte pages) (slice_index page) at (at % 4096) n (λ j x y lt p q.
     let number : x / 4096 ≡ at / 4096 = omega arith in
     let offset : x % 4096 ≡ y = omega arith in
-    ap (λ k. byte_in (page_at pages k) (x % 4096)) number ∙ ap (λ o. byte_in o (x % 4096)) there ∙ ap (λ k. get_or page k 0) offset)))
+    ap (λ k. byte_of_page (page_at pages k) (x % 4096)) number ∙ ap (λ o. byte_of_page o (x % 4096)) there ∙ ap (λ k. get_or page k 0) offset)))
 
-pub no_value : (pages : List (ℕ × List ℕ)) (at n : ℕ) → page_at pages (at / 4096) ≡ None → at % 4096 + n ≤ 4096 → 0 ≡ spelled (map (guest_byte pages) (range_with_len at n))
+pub no_value : (pages : List (ℕ × List ℕ)) (at n : ℕ) → page_at pages (at / 4096) ≡ None → at % 4096 + n ≤ 4096 → 0 ≡ spelled (map (paged_byte pages) (range_with_len at n))
 no_value pages at n none within =
-    zero_over (guest_byte pages) at n (λ j x lt p.
+    zero_over (paged_byte pages) at n (λ j x lt p.
     let number : x / 4096 ≡ at / 4096 = omega arith in
-    ap (λ k. byte_in (page_at pages k) (x % 4096)) number ∙ ap (λ o. byte_in o (x % 4096)) none)
+    ap (λ k. byte_of_page (page_at pages k) (x % 4096)) number ∙ ap (λ o. byte_of_page o (x % 4096)) none)
 
 -- the value of a page that isn't the hypervisor's is the guests'
-pub guest_all : (v : FramesView) (at n : ℕ) → IsWhole v.own → is_own v.own at ≡ false → at % 4096 + n ≤ 4096 → spelled (map (guest_byte v.guest.pages) (range_with_len at n)) ≡ spelled (map (byte_at v) (range_with_len at n))
+pub guest_all : (v : FramesView) (at n : ℕ) → IsWhole v.own → is_own v.own at ≡ false → at % 4096 + n ≤ 4096 → spelled (map (paged_byte v.guest.pages) (range_with_len at n)) ≡ spelled (map (byte_at v) (range_with_len at n))
 guest_all v at n whole other within =
-    ap spelled (sym (alike_over (byte_at v) (guest_byte v.guest.pages) at at n (λ j x y lt p q.
+    ap spelled (sym (alike_over (byte_at v) (paged_byte v.guest.pages) at at n (λ j x y lt p q.
     let number : x / 4096 ≡ at / 4096 = omega arith in
     let same : x ≡ y = omega arith in
-    byte_guest v x (own_page v.own x at whole number ∙ other) ∙ ap (guest_byte v.guest.pages) same)))
+    byte_guest v x (own_page v.own x at whole number ∙ other) ∙ ap (paged_byte v.guest.pages) same)))
 
 -- bytes that were read one by one
 pub torn_value : (v : FramesView) (bytes : List ℕ) (at n : ℕ) → n ≤ length bytes → ((j : ℕ) → j < n → get_or bytes j 0 ≡ byte_at v (at + j)) → spelled (take (n - 0) bytes) ≡ spelled (map (byte_at v) (range_with_len at n))

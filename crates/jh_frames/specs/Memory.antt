@@ -1,9 +1,8 @@
 -- What contracts see of memory: the hypervisor's range, and the pages of guests that are held.
-use Rattle.std.specs.Prelude.{ℕ, ◌+◌, ◌-◌, ◌*◌, ◌/◌, ◌%◌, ◌≤◌, Bool, ◌&&◌, ◌||◌, not, nat_lt, nat_le, nat_eq, List, [], ◌∷◌, length, count_by, slice_index, slice_range, Option, Some, is_some, ◌==◌, if◌then◌else◌}
+use Rattle.std.specs.Prelude.{ℕ, ◌+◌, ◌-◌, ◌*◌, ◌/◌, ◌≤◌, Bool, ◌&&◌, ◌||◌, not, nat_lt, nat_le, List, [], ◌∷◌, length, count_by, slice_index, slice_range, Option, Some, is_some, ◌==◌, if◌then◌else◌}
 use Rattle.std.specs.Int.{w64, from_le_bytes}
 use Rattle.std.specs.List.{range_with_len}
-use Rattle.std.specs.Map.{lookup}
-use Rattle.std.specs.Option.{option_map_or}
+use Rattle.jh_num.specs.Pages.{page_at, paged_byte}
 
 -- the hypervisor's memory: the place where it begins, and its bytes
 pub record OwnView : Type 0 where
@@ -33,21 +32,9 @@ pub record IsOwn (own : OwnView) (at size : ℕ) : Type 0 where
 abbrev pub own_byte : OwnView → ℕ → ℕ
 own_byte own place = if is_own own place then slice_index own.bytes (place - own.base) else 0
 
--- the guests' page of the number, if it is held
-abbrev pub page_at : List (ℕ × List ℕ) → ℕ → Option (List ℕ)
-page_at pages number = lookup (nat_eq number) pages
-
--- the byte of the page, 0 where there is none
-abbrev pub byte_in : Option (List ℕ) → ℕ → ℕ
-byte_in page offset = option_map_or (λ (bytes : List ℕ). slice_index bytes offset) page 0
-
--- the guests' byte at the place, 0 where its page isn't held
-abbrev pub guest_byte : List (ℕ × List ℕ) → ℕ → ℕ
-guest_byte pages place = byte_in (page_at pages (place / 4096)) (place % 4096)
-
 -- the byte at the place
 abbrev pub byte_at : FramesView → ℕ → ℕ
-byte_at frames place = if is_own frames.own place then own_byte frames.own place else guest_byte frames.guest.pages place
+byte_at frames place = if is_own frames.own place then own_byte frames.own place else paged_byte frames.guest.pages place
 
 -- the page of the place is held; the hypervisor's pages always are
 abbrev pub holds : FramesView → ℕ → Bool

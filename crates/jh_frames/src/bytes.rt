@@ -3,7 +3,7 @@ ghost use Rattle.std.specs.Prelude.{◌≡◌, ℕ, ◌+◌, ◌<◌, ◌≤◌,
 ghost use Rattle.jh_num.specs.Memory.{spelled, stored};
 
 /// The number that at most eight bytes spell, the lowest first.
-pub fn number_of(bytes: &[u8]) -> u64
+pub fn spelled(bytes: &[u8]) -> u64
     requires { length bytes.now ≤ 8 }
     ensures { result ≡ spelled bytes.now }
 {

@@ -3,10 +3,11 @@ ghost use Rattle.std.specs.Prelude.{◌≡◌, ◌≢◌, ℕ, ◌+◌, ◌-◌,
 ghost use Rattle.std.specs.List.{range_with_len};
 ghost use Rattle.jh_num.specs.declared.address.TheConstants.{ADDRESS_END};
 ghost use Rattle.jh_num.specs.Memory.{spelled, stored};
-ghost use Rattle.jh_frames.specs.Memory.{byte_at, holds, missing, missing_from, page_at, pages_in, word_in, IsOwn};
+ghost use Rattle.jh_frames.specs.Memory.{byte_at, holds, missing, missing_from, pages_in, word_in, IsOwn};
+ghost use Rattle.jh_num.specs.Pages.{page_at};
 ghost use Rattle.jh_frames.specs.Kept.{IsWhole};
 
-use crate::bytes::number_of;
+use crate::bytes::spelled;
 use crate::guest::Guest;
 use crate::own::Own;
 use crate::page::Page;
@@ -116,7 +117,7 @@ impl Frames {
         for k in 0..width {
             bytes[k] = self.byte_of_two(number, first, second, at + k as u64);
         }
-        number_of(&bytes[0..width])
+        spelled(&bytes[0..width])
     }
 
     /// The number that the bytes from the place on spell, the lowest first; at most eight.

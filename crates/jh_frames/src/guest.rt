@@ -3,7 +3,7 @@ ghost use Rattle.std.specs.Prelude.{◌≡◌, ◌≢◌, ℕ, ◌+◌, ◌%◌,
 ghost use Rattle.std.specs.List.{range_with_len};
 ghost use Rattle.jh_num.specs.Memory.{spelled, stored};
 ghost use Rattle.indexmap.specs.IndexMap.{spare};
-ghost use Rattle.jh_frames.specs.Memory.{byte_in, guest_byte, page_at};
+ghost use Rattle.jh_num.specs.Pages.{page_at, byte_of_page, paged_byte};
 
 use crate::page::Page;
 use indexmap::IndexMap;
@@ -37,7 +37,7 @@ fn put_page(
     bytes: &[u8],
 ) -> Result<(), NoMemory>
     requires { offset + length bytes.now ≤ 4096 }
-    ensures page { OnOk result ((k : ℕ) → byte_in (page_at pages.new.entries number) k ≡ stored (byte_in (page_at pages.old.entries number)) offset bytes.now k) }
+    ensures page { OnOk result ((k : ℕ) → byte_of_page (page_at pages.new.entries number) k ≡ stored (byte_of_page (page_at pages.old.entries number)) offset bytes.now k) }
     ensures held { OnOk result (is_some (page_at pages.new.entries number) ≡ true) }
     ensures others { (other : ℕ) → other ≢ number → page_at pages.new.entries other ≡ page_at pages.old.entries other }
     ensures unchanged { OnErr result (pages.new.entries ≡ pages.old.entries) }
@@ -78,7 +78,7 @@ impl Guest {
 
     /// The byte at the place; 0 where its page isn't held.
     pub fn read(&self, at: u64) -> u8
-        ensures { result ≡ guest_byte self.now.pages at }
+        ensures { result ≡ paged_byte self.now.pages at }
     {
         match self.pages.get(&(at / PAGE_SIZE)) {
             None => 0,
@@ -91,7 +91,7 @@ impl Guest {
     pub fn value(&self, at: u64, width: usize) -> u64
         requires width { width ≤ 8 }
         requires within { at % 4096 + width ≤ 4096 }
-        ensures { result ≡ spelled (map (guest_byte self.now.pages) (range_with_len at width)) }
+        ensures { result ≡ spelled (map (paged_byte self.now.pages) (range_with_len at width)) }
     {
         match self.pages.get(&(at / PAGE_SIZE)) {
             None => 0,
@@ -102,7 +102,7 @@ impl Guest {
     /// Puts the bytes into their one page, which is held from then on.
     pub fn write(&mut self, at: u64, bytes: &[u8]) -> Result<(), NoMemory>
         requires { at % 4096 + length bytes.now ≤ 4096 }
-        ensures bytes { OnOk result ((q : ℕ) → guest_byte self.new.pages q ≡ stored (guest_byte self.old.pages) at bytes.now q) }
+        ensures bytes { OnOk result ((q : ℕ) → paged_byte self.new.pages q ≡ stored (paged_byte self.old.pages) at bytes.now q) }
         ensures held { OnOk result (is_some (page_at self.new.pages (at / 4096)) ≡ true) }
         ensures others { (other : ℕ) → other ≢ at / 4096 → page_at self.new.pages other ≡ page_at self.old.pages other }
         ensures unchanged { OnErr result (self.new.pages ≡ self.old.pages) }
@@ -120,7 +120,7 @@ impl Guest {
 
     /// Holds the page of the number, as zeros if it wasn't held. No byte changes.
     pub fn hold(&mut self, number: u64) -> Result<(), NoMemory>
-        ensures bytes { (q : ℕ) → guest_byte self.new.pages q ≡ guest_byte self.old.pages q }
+        ensures bytes { (q : ℕ) → paged_byte self.new.pages q ≡ paged_byte self.old.pages q }
         ensures held { OnOk result (is_some (page_at self.new.pages number) ≡ true) }
         ensures others { (other : ℕ) → other ≢ number → page_at self.new.pages other ≡ page_at self.old.pages other }
         ensures unchanged { OnErr result (self.new.pages ≡ self.old.pages) }

@@ -2,14 +2,15 @@
 ghost use Rattle.std.specs.Prelude.{◌≡◌, ℕ, ◌+◌, ◌/◌, ◌%◌, ◌<◌, ◌≤◌, List, length, map, is_some};
 ghost use Rattle.std.specs.List.{range_with_len};
 ghost use Rattle.jh_num.specs.Memory.{spelled, stored};
-ghost use Rattle.jh_frames.specs.Memory.{byte_at, byte_in, holds, page_of, word_in, FramesView, IsOwn};
+ghost use Rattle.jh_frames.specs.Memory.{byte_at, holds, page_of, word_in, FramesView, IsOwn};
+ghost use Rattle.jh_num.specs.Pages.{byte_of_page};
 ghost use Rattle.jh_frames.specs.Lending.{with_page};
 
 use crate::frames::Frames;
 
 /// A byte is the one of its page, in a finite map that has the hypervisor's pages too.
 pub fn bytes_are_those_of_pages(frames: &Frames)
-    ensures byte { (place : ℕ) → byte_at frames.now place ≡ byte_in (page_of frames.now (place / 4096)) (place % 4096) }
+    ensures byte { (place : ℕ) → byte_at frames.now place ≡ byte_of_page (page_of frames.now (place / 4096)) (place % 4096) }
     ensures held { (place : ℕ) → holds frames.now place ≡ is_some (page_of frames.now (place / 4096)) }
 {
     // for the proof: the hypervisor's range is whole pages

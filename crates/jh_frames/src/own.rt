@@ -5,7 +5,7 @@ ghost use Rattle.jh_num.specs.Memory.{spelled, stored};
 ghost use Rattle.jh_frames.specs.Memory.{is_own, own_byte, word_in, IsOwn};
 ghost use Rattle.jh_frames.specs.Kept.{IsWhole};
 
-use crate::bytes::{number_of, put};
+use crate::bytes::{put, spelled};
 use jh_num::NoMemory;
 use std::alloc::Global;
 use std::marker::Model;
@@ -86,7 +86,7 @@ impl Own {
         ensures { result ≡ spelled (slice_range self.now.bytes (at - self.now.base) (at - self.now.base + width)) }
     {
         let k = (at - self.base) as usize;
-        number_of(&self.bytes[k..k + width])
+        spelled(&self.bytes[k..k + width])
     }
 
     /// Writes the byte at the place.

@@ -2,7 +2,7 @@
 ghost use Rattle.std.specs.Prelude.{◌≡◌, ℕ, ◌+◌, ◌≤◌, ◌<◌, length, slice_index, slice_range};
 ghost use Rattle.jh_num.specs.Memory.{spelled, stored};
 
-use crate::bytes::{number_of, put};
+use crate::bytes::{put, spelled};
 use std::marker::Model;
 
 /// The bytes of one page, in place: a row of pages is one block of memory.
@@ -44,7 +44,7 @@ impl Page {
         ensures value { result ≡ spelled (slice_range self.now offset (offset + width)) }
         ensures whole { length self.now ≡ 4096 }
     {
-        number_of(&self.bytes[offset..offset + width])
+        spelled(&self.bytes[offset..offset + width])
     }
 
     /// Writes the bytes over those from the offset on, all of them within the page.

@@ -1,7 +1,7 @@
 -- What is due, by the cases.
 use Rattle.std.proofs.lemmas.Bool.{cases_lt}
 use Rattle.std.proofs.Common.{inl, inr, ◌+◌, ◌-◌, ◌%◌, ◌≡◌, ◌<◌, ◌≤◌, ℕ, List, [], ◌∷◌, ◌++◌, Bool, true, false, Option, Some, None, refl, sym, ◌∙◌, ap, subst, arith}
-use Rattle.std.specs.Prelude.{IsTrue, IfSome, option_map, is_some, is_none, not, ◌↔◌}
+use Rattle.std.specs.Prelude.{IsTrue, option_map, is_some, is_none, not, ◌↔◌}
 use Rattle.std.proofs.lemmas.Option.{none-some, same_Some}
 use Rattle.jh_cpu.specs.declared.cpu.Cpu.{Cpu}
 use Rattle.jh_script.specs.declared.image.Image.{Image}
@@ -17,7 +17,7 @@ use Rattle.jh_history.specs.Facts.{Facts}
 use Rattle.jh_history.specs.History.{facts}
 use Rattle.jh_history.specs.Lives.{is_on_board}
 use Rattle.jh_history.specs.Grants.{reach, devices_of}
-use Rattle.jh_history.specs.Wants.{wanted_of, IsReachOf, IsReachOfAct, IsReachOfEntry}
+use Rattle.jh_history.specs.Wants.{wanted_of, IsReachOf}
 use Rattle.jh_history.specs.Due.{due, IsLegal, due_at, entry_of, next_act, act_of, await_of, entry_by}
 use Rattle.jh_history.proofs.FactsLemmas.{IsLegal_push}
 
@@ -93,11 +93,6 @@ act_of_await i f cell op width at value got found is e reached =
 -- a write reaches what its operation reaches
 pub write_reaches : (i : Image) (f : Facts) (cell : ℕ) (op : Op) (width at value : ℕ) (found : Reach) → op ≡ WriteOp width at value → IsReachOf i f cell op found → found ≡ reach i f cell ToWrite at width
 write_reaches i f cell op width at value found is reached = reached (record { access = ToWrite; at = at; width = width }) (ap wanted_of is)
-
--- the act as an entry reaches the same
-pub entry_reaches : (i : Image) (f : Facts) (cpu cell : ℕ) (found : Reach) (o : Option Act) → IfSome o (λ act. IsReachOfAct i f cell act found) → IfSome (option_map (entry_by cpu cell) o) (λ entry. IsReachOfEntry i f entry found)
-entry_reaches i f cpu cell found None reached = tt
-entry_reaches i f cpu cell found (Some act) reached = reached
 
 pub is_some_entry : (cpu cell : ℕ) (o : Option Act) → is_some (option_map (entry_by cpu cell) o) ≡ is_some o
 is_some_entry cpu cell None = refl

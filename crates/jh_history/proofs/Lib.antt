@@ -1,44 +1,44 @@
 pub mod PlaceLemmas
 pub mod AccessLemmas
 pub mod BehindLemmas
-pub mod DeviceFindLemmas
+mod DeviceFindLemmas
 pub mod GrantLemmas
 pub mod FactsLemmas
 pub mod DueLemmas
 pub mod AdmittedLemmas
-pub mod PlainLemmas
+mod PlainLemmas
 pub mod ValueLemmas
-pub mod KeptLemmas
+mod KeptLemmas
 pub mod ItemsLemmas
-pub mod ApartLemmas
+mod ApartLemmas
 pub mod LegalLemmas
 pub mod AloneLemmas
-pub mod LiveLemmas
+mod LiveLemmas
 pub mod SpecsLemmas
-pub mod SoundCellsLemmas
+mod SoundCellsLemmas
 pub mod SoundCpusLemmas
 pub mod SoundDueLemmas
 pub mod SoundStepLemmas
 pub mod SoundDecideLemmas
 pub mod SoundCommitLemmas
-pub mod EndpointLemmas
+mod EndpointLemmas
 pub mod LinkLemmas
-pub mod SoundEndpointsLemmas
+mod SoundEndpointsLemmas
 pub mod SoundLemmas
 pub mod DuePhaseLemmas
-pub mod DueDecideLemmas
-pub mod DueComesLemmas
-pub mod DuePageLemmas
-pub mod DueReachLemmas
-pub mod DueFewLemmas
+mod DueDecideLemmas
+mod DueComesLemmas
+mod DuePageLemmas
+mod DueReachLemmas
+mod DueFewLemmas
 pub mod DueDevicesLemmas
 pub mod GrantedLemmas
-pub mod LoopLemmas
-pub mod PageWriteLemmas
+mod LoopLemmas
+mod PageWriteLemmas
 pub mod PlainStepLemmas
-pub mod DeviceLoopLemmas
-pub mod FollowLemmas
-pub mod FewLemmas
+mod DeviceLoopLemmas
+mod FollowLemmas
+mod FewLemmas
 pub mod ReadLemmas
-pub mod PlainReadLemmas
+mod PlainReadLemmas
 pub mod ReachLemmas

@@ -2,16 +2,14 @@
 use Rattle.std.proofs.Common.{◌≡◌, ℕ, zero, suc, ◌+◌, ◌-◌, ◌*◌, ◌<◌, ◌≤◌, List, [], ◌∷◌, ◌++◌, Bool, true, false, leb, ltb, Option, Some, None, map, length, refl, sym, ap, subst, ◌∙◌, inl, inr, arith}
 use Rattle.std.specs.Prelude.{option_map, option_and_then, All, IsTrue}
 use Rattle.jh_num.specs.declared.address.TheConstants.{ADDRESS_END}
-use Rattle.jh_cellcfg.specs.Faults.{header_fault, header_size}
 use Rattle.jh_script.specs.declared.image.Image.{Image}
 use Rattle.jh_history.specs.declared.place.Place.{Place}
 use Rattle.jh_history.specs.declared.access.Access.TheVariants.{Read}
 use Rattle.jh_history.specs.Access.{gives, place_in_cell, region_of, place_of, places_from, memory_or_nothing, reach_by, memory_read}
 use Rattle.jh_history.specs.Facts.{Facts}
 use Rattle.jh_history.specs.Grants.{unless, granted_by, granted}
-use Rattle.jh_cellcfg.specs.declared.fault.ConfigFault.{ConfigFault}
-use Rattle.jh_history.specs.Configs.{bytes_at, read_at, read_whole, read_behind, read_from}
-use Rattle.jh_history.specs.ReadView.{bytes_by, read_by, read_behind as behind_bytes, read_from as from_bytes}
+use Rattle.jh_history.specs.Configs.{bytes_at, read_at, read_cell}
+use Rattle.jh_history.specs.ReadView.{bytes_by, read_by}
 use Rattle.jh_cellcfg.specs.declared.region.Region.{Region}
 use Rattle.jh_cellcfg.specs.Regions.{IsInRange, has_address, virt_end}
 use Rattle.std.proofs.lemmas.Bool.{cases_lt, and_parts, ltb-true, both_ways}
@@ -140,20 +138,11 @@ bytes_by_is image f byte at n each =
     ap (λ (b : ℕ → Option ℕ). bytes_by b at n) (same_function byte (λ a. option_map f.byte (granted image f image.system.root.id Read a)) each)
     ∙ bytes_by_places f.byte (granted image f image.system.root.id Read) at n
 
-behind_is : (image : Image) (f : Facts) (byte : ℕ → Option ℕ) (at : ℕ) (header : List ℕ) (fault : Option ConfigFault) → ((n : ℕ) → bytes_by byte at n ≡ bytes_at image f at n) → behind_bytes byte at header fault ≡ read_behind image f at header fault
-behind_is image f byte at header None same = ap read_whole (same (header_size header))
-behind_is image f byte at header (Some fault) same = refl
-
-from_is : (image : Image) (f : Facts) (byte : ℕ → Option ℕ) (at : ℕ) (o : Bytes) → ((n : ℕ) → bytes_by byte at n ≡ bytes_at image f at n) → from_bytes byte at o ≡ read_from image f at o
-from_is image f byte at None same = refl
-from_is image f byte at (Some header) same = behind_is image f byte at header (header_fault header) same
-
 -- so it is what a create reads
 pub read_by_is : (image : Image) (f : Facts) (byte : ℕ → Option ℕ) (at : ℕ) → ((a : ℕ) → byte a ≡ option_map f.byte (granted image f image.system.root.id Read a)) → read_by byte at ≡ read_at image f at
 unfolding read_at
 read_by_is image f byte at each =
-    let same : (n : ℕ) → bytes_by byte at n ≡ bytes_at image f at n = λ n. bytes_by_is image f byte at n each in
-    from_is image f byte at (bytes_by byte at 132) same ∙ ap (read_from image f at) (same 132)
+    ap read_cell (same_function (bytes_by byte at) (bytes_at image f at) (λ n. bytes_by_is image f byte at n each))
 
 -- ---- a byte that is reached
 

@@ -19,7 +19,8 @@ use Rattle.jh_history.specs.declared.call.Phase.{Phase}
 use Rattle.jh_history.specs.declared.call.Phase.TheVariants.{ToDecide, ToSettle, ToCreate, ToCommit, ToNote, ToNoted, ToFinish}
 use Rattle.jh_history.specs.declared.change.Change.{Change}
 use Rattle.jh_history.specs.declared.change.Change.TheVariants.{Stay, Step, Fail, Stop as Halt}
-use Rattle.jh_history.specs.Calls.{is_named, counted, one_more}
+use Rattle.jh_history.specs.Calls.{is_named, counted}
+use Rattle.jh_num.specs.Numbers.{counted_up}
 use Rattle.jh_history.specs.Cpus.{changed, is_running}
 use Rattle.jh_history.specs.Wants.{goes_on}
 use Rattle.jh_history.specs.Sound.{AreSoundCells, IsOwner, AreOwned, IsCalm, IsHalted, IsAsked, IsHalting, HasCome, GoesOn, IsAboutLive, MayCome, IsInPhase}
@@ -138,20 +139,20 @@ goes_mild call (ToFinish answer) change cpu mild on h = mild_calm change cpu mil
 
 pub come_counted : (cell : ℕ) (call : Call) (phase : Phase) (cpu : Cpu) → HasCome phase cpu → HasCome (counted cell call phase) cpu
 come_counted cell call ToDecide cpu h = h
-come_counted cell call (ToSettle waited) cpu h = cond_both (is_named call cell) (ToSettle (one_more waited)) (ToSettle waited) (λ (p : Phase). HasCome p cpu) (λ _. h) (λ _. h)
+come_counted cell call (ToSettle waited) cpu h = cond_both (is_named call cell) (ToSettle (counted_up waited)) (ToSettle waited) (λ (p : Phase). HasCome p cpu) (λ _. h) (λ _. h)
 come_counted cell call (ToCreate config) cpu h = h
 come_counted cell call ToCommit cpu h = h
 come_counted cell call (ToNote id about answer) cpu h = h
-come_counted cell call (ToNoted id about answer waited) cpu h = cond_both (eqb cell id) (ToNoted id about answer (one_more waited)) (ToNoted id about answer waited) (λ (p : Phase). HasCome p cpu) (λ _. h) (λ _. h)
+come_counted cell call (ToNoted id about answer waited) cpu h = cond_both (eqb cell id) (ToNoted id about answer (counted_up waited)) (ToNoted id about answer waited) (λ (p : Phase). HasCome p cpu) (λ _. h) (λ _. h)
 come_counted cell call (ToFinish answer) cpu h = h
 
 pub goes_counted : (cell : ℕ) (call : Call) (phase : Phase) (cpu : Cpu) → GoesOn call phase cpu → GoesOn call (counted cell call phase) cpu
 goes_counted cell call ToDecide cpu h = h
-goes_counted cell call (ToSettle waited) cpu h = cond_both (is_named call cell) (ToSettle (one_more waited)) (ToSettle waited) (λ (p : Phase). GoesOn call p cpu) (λ _. h) (λ _. h)
+goes_counted cell call (ToSettle waited) cpu h = cond_both (is_named call cell) (ToSettle (counted_up waited)) (ToSettle waited) (λ (p : Phase). GoesOn call p cpu) (λ _. h) (λ _. h)
 goes_counted cell call (ToCreate config) cpu h = h
 goes_counted cell call ToCommit cpu h = h
 goes_counted cell call (ToNote id about answer) cpu h = h
-goes_counted cell call (ToNoted id about answer waited) cpu h = cond_both (eqb cell id) (ToNoted id about answer (one_more waited)) (ToNoted id about answer waited) (λ (p : Phase). GoesOn call p cpu) (λ _. h) (λ _. h)
+goes_counted cell call (ToNoted id about answer waited) cpu h = cond_both (eqb cell id) (ToNoted id about answer (counted_up waited)) (ToNoted id about answer waited) (λ (p : Phase). GoesOn call p cpu) (λ _. h) (λ _. h)
 goes_counted cell call (ToFinish answer) cpu h = h
 
 -- ---- whose CPUs are
@@ -182,12 +183,12 @@ pub phase_counted : (image : Image) (configs : List CellConfig) (cpu cpu' : ℕ 
     → IsInPhase image configs cpu caller call phase → IsInPhase image configs cpu' caller call (counted cell call phase)
 phase_counted image configs cpu cpu' caller cell call ToDecide same h = tt
 phase_counted image configs cpu cpu' caller cell call (ToSettle waited) same h =
-    cond_both (is_named call cell) (ToSettle (one_more waited)) (ToSettle waited) (λ (p : Phase). IsInPhase image configs cpu' caller call p) (λ _. h) (λ _. h)
+    cond_both (is_named call cell) (ToSettle (counted_up waited)) (ToSettle waited) (λ (p : Phase). IsInPhase image configs cpu' caller call p) (λ _. h) (λ _. h)
 phase_counted image configs cpu cpu' caller cell call (ToCreate config) same h = (h.0, come_kept image configs cpu cpu' caller config same h.1)
 phase_counted image configs cpu cpu' caller cell call ToCommit same h = h
 phase_counted image configs cpu cpu' caller cell call (ToNote id about answer) same h = h
 phase_counted image configs cpu cpu' caller cell call (ToNoted id about answer waited) same h =
-    cond_both (eqb cell id) (ToNoted id about answer (one_more waited)) (ToNoted id about answer waited) (λ (p : Phase). IsInPhase image configs cpu' caller call p) (λ _. h) (λ _. h)
+    cond_both (eqb cell id) (ToNoted id about answer (counted_up waited)) (ToNoted id about answer waited) (λ (p : Phase). IsInPhase image configs cpu' caller call p) (λ _. h) (λ _. h)
 phase_counted image configs cpu cpu' caller cell call (ToFinish answer) same h = tt
 
 -- ---- names and ids

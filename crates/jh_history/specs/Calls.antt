@@ -1,5 +1,6 @@
 -- The management call that is open, by its phases.
-use Rattle.std.specs.Prelude.{ℕ, ℤ, pos, Bool, true, false, ◌+◌, ◌-◌, ◌^◌, ◌==◌, ◌&&◌, not, min, List, [], ◌∷◌, find, Option, Some, None, option_map, if◌then◌else◌}
+use Rattle.std.specs.Prelude.{ℕ, ℤ, pos, Bool, true, false, ◌==◌, ◌&&◌, not, List, [], ◌∷◌, find, Option, Some, None, option_map, if◌then◌else◌}
+use Rattle.jh_num.specs.Numbers.{counted_up}
 use Rattle.jh_num.specs.declared.error.TheConstants.{EPERM}
 use Rattle.jh_cellcfg.specs.declared.config.CellConfig.{CellConfig}
 use Rattle.jh_cellcfg.specs.declared.live.Live.{Live}
@@ -23,10 +24,6 @@ is_named (Start cell) id = cell == id
 is_named (Loadable cell) id = cell == id
 is_named (Destroy cell) id = cell == id
 is_named _ id = false
-
--- the number and one more, or still the last number of 64 bits
-abbrev pub one_more : ℕ → ℕ
-one_more n = min (n + 1) (2 ^ 64 - 1)
 
 -- a cell is told that another was created or destroyed, unless it is passive
 abbrev pub is_told : ℕ → Live → Bool
@@ -89,8 +86,8 @@ waits_for cell call phase = false
 
 -- the phase, where it waits for a cell, with one entry more that it has waited
 abbrev pub waited_on : Phase → Phase
-waited_on (ToSettle waited) = ToSettle (one_more waited)
-waited_on (ToNoted id about answer waited) = ToNoted id about answer (one_more waited)
+waited_on (ToSettle waited) = ToSettle (counted_up waited)
+waited_on (ToNoted id about answer waited) = ToNoted id about answer (counted_up waited)
 waited_on phase = phase
 
 -- a phase that waits for a cell's answer counts the entries of that cell's CPUs

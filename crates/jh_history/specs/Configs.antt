@@ -33,19 +33,24 @@ abbrev pub read_whole : Option (List ℕ) → ReadCell
 read_whole None = Refuses EINVAL
 read_whole (Some bytes) = Reads (config_of bytes)
 
--- what is read of a configuration behind its header: all of it, where the header has no fault
-abbrev pub read_behind : Image → Facts → ℕ → List ℕ → Option ConfigFault → ReadCell
-read_behind image facts at header None = read_whole (bytes_at image facts at (header_size header))
-read_behind image facts at header (Some fault) = Refuses (refused_for fault)
+-- what is read of a configuration behind its header, where so many of its bytes may be read as these: all of it,
+-- unless the header has a fault
+abbrev pub read_behind : (ℕ → Option (List ℕ)) → List ℕ → Option ConfigFault → ReadCell
+read_behind bytes header None = read_whole (bytes (header_size header))
+read_behind bytes header (Some fault) = Refuses (refused_for fault)
 
--- what is read of a configuration whose header is read first, where root may read that
-abbrev pub read_from : Image → Facts → ℕ → Option (List ℕ) → ReadCell
-read_from image facts at None = Refuses EINVAL
-read_from image facts at (Some header) = read_behind image facts at header (header_fault header)
+-- what is read of a configuration whose header is read first, where that may be read
+abbrev pub read_from : (ℕ → Option (List ℕ)) → Option (List ℕ) → ReadCell
+read_from bytes None = Refuses EINVAL
+read_from bytes (Some header) = read_behind bytes header (header_fault header)
 
 -- first the 132 bytes of the header are read, then the whole, as long as the header says
+abbrev pub read_cell : (ℕ → Option (List ℕ)) → ReadCell
+read_cell bytes = read_from bytes (bytes 132)
+
+-- what root reads of a configuration at the address
 unfoldable pub read_at : Image → Facts → ℕ → ReadCell
-read_at image facts at = read_from image facts at (bytes_at image facts at 132)
+read_at image facts at = read_cell (bytes_at image facts at)
 
 -- the configuration that was read, if one was
 abbrev pub config_read : ReadCell → Option CellConfig

@@ -1,9 +1,6 @@
 -- How a configuration is read from bytes, where these may be read.
-use Rattle.std.specs.Prelude.{ℕ, ℤ, zero, suc, ◌+◌, Bool, ◌==◌, ◌&&◌, not, List, [], ◌∷◌, ◌++◌, Option, Some, None, option_map, option_and_then}
-use Rattle.jh_num.specs.declared.error.TheConstants.{EINVAL}
+use Rattle.std.specs.Prelude.{ℕ, ℤ, zero, suc, ◌+◌, Bool, ◌==◌, ◌&&◌, not, List, [], ◌∷◌, ◌++◌, Option, Some, option_map, option_and_then}
 use Rattle.jh_cellcfg.specs.declared.config.CellConfig.{CellConfig}
-use Rattle.jh_cellcfg.specs.declared.fault.ConfigFault.{ConfigFault}
-use Rattle.jh_cellcfg.specs.Faults.{header_fault, header_size}
 use Rattle.jh_check.specs.Refusals.{refusal_of}
 use Rattle.jh_shape.specs.Pages.{pages_of}
 use Rattle.jh_cpu.specs.declared.cpu.Cpu.{Cpu}
@@ -12,26 +9,16 @@ use Rattle.jh_history.specs.Admitted.{pool_pages}
 use Rattle.jh_history.specs.Lives.{is_on_board}
 use Rattle.jh_history.specs.declared.call.Creation.{Creation}
 use Rattle.jh_history.specs.declared.call.Creation.TheVariants.{Refused, Comes}
-use Rattle.jh_history.specs.Configs.{ReadCell, Reads, Refuses, refused_for, read_whole}
+use Rattle.jh_history.specs.Configs.{ReadCell, Reads, Refuses, read_cell}
 
 -- the bytes from the address on, so many of them, where each may be read
 abbrev pub bytes_by : (ℕ → Option ℕ) → ℕ → ℕ → Option (List ℕ)
 bytes_by byte at zero = Some []
 bytes_by byte at (suc count) = option_and_then (λ (b : ℕ). option_map (λ (bs : List ℕ). b ∷ bs) (bytes_by byte (at + 1) count)) (byte at)
 
--- what is read of a configuration behind its header: all of it, where the header has no fault
-abbrev pub read_behind : (ℕ → Option ℕ) → ℕ → List ℕ → Option ConfigFault → ReadCell
-read_behind byte at header None = read_whole (bytes_by byte at (header_size header))
-read_behind byte at header (Some fault) = Refuses (refused_for fault)
-
--- what is read of a configuration whose header is read first, where it may be read
-abbrev pub read_from : (ℕ → Option ℕ) → ℕ → Option (List ℕ) → ReadCell
-read_from byte at None = Refuses EINVAL
-read_from byte at (Some header) = read_behind byte at header (header_fault header)
-
--- what is read of a configuration at the address: first the 132 bytes of its header, and then all of it
+-- what is read of a configuration at the address
 abbrev pub read_by : (ℕ → Option ℕ) → ℕ → ReadCell
-read_by byte at = read_from byte at (bytes_by byte at 132)
+read_by byte at = read_cell (bytes_by byte at)
 
 -- what was read, by what comes of a create: a configuration, or the number that the create is refused with
 abbrev pub as_read : Creation → ReadCell

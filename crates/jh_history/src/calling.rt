@@ -5,7 +5,7 @@ ghost use Rattle.jh_cellcfg.specs.declared.config.CellConfig.{CellConfig as TheC
 ghost use Rattle.jh_cellcfg.specs.declared.live.Live.{Live as TheLive};
 ghost use Rattle.jh_shape.specs.Lives.{configs_of};
 ghost use Rattle.jh_history.specs.Commits.{created, created_at, created_by};
-ghost use Rattle.jh_history.specs.Calls.{one_more, is_told_by, first_told, behind, telling, decided, after_settle, after_commit, after_note, after_noted, counted, phase_after, call_by, is_call, waits_for};
+ghost use Rattle.jh_history.specs.Calls.{is_told_by, first_told, behind, telling, decided, after_settle, after_commit, after_note, after_noted, counted, phase_after, call_by, is_call, waits_for};
 
 use crate::boxed::BoxedCell;
 use crate::call::{OpenCall, Phase};
@@ -27,13 +27,6 @@ pub struct Called {
 struct Next {
     phase: Phase,
     created: Option<BoxedCell>,
-}
-
-/// The number and one, or still the last number of 64 bits.
-fn one_more(n: u64) -> u64
-    ensures { result ≡ one_more n }
-{
-    n.saturating_add(1)
 }
 
 /// Whether the cell is told that another, `about`, was created or destroyed.
@@ -199,8 +192,8 @@ fn count(phase: &mut Phase, call: &Call, cell: u32)
 {
     if waits_for(phase, call, cell) {
         match phase {
-            Phase::ToSettle { waited } => *waited = one_more(*waited),
-            Phase::ToNoted { waited, .. } => *waited = one_more(*waited),
+            Phase::ToSettle { waited } => *waited = waited.saturating_add(1),
+            Phase::ToNoted { waited, .. } => *waited = waited.saturating_add(1),
             _ => {}
         }
     }

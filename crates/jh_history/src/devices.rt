@@ -30,7 +30,7 @@ impl<'a> Model for Devices<'a> {
 }
 
 /// The number of the first of the devices that is an ivshmem device with that bdf.
-fn number_of(list: &[PciDevice], bdf: u64) -> Option<u32>
+fn number_at_bdf(list: &[PciDevice], bdf: u64) -> Option<u32>
     ensures { result ≡ number_from bdf 0 list.now }
 {
     for (number, device) in list.iter().enumerate() {
@@ -45,7 +45,7 @@ fn number_of(list: &[PciDevice], bdf: u64) -> Option<u32>
 pub(crate) fn function_number(list: &[PciDevice], bytes: &ConfigBytes) -> Option<u32>
     ensures { (d : TheDevices) → d.list ≡ list.now → result ≡ number_at d bytes.now.at }
 {
-    number_of(list, bytes.function())
+    number_at_bdf(list, bytes.function())
 }
 
 /// Whether the window has all bytes of the access.

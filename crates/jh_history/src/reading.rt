@@ -3,8 +3,8 @@ ghost use Rattle.std.specs.Prelude.{◌≡◌, ◌+◌, ◌%◌, ◌<◌, ◌≤
 ghost use Rattle.jh_num.specs.declared.address.TheConstants.{ADDRESS_END};
 ghost use Rattle.jh_cellcfg.specs.Faults.{header_fault, header_size};
 ghost use Rattle.jh_cellcfg.specs.Reading.{config_of};
-ghost use Rattle.jh_history.specs.Configs.{Reads, refused_for, read_whole};
-ghost use Rattle.jh_history.specs.ReadView.{bytes_by, read_behind, read_by, as_read};
+ghost use Rattle.jh_history.specs.Configs.{Reads, refused_for, read_whole, read_behind};
+ghost use Rattle.jh_history.specs.ReadView.{bytes_by, read_by, as_read};
 
 use crate::boxed::BoxedCell;
 use crate::call::Creation;
@@ -125,7 +125,7 @@ fn read_behind<R: RootBytes>(
     at: u64,
     header: &[u8; 132],
 ) -> Result<Creation, NoMemory>
-    ensures { IfOk result (λ read. as_read read ≡ read_behind (R.readable root.now) at header.now (header_fault header.now)) }
+    ensures { IfOk result (λ read. as_read read ≡ read_behind (bytes_by (R.readable root.now) at) header.now (header_fault header.now)) }
 {
     match cell_size(header) {
         Ok(size) => read_whole(alloc, root, at, size),

@@ -16,8 +16,8 @@ use Rattle.jh_script.specs.declared.fault.ScriptFault.{ScriptFault}
 use Rattle.jh_script.specs.Programs.{program_of}
 use Rattle.jh_history.specs.Admitted.{root_pages, pool_pages, IsAdmittedSystem}
 use Rattle.jh_image.specs.declared.board.Listing.{Listing}
-use Rattle.jh_image.specs.declared.board.BoardFault.{BoardFault}
-use Rattle.jh_image.specs.declared.board.BoardFault.TheVariants as boards
+use Rattle.jh_spec.specs.declared.fault.JsonFault.{JsonFault}
+use Rattle.jh_spec.specs.declared.fault.JsonFault.TheVariants as boards
 use Rattle.jh_image.specs.declared.board.PreloadFile.{PreloadFile}
 use Rattle.jh_image.specs.declared.board.ProgramFile.{ProgramFile}
 use Rattle.jh_image.specs.declared.fault.ImageCause.{ImageCause}
@@ -51,21 +51,21 @@ ok_err r x e h k = let same : r ≡ Ok x = h in cc
 
 -- ---- the board's own file
 
-abbrev IsFault : BoardFault → Type 0
+abbrev IsFault : JsonFault → Type 0
 IsFault boards.Json = Unit {0}
 IsFault (boards.Member name) = Unit {0}
 IsFault boards.NoMemory = ⊥
 
-abbrev cause_of : BoardFault → ImageCause
+abbrev cause_of : JsonFault → ImageCause
 cause_of boards.Json = Json
 cause_of (boards.Member name) = Member name
 cause_of boards.NoMemory = ReadFault
 
 data AtBoard (contents : Contents) (board file : List ℕ) : ImageCause → Type 0 where
   large_board : file ≡ board → IsOversize contents board → AtBoard contents board file Oversize
-  bad_board : (fault : BoardFault) (bytes : List ℕ) → IsFault fault → file ≡ board → HasBytes contents board bytes → IsListingAnswer bytes (Err fault) → AtBoard contents board file (cause_of fault)
+  bad_board : (fault : JsonFault) (bytes : List ℕ) → IsFault fault → file ≡ board → HasBytes contents board bytes → IsListingAnswer bytes (Err fault) → AtBoard contents board file (cause_of fault)
 
-err_one : (bytes : List ℕ) (one other : BoardFault) → IsFault one → IsFault other → IsListingAnswer bytes (Err one) → IsListingAnswer bytes (Err other) → one ≡ other
+err_one : (bytes : List ℕ) (one other : JsonFault) → IsFault one → IsFault other → IsListingAnswer bytes (Err one) → IsListingAnswer bytes (Err other) → one ≡ other
 err_one bytes boards.Json boards.Json is more h k = refl
 err_one bytes boards.Json (boards.Member name) is more h k =
     let same : Err boards.Json ≡ Err (boards.Member name) = sym (h k.0 k.1) ∙ k.2 in
@@ -89,7 +89,7 @@ board_same contents board file other cause more told (bad_board one bytes faulty
     record { same_cause = ap cause_of fault; same_file = named ∙ sym named_too }
 
 -- what tells a listing has no fault
-told_faultless : (bytes : List ℕ) (listing : Listing) → IsListingAnswer bytes (Ok listing) → (fault : BoardFault) → IsListingAnswer bytes (Err fault) → fault ≡ boards.NoMemory
+told_faultless : (bytes : List ℕ) (listing : Listing) → IsListingAnswer bytes (Ok listing) → (fault : JsonFault) → IsListingAnswer bytes (Err fault) → fault ≡ boards.NoMemory
 told_faultless bytes listing h boards.Json k = absurd (ok_err (board_told h.0) listing boards.Json h.2 (k h.0 h.1))
 told_faultless bytes listing h (boards.Member name) k = absurd (ok_err (board_told k.0) listing (boards.Member name) (listing_told bytes listing h k.0 k.1) k.2)
 told_faultless bytes listing h boards.NoMemory k = refl

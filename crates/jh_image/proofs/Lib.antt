@@ -1,7 +1,7 @@
-pub mod SeatLemmas
-pub mod StopLemmas
-pub mod LoadLemmas
-pub mod OrderLemmas
+mod SeatLemmas
+mod StopLemmas
+mod LoadLemmas
+mod OrderLemmas
 pub mod OneLemmas
-pub mod ReadLemmas
+mod ReadLemmas
 pub mod CauseLemmas

@@ -3,15 +3,15 @@ use Rattle.std.proofs.Common.{ℕ, List, [], ◌∷◌, ◌++◌, map, sym, subs
 use Rattle.jh_outside.specs.Trail.{Ask, Asks, handed, AsksAll, AsksUntil}
 use Rattle.jh_outside.specs.TrailLaws.{all-both, until-first, until-behind, until-more}
 use Rattle.jh_image.specs.declared.board.Listing.{Listing}
-use Rattle.jh_image.specs.declared.board.BoardFault.{BoardFault}
-use Rattle.jh_image.specs.declared.board.BoardFault.TheVariants as boards
+use Rattle.jh_spec.specs.declared.fault.JsonFault.{JsonFault}
+use Rattle.jh_spec.specs.declared.fault.JsonFault.TheVariants as boards
 use Rattle.jh_image.specs.declared.fault.ImageCause.{ImageCause}
 use Rattle.jh_image.specs.Files.{Contents, Lists}
 use Rattle.jh_image.specs.Causes.{IsBoardRefusal}
 use Rattle.jh_image.specs.Order.{ask_for, preload_name, program_name, board_files, AsksBoardUntil, until_the_board, until_a_file}
 
 -- a cause that is no failed read is found in what was handed out
-pub board_asked : (A : Ask → Type 0) (name board : List ℕ) (fault : BoardFault) → A (handed name) → (file : List ℕ) (cause : ImageCause) → IsBoardRefusal board fault file cause → A (ask_for cause name)
+pub board_asked : (A : Ask → Type 0) (name board : List ℕ) (fault : JsonFault) → A (handed name) → (file : List ℕ) (cause : ImageCause) → IsBoardRefusal board fault file cause → A (ask_for cause name)
 board_asked A name board boards.Json a file cause h = subst (λ k. A (ask_for k name)) (sym h.1) a
 board_asked A name board (boards.Member member) a file cause h = subst (λ k. A (ask_for k name)) (sym h.1) a
 board_asked A name board boards.NoMemory a file cause h = absurd h

@@ -11,8 +11,8 @@ use Rattle.jh_script.specs.declared.image.Preload.{Preload}
 use Rattle.jh_image.specs.declared.board.Listing.{Listing}
 use Rattle.jh_image.specs.declared.board.PreloadFile.{PreloadFile}
 use Rattle.jh_image.specs.declared.board.ProgramFile.{ProgramFile}
-use Rattle.jh_image.specs.declared.board.BoardFault.{BoardFault}
-use Rattle.jh_image.specs.declared.board.BoardFault.TheVariants as boards
+use Rattle.jh_spec.specs.declared.fault.JsonFault.{JsonFault}
+use Rattle.jh_spec.specs.declared.fault.JsonFault.TheVariants as boards
 use Rattle.jh_image.specs.declared.fault.ImageCause.{ImageCause}
 use Rattle.jh_image.specs.declared.fault.ImageCause.TheVariants.{ReadFault, Oversize, Json, Member, System, Findings, PoolSmall, Preload as BadPreload, Program as BadProgram}
 use Rattle.jh_image.specs.declared.fault.ImageFault.{ImageFault}
@@ -52,7 +52,7 @@ unread_stops contents board name stage read next file Oversize h =
 unread_stops contents board name stage read next file _ h = absurd h
 
 -- the board has a fault
-pub board_stops : (contents : Contents) (board bytes : List ℕ) (fault : BoardFault) → HasBytes contents board bytes → IsListingAnswer bytes (Err fault)
+pub board_stops : (contents : Contents) (board bytes : List ℕ) (fault : JsonFault) → HasBytes contents board bytes → IsListingAnswer bytes (Err fault)
     → (file : List ℕ) (cause : ImageCause) → IsBoardRefusal board fault file cause → StopsReading contents board file cause
 board_stops contents board bytes boards.Json has bad file cause h =
     refused_stops contents board board Json (record { stage = nothing; read = nothing_read; stops = is_no_object bytes has bad }) file cause h

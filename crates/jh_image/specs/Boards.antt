@@ -9,8 +9,8 @@ use Rattle.jh_spec.specs.Json.{◌>>=◌, IsText, told_at, unlisted, has_only, n
 use Rattle.jh_image.specs.declared.board.Listing.{Listing}
 use Rattle.jh_image.specs.declared.board.PreloadFile.{PreloadFile}
 use Rattle.jh_image.specs.declared.board.ProgramFile.{ProgramFile}
-use Rattle.jh_image.specs.declared.board.BoardFault.{BoardFault}
-use Rattle.jh_image.specs.declared.board.BoardFault.TheVariants.{Json, Member, NoMemory}
+use Rattle.jh_spec.specs.declared.fault.JsonFault.{JsonFault}
+use Rattle.jh_spec.specs.declared.fault.JsonFault.TheVariants.{Json, Member, NoMemory}
 
 -- ---- entries: objects with these members and no others
 
@@ -116,7 +116,7 @@ member_fault d = first_some (
     ∷ [])
 
 -- the fault of the member of this name, or what is made where there is none
-abbrev pub unless_at_fault : {X : Type 0} → Option (List ℕ) → X → Result X BoardFault
+abbrev pub unless_at_fault : {X : Type 0} → Option (List ℕ) → X → Result X JsonFault
 unless_at_fault None made = Ok made
 unless_at_fault (Some name) made = Err (Member name)
 
@@ -129,35 +129,22 @@ listing_made d = record {
 }
 
 -- what an object tells: the board's listing, or the member that is at fault
-unfoldable pub object_told : Data → Result Listing BoardFault
+unfoldable pub object_told : Data → Result Listing JsonFault
 object_told d = unless_at_fault (member_fault d) (listing_made d)
 
 -- what a value tells, which must be an object
-abbrev pub board_told : Data → Result Listing BoardFault
+abbrev pub board_told : Data → Result Listing JsonFault
 board_told d = if is_some (as_object d) then object_told d else Err Json
 
--- an answer is the one that is wanted, or want of memory
-abbrev pub IsWantedAnswer : {X : Type 0} → Result X BoardFault → Result X BoardFault → Type 0
-IsWantedAnswer wanted (Ok x) = wanted ≡ Ok x
-IsWantedAnswer wanted (Err NoMemory) = ⊤
-IsWantedAnswer wanted (Err Json) = wanted ≡ Err Json
-IsWantedAnswer wanted (Err (Member name)) = wanted ≡ Err (Member name)
-
 -- why no object was read: the bytes are no object's text, or memory ran out
-abbrev pub IsNoObject : List ℕ → BoardFault → Type 0
+abbrev pub IsNoObject : List ℕ → JsonFault → Type 0
 IsNoObject bytes Json = (d : Data) → IsText bytes d → board_told d ≡ Err Json
 IsNoObject bytes (Member name) = ⊥
 IsNoObject bytes NoMemory = ⊤
 
 -- what is answered to these bytes: what their value tells, or that they are no object's text
-abbrev pub IsListingAnswer : List ℕ → Result Listing BoardFault → Type 0
+abbrev pub IsListingAnswer : List ℕ → Result Listing JsonFault → Type 0
 IsListingAnswer bytes (Ok listing) = (d : Data) × IsText bytes d × (board_told d ≡ Ok listing)
 IsListingAnswer bytes (Err Json) = (d : Data) → IsText bytes d → board_told d ≡ Err Json
 IsListingAnswer bytes (Err (Member name)) = (d : Data) × IsText bytes d × (board_told d ≡ Err (Member name))
 IsListingAnswer bytes (Err NoMemory) = ⊤
-
--- an error is the fault of the member of this name, or want of memory
-abbrev pub IsFaultOf : List ℕ → BoardFault → Type 0
-IsFaultOf name (Member found) = found ≡ name
-IsFaultOf name Json = ⊥
-IsFaultOf name NoMemory = ⊤

@@ -12,8 +12,8 @@ use Rattle.jh_script.specs.Programs.{program_of}
 use Rattle.jh_history.specs.Admitted.{root_pages, pool_pages}
 use Rattle.jh_outside.specs.Count.{Rose}
 use Rattle.jh_image.specs.declared.board.Listing.{Listing}
-use Rattle.jh_image.specs.declared.board.BoardFault.{BoardFault}
-use Rattle.jh_image.specs.declared.board.BoardFault.TheVariants as boards
+use Rattle.jh_spec.specs.declared.fault.JsonFault.{JsonFault}
+use Rattle.jh_spec.specs.declared.fault.JsonFault.TheVariants as boards
 use Rattle.jh_image.specs.declared.board.PreloadFile.{PreloadFile}
 use Rattle.jh_image.specs.declared.board.ProgramFile.{ProgramFile}
 use Rattle.jh_image.specs.declared.fault.ImageCause.{ImageCause}
@@ -85,7 +85,7 @@ abbrev pub IsRefusal : List ℕ → ImageCause → List ℕ → ImageCause → T
 IsRefusal name wanted file cause = (file ≡ name) × (cause ≡ wanted)
 
 -- the cause is that of the board's fault
-abbrev pub IsBoardRefusal : List ℕ → BoardFault → List ℕ → ImageCause → Type 0
+abbrev pub IsBoardRefusal : List ℕ → JsonFault → List ℕ → ImageCause → Type 0
 IsBoardRefusal name boards.Json file cause = IsRefusal name Json file cause
 IsBoardRefusal name (boards.Member member) file cause = IsRefusal name (Member member) file cause
 IsBoardRefusal name boards.NoMemory file cause = ⊥

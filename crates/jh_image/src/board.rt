@@ -2,14 +2,15 @@
 ghost use Rattle.std.specs.Prelude.{◌≡◌, ◌≤◌, IfOk, IfErr, is_some, true, length, map};
 ghost use Rattle.serde_json.specs.Find.{as_object};
 ghost use Rattle.serde_json.specs.View.{view};
+ghost use Rattle.jh_spec.specs.Faults.{IsWantedReading};
 ghost use Rattle.jh_spec.specs.Json.{IsText};
-ghost use Rattle.jh_image.specs.Boards.{object_told, IsWantedAnswer, IsListingAnswer, IsNoObject, IsFaultOf, are_distinct, seat_of};
-ghost use Rattle.jh_image.specs.declared.board.BoardFault.TheVariants.{NoMemory as OutOfMemory};
+ghost use Rattle.jh_image.specs.Boards.{object_told, IsListingAnswer, IsNoObject, are_distinct, seat_of};
 
 use crate::file_name::FileName;
 use crate::list::{preloads, programs};
-use jh_num::{NoMemory, Seq};
+use jh_num::Seq;
 use jh_spec::json::{first_unlisted, text_at};
+use jh_spec::{JsonFault, fault_of};
 use serde_json::Value;
 use std::alloc::Global;
 
@@ -40,52 +41,24 @@ pub struct Listing {
     pub programs: Seq<ProgramFile>,
 }
 
-/// Why a text is no board.
-#[derive(Drop)]
-pub enum BoardFault {
-    /// The bytes are no JSON text, or its value is no object.
-    Json,
-    /// The member of this name, in UTF-8, is at fault.
-    Member(Seq<u8>),
-    NoMemory,
-}
-
-impl From<NoMemory> for BoardFault {
-    ghost from_gives = { λ _ e. e ≡ OutOfMemory };
-
-    fn from(_e: NoMemory) -> BoardFault {
-        BoardFault::NoMemory
-    }
-}
-
-/// The fault of the member of this name.
-fn fault_of(alloc: Global, name: &str) -> BoardFault
-    ensures { IsFaultOf name.now result }
-{
-    match Vec::from_slice(alloc, name.as_bytes()) {
-        Ok(bytes) => BoardFault::Member(Seq::from_vec(bytes)),
-        Err(_) => BoardFault::NoMemory,
-    }
-}
-
 /// The object that the bytes are the text of.
-fn object(alloc: Global, bytes: &[u8]) -> Result<Value, BoardFault>
+fn object(alloc: Global, bytes: &[u8]) -> Result<Value, JsonFault>
     ensures text { IfOk result (λ value. IsText bytes.now (view value)) }
     ensures object { IfOk result (λ value. is_some (as_object (view value)) ≡ true) }
     ensures fault { IfErr result (IsNoObject bytes.now) }
 {
     match Value::from_slice(alloc, bytes) {
         Ok(value) if value.is_object() => Ok(value),
-        Ok(_) => Err(BoardFault::Json),
-        Err(e) if e.is_memory() => Err(BoardFault::NoMemory),
-        Err(_) => Err(BoardFault::Json),
+        Ok(_) => Err(JsonFault::Json),
+        Err(e) if e.is_memory() => Err(JsonFault::NoMemory),
+        Err(_) => Err(JsonFault::Json),
     }
 }
 
 /// What an object's members tell.
 #[tactic(auto, unfolding(crate::specs::Boards::object_told))]
-fn members(alloc: Global, object: &Value) -> Result<Listing, BoardFault>
-    ensures told { IsWantedAnswer (object_told (view object.now)) result }
+fn members(alloc: Global, object: &Value) -> Result<Listing, JsonFault>
+    ensures told { IsWantedReading (object_told (view object.now)) result }
     ensures few { IfOk result (λ listing. length listing.preloads ≤ 64) }
     ensures distinct { IfOk result (λ listing. are_distinct (map seat_of listing.programs) ≡ true) }
 {
@@ -113,7 +86,7 @@ fn members(alloc: Global, object: &Value) -> Result<Listing, BoardFault>
 /// `preloads` (a list of objects with `file` and `at`) and `programs` (a list of objects with `cell`,
 /// `cpu` and `file`), of which the lists may be missing. The first of these members with a fault
 /// decides, and then the least name, by its bytes, that isn't one of them.
-pub fn read_board(alloc: Global, bytes: &[u8]) -> Result<Listing, BoardFault>
+pub fn read_board(alloc: Global, bytes: &[u8]) -> Result<Listing, JsonFault>
     ensures told { IsListingAnswer bytes.now result }
     ensures few { IfOk result (λ listing. length listing.preloads ≤ 64) }
     ensures distinct { IfOk result (λ listing. are_distinct (map seat_of listing.programs) ≡ true) }

@@ -14,12 +14,12 @@ mod read;
 mod refusal;
 mod text;
 
-pub use board::{BoardFault, Listing, PreloadFile, ProgramFile, read_board};
+pub use board::{Listing, PreloadFile, ProgramFile, read_board};
 pub use fault::{ImageCause, ImageFault};
 pub use file_name::FileName;
 pub use image::read_image;
 pub use jh_history::admit;
-pub use jh_spec::{Spec, SpecFault, read_spec};
+pub use jh_spec::{JsonFault, Spec, read_spec};
 pub use laws::{
     boards_have_one_cause, boards_make_one_image, boards_that_make_an_image_are_not_refused,
 };

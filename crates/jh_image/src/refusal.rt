@@ -1,9 +1,9 @@
 //! Refusals by the name of a file.
 ghost use Rattle.jh_image.specs.Causes.{OnRefused, IsRefusal, IsBoardRefusal};
 
-use crate::board::BoardFault;
 use crate::fault::{ImageCause, ImageFault};
 use jh_num::Seq;
+use jh_spec::JsonFault;
 use std::alloc::Global;
 
 /// The file of this name is refused for the cause.
@@ -20,12 +20,12 @@ pub(crate) fn refused(alloc: Global, name: &str, cause: ImageCause) -> ImageFaul
 }
 
 /// The board of this name is refused for its fault.
-pub(crate) fn refused_board(alloc: Global, name: &str, fault: BoardFault) -> ImageFault
+pub(crate) fn refused_board(alloc: Global, name: &str, fault: JsonFault) -> ImageFault
     ensures { OnRefused (IsBoardRefusal name.now fault) result }
 {
     match fault {
-        BoardFault::Json => refused(alloc, name, ImageCause::Json),
-        BoardFault::Member(member) => refused(alloc, name, ImageCause::Member(member)),
-        BoardFault::NoMemory => ImageFault::NoMemory,
+        JsonFault::Json => refused(alloc, name, ImageCause::Json),
+        JsonFault::Member(member) => refused(alloc, name, ImageCause::Member(member)),
+        JsonFault::NoMemory => ImageFault::NoMemory,
     }
 }

@@ -1,9 +1,9 @@
 pub mod ChangeLemmas
-pub mod KeyLemmas
+mod KeyLemmas
 pub mod OrderLemmas
-pub mod LoopLemmas
+mod LoopLemmas
 pub mod NamedLemmas
 pub mod ApartLemmas
 pub mod LawLemmas
 pub mod BesidesLemmas
-pub mod PendingLemmas
+mod PendingLemmas

@@ -26,7 +26,8 @@ use Rattle.jh_history.specs.declared.entry.Heard.{Heard}
 use Rattle.jh_history.specs.declared.entry.Act.{Act}
 use Rattle.jh_history.specs.declared.entry.Act.TheVariants.{Read, Write, Fetch, Await, Irq, Hvc, Begin, Stop, Decide, Settle, Commit, Note, Noted, Finish}
 use Rattle.jh_history.specs.Facts.{Facts}
-use Rattle.jh_history.specs.Calls.{is_named, counted, one_more, telling, first_told, behind, decided, after_settle, after_commit, phase_after, call_by, is_call}
+use Rattle.jh_history.specs.Calls.{is_named, counted, telling, first_told, behind, decided, after_settle, after_commit, phase_after, call_by, is_call}
+use Rattle.jh_num.specs.Numbers.{counted_up}
 use Rattle.jh_history.specs.Configs.{ReadCell, config_read}
 use Rattle.jh_history.specs.History.{start, after, facts, coming_of, coming_by}
 use Rattle.jh_history.specs.Phases.{phase_act, settled_of, heard_of, decision, keeps_decide, keeps_commit}
@@ -160,12 +161,12 @@ phase_expects image f idle caller call (ToFinish answer) act h = sym (same_Some 
 pub expects_counted : (cell : ℕ) (call : Call) (phase : Phase) (act : Act) → Expects (counted cell call phase) act → Expects phase act
 expects_counted cell call ToDecide act h = h
 expects_counted cell call (ToSettle waited) act h =
-    cond_both (is_named call cell) (ToSettle (one_more waited)) (ToSettle waited) (λ (p : Phase). Expects p act → (how : Settled) × (act ≡ Settle how)) (λ _ k. k) (λ _ k. k) h
+    cond_both (is_named call cell) (ToSettle (counted_up waited)) (ToSettle waited) (λ (p : Phase). Expects p act → (how : Settled) × (act ≡ Settle how)) (λ _ k. k) (λ _ k. k) h
 expects_counted cell call (ToCreate config) act h = h
 expects_counted cell call ToCommit act h = h
 expects_counted cell call (ToNote id about answer) act h = h
 expects_counted cell call (ToNoted id about answer waited) act h =
-    cond_both (eqb cell id) (ToNoted id about answer (one_more waited)) (ToNoted id about answer waited) (λ (p : Phase). Expects p act → (how : Heard) × (act ≡ Noted id how)) (λ _ k. k) (λ _ k. k) h
+    cond_both (eqb cell id) (ToNoted id about answer (counted_up waited)) (ToNoted id about answer waited) (λ (p : Phase). Expects p act → (how : Heard) × (act ≡ Noted id how)) (λ _ k. k) (λ _ k. k) h
 expects_counted cell call (ToFinish answer) act h = h
 
 -- ---- what follows an act of a call
@@ -550,11 +551,11 @@ past_from call act (ToFinish answer) is h = tt
 
 past_counted : (cell : ℕ) (call : Call) (phase : Phase) → IsPast phase → IsPast (counted cell call phase)
 past_counted cell call ToDecide past = absurd past
-past_counted cell call (ToSettle waited) past = cond_both (is_named call cell) (ToSettle (one_more waited)) (ToSettle waited) IsPast (λ _. tt) (λ _. tt)
+past_counted cell call (ToSettle waited) past = cond_both (is_named call cell) (ToSettle (counted_up waited)) (ToSettle waited) IsPast (λ _. tt) (λ _. tt)
 past_counted cell call (ToCreate config) past = tt
 past_counted cell call ToCommit past = tt
 past_counted cell call (ToNote id about answer) past = tt
-past_counted cell call (ToNoted id about answer waited) past = cond_both (eqb cell id) (ToNoted id about answer (one_more waited)) (ToNoted id about answer waited) IsPast (λ _. tt) (λ _. tt)
+past_counted cell call (ToNoted id about answer waited) past = cond_both (eqb cell id) (ToNoted id about answer (counted_up waited)) (ToNoted id about answer waited) IsPast (λ _. tt) (λ _. tt)
 past_counted cell call (ToFinish answer) past = tt
 
 pub phase_expected : (phase : Phase) (act : Act) → Expects phase act → is_phase act ≡ true

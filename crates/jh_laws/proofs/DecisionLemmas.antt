@@ -111,7 +111,7 @@ created_locked : (image : Image) (f : Facts) (caller at : ℕ) → list_any (is_
 unfolding creation_of
 created_locked image f caller at locked = ap (λ (b : Bool). refused_by (cond b (Refused EPERM) (creation_by image f caller (read_at image f at)))) locked
 
-created_read : (image : Image) (f : Facts) (caller at : ℕ) → list_any (is_locked f) f.cells ≡ false → refused_by (creation_of image f caller at) ≡ refused_by (creation_by image f caller (read_from image f at (bytes_at image f at 132)))
+created_read : (image : Image) (f : Facts) (caller at : ℕ) → list_any (is_locked f) f.cells ≡ false → refused_by (creation_of image f caller at) ≡ refused_by (creation_by image f caller (read_from (bytes_at image f at) (bytes_at image f at 132)))
 unfolding creation_of read_at
 created_read image f caller at free = ap (λ (b : Bool). refused_by (cond b (Refused EPERM) (creation_by image f caller (read_at image f at)))) free
 
@@ -122,13 +122,13 @@ unread : (image : Image) (f : Facts) (caller at : ℕ) → list_any (is_locked f
 unread image f caller at free =
     let first = created_read image f caller at free in
     record {
-      header = λ none. first ∙ ap (λ (o : Option (List ℕ)). by_read image f caller (read_from image f at o)) none;
+      header = λ none. first ∙ ap (λ (o : Option (List ℕ)). by_read image f caller (read_from (bytes_at image f at) o)) none;
       fault = λ header fault some is. first
-          ∙ ap (λ (o : Option (List ℕ)). by_read image f caller (read_from image f at o)) some
-          ∙ ap (λ (o : Option ConfigFault). by_read image f caller (read_behind image f at header o)) is;
+          ∙ ap (λ (o : Option (List ℕ)). by_read image f caller (read_from (bytes_at image f at) o)) some
+          ∙ ap (λ (o : Option ConfigFault). by_read image f caller (read_behind (bytes_at image f at) header o)) is;
       rest = λ header some is none. first
-          ∙ ap (λ (o : Option (List ℕ)). by_read image f caller (read_from image f at o)) some
-          ∙ ap (λ (o : Option ConfigFault). by_read image f caller (read_behind image f at header o)) is
+          ∙ ap (λ (o : Option (List ℕ)). by_read image f caller (read_from (bytes_at image f at) o)) some
+          ∙ ap (λ (o : Option ConfigFault). by_read image f caller (read_behind (bytes_at image f at) header o)) is
           ∙ ap (λ (o : Option (List ℕ)). by_read image f caller (read_whole o)) none;
     }
 
@@ -144,8 +144,8 @@ read_whole_of image f caller at header bytes free some is all =
     let refusal : Option ℤ = refusal_of image.system (configs_of f.cells) config (may_give image f caller) pages (pool_pages image.system) in
     let read : refused_by (creation_of image f caller at) ≡ refused_by (unless_refused config refusal) =
     created_read image f caller at free
-    ∙ ap (λ (o : Option (List ℕ)). by_read image f caller (read_from image f at o)) some
-    ∙ ap (λ (o : Option ConfigFault). by_read image f caller (read_behind image f at header o)) is
+    ∙ ap (λ (o : Option (List ℕ)). by_read image f caller (read_from (bytes_at image f at) o)) some
+    ∙ ap (λ (o : Option ConfigFault). by_read image f caller (read_behind (bytes_at image f at) header o)) is
     ∙ ap (λ (o : Option (List ℕ)). by_read image f caller (read_whole o)) all in
     let cause : refused_by (creation_of image f caller at) ≡ refusal = read ∙ refused_of config refusal in
     record {

@@ -18,7 +18,8 @@ use Rattle.jh_history.specs.declared.entry.Settled.TheVariants.{Agreed, Denied, 
 use Rattle.jh_history.specs.declared.entry.Heard.{Heard}
 use Rattle.jh_history.specs.declared.entry.Heard.TheVariants.{Received, Down, Other, Timeout as Silent}
 use Rattle.jh_history.specs.Facts.{Facts}
-use Rattle.jh_history.specs.Calls.{is_named, counted, one_more}
+use Rattle.jh_history.specs.Calls.{is_named, counted}
+use Rattle.jh_num.specs.Numbers.{counted_up}
 use Rattle.jh_history.specs.Phases.{is_down, is_over, settled_by, heard_by, state_word, reply_word}
 use Rattle.jh_shape.specs.Lives.{configs_of}
 use Rattle.jh_history.specs.History.{after}
@@ -53,18 +54,18 @@ waits_over image caller call phase f (entry ∷ entries) sound is legal others =
 abbrev last_number : ℕ
 last_number = 2 ^ 64 - 1
 
-count_step : (b : Bool) (more n : ℕ) → n ≤ last_number → min (cond b (one_more n) n + more) last_number ≡ min (n + (cond b 1 0 + more)) last_number
+count_step : (b : Bool) (more n : ℕ) → n ≤ last_number → min (cond b (counted_up n) n + more) last_number ≡ min (n + (cond b 1 0 + more)) last_number
 count_step true more n le = omega arith
 count_step false more n le = omega arith
 
-next_small : (b : Bool) (n : ℕ) → n ≤ last_number → cond b (one_more n) n ≤ last_number
+next_small : (b : Bool) (n : ℕ) → n ≤ last_number → cond b (counted_up n) n ≤ last_number
 next_small true n le = omega arith
 next_small false n le = le
 
 -- a wait for the cell that the call is about
-settle_next : (cell : ℕ) (call : Call) (n : ℕ) → counted cell call (ToSettle n) ≡ ToSettle (cond (is_named call cell) (one_more n) n)
+settle_next : (cell : ℕ) (call : Call) (n : ℕ) → counted cell call (ToSettle n) ≡ ToSettle (cond (is_named call cell) (counted_up n) n)
 settle_next cell call n =
-    let P : Bool → Type 0 = λ b. cond b (ToSettle (one_more n)) (ToSettle n) ≡ ToSettle (cond b (one_more n) n) in
+    let P : Bool → Type 0 = λ b. cond b (ToSettle (counted_up n)) (ToSettle n) ≡ ToSettle (cond b (counted_up n) n) in
     elim (is_named call cell) as P [ true ↦ refl | false ↦ refl ]
 
 pub settle_counts : (call : Call) (n : ℕ) (entries : List Entry) → n ≤ last_number → counted_over call (ToSettle n) entries ≡ ToSettle (min (n + how_many (λ (e : Entry). is_named call e.cell) entries) last_number)
@@ -72,13 +73,13 @@ settle_counts call n [] le = let e : n ≡ min (n + 0) last_number = omega arith
 settle_counts call n (entry ∷ entries) le =
     let b : Bool = is_named call entry.cell in
     ap (λ (p : Phase). counted_over call p entries) (settle_next entry.cell call n)
-    ∙ settle_counts call (cond b (one_more n) n) entries (next_small b n le)
+    ∙ settle_counts call (cond b (counted_up n) n) entries (next_small b n le)
     ∙ ap ToSettle (count_step b (how_many (λ (e : Entry). is_named call e.cell) entries) n le)
 
 -- a wait for the cell that was told
-noted_next : (cell : ℕ) (call : Call) (id about n : ℕ) (answer : ℤ) → counted cell call (ToNoted id about answer n) ≡ ToNoted id about answer (cond (eqb cell id) (one_more n) n)
+noted_next : (cell : ℕ) (call : Call) (id about n : ℕ) (answer : ℤ) → counted cell call (ToNoted id about answer n) ≡ ToNoted id about answer (cond (eqb cell id) (counted_up n) n)
 noted_next cell call id about n answer =
-    let P : Bool → Type 0 = λ b. cond b (ToNoted id about answer (one_more n)) (ToNoted id about answer n) ≡ ToNoted id about answer (cond b (one_more n) n) in
+    let P : Bool → Type 0 = λ b. cond b (ToNoted id about answer (counted_up n)) (ToNoted id about answer n) ≡ ToNoted id about answer (cond b (counted_up n) n) in
     elim (eqb cell id) as P [ true ↦ refl | false ↦ refl ]
 
 pub noted_counts : (call : Call) (id about n : ℕ) (answer : ℤ) (entries : List Entry) → n ≤ last_number → counted_over call (ToNoted id about answer n) entries ≡ ToNoted id about answer (min (n + how_many (λ (e : Entry). eqb e.cell id) entries) last_number)
@@ -86,7 +87,7 @@ noted_counts call id about n answer [] le = let e : n ≡ min (n + 0) last_numbe
 noted_counts call id about n answer (entry ∷ entries) le =
     let b : Bool = eqb entry.cell id in
     ap (λ (p : Phase). counted_over call p entries) (noted_next entry.cell call id about n answer)
-    ∙ noted_counts call id about (cond b (one_more n) n) answer entries (next_small b n le)
+    ∙ noted_counts call id about (cond b (counted_up n) n) answer entries (next_small b n le)
     ∙ ap (ToNoted id about answer) (count_step b (how_many (λ (e : Entry). eqb e.cell id) entries) n le)
 
 -- ---- what was answered

@@ -41,7 +41,8 @@ use Rattle.jh_history.specs.Lives.{is_on_board, live_in}
 use Rattle.jh_history.specs.Grants.{granted, reach, devices_of}
 use Rattle.jh_history.specs.Endpoints.{specs_changing, with_words}
 use Rattle.jh_history.specs.Bytes.{byte_written, byte_after}
-use Rattle.jh_history.specs.Calls.{is_named, counted, one_more, telling, first_told, behind, decided, after_settle, after_commit, after_note, after_noted, phase_after, call_by}
+use Rattle.jh_history.specs.Calls.{is_named, counted, telling, first_told, behind, decided, after_settle, after_commit, after_note, after_noted, phase_after, call_by}
+use Rattle.jh_num.specs.Numbers.{counted_up}
 use Rattle.jh_history.specs.Commits.{cells_by, committed_cells, is_other}
 use Rattle.jh_history.specs.Configs.{bytes_at, read_whole, read_behind, read_from, read_at, config_read}
 use Rattle.jh_history.specs.Cpus.{acted, changed, change_of, settled, is_agreed, cpu_after}
@@ -97,11 +98,11 @@ whole_typed image f (Some places) config small h =
     let P : CellConfig → Type 0 = IsTyped in
     subst P (same_Some (config_of (map f.byte places)) config h) (config_typed (map f.byte places) (read_bytes f.byte places small))
 
-behind_typed : (image : Image) (f : Facts) (at : ℕ) (header : List ℕ) (fault : Option ConfigFault) (config : CellConfig) → ((q : Place) → f.byte q < 256) → config_read (read_behind image f at header fault) ≡ Some config → IsTyped config
+behind_typed : (image : Image) (f : Facts) (at : ℕ) (header : List ℕ) (fault : Option ConfigFault) (config : CellConfig) → ((q : Place) → f.byte q < 256) → config_read (read_behind (bytes_at image f at) header fault) ≡ Some config → IsTyped config
 behind_typed image f at header None config small h = whole_typed image f (places_from (granted image f image.system.root.id ToRead) at (header_size header)) config small h
 behind_typed image f at header (Some fault) config small h = absurd (none-some config h)
 
-from_typed : (image : Image) (f : Facts) (at : ℕ) (o : Option (List ℕ)) (config : CellConfig) → ((q : Place) → f.byte q < 256) → config_read (read_from image f at o) ≡ Some config → IsTyped config
+from_typed : (image : Image) (f : Facts) (at : ℕ) (o : Option (List ℕ)) (config : CellConfig) → ((q : Place) → f.byte q < 256) → config_read (read_from (bytes_at image f at) o) ≡ Some config → IsTyped config
 from_typed image f at None config small h = absurd (none-some config h)
 from_typed image f at (Some header) config small h = behind_typed image f at header (header_fault header) config small h
 
@@ -189,11 +190,11 @@ noted_typed (ToFinish answer) cells h = h
 
 counted_typed : (cell : ℕ) (call : Call) (phase : Phase) → IsTypedPhase phase → IsTypedPhase (counted cell call phase)
 counted_typed cell call ToDecide h = h
-counted_typed cell call (ToSettle waited) h = cond_both (is_named call cell) (ToSettle (one_more waited)) (ToSettle waited) IsTypedPhase (λ _. tt) (λ _. tt)
+counted_typed cell call (ToSettle waited) h = cond_both (is_named call cell) (ToSettle (counted_up waited)) (ToSettle waited) IsTypedPhase (λ _. tt) (λ _. tt)
 counted_typed cell call (ToCreate config) h = h
 counted_typed cell call ToCommit h = h
 counted_typed cell call (ToNote id about answer) h = h
-counted_typed cell call (ToNoted id about answer waited) h = cond_both (eqb cell id) (ToNoted id about answer (one_more waited)) (ToNoted id about answer waited) IsTypedPhase (λ _. h) (λ _. h)
+counted_typed cell call (ToNoted id about answer waited) h = cond_both (eqb cell id) (ToNoted id about answer (counted_up waited)) (ToNoted id about answer waited) IsTypedPhase (λ _. h) (λ _. h)
 counted_typed cell call (ToFinish answer) h = h
 
 phase_typed : (cells : List Live) (coming : Option CellConfig) (cell : ℕ) (call : Call) (phase : Phase) (act : Act) → ((config : CellConfig) → coming ≡ Some config → IsTyped config) → FitsRefusal act → IsTypedPhase phase → IsTypedPhase (phase_after cells coming cell call phase act)

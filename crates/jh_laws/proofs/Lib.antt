@@ -1,41 +1,41 @@
-pub mod RootLemmas
-pub mod ListedLemmas
-pub mod GrantLemmas
-pub mod MadeLemmas
-pub mod OutcomeLemmas
-pub mod ByteLemmas
-pub mod CpuLemmas
-pub mod ReadyLemmas
-pub mod RunLemmas
-pub mod CallLemmas
-pub mod HeldLemmas
-pub mod WindowLemmas
-pub mod DevicesLemmas
-pub mod ReachedLemmas
-pub mod EndsLemmas
-pub mod StoredLemmas
-pub mod WordLemmas
-pub mod PendingLemmas
-pub mod HvcLemmas
-pub mod QuietLemmas
-pub mod CommitLemmas
-pub mod FewCellsLemmas
-pub mod RegisterLemmas
-pub mod RefusalLemmas
-pub mod TypedLemmas
-pub mod FewLemmas
-pub mod PlacesHeldLemmas
-pub mod DecisionLemmas
-pub mod WrittenLemmas
-pub mod StatesLemmas
-pub mod EntryLemmas
-pub mod DueCpusLemmas
-pub mod InterruptLemmas
-pub mod LinkedLemmas
-pub mod RaiseLemmas
-pub mod ClearLemmas
-pub mod VectorLemmas
-pub mod AnswerLemmas
-pub mod ExchangeLemmas
-pub mod FailedLemmas
-pub mod NewIdLemmas
+mod RootLemmas
+mod ListedLemmas
+mod GrantLemmas
+mod MadeLemmas
+mod OutcomeLemmas
+mod ByteLemmas
+mod CpuLemmas
+mod ReadyLemmas
+mod RunLemmas
+mod CallLemmas
+mod HeldLemmas
+mod WindowLemmas
+mod DevicesLemmas
+mod ReachedLemmas
+mod EndsLemmas
+mod StoredLemmas
+mod WordLemmas
+mod PendingLemmas
+mod HvcLemmas
+mod QuietLemmas
+mod CommitLemmas
+mod FewCellsLemmas
+mod RegisterLemmas
+mod RefusalLemmas
+mod TypedLemmas
+mod FewLemmas
+mod PlacesHeldLemmas
+mod DecisionLemmas
+mod WrittenLemmas
+mod StatesLemmas
+mod EntryLemmas
+mod DueCpusLemmas
+mod InterruptLemmas
+mod LinkedLemmas
+mod RaiseLemmas
+mod ClearLemmas
+mod VectorLemmas
+mod AnswerLemmas
+mod ExchangeLemmas
+mod FailedLemmas
+mod NewIdLemmas

@@ -17,7 +17,8 @@ use Rattle.jh_history.specs.declared.entry.Entry.{Entry}
 use Rattle.jh_history.specs.declared.entry.Act.{Act}
 use Rattle.jh_history.specs.declared.entry.Act.TheVariants.{Decide, Settle, Commit, Note, Noted, Finish}
 use Rattle.jh_history.specs.Admitted.{IsAdmitted}
-use Rattle.jh_history.specs.Calls.{counted, one_more, telling, first_told, behind, call_by, is_call}
+use Rattle.jh_history.specs.Calls.{counted, telling, first_told, behind, call_by, is_call}
+use Rattle.jh_num.specs.Numbers.{counted_up}
 use Rattle.jh_history.specs.Commits.{committed_cells, cells_by}
 use Rattle.jh_history.specs.Due.{due_at, is_idle_but, IsLegal}
 use Rattle.jh_history.specs.Facts.{Facts}
@@ -52,7 +53,7 @@ answers_counted answer cell call (ToCreate config) h = absurd h
 answers_counted answer cell call ToCommit h = absurd h
 answers_counted answer cell call (ToNote id about a) h = h
 answers_counted answer cell call (ToNoted id about a waited) h =
-    cond_both (eqb cell id) (ToNoted id about a (one_more waited)) (ToNoted id about a waited) (Answers answer) (λ _. h) (λ _. h)
+    cond_both (eqb cell id) (ToNoted id about a (counted_up waited)) (ToNoted id about a waited) (Answers answer) (λ _. h) (λ _. h)
 answers_counted answer cell call (ToFinish a) h = h
 
 -- a phase behind the Commit that isn't the last leads on

@@ -16,7 +16,8 @@ use Rattle.jh_cellcfg.specs.declared.region.Region.{Region}
 use Rattle.jh_cellcfg.specs.Regions.{has_size, has_address, is_page_mapped, virt_end, allows_width, allows_unaligned}
 use Rattle.jh_mmio.specs.declared.hitting.Hitting.TheVariants.{Ecam, Bar, Nothing as HitsNothing}
 use Rattle.jh_mmio.specs.declared.hitting.Window.{Window as TheWindow}
-use Rattle.jh_mmio.specs.Dispatch.{lies_between, is_at_closed, takes_all, has_right, lets_through, by_ecam_at, by_window, window_has, number_told}
+use Rattle.jh_mmio.specs.Dispatch.{lies_between, is_at_closed, takes_all, has_right, lets_through, by_ecam_at, by_window, window_has}
+use Rattle.jh_num.specs.Numbers.{item_number}
 use Rattle.jh_mmio.proofs.AccessLemmas.{lies_from, lies_parts}
 use Rattle.jh_ivshmem.specs.declared.endpoint.Endpoint.{Endpoint}
 use Rattle.jh_script.specs.declared.image.Image.{Image}
@@ -330,7 +331,7 @@ is_word at width = eqb width 4 && eqb (at % 4) 0
 
 -- a window of a device has it, and it is a word or not
 word_way : (image : Image) (f : Facts) (id : ℕ) (access : Access) (at width : ℕ) (w : TheWindow) (b : Bool) → IsSound image f → 0 < width → Behind image f id access at width → NoRegion image f id at width → Outside image at width
-    → window_found (devices_of image f id) at width ≡ Some w → is_word at width ≡ b → reach image f id access at width ≡ by_device image.system.pci_mmconfig_base (Some w) at width (cond b (Bar (number_told 0)) HitsNothing)
+    → window_found (devices_of image f id) at width ≡ Some w → is_word at width ≡ b → reach image f id access at width ≡ by_device image.system.pci_mmconfig_base (Some w) at width (cond b (Bar (item_number 0)) HitsNothing)
     → Way image f id access at width
 word_way image f id access at width w true sound some behind none outside found is e =
     let parts = and_parts (eqb width 4) (eqb (at % 4) 0) is in

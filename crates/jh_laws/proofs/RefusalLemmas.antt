@@ -92,11 +92,11 @@ whole_fits : (o : Option (List ℕ)) → FitsRead (read_whole o)
 whole_fits None = invalid_fits
 whole_fits (Some bytes) = tt
 
-behind_fits : (image : Image) (f : Facts) (at : ℕ) (header : List ℕ) (fault : Option ConfigFault) → FitsRead (read_behind image f at header fault)
+behind_fits : (image : Image) (f : Facts) (at : ℕ) (header : List ℕ) (fault : Option ConfigFault) → FitsRead (read_behind (bytes_at image f at) header fault)
 behind_fits image f at header None = whole_fits (bytes_at image f at (header_size header))
 behind_fits image f at header (Some fault) = fault_fits fault
 
-from_fits : (image : Image) (f : Facts) (at : ℕ) (o : Option (List ℕ)) → FitsRead (read_from image f at o)
+from_fits : (image : Image) (f : Facts) (at : ℕ) (o : Option (List ℕ)) → FitsRead (read_from (bytes_at image f at) o)
 from_fits image f at None = invalid_fits
 from_fits image f at (Some header) = behind_fits image f at header (header_fault header)
 

@@ -1,6 +1,6 @@
-pub mod JoinedLemmas
-pub mod MaskLemmas
-pub mod VerdictLemmas
-pub mod CauseLemmas
-pub mod ChangeLemmas
-pub mod OrderLemmas
+mod JoinedLemmas
+mod MaskLemmas
+mod VerdictLemmas
+mod CauseLemmas
+mod ChangeLemmas
+mod OrderLemmas

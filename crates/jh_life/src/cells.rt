@@ -13,15 +13,12 @@ use crate::copy::copy_of_system;
 use crate::counting::refusal_by_pages;
 use crate::cpus::free_cpus;
 use jh_cellcfg::{CellConfig, SystemConfig};
-use jh_check::{mask_of, refusal_of, refusal_without_cpus};
+use jh_check::{MOST_CELLS, mask_of, refusal_of, refusal_without_cpus};
 use jh_num::error::EPERM;
 use jh_num::{NoMemory, make_room};
 use jh_shape::{cell_pages, pages_of};
 use std::alloc::Global;
 use std::marker::Model;
-
-/// How many cells may live besides root.
-pub const MOST_CELLS: usize = 15;
 
 /// The cells that live: root, and at most 15 others in order of creation, of which each is loadable or not. No two
 /// have one name or one id. Root's number is 0, and that of the cell at index i of the others is i + 1.

@@ -13,7 +13,8 @@ use Rattle.jh_cellcfg.specs.Regions.{has_address, has_size, is_page_mapped, virt
 use Rattle.jh_mmio.specs.declared.hitting.Window.{Window}
 use Rattle.jh_mmio.specs.declared.hitting.Hitting.TheVariants.{Subpage, Nothing}
 use Rattle.jh_mmio.specs.Index.{IsNumberAt, IsRegionAt}
-use Rattle.jh_mmio.specs.Dispatch.{number_told, lies_between, is_at_closed, takes_all, has_whole, unless_closed, has_right, lets_through, by_subpage, by_ecam, by_window, window_has, behind_regions, hitting}
+use Rattle.jh_mmio.specs.Dispatch.{lies_between, is_at_closed, takes_all, has_whole, unless_closed, has_right, lets_through, by_subpage, by_ecam, by_window, window_has, behind_regions, hitting}
+use Rattle.jh_num.specs.Numbers.{item_number}
 use Rattle.jh_mmio.proofs.AccessLemmas.{lies_parts}
 use Rattle.jh_mmio.proofs.IndexLemmas.{has_address_from}
 
@@ -126,11 +127,11 @@ unfolding hitting
 hitting_first regions closed ecam windows at n write first is = ap (λ (o : Option ℕ). option_map_or (by_subpage regions at n write) o (behind_regions ecam windows at n)) is
 
 -- an access of no bytes is no access
-no_bytes_through : (b : Bool) (k : ℕ) → Nothing ≡ cond (b && false) (Subpage (number_told k)) Nothing
+no_bytes_through : (b : Bool) (k : ℕ) → Nothing ≡ cond (b && false) (Subpage (item_number k)) Nothing
 no_bytes_through true k = refl
 no_bytes_through false k = refl
 
-no_bytes_at : (at k : ℕ) (write : Bool) (o : Option Region) → Nothing ≡ cond (option_map_or (lets_through at 0 write) o false) (Subpage (number_told k)) Nothing
+no_bytes_at : (at k : ℕ) (write : Bool) (o : Option Region) → Nothing ≡ cond (option_map_or (lets_through at 0 write) o false) (Subpage (item_number k)) Nothing
 no_bytes_at at k write None = refl
 no_bytes_at at k write (Some r) = no_bytes_through (has_right write r) k
 

@@ -13,7 +13,8 @@ use Rattle.jh_cellcfg.specs.Regions.{has_address, has_size, is_page_mapped, is_c
 use Rattle.jh_mmio.specs.declared.hitting.Window.{Window}
 use Rattle.jh_mmio.specs.declared.hitting.Hitting.TheVariants.{Subpage, Ecam, Bar, Nothing}
 use Rattle.jh_mmio.specs.Index.{SharesNoAddress}
-use Rattle.jh_mmio.specs.Dispatch.{number_told, IsLetThrough, lies_between, is_at_closed, takes_all, lets_through, by_subpage, by_ecam, by_window, window_has, behind_regions, hitting}
+use Rattle.jh_mmio.specs.Dispatch.{IsLetThrough, lies_between, is_at_closed, takes_all, lets_through, by_subpage, by_ecam, by_window, window_has, behind_regions, hitting}
+use Rattle.jh_num.specs.Numbers.{item_number}
 use Rattle.jh_mmio.proofs.AccessLemmas.{byte_of}
 use Rattle.jh_mmio.proofs.IndexLemmas.{one_number}
 use Rattle.jh_mmio.proofs.HittingLemmas.{position_here, takes_all_has}
@@ -44,7 +45,7 @@ no_window false m k h = cc
 
 no_windows : (at n : ℕ) (o : Option ℕ) (k : ℕ) → option_map_or (by_window at n) o Nothing ≡ Subpage k → ⊥
 no_windows at n None k h = cc
-no_windows at n (Some m) k h = no_window _ (number_told m) k h
+no_windows at n (Some m) k h = no_window _ (item_number m) k h
 
 no_region_by : (ecam : Range) (at n : ℕ) (o : Option ℕ) (b : Bool) (k : ℕ) → cond b (by_ecam ecam at n) (option_map_or (by_window at n) o Nothing) ≡ Subpage k → ⊥
 no_region_by ecam at n o true k h = no_ecam _ k h
@@ -54,12 +55,12 @@ no_region_by ecam at n o false k h = no_windows at n o k h
 record IsAnsweredBy (regions : List Region) (at n : ℕ) (write : Bool) (first : Option ℕ) (told : ℕ) : Type 0 where
   number : ℕ
   it : first ≡ Some number
-  tells : told ≡ number_told number
+  tells : told ≡ item_number number
   lets : option_map_or (lets_through at n write) (slice_get regions number) false ≡ true
 
-let_through : (at n : ℕ) (write : Bool) (regions : List Region) (m told : ℕ) (b : Bool) → option_map_or (lets_through at n write) (slice_get regions m) false ≡ b → cond b (Subpage (number_told m)) Nothing ≡ Subpage told → IsAnsweredBy regions at n write (Some m) told
+let_through : (at n : ℕ) (write : Bool) (regions : List Region) (m told : ℕ) (b : Bool) → option_map_or (lets_through at n write) (slice_get regions m) false ≡ b → cond b (Subpage (item_number m)) Nothing ≡ Subpage told → IsAnsweredBy regions at n write (Some m) told
 let_through at n write regions m told true e h =
-    let same : told ≡ number_told m = cc in
+    let same : told ≡ item_number m = cc in
     record { number = m; it = refl; tells = same; lets = e }
 let_through at n write regions m told false e h = absurd (no_window false m told h)
 
@@ -68,7 +69,7 @@ answers_by regions ecam windows at n write None told h = absurd (no_region_by ec
 answers_by regions ecam windows at n write (Some m) told h = let_through at n write regions m told _ refl h
 
 pub it_answers : (regions : List Region) (closed : ℕ → Bool) (ecam : Range) (windows : List Window) (at n : ℕ) (write : Bool) (told : ℕ) → hitting regions closed ecam windows at n write ≡ Subpage told
-    → (k : ℕ) × (r : Region) × (told ≡ number_told k) × (slice_get regions k ≡ Some r) × (takes_all closed at n r ≡ true) × (lets_through at n write r ≡ true)
+    → (k : ℕ) × (r : Region) × (told ≡ item_number k) × (slice_get regions k ≡ Some r) × (takes_all closed at n r ≡ true) × (lets_through at n write r ≡ true)
 unfolding hitting
 it_answers regions closed ecam windows at n write told h =
     let a = answers_by regions ecam windows at n write (position (takes_all closed at n) regions) told h in
@@ -79,11 +80,11 @@ it_answers regions closed ecam windows at n write told h =
     (k, r, a.tells, is, hit.1, sym (ap (λ (o : Option Region). option_map_or (lets_through at n write) o false) is) ∙ a.lets)
 
 pub only_answers : (regions : List Region) (closed : ℕ → Bool) (ecam : Range) (windows : List Window) (at n : ℕ) (write : Bool) (told : ℕ) → AllPairs SharesNoAddress regions → 0 < n → hitting regions closed ecam windows at n write ≡ Subpage told
-    → (k : ℕ) (r : Region) → slice_get regions k ≡ Some r → IsTrue (has_address r at) → told ≡ number_told k
+    → (k : ℕ) (r : Region) → slice_get regions k ≡ Some r → IsTrue (has_address r at) → told ≡ item_number k
 only_answers regions closed ecam windows at n write told apart some h k r is has =
     let a = it_answers regions closed ecam windows at n write told h in
     let same : k ≡ a.0 = one_number regions a.0 k a.1 r at apart a.3 is (takes_all_has closed at n a.1 some a.4) has in
-    a.2 ∙ sym (ap number_told same)
+    a.2 ∙ sym (ap item_number same)
 
 pub refusal_ends : (regions : List Region) (closed : ℕ → Bool) (ecam : Range) (windows : List Window) (at n : ℕ) (write : Bool) (k : ℕ) (r : Region) → AllPairs SharesNoAddress regions → 0 < n
     → slice_get regions k ≡ Some r → takes_all closed at n r ≡ true → lets_through at n write r ≡ false → hitting regions closed ecam windows at n write ≡ Nothing
@@ -97,8 +98,8 @@ refusal_ends regions closed ecam windows at n write k r apart some is takes refu
     let same : j ≡ k = one_number regions k j r (get_or regions j r) at apart is (slice_get-get_or regions j r (omega arith)) (takes_all_has closed at n r some takes) (takes_all_has closed at n (get_or regions j r) some h) in omega arith))
     (ap (takes_all closed at n) at_k ∙ takes) in
     sym (ap (λ (o : Option ℕ). option_map_or (by_subpage regions at n write) o (behind_regions ecam windows at n)) first)
-    ∙ ap (λ (o : Option Region). cond (option_map_or (lets_through at n write) o false) (Subpage (number_told k)) Nothing) is
-    ∙ ap (λ b. cond b (Subpage (number_told k)) Nothing) refuses
+    ∙ ap (λ (o : Option Region). cond (option_map_or (lets_through at n write) o false) (Subpage (item_number k)) Nothing) is
+    ∙ ap (λ b. cond b (Subpage (item_number k)) Nothing) refuses
 
 -- a region of which a byte of the access is at a closed place doesn't have the access
 closed_lacks : (closed : ℕ → Bool) (at n : ℕ) (r : Region) (a : ℕ) → is_comm r ≡ false → at ≤ a → a < at + n → closed (place_in r a) ≡ true → takes_all closed at n r ≡ true → ⊥
@@ -118,13 +119,13 @@ closed_lacks_at regions closed at n k r a is comm low high shut j s there takes 
 
 pub closed_another : (regions : List Region) (closed : ℕ → Bool) (ecam : Range) (windows : List Window) (at n : ℕ) (write : Bool) (k : ℕ) (r : Region) (a : ℕ) → slice_get regions k ≡ Some r → is_comm r ≡ false
     → at ≤ a → a < at + n → closed (place_in r a) ≡ true → (told : ℕ) → hitting regions closed ecam windows at n write ≡ Subpage told
-    → (j : ℕ) × (j ≡ k → ⊥) × (told ≡ number_told j) × IsLetThrough regions closed at n write j
+    → (j : ℕ) × (j ≡ k → ⊥) × (told ≡ item_number j) × IsLetThrough regions closed at n write j
 closed_another regions closed ecam windows at n write k r a is comm low high shut told h =
     let answer = it_answers regions closed ecam windows at n write told h in
     (answer.0, closed_lacks_at regions closed at n k r a is comm low high shut answer.0 answer.1 answer.3 answer.4, answer.2, (answer.1, answer.3, answer.4, answer.5))
 
 -- a number before the last one is told of one region alone
-told_once : (j k : ℕ) → k < 0xffffffff → k ≡ number_told j → j ≡ k
+told_once : (j k : ℕ) → k < 0xffffffff → k ≡ item_number j → j ≡ k
 told_once j k below h = omega arith
 
 pub closed_own : (regions : List Region) (closed : ℕ → Bool) (ecam : Range) (windows : List Window) (at n : ℕ) (write : Bool) (k : ℕ) (r : Region) (a : ℕ) → slice_get regions k ≡ Some r → is_comm r ≡ false

@@ -12,10 +12,11 @@
 -- A case that holds and whose tests fail ends the search: nothing answers. Closed places are those that
 -- other cells hold; only root has some. An answer names the region or the window by its number, in 32
 -- bits; those that have no number of 32 bits share the last one.
-use Rattle.std.specs.Prelude.{◌≡◌, ℕ, ◌+◌, ◌-◌, ◌%◌, Bool, true, false, ◌&&◌, ◌||◌, not, ◌==◌, nat_lt, nat_le, min, if◌then◌else◌, List, Option, Some, None, position, slice_get}
+use Rattle.std.specs.Prelude.{◌≡◌, ℕ, ◌+◌, ◌-◌, ◌%◌, Bool, true, false, ◌&&◌, ◌||◌, not, ◌==◌, nat_lt, nat_le, if◌then◌else◌, List, Option, Some, None, position, slice_get}
 use Rattle.std.specs.List.{list_all, list_any, range_with_len}
 use Rattle.std.specs.Option.{option_map_or}
 use Rattle.jh_num.specs.declared.range.Range.{Range}
+use Rattle.jh_num.specs.Numbers.{item_number}
 use Rattle.jh_cellcfg.specs.declared.region.Region.{Region}
 use Rattle.jh_cellcfg.specs.Regions.{has_flags, has_size, virt_end, is_comm, is_page_mapped, place_in, allows_width, allows_unaligned}
 use Rattle.jh_mmio.specs.declared.hitting.Window.{Window}
@@ -62,14 +63,10 @@ abbrev pub IsLetThrough : List Region → (ℕ → Bool) → ℕ → ℕ → Boo
 IsLetThrough regions closed at width write k =
     (r : Region) × (slice_get regions k ≡ Some r) × (takes_all closed at width r ≡ true) × (lets_through at width write r ≡ true)
 
--- the number that an answer gives for one among the regions or the windows
-abbrev pub number_told : ℕ → ℕ
-number_told k = min k 0xffffffff
-
 -- the answer of the region with the number
 abbrev pub by_subpage : List Region → ℕ → ℕ → Bool → ℕ → Hitting
 by_subpage regions at width write k =
-    if option_map_or (lets_through at width write) (slice_get regions k) false then Subpage (number_told k) else Nothing
+    if option_map_or (lets_through at width write) (slice_get regions k) false then Subpage (item_number k) else Nothing
 
 -- the answer of configuration space, whose window begins at the start
 abbrev pub by_ecam_at : ℕ → ℕ → ℕ → Hitting
@@ -81,7 +78,7 @@ by_ecam ecam at width = by_ecam_at ecam.start at width
 
 -- the answer of the window with the number
 abbrev pub by_window : ℕ → ℕ → ℕ → Hitting
-by_window at width k = if width == 4 && (at % 4 == 0) then Bar (number_told k) else Nothing
+by_window at width k = if width == 4 && (at % 4 == 0) then Bar (item_number k) else Nothing
 
 -- the window has all bytes of the access
 abbrev pub window_has : ℕ → ℕ → Window → Bool

@@ -4,11 +4,11 @@ ghost use Rattle.std.specs.Option.{option_map_or};
 ghost use Rattle.jh_num.specs.Bytes.{has_byte};
 ghost use Rattle.jh_cellcfg.specs.declared.region.Region.{Region as TheRegion};
 ghost use Rattle.jh_cellcfg.specs.Regions.{virt_end, has_address, IsInRange};
-ghost use Rattle.jh_mmio.specs.Dispatch.{lies_between, is_at_closed, takes_all, has_whole, lets_through, number_told, by_subpage, by_ecam, by_window, window_has, behind_regions, hitting};
+ghost use Rattle.jh_mmio.specs.Dispatch.{lies_between, is_at_closed, takes_all, has_whole, lets_through, by_subpage, by_ecam, by_window, window_has, behind_regions, hitting};
 
 use crate::hitting::{Hitting, Window};
 use jh_cellcfg::Region;
-use jh_num::{ByteSet, Range};
+use jh_num::{ByteSet, Range, item_number};
 
 /// Whether all bytes of the access are among the `size` from `start` on.
 fn lies_in(start: u64, size: u64, at: u64, width: u8) -> bool
@@ -73,13 +73,6 @@ pub fn lets_through(region: &Region, at: u64, width: u8, write: bool) -> bool
     right && region.allows_width(width) && (region.allows_unaligned() || at % u64::from(width) == 0)
 }
 
-/// The number that an answer gives: the last one of 32 bits for all that don't have 32 bits.
-fn number_told(number: usize) -> u32
-    ensures { result ≡ number_told number }
-{
-    u32::try_from(number).unwrap_or(u32::MAX)
-}
-
 /// What the region of that number answers to an access that is its own.
 fn by_number(regions: &[Region], number: usize, at: u64, width: u8, write: bool) -> Hitting
     requires some { 0 < width }
@@ -87,7 +80,7 @@ fn by_number(regions: &[Region], number: usize, at: u64, width: u8, write: bool)
 {
     match regions.get(number) {
         Some(region) if lets_through(region, at, width, write) => Hitting::Subpage {
-            region: number_told(number),
+            region: item_number(number),
         },
         _ => Hitting::Nothing,
     }
@@ -120,7 +113,7 @@ fn by_window(number: usize, at: u64, width: u8) -> Hitting
 {
     if width == 4 && at % 4 == 0 {
         Hitting::Bar {
-            window: number_told(number),
+            window: item_number(number),
         }
     } else {
         Hitting::Nothing

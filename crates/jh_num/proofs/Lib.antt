@@ -1,11 +1,11 @@
 pub mod BytesLemmas
-pub mod InsertLemmas
-pub mod StepsLemmas
-pub mod MeetingLemmas
-pub mod MergeLemmas
-pub mod RemoveLemmas
-pub mod ReadLemmas
-pub mod SearchLemmas
+mod InsertLemmas
+mod StepsLemmas
+mod MeetingLemmas
+mod MergeLemmas
+mod RemoveLemmas
+mod ReadLemmas
+mod SearchLemmas
 pub mod MemoryLemmas
 pub mod Booleans
 pub mod Lists

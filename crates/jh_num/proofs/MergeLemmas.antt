@@ -1,8 +1,8 @@
 -- Two lists of ranges merged from the back.
-use Rattle.std.proofs.Common.{◌≡◌, ℕ, ◌+◌, ◌-◌, ◌<◌, ◌≤◌, Bool, true, false, ◌||◌, List, [], length, get_or, take, drop, sym, refl, ap, ◌∙◌, ⊎_elim, arith}
-use Rattle.std.proofs.Math.Bool.{or-true, or-false}
+use Rattle.std.proofs.Common.{◌≡◌, ℕ, ◌+◌, ◌-◌, ◌<◌, ◌≤◌, Bool, true, false, ◌||◌, List, length, get_or, take, drop, sym, refl, ap, ◌∙◌, ⊎_elim, arith}
+use Rattle.std.proofs.Math.Bool.{or-true}
 use Rattle.std.proofs.lemmas.Bool.{cases_lt}
-use Rattle.std.proofs.lemmas.List.{drop_all, get_or-take, get_or_read, take-take, take_all}
+use Rattle.std.proofs.lemmas.List.{get_or-take, get_or_read, take-take}
 use Rattle.std.proofs.lemmas.List.Folds.{list_any_more}
 use Rattle.jh_num.specs.declared.range.Range.{Range}
 use Rattle.jh_num.specs.Bytes.{in_range, has_byte, AreApart}
@@ -39,21 +39,6 @@ swapped xs ys items i j at h =
       apart = h.apart;
       xs_ends = h.ys_ends;
       ys_ends = h.xs_ends;
-    }
-
--- before the first step nothing is merged
-pub none_merged : (xs ys items : List Range) (i j at : ℕ) → i ≡ length xs → j ≡ length ys → i + j ≤ at → at ≡ length items → Merges xs ys items i j at
-none_merged xs ys items i j at fi fj s fa =
-    let none : drop at items ≡ [] = drop_all at items (omega arith) in
-    record {
-      i_bound = omega arith;
-      j_bound = omega arith;
-      space = s;
-      within = omega arith;
-      bytes = λ b. rw (take_all i xs (omega arith), take_all j ys (omega arith), none) (sym (or-false (has_byte xs b || has_byte ys b)));
-      apart = rw none tt;
-      xs_ends = λ k d e l m. absurd (omega arith);
-      ys_ends = λ k d e l m. absurd (omega arith);
     }
 
 -- a later range ends later

@@ -3,4 +3,7 @@ pub mod ByteRanges
 pub mod Bytes
 pub mod Counted
 pub mod Errors
+pub mod Levels
 pub mod Memory
+pub mod Numbers
+pub mod Pages

@@ -4,11 +4,18 @@ ghost use Rattle.jh_num.specs.Memory.{spelled, little_endian, stored};
 
 use crate::address::{ADDRESS_END, PAGE_SIZE};
 use crate::error::{E2BIG, EBUSY, EEXIST, EINVAL, ENOENT, ENOMEM, ENOSYS, EPERM};
+use crate::level::{FIRST_LEVEL, LAST_LEVEL};
 
 /// Addresses have 39 bits, and a page has 4 KB.
 pub fn addresses_end_here()
     ensures end { ADDRESS_END ≡ 2 ^ 39 }
     ensures page { PAGE_SIZE ≡ 4096 }
+{}
+
+/// Tables begin at level 1, and pages stand at level 3.
+pub fn levels_are_these()
+    ensures first { FIRST_LEVEL ≡ 1 }
+    ensures last { LAST_LEVEL ≡ 3 }
 {}
 
 /// `negsuc n` is the number -(n + 1).

@@ -1,5 +1,6 @@
-//! Numbers and lists that every layer speaks of: where addresses end, bits, rights, lists as contracts see
-//! them and room in them, sets of bytes, counted descriptor reads, and want of memory.
+//! Numbers and lists that every layer speaks of: where addresses end, levels of tables, bits, rights, numbers that
+//! stop at their last, lists as contracts see them and room in them, sets of bytes, counted descriptor reads, and
+//! want of memory.
 #![tactic(auto)]
 
 mod address;
@@ -7,7 +8,9 @@ mod bits;
 mod byte_set;
 pub mod error;
 mod laws;
+mod level;
 mod no_memory;
+mod number;
 mod range;
 mod rights;
 mod room;
@@ -19,9 +22,12 @@ pub use address::{ADDRESS_END, PAGE_SIZE};
 pub use bits::has_bit;
 pub use byte_set::ByteSet;
 pub use laws::{
-    a_list_is_stored_at_its_places, addresses_end_here, errors_are_these, the_lowest_byte_is_first,
+    a_list_is_stored_at_its_places, addresses_end_here, errors_are_these, levels_are_these,
+    the_lowest_byte_is_first,
 };
+pub use level::{FIRST_LEVEL, LAST_LEVEL, slot_of, slot_size};
 pub use no_memory::NoMemory;
+pub use number::item_number;
 pub use range::Range;
 pub use rights::Rights;
 pub use room::make_room;

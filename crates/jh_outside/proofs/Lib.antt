@@ -1,2 +1,2 @@
-pub mod CallerLemmas
-pub mod ShelfLemmas
+mod CallerLemmas
+mod ShelfLemmas

@@ -1,10 +1,6 @@
 -- Counts of faults. A count never falls, and it stands still at 2^64 - 1.
-use Rattle.std.specs.Prelude.{ℕ, ◌+◌, ◌-◌, ◌^◌, ◌<◌, ◌≤◌, ◌⊎◌, min}
+use Rattle.std.specs.Prelude.{ℕ, ◌-◌, ◌^◌, ◌<◌, ◌≤◌, ◌⊎◌}
 
 -- the count rose: it is greater than before, or stands at its end
 abbrev pub Rose : ℕ → ℕ → Type 0
 Rose old new = (old < new) ⊎ (2 ^ 64 - 1 ≤ new)
-
--- the count after one more
-abbrev pub counted_up : ℕ → ℕ
-counted_up count = min (count + 1) (2 ^ 64 - 1)

@@ -1,6 +1,6 @@
 -- What files of the system keep of the reads that failed.
 use Rattle.std.specs.Prelude.{◌≡◌, ℕ, List}
-use Rattle.jh_outside.specs.Count.{counted_up}
+use Rattle.jh_num.specs.Numbers.{counted_up}
 use Rattle.jh_outside.specs.Trail.{Ask, Answer, Handed, Failed, Wanted}
 
 -- the count of faults, and the name of the read that failed last

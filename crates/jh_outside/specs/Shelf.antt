@@ -5,7 +5,7 @@ use Rattle.std.specs.Ordering.{nat_cmp}
 use Rattle.std.specs.Cmp.Lexicographic.{slice_cmp}
 use Rattle.std.specs.FinMap as map
 use Rattle.std.specs.FinSet as set
-use Rattle.jh_outside.specs.Count.{counted_up}
+use Rattle.jh_num.specs.Numbers.{counted_up}
 use Rattle.jh_outside.specs.Trail.{Ask, Answer, Handed, Failed, Wanted}
 
 -- the bytes under each name, the numbers of the reads that fail and of the next one, the count of faults, and the name

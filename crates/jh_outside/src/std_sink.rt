@@ -1,7 +1,8 @@
 //! Standard output.
 ghost use Rattle.std.specs.Prelude.{◌≡◌, ◌<◌, ◌≤◌, None, length, take, IfSome, IfOk, OnOk, OnErr};
 ghost use Rattle.std.specs.Io.KnownBytes.{Keeps, Appends};
-ghost use Rattle.jh_outside.specs.Count.{Rose, counted_up};
+ghost use Rattle.jh_outside.specs.Count.{Rose};
+ghost use Rattle.jh_num.specs.Numbers.{counted_up};
 ghost use Rattle.jh_outside.specs.Writes.{Took};
 
 use crate::sink::{Sink, SinkFault};

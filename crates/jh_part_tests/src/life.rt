@@ -2,7 +2,8 @@
 //! shown by the rows.
 
 use jh_cellcfg::{CellConfig, Region, SystemConfig};
-use jh_life::{Cells, MOST_CELLS};
+use jh_check::MOST_CELLS;
+use jh_life::Cells;
 use jh_num::{NoMemory, Seq};
 use std::alloc::Global;
 use std::test::Fail;

@@ -1,14 +1,14 @@
 //! Why a SPEC is refused. What a good one makes is shown by the rows.
 
-use jh_spec::{SpecFault, read_spec};
+use jh_spec::{JsonFault, read_spec};
 use std::alloc::Global;
 use std::process::Abort;
 
 /// What the text is refused as: `json`, or the member's name.
 fn refusal(alloc: Global, text: &[u8]) -> Option<Vec<u8>> {
     match read_spec(alloc, text) {
-        Err(SpecFault::Json) => Vec::from_slice(alloc, b"json").ok(),
-        Err(SpecFault::Member(name)) => Some(name.into_vec()),
+        Err(JsonFault::Json) => Vec::from_slice(alloc, b"json").ok(),
+        Err(JsonFault::Member(name)) => Some(name.into_vec()),
         _ => None,
     }
 }

@@ -1,4 +1,4 @@
-pub mod CountLemmas
-pub mod ListLemmas
-pub mod OpenLemmas
-pub mod EditLemmas
+mod CountLemmas
+mod ListLemmas
+mod OpenLemmas
+mod EditLemmas

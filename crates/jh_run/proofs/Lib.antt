@@ -1,16 +1,16 @@
 pub mod RunLemmas
-pub mod RanLemmas
-pub mod EndLemmas
-pub mod LegalTexts
-pub mod MapsLemmas
-pub mod TurnLemmas
-pub mod PortLemmas
-pub mod WholeLemmas
-pub mod SpreadLemmas
-pub mod CallerLemmas
-pub mod SoakLemmas
-pub mod SoakClean
-pub mod SoakTables
-pub mod SoakPrograms
-pub mod SoakPreloads
-pub mod SoakAdmitted
+mod RanLemmas
+mod EndLemmas
+mod LegalTexts
+mod MapsLemmas
+mod TurnLemmas
+mod PortLemmas
+mod WholeLemmas
+mod SpreadLemmas
+mod CallerLemmas
+mod SoakLemmas
+mod SoakClean
+mod SoakTables
+mod SoakPrograms
+mod SoakPreloads
+mod SoakAdmitted

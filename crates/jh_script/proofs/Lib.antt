@@ -1,6 +1,6 @@
-pub mod GrammarLemmas
-pub mod LawLemmas
+mod GrammarLemmas
+mod LawLemmas
 pub mod NumberLemmas
-pub mod OperationLemmas
-pub mod ProgramLemmas
-pub mod WordLemmas
+mod OperationLemmas
+mod ProgramLemmas
+mod WordLemmas

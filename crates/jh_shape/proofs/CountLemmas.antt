@@ -1,7 +1,5 @@
 -- Counting numbers that pass a test.
-use Rattle.std.proofs.Common.{◌≡◌, ◌≢◌, ℕ, ◌+◌, ◌<◌, ◌≤◌, zero, suc, Bool, true, false, not, ◌&&◌, ◌||◌, nat_eq, cond, refl, sym, ap, ⊎_elim, ◌∙◌, arith}
-use Rattle.std.proofs.lemmas.Bool.{cases_lt, eq-eqb, ne_eqb}
-use Rattle.std.proofs.Math.Bool.{or-true, or-false}
+use Rattle.std.proofs.Common.{◌≡◌, ℕ, ◌+◌, ◌<◌, ◌≤◌, zero, suc, Bool, true, false, not, ◌&&◌, ◌||◌, cond, refl, ap, ◌∙◌, arith}
 use Rattle.jh_shape.specs.Pages.{count_below}
 
 pub count_below_none : (test : ℕ → Bool) → count_below test 0 ≡ 0
@@ -29,40 +27,6 @@ count_below_agree p q zero h = refl
 count_below_agree p q (suc n) h =
     ap (λ m. m + cond (p n) 1 0) (count_below_agree p q n (λ k l. h k (omega arith)))
     ∙ ap (λ b. count_below q n + cond b 1 0) (h n (omega arith))
-
-mark_here : (b : Bool) (a : ℕ) → a + 1 ≡ (a + cond b 1 0) + cond b 0 1
-mark_here true a = omega arith
-mark_here false a = omega arith
-
-mark_there : (a b c : ℕ) → (a + b) + c ≡ (a + c) + b
-mark_there a b c = omega arith
-
--- one number more passes, unless it did before
-pub count_below_mark : (p q : ℕ → Bool) (n end : ℕ) → n < end → ((k : ℕ) → q k ≡ (p k || nat_eq k n)) → count_below q end ≡ count_below p end + cond (p n) 0 1
-count_below_mark p q n zero h all = absurd (omega arith)
-count_below_mark p q n (suc m) h all =
-    let other : (k : ℕ) → k ≢ n → q k ≡ p k = λ k e. all k ∙ ap (λ b. p k || b) (ne_eqb k n e) ∙ or-false (p k) in
-    let before : count_below p (suc m) ≡ count_below p m + cond (p m) 1 0 = count_below_suc p m (suc m) refl in
-    ⊎_elim
-    (λ (below : n < m).
-    let rest : count_below q m ≡ count_below p m + cond (p n) 0 1 = count_below_mark p q n m below all in
-    let same : q m ≡ p m = other m (λ e. absurd (omega arith)) in
-    count_below_suc q m (suc m) refl
-    ∙ ap (λ a. a + cond (q m) 1 0) rest
-    ∙ ap (λ b. (count_below p m + cond (p n) 0 1) + cond b 1 0) same
-    ∙ mark_there (count_below p m) (cond (p n) 0 1) (cond (p m) 1 0)
-    ∙ sym (ap (λ a. a + cond (p n) 0 1) before))
-    (λ (above : m ≤ n).
-    let here : m ≡ n = omega arith in
-    let rest : count_below q m ≡ count_below p m = count_below_agree q p m (λ k l. other k (λ e. absurd (omega arith))) in
-    let passes : q m ≡ true = all m ∙ ap (λ b. p m || b) (eq-eqb m n here) ∙ or-true (p m) in
-    count_below_suc q m (suc m) refl
-    ∙ ap (λ a. a + cond (q m) 1 0) rest
-    ∙ ap (λ b. count_below p m + cond b 1 0) passes
-    ∙ mark_here (p m) (count_below p m)
-    ∙ ap (λ k. (count_below p m + cond (p m) 1 0) + cond (p k) 0 1) here
-    ∙ sym (ap (λ a. a + cond (p n) 0 1) before))
-    (cases_lt n m)
 
 either_more : (b c : Bool) (x y : ℕ) → (x + y) + cond (b || c) 1 0 ≡ (x + cond b 1 0) + (y + cond (c && not b) 1 0)
 either_more true true x y = let e : (x + y) + 1 ≡ (x + 1) + (y + 0) = omega arith in e

@@ -14,7 +14,8 @@ use Rattle.jh_shape.specs.Claims.{Claims, Holder}
 use Rattle.jh_shape.specs.Intervals.{touches, spans}
 use Rattle.jh_shape.specs.Laws.{IsMet, IsCut, IsBlock, Serves, IsServed, IsTaken, is_to_table, tables_by}
 use Rattle.jh_shape.specs.Pages.{count_below, tables_at, tables_of}
-use Rattle.jh_shape.specs.Shapes.{holder_of_live, slot_size, is_mapped, meets_in_part, are_cut, takes, is_closed, is_aligned_alike, fits_blocks, may_be_block, is_leaf_by, is_leaf, is_met, is_met_by, is_table, leaf_region, is_kept_from, want_from, want_of}
+use Rattle.jh_shape.specs.Shapes.{holder_of_live, is_mapped, meets_in_part, are_cut, takes, is_closed, is_aligned_alike, fits_blocks, may_be_block, is_leaf_by, is_leaf, is_met, is_met_by, is_table, leaf_region, is_kept_from, want_from, want_of}
+use Rattle.jh_num.specs.Levels.{slot_size}
 
 -- a slot has an address
 pub size_some : (level : ℕ) → 0 < slot_size level

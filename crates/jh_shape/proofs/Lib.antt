@@ -1,9 +1,9 @@
-pub mod HoldersLemmas
-pub mod WantLemmas
-pub mod WordLemmas
-pub mod CountLemmas
+mod HoldersLemmas
+mod WantLemmas
+mod WordLemmas
+mod CountLemmas
 pub mod PageLemmas
 pub mod OrderLemmas
-pub mod GrantLemmas
+mod GrantLemmas
 pub mod LawLemmas
-pub mod MarkLemmas
+mod MarkLemmas

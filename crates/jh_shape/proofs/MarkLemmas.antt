@@ -13,11 +13,12 @@ use Rattle.std.proofs.Math.Nat.{add-mul, mul-le-mul_right, le-div_iff_mul-le, di
 use Rattle.jh_num.specs.declared.address.TheConstants.{ADDRESS_END}
 use Rattle.jh_num.proofs.Booleans.{same_test, or_assoc}
 use Rattle.jh_cellcfg.specs.declared.region.Region.{Region}
-use Rattle.jh_cellcfg.specs.Regions.{virt_end, phys_end, place_in, is_unshared}
+use Rattle.jh_cellcfg.specs.Regions.{virt_end, place_in}
 use Rattle.jh_shape.specs.Claims.{Claims}
 use Rattle.jh_shape.specs.Intervals.{touches, spans}
 use Rattle.jh_shape.specs.Marks.{is_marked, is_inside, marked_slots, past_slot, is_beyond, AreMarkedWithin}
-use Rattle.jh_shape.specs.Shapes.{slot_size, is_mapped, is_met_by, meets_in_part, are_cut, is_cut_for_root, fits_blocks, may_be_block, is_leaf_by}
+use Rattle.jh_shape.specs.Shapes.{is_mapped, is_met_by, are_cut, is_cut_for_root, fits_blocks, may_be_block, is_leaf_by}
+use Rattle.jh_num.specs.Levels.{slot_size}
 use Rattle.jh_shape.proofs.CountLemmas.{count_below_le}
 
 -- one mark more
@@ -45,22 +46,6 @@ marked words n k word within is =
     let kept : slice_index (set words (n / 64) word) (k / 64) ≡ slice_index words (k / 64) = get_or-set_other words (n / 64) (k / 64) word 0 other_word in
     rw (kept, ne_eqb k n other) (sym (or-false (is_marked words k))))
     (cases_eq (k / 64) (n / 64))
-
--- a span of them, one more
-pub span_none : (k from n : ℕ) (b : Bool) → n ≤ from → b ≡ (b || (nat_le from k && nat_lt k n))
-span_none k from n b h =
-    let none : (nat_le from k && nat_lt k n) ≡ false = grind (arith, nat_tests) in
-    sym (ap (λ v. b || v) none ∙ or-false b)
-
-pub span_more : (k from n : ℕ) (b new old : Bool) → from ≤ n → old ≡ (b || (nat_le from k && nat_lt k n)) → new ≡ (old || nat_eq k n) → new ≡ (b || (nat_le from k && nat_lt k (n + 1)))
-span_more k from n b new old h e f =
-    let more : ((nat_le from k && nat_lt k n) || nat_eq k n) ≡ (nat_le from k && nat_lt k (n + 1)) = grind (arith, nat_tests) in
-    f ∙ ap (λ v. v || nat_eq k n) e ∙ sym (or_assoc b (nat_le from k && nat_lt k n) (nat_eq k n)) ∙ ap (λ v. b || v) more
-
-pub span_end : (k from to n : ℕ) (b new : Bool) → to ≤ n → n ≤ max from to → new ≡ (b || (nat_le from k && nat_lt k n)) → new ≡ (b || (nat_le from k && nat_lt k to))
-span_end k from to n b new h l e =
-    let same : (nat_le from k && nat_lt k n) ≡ (nat_le from k && nat_lt k to) = grind (arith, nat_tests) in
-    e ∙ ap (λ v. b || v) same
 
 -- where nothing is marked
 zeros : (count i : ℕ) → ◌≡◌ {A = ℕ} (get_or (replicate count 0) i 0) 0
@@ -224,17 +209,6 @@ nothing_more_met limit words level start end region n all within below =
     as_before (is_marked words n) (is_met_by level (n * slot_size level) region) (λ met.
     let touched = and_parts (is_mapped region) (touches region.virt_start (virt_end region) (n * slot_size level) (slot_size level)) met in
     all n below (span_touches start end region.virt_start region.size (n * slot_size level) (slot_size level) within touched.1))
-
-pub nothing_more_cut : (limit : ℕ) (words : List ℕ) (level start end : ℕ) (region : Region) (n : ℕ) → AreMarkedWithin limit words level start end → (nat_le start region.phys_start && nat_le region.size (end - region.phys_start)) ≡ true → n < limit → is_marked words n ≡ (is_marked words n || meets_in_part region (n * slot_size level) (slot_size level))
-nothing_more_cut limit words level start end region n all within below =
-    let at = n * slot_size level in
-    let size = slot_size level in
-    let touched = touches region.phys_start (phys_end region) at size in
-    let part = not (spans region.phys_start (phys_end region) at size) in
-    as_before (is_marked words n) (meets_in_part region at size) (λ cut.
-    let alone = and_parts (is_unshared region) (touched && part) cut in
-    let some = and_parts touched part alone.1 in
-    all n below (span_touches start end region.phys_start region.size at size within some.0))
 
 -- nor does one that tables don't map
 pub met_not_mapped : (words : List ℕ) (level : ℕ) (region : Region) (n : ℕ) → is_mapped region ≡ false → is_marked words n ≡ (is_marked words n || is_met_by level (n * slot_size level) region)
@@ -409,16 +383,6 @@ free_alike claims level n room region cuts b span new root same s low told e =
     let within = leb-true region.virt_start at p.0 in
     let place : place_in region at ≡ at = omega arith in
     told (low is) ∙ ap cut (sym place) ∙ sym (ap (λ v. v && cut (place_in region at)) root)))
-
--- a mark that was there
-pub marked_again : (test : ℕ → Bool) (n k : ℕ) → test n ≡ true → test k ≡ (test k || nat_eq k n)
-marked_again test n k there =
-    ⊎_elim
-    (λ (same : k ≡ n).
-    let is : test k ≡ true = ap test same ∙ there in
-    is ∙ sym (ap (λ b. b || nat_eq k n) is))
-    (λ (other : k ≢ n). sym (ap (λ b. test k || b) (ne_eqb k n other) ∙ or-false (test k)))
-    (cases_eq k n)
 
 -- how many marks there are
 pub marked_few : (words : List ℕ) (level : ℕ) → level < 3 → marked_slots words level ≤ 262144

@@ -11,7 +11,8 @@ use Rattle.jh_cellcfg.specs.declared.config.CellConfig.{CellConfig}
 use Rattle.jh_num.specs.Bits.{has_bit}
 use Rattle.jh_shape.specs.Claims.{Claims, Holder, held_from, holder_to_come}
 use Rattle.jh_shape.specs.Pages.{tables_at, tables_of, cell_claims, holder_of}
-use Rattle.jh_shape.specs.Shapes.{slot_size, is_table}
+use Rattle.jh_shape.specs.Shapes.{is_table}
+use Rattle.jh_num.specs.Levels.{slot_size}
 use Rattle.jh_shape.proofs.CountLemmas.{count_below_le}
 
 at_le : (claims : Claims) (level : ℕ) → tables_at claims level ≤ ADDRESS_END / slot_size level

@@ -9,7 +9,8 @@ use Rattle.jh_cellcfg.specs.declared.region.Region.{Region}
 use Rattle.jh_cellcfg.specs.Regions.{virt_end, is_comm, is_page_mapped, place_in}
 use Rattle.jh_shape.specs.Claims.{Claims}
 use Rattle.jh_shape.specs.Intervals.{spans}
-use Rattle.jh_shape.specs.Shapes.{slot_size, is_mapped, may_be_block, is_leaf_by, leaf_region}
+use Rattle.jh_shape.specs.Shapes.{is_mapped, may_be_block, is_leaf_by, leaf_region}
+use Rattle.jh_num.specs.Levels.{slot_size}
 use Rattle.jh_shape.specs.Suits.{IsFit, AreSoundClaims}
 
 -- what `find` gives passes the test, and has what all have

@@ -3,11 +3,12 @@ use Rattle.std.specs.Prelude.{◌≡◌, ℕ, ◌+◌, ◌<◌, Bool, true, fals
 use Rattle.jh_num.specs.declared.rights.Rights.{Rights}
 use Rattle.jh_cellcfg.specs.declared.region.Region.{Region}
 use Rattle.jh_cellcfg.specs.Regions.{has_address, byte_in, place_in, is_comm, is_device, rights_of}
-use Rattle.jh_shape.specs.declared.level.TheConstants.{LAST_LEVEL}
+use Rattle.jh_num.specs.declared.level.TheConstants.{LAST_LEVEL}
 use Rattle.jh_shape.specs.declared.want.Want.{Want}
 use Rattle.jh_shape.specs.declared.want.Want.TheVariants.{Nothing, Table, Leaf}
 use Rattle.jh_shape.specs.Claims.{Claims}
-use Rattle.jh_shape.specs.Shapes.{slot_size, is_mapped, is_kept_from}
+use Rattle.jh_shape.specs.Shapes.{is_mapped, is_kept_from}
+use Rattle.jh_num.specs.Levels.{slot_size}
 
 -- where the region leads its address: to a place, or into the cell's communication page
 abbrev pub place_at : Claims → Region → ℕ → ℕ

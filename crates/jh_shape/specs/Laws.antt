@@ -7,7 +7,7 @@ use Rattle.jh_shape.specs.declared.want.Want.{Want}
 use Rattle.jh_shape.specs.declared.want.Want.TheVariants.{Nothing, Table, Leaf}
 use Rattle.jh_shape.specs.Claims.{Claims, Holder}
 use Rattle.jh_shape.specs.Pages.{count_below}
-use Rattle.jh_shape.specs.Shapes.{slot_size}
+use Rattle.jh_num.specs.Levels.{slot_size}
 
 -- a page-mapped region of the cell has one of the slot's addresses
 pub record IsMet (claims : Claims) (level start : ℕ) : Type 0 where

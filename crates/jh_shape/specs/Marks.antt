@@ -7,7 +7,8 @@ use Rattle.jh_cellcfg.specs.Regions.{virt_end, phys_end}
 use Rattle.jh_shape.specs.Claims.{Claims}
 use Rattle.jh_shape.specs.Intervals.{touches}
 use Rattle.jh_shape.specs.Pages.{count_below}
-use Rattle.jh_shape.specs.Shapes.{slot_size, are_cut}
+use Rattle.jh_shape.specs.Shapes.{are_cut}
+use Rattle.jh_num.specs.Levels.{slot_size}
 
 -- the slot of that number is marked: its bit is set
 abbrev pub is_marked : List ℕ → ℕ → Bool

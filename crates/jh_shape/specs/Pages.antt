@@ -3,9 +3,10 @@ use Rattle.std.specs.Prelude.{ℕ, ◌+◌, ◌*◌, ◌-◌, ◌/◌, Bool, tru
 use Rattle.jh_cellcfg.specs.declared.config.CellConfig.{CellConfig}
 use Rattle.jh_cellcfg.specs.declared.region.Region.{Region}
 use Rattle.jh_num.specs.declared.address.TheConstants.{ADDRESS_END}
-use Rattle.jh_shape.specs.declared.level.TheConstants.{FIRST_LEVEL, LAST_LEVEL}
+use Rattle.jh_num.specs.declared.level.TheConstants.{FIRST_LEVEL, LAST_LEVEL}
 use Rattle.jh_shape.specs.Claims.{Claims, Holder}
-use Rattle.jh_shape.specs.Shapes.{slot_size, is_table}
+use Rattle.jh_shape.specs.Shapes.{is_table}
+use Rattle.jh_num.specs.Levels.{slot_size}
 
 -- how many of the numbers below `n` pass the test
 unfoldable pub count_below : (ℕ → Bool) → ℕ → ℕ

@@ -1,7 +1,8 @@
 -- The shape of a slot of a cell's stage-2 tables, and what a descriptor there says (VMSAv8-64, 4 KB
 -- granule).
-use Rattle.std.specs.Prelude.{ℕ, ◌-◌, ◌*◌, ◌^◌, ◌%◌, Bool, ◌&&◌, ◌||◌, not, ◌==◌, nat_lt, List, Option, Some, None, if◌then◌else◌}
+use Rattle.std.specs.Prelude.{ℕ, ◌%◌, Bool, ◌&&◌, ◌||◌, not, ◌==◌, nat_lt, List, Option, Some, None, if◌then◌else◌}
 use Rattle.std.specs.List.{find, list_any}
+use Rattle.jh_num.specs.Levels.{slot_size}
 use Rattle.jh_cellcfg.specs.declared.live.Live.{Live}
 use Rattle.jh_cellcfg.specs.declared.region.Region.{Region}
 use Rattle.jh_cellcfg.specs.Regions.{virt_end, phys_end, has_place, place_in, is_page_mapped, is_comm, is_unshared, is_loadable, is_device, may_have_blocks, rights_of}
@@ -9,11 +10,6 @@ use Rattle.jh_shape.specs.declared.want.Want.{Want}
 use Rattle.jh_shape.specs.declared.want.Want.TheVariants.{Nothing, Table, Leaf}
 use Rattle.jh_shape.specs.Claims.{Claims, Holder}
 use Rattle.jh_shape.specs.Intervals.{touches, spans}
-
--- the bytes of a slot: 1 GB at level 1, 2 MB at level 2, 4 KB at level 3, the last, and 512 times that
--- of level 1 at level 0
-abbrev pub slot_size : ℕ → ℕ
-slot_size level = 2 ^ (39 - 9 * level)
 
 -- tables map the regions whose addresses are whole pages; one of size 0 has no address
 abbrev pub is_mapped : Region → Bool

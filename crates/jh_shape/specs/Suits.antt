@@ -3,9 +3,10 @@ use Rattle.std.specs.Prelude.{◌≡◌, ℕ, ◌%◌, ◌<◌, ◌≤◌, true,
 use Rattle.jh_num.specs.declared.address.TheConstants.{ADDRESS_END, PAGE_SIZE}
 use Rattle.jh_cellcfg.specs.declared.region.Region.{Region}
 use Rattle.jh_cellcfg.specs.Regions.{virt_end, phys_end, place_in, is_comm, has_address}
-use Rattle.jh_shape.specs.declared.level.TheConstants.{FIRST_LEVEL, LAST_LEVEL}
+use Rattle.jh_num.specs.declared.level.TheConstants.{FIRST_LEVEL, LAST_LEVEL}
 use Rattle.jh_shape.specs.Claims.{Claims}
-use Rattle.jh_shape.specs.Shapes.{slot_size, is_mapped, are_cut}
+use Rattle.jh_shape.specs.Shapes.{is_mapped, are_cut}
+use Rattle.jh_num.specs.Levels.{slot_size}
 
 -- the virtual ranges of two regions that aren't empty have no address in common
 abbrev pub SharesNoAddress : Region → Region → Type 0

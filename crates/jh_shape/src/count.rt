@@ -6,15 +6,15 @@ ghost use Rattle.jh_shape.specs.Claims.{claims_of};
 ghost use Rattle.jh_shape.specs.Marks.{is_beyond, is_marked, marked_slots, past_slot, AreMarked, AreMarkedBelow, AreCuts};
 ghost use Rattle.jh_shape.specs.Pages.{tables_at, tables_of};
 ghost use Rattle.jh_cellcfg.specs.Regions.{place_in, virt_end};
-ghost use Rattle.jh_shape.specs.Shapes.{slot_size, are_cut, is_aligned_alike, is_cut_for_root, is_leaf, is_leaf_by, is_met};
+ghost use Rattle.jh_shape.specs.Shapes.{are_cut, is_aligned_alike, is_cut_for_root, is_leaf, is_leaf_by, is_met};
+ghost use Rattle.jh_num.specs.Levels.{slot_size};
 
 use crate::interval::{NO_SPAN, Slots};
-use crate::level::{FIRST_LEVEL, LAST_LEVEL, slot_of, slot_size};
 use crate::marks::{LOW_SLOTS, LOW_WORDS, SLOTS, WORDS, is_marked, mark, mark_free, mark_span};
 use crate::region::{addresses, any_beyond, any_place_beyond, fits_blocks, is_mapped, mark_cuts};
 use crate::target::Target;
 use jh_cellcfg::Region;
-use jh_num::{ADDRESS_END, has_bit};
+use jh_num::{ADDRESS_END, FIRST_LEVEL, LAST_LEVEL, has_bit, slot_of, slot_size};
 
 impl<'a> Target<'a> {
     /// Marks the slots of places below the limit that other cells cut, where none is marked.

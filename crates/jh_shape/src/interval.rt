@@ -2,10 +2,9 @@
 ghost use Rattle.std.specs.Prelude.{◌≡◌, ℕ, ◌+◌, ◌-◌, ◌*◌, ◌/◌, ◌^◌, ◌<◌, ◌≤◌, ◌&&◌, true, min, nat_le, nat_lt};
 ghost use Rattle.jh_shape.specs.Intervals.{touches, spans};
 ghost use Rattle.jh_shape.specs.Marks.{past_slot};
-ghost use Rattle.jh_shape.specs.Shapes.{slot_size};
+ghost use Rattle.jh_num.specs.Levels.{slot_size};
 
-use crate::level::{LAST_LEVEL, slot_of, slot_size};
-use jh_num::ADDRESS_END;
+use jh_num::{ADDRESS_END, LAST_LEVEL, slot_of, slot_size};
 
 /// Numbers from `start` on, below `end`. Ends are sums of two 64-bit numbers.
 #[derive(Clone, Copy)]

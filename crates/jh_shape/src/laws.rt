@@ -7,10 +7,10 @@ ghost use Rattle.jh_shape.specs.Claims.{Claims, claims_of};
 ghost use Rattle.jh_shape.specs.Grants.{IsGranted};
 ghost use Rattle.jh_shape.specs.Laws.{IsMet, IsServed, IsTaken, tables_by};
 ghost use Rattle.jh_shape.specs.Pages.{pages_of, tables_of};
-ghost use Rattle.jh_shape.specs.Shapes.{holder_of_live, slot_size, is_closed, is_leaf, is_met, is_table, want_of};
+ghost use Rattle.jh_shape.specs.Shapes.{holder_of_live, is_closed, is_leaf, is_met, is_table, want_of};
+ghost use Rattle.jh_num.specs.Levels.{slot_size};
 ghost use Rattle.jh_shape.specs.Suits.{AreSoundClaims};
 
-use crate::level::{FIRST_LEVEL, LAST_LEVEL};
 use crate::target::Target;
 use crate::want::Want;
 use jh_cellcfg::{CellConfig, Region};
@@ -46,12 +46,6 @@ pub fn the_communication_page_changes_no_count(_target: &Target, _comm: u64)
 /// A cell's tables take at most 2^20 pages.
 pub fn tables_are_few()
     ensures { (claims : Claims) → tables_of claims ≤ 2 ^ 20 }
-{}
-
-/// Tables begin at level 1, and pages stand at level 3.
-pub fn levels_are_these()
-    ensures first { FIRST_LEVEL ≡ 1 }
-    ensures last { LAST_LEVEL ≡ 3 }
 {}
 
 /// A table is wanted exactly where a page-mapped region meets the slot and no single descriptor serves

@@ -4,7 +4,6 @@
 mod count;
 mod interval;
 mod laws;
-mod level;
 mod marks;
 mod pages;
 mod region;
@@ -14,11 +13,10 @@ mod want;
 pub use laws::{
     a_new_cell_frees_no_page, a_page_is_granted_wholly_or_not_at_all,
     a_table_stands_where_no_leaf_serves, each_wanted_table_is_counted,
-    fewer_cells_take_no_more_pages, levels_are_these, loadable_cells_change_no_shape,
-    tables_are_few, tables_stand_below_tables, the_communication_page_changes_no_count,
+    fewer_cells_take_no_more_pages, loadable_cells_change_no_shape, tables_are_few,
+    tables_stand_below_tables, the_communication_page_changes_no_count,
     what_live_cells_hold_is_closed,
 };
-pub use level::{FIRST_LEVEL, LAST_LEVEL};
 pub use pages::{cell_pages, pages_of};
 pub use region::any_takes;
 pub use target::Target;

@@ -4,13 +4,13 @@ ghost use Rattle.std.specs.List.{list_any};
 ghost use Rattle.jh_cellcfg.specs.Regions.{virt_end, phys_end, place_in};
 ghost use Rattle.jh_cellcfg.specs.declared.region.Region.{Region};
 ghost use Rattle.jh_shape.specs.Marks.{is_beyond, is_inside, is_marked, is_place_beyond, AreMarkedBelow, AreMarkedWithin};
-ghost use Rattle.jh_shape.specs.Shapes.{slot_size, fits_blocks, is_mapped, is_met_by, meets_in_part, takes};
+ghost use Rattle.jh_shape.specs.Shapes.{fits_blocks, is_mapped, is_met_by, meets_in_part, takes};
+ghost use Rattle.jh_num.specs.Levels.{slot_size};
 
 use crate::interval::{Interval, NO_SPAN, Slots, Span};
-use crate::level::{LAST_LEVEL, slot_of, slot_size};
 use crate::marks::{is_marked, mark};
 use jh_cellcfg::Region;
-use jh_num::ADDRESS_END;
+use jh_num::{ADDRESS_END, LAST_LEVEL, slot_of, slot_size};
 
 /// The region's addresses.
 pub(crate) fn addresses(region: &Region) -> Interval

@@ -1,11 +1,10 @@
 //! The tables that a cell is to have.
 ghost use Rattle.std.specs.Prelude.{◌≡◌, ℕ, ◌+◌, ◌*◌, ◌^◌, ◌<◌, ◌≤◌, [], ◌∷◌, false, length};
 
-use crate::level::{LAST_LEVEL, slot_size};
 use crate::region::{addresses, any_in_part, any_met, any_takes, fits_blocks, is_mapped, place_in};
 use crate::want::Want;
 use jh_cellcfg::{CellConfig, Region};
-use jh_num::has_bit;
+use jh_num::{LAST_LEVEL, has_bit, slot_size};
 
 /// What a cell's tables are made from: its regions, whether it is root, and the other cells.
 ///

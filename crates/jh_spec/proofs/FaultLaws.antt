@@ -5,8 +5,8 @@ use Rattle.std.proofs.lemmas.Option.{same_Some, none-some}
 use Rattle.serde_json.specs.Data.{Data}
 use Rattle.serde_json.specs.Find.{get, as_object}
 use Rattle.jh_cellcfg.specs.declared.config.CellConfig.{CellConfig}
-use Rattle.jh_spec.specs.declared.spec.SpecFault.{SpecFault}
-use Rattle.jh_spec.specs.declared.spec.SpecFault.TheVariants.{Json, Member, NoMemory}
+use Rattle.jh_spec.specs.declared.fault.JsonFault.{JsonFault}
+use Rattle.jh_spec.specs.declared.fault.JsonFault.TheVariants.{Json, Member, NoMemory}
 use Rattle.jh_spec.specs.declared.spec.Spec.{Spec}
 use Rattle.jh_spec.specs.declared.spec.Spec.TheVariants.{Cell as CellSpec, System as SystemSpec}
 use Rattle.jh_spec.specs.declared.spec.Kind.{Kind}
@@ -19,14 +19,14 @@ use Rattle.jh_spec.specs.Specs.{names_with_kind, kind_told, told_by, object_told
 use Rattle.jh_spec.specs.Laws.{blamed, identity_members, lists_members, settings_members, cell_members, platform_members, root_member, system_members, blame}
 
 -- the answer is Ok where none is blamed, and else the fault of that member
-IsBlamed : {X : Type 0} → Result X SpecFault → Option (List ℕ) → Type 0
+IsBlamed : {X : Type 0} → Result X JsonFault → Option (List ℕ) → Type 0
 IsBlamed (Ok x) found = found ≡ None
 IsBlamed (Err (Member m)) found = found ≡ Some m
 IsBlamed (Err Json) found = ⊥
 IsBlamed (Err NoMemory) found = ⊥
 
 -- one member, and what is behind it
-one : {X Y : Type 0} (name : List ℕ) (o : Option X) (next : X → Result Y SpecFault) (ms : List (List ℕ × Bool)) → ((x : X) → o ≡ Some x → IsBlamed (next x) (blamed ms None))
+one : {X Y : Type 0} (name : List ℕ) (o : Option X) (next : X → Result Y JsonFault) (ms : List (List ℕ × Bool)) → ((x : X) → o ≡ Some x → IsBlamed (next x) (blamed ms None))
     → IsBlamed (member_told name o >>= next) (blamed ((name, is_none o) ∷ ms) None)
 unfolding ◌>>=◌ IsBlamed
 one name None next ms rest = refl
@@ -37,7 +37,7 @@ unfolding IsBlamed
 ended x = refl
 
 -- the bitmap of CPUs is looked at where its size is told
-cpus_one : {Y : Type 0} (d : Data) (bytes : ℕ) → cpu_set_size d ≡ Some bytes → (next : List ℕ → Result Y SpecFault) → ((x : List ℕ) → cpu_set_in bytes d ≡ Some x → IsBlamed (next x) None)
+cpus_one : {Y : Type 0} (d : Data) (bytes : ℕ) → cpu_set_size d ≡ Some bytes → (next : List ℕ → Result Y JsonFault) → ((x : List ℕ) → cpu_set_in bytes d ≡ Some x → IsBlamed (next x) None)
     → IsBlamed (member_told (codes "cpus") (cpu_set_in bytes d) >>= next) (blamed ((codes "cpus", option_map_or (λ b. is_none (cpu_set_in b d)) (cpu_set_size d) false) ∷ []) None)
 cpus_one d bytes is next rest =
     subst (λ (o : Option ℕ). IsBlamed (member_told (codes "cpus") (cpu_set_in bytes d) >>= next) (blamed ((codes "cpus", option_map_or (λ (b : ℕ). is_none (cpu_set_in b d)) o false) ∷ []) None))
@@ -100,7 +100,7 @@ blamed_some : (ms : List (List ℕ × Bool)) (other : Option (List ℕ)) (found 
 blamed_some [] other found h = absurd (none-some found h)
 blamed_some (m ∷ ms) other found h = some_by m.1 m.0 found (blamed ms None) (blamed ms other) h (λ rest. blamed_some ms other found rest)
 
-then_blamed : {X Y : Type 0} (r : Result X SpecFault) (next : X → Result Y SpecFault) (ms : List (List ℕ × Bool)) (other : Option (List ℕ)) → IsBlamed r (blamed ms None)
+then_blamed : {X Y : Type 0} (r : Result X JsonFault) (next : X → Result Y JsonFault) (ms : List (List ℕ × Bool)) (other : Option (List ℕ)) → IsBlamed r (blamed ms None)
     → ((x : X) → IsBlamed (next x) other) → IsBlamed (r >>= next) (blamed ms other)
 unfolding ◌>>=◌ IsBlamed
 then_blamed (Ok x) next ms other is rest = subst (IsBlamed (next x)) (sym (blamed_none ms other is)) (rest x)
@@ -128,7 +128,7 @@ unfolding IsBlamed
 root_by None = refl
 root_by (Some root) = told (cell_told cell_names root)
   where
-    told : (r : Result CellConfig SpecFault) → IsBlamed (root_of r) (blamed ((codes "root", is_err r) ∷ []) None)
+    told : (r : Result CellConfig JsonFault) → IsBlamed (root_of r) (blamed ((codes "root", is_err r) ∷ []) None)
     told (Ok config) = refl
     told (Err fault) = refl
 
@@ -139,7 +139,7 @@ system_blamed d =
     (then_blamed (platform_told d) _ (platform_members d) (blamed (root_member d ∷ []) (unlisted (codes "kind" ∷ system_names) d)) (platform_blamed d) (λ platform.
     then_blamed (root_told d) _ (root_member d ∷ []) (unlisted (codes "kind" ∷ system_names) d) (root_by (get (codes "root") d)) (λ root. listed_by _ (unlisted (codes "kind" ∷ system_names) d))))
 
-made : {X Y : Type 0} (r : Result X SpecFault) (f : X → Y) (found : Option (List ℕ)) → IsBlamed r found → IsBlamed (r >>= λ x. Ok (f x)) found
+made : {X Y : Type 0} (r : Result X JsonFault) (f : X → Y) (found : Option (List ℕ)) → IsBlamed r found → IsBlamed (r >>= λ x. Ok (f x)) found
 unfolding ◌>>=◌ IsBlamed
 made (Ok x) f found is = is
 made (Err (Member m)) f found is = is
@@ -154,20 +154,20 @@ kind_blamed (Some System) d = made (system_told d) SystemSpec (blame (Some Syste
 
 -- ---- the laws
 
-abbrev fault_of : List ℕ → Result Spec SpecFault
+abbrev fault_of : List ℕ → Result Spec JsonFault
 fault_of m = Err (Member m)
 
 same_member : (m n : List ℕ) → fault_of m ≡ fault_of n → m ≡ n
 same_member m n h = cc
 
-member_by : (r : Result Spec SpecFault) (found : Option (List ℕ)) → IsBlamed r found → (m : List ℕ) → (r ≡ Err (Member m)) ↔ (found ≡ Some m)
+member_by : (r : Result Spec JsonFault) (found : Option (List ℕ)) → IsBlamed r found → (m : List ℕ) → (r ≡ Err (Member m)) ↔ (found ≡ Some m)
 unfolding IsBlamed
 member_by (Ok x) found is m = ((λ h. cc), (λ h. absurd (none-some m (sym is ∙ h))))
 member_by (Err (Member n)) found is m = ((λ h. is ∙ ap (λ k. Some k) (same_member n m h)), (λ h. ap (λ k. Err (Member k)) (same_Some n m (sym is ∙ h))))
 member_by (Err Json) found is m = absurd is
 member_by (Err NoMemory) found is m = absurd is
 
-told_by_none : (r : Result Spec SpecFault) (found : Option (List ℕ)) → IsBlamed r found → ((spec : Spec) × (r ≡ Ok spec)) ↔ (found ≡ None)
+told_by_none : (r : Result Spec JsonFault) (found : Option (List ℕ)) → IsBlamed r found → ((spec : Spec) × (r ≡ Ok spec)) ↔ (found ≡ None)
 unfolding IsBlamed
 told_by_none (Ok x) found is = ((λ h. is), (λ h. (x, refl)))
 told_by_none (Err (Member n)) found is = ((λ h. let e = h.1 in cc), (λ h. absurd (none-some n (sym h ∙ is))))

@@ -12,7 +12,7 @@ use Rattle.jh_cellcfg.specs.declared.config.Console.{Console}
 use Rattle.jh_cellcfg.specs.declared.region.Region.{Region}
 use Rattle.jh_cellcfg.specs.Spelling.{console_bytes}
 use Rattle.jh_syscfg.specs.declared.platform.Platform.{Platform}
-use Rattle.jh_spec.specs.declared.spec.SpecFault.{SpecFault}
+use Rattle.jh_spec.specs.declared.fault.JsonFault.{JsonFault}
 use Rattle.jh_spec.specs.declared.cell.Identity.{Identity}
 use Rattle.jh_spec.specs.declared.cell.Lists.{Lists}
 use Rattle.jh_spec.specs.declared.cell.Settings.{Settings}
@@ -168,12 +168,12 @@ console_fields d told h =
 -- ---- cells and systems
 
 -- the parts of a chain of steps that found no fault
-steps : {X Y : Type 0} (r : Result X SpecFault) (next : X → Result Y SpecFault) (y : Y) → (r >>= next) ≡ Ok y → (x : X) × (r ≡ Ok x) × (next x ≡ Ok y)
+steps : {X Y : Type 0} (r : Result X JsonFault) (next : X → Result Y JsonFault) (y : Y) → (r >>= next) ≡ Ok y → (x : X) × (r ≡ Ok x) × (next x ≡ Ok y)
 unfolding ◌>>=◌
 steps (Ok x) next y h = (x, refl, h)
 steps (Err fault) next y h = cc
 
-abbrev fine : {X : Type 0} → X → Result X SpecFault
+abbrev fine : {X : Type 0} → X → Result X JsonFault
 fine x = Ok x
 
 same_Ok : {X : Type 0} (x y : X) → fine x ≡ fine y → x ≡ y
@@ -300,7 +300,7 @@ platform_fields d x h =
       root_head = refl;
     })
 
-root_ok : (r : Result CellConfig SpecFault) (x : CellConfig) → root_of r ≡ Ok x → r ≡ Ok x
+root_ok : (r : Result CellConfig JsonFault) (x : CellConfig) → root_of r ≡ Ok x → r ≡ Ok x
 root_ok (Ok y) x h = h
 root_ok (Err fault) x h = cc
 

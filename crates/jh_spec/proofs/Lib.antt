@@ -1,10 +1,10 @@
-pub mod Unlisted
-pub mod Marks
+mod Unlisted
+mod Marks
 pub mod ListsTold
-pub mod NamesTold
-pub mod Steps
-pub mod Roots
-pub mod KindTold
-pub mod FieldLaws
-pub mod FaultLaws
-pub mod BitLaws
+mod NamesTold
+mod Steps
+mod Roots
+mod KindTold
+mod FieldLaws
+mod FaultLaws
+mod BitLaws

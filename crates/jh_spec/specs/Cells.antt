@@ -14,8 +14,8 @@ use Rattle.jh_cellcfg.specs.Limits.{is_name, is_zero}
 use Rattle.jh_cellcfg.specs.Spelling.{console_bytes}
 use Rattle.jh_syscfg.specs.declared.platform.Platform.{Platform}
 use Rattle.jh_syscfg.specs.Layout.{system_of}
-use Rattle.jh_spec.specs.declared.spec.SpecFault.{SpecFault}
-use Rattle.jh_spec.specs.declared.spec.SpecFault.TheVariants.{Json, Member, NoMemory}
+use Rattle.jh_spec.specs.declared.fault.JsonFault.{JsonFault}
+use Rattle.jh_spec.specs.declared.fault.JsonFault.TheVariants.{Json, Member, NoMemory}
 use Rattle.jh_spec.specs.declared.cell.Identity.{Identity}
 use Rattle.jh_spec.specs.declared.cell.Lists.{Lists}
 use Rattle.jh_spec.specs.declared.cell.Settings.{Settings}
@@ -88,7 +88,7 @@ cell_names =
     ∷ codes "vpci_irq_base" ∷ codes "cpu_reset_address" ∷ codes "msg_reply_timeout" ∷ codes "console" ∷ []
 
 -- what an object's members tell of a cell's name, id, flags and CPU bitmap; else the first fault
-unfoldable pub identity_told : Data → Result Identity SpecFault
+unfoldable pub identity_told : Data → Result Identity JsonFault
 identity_told d = do
   name ← member_told (codes "name") (cell_name d)
   id ← member_told (codes "id") (u32_at (codes "id") d)
@@ -98,7 +98,7 @@ identity_told d = do
   Ok (record { name = name; id = id; flags = flags; cpu_set = cpu_set })
 
 -- what an object's members tell of a cell's regions, interrupt controllers and devices; else the first fault
-unfoldable pub lists_told : Data → Result Lists SpecFault
+unfoldable pub lists_told : Data → Result Lists JsonFault
 lists_told d = do
   regions ← member_told (codes "regions") (list_at region_told 1024 (codes "regions") d)
   irqchips ← member_told (codes "irqchips") (list_at irqchip_told 64 (codes "irqchips") d)
@@ -106,7 +106,7 @@ lists_told d = do
   Ok (record { memory_regions = regions; irqchips = irqchips; pci_devices = devices })
 
 -- what an object's members tell of a cell's other numbers and its console; else the first fault
-unfoldable pub settings_told : Data → Result Settings SpecFault
+unfoldable pub settings_told : Data → Result Settings JsonFault
 settings_told d = do
   vpci_irq_base ← member_told (codes "vpci_irq_base") (u32_at (codes "vpci_irq_base") d)
   cpu_reset_address ← member_told (codes "cpu_reset_address") (u64_at (codes "cpu_reset_address") d)
@@ -140,7 +140,7 @@ cell_of identity lists settings = record {
 }
 
 -- the cell that an object's members tell, where it has no other names than these; else the first fault
-unfoldable pub cell_told : List (List ℕ) → Data → Result CellConfig SpecFault
+unfoldable pub cell_told : List (List ℕ) → Data → Result CellConfig JsonFault
 cell_told names d = do
   identity ← identity_told d
   lists ← lists_told d
@@ -175,27 +175,27 @@ abbrev pub region_at : List ℕ → Data → Option Region
 region_at name d = told_or region_told no_region (get name d)
 
 -- any fault in root is a fault of root
-abbrev pub root_of : Result CellConfig SpecFault → Result CellConfig SpecFault
+abbrev pub root_of : Result CellConfig JsonFault → Result CellConfig JsonFault
 root_of (Ok config) = Ok config
 root_of (Err fault) = Err (Member (codes "root"))
 
 -- root is a cell without a kind, and must be there
-abbrev pub root_in : Option Data → Result CellConfig SpecFault
+abbrev pub root_in : Option Data → Result CellConfig JsonFault
 root_in (Some root) = root_of (cell_told cell_names root)
 root_in None = Err (Member (codes "root"))
 
 -- the cell that the member `root` tells, which must be there; else a fault of root
-abbrev pub root_told : Data → Result CellConfig SpecFault
+abbrev pub root_told : Data → Result CellConfig JsonFault
 root_told d = root_in (get (codes "root") d)
 
 -- what a fault inside root is found to be
-abbrev pub IsFaultInRoot : SpecFault → SpecFault → Type 0
+abbrev pub IsFaultInRoot : JsonFault → JsonFault → Type 0
 IsFaultInRoot NoMemory found = found ≡ NoMemory
 IsFaultInRoot Json found = IsFaultOf (codes "root") found
 IsFaultInRoot (Member name) found = IsFaultOf (codes "root") found
 
 -- what an object's members tell of a system but root; else the first fault
-unfoldable pub platform_told : Data → Result Platform SpecFault
+unfoldable pub platform_told : Data → Result Platform JsonFault
 platform_told d = do
   flags ← member_told (codes "flags") (u32_at (codes "flags") d)
   hypervisor ← member_told (codes "hypervisor") (region_at (codes "hypervisor") d)
@@ -216,7 +216,7 @@ platform_told d = do
   })
 
 -- the system that an object's members tell; else the first fault
-unfoldable pub system_told : Data → Result SystemConfig SpecFault
+unfoldable pub system_told : Data → Result SystemConfig JsonFault
 system_told d = do
   platform ← platform_told d
   root ← root_told d

@@ -1,43 +1,43 @@
 -- Steps that may find a fault: a member that tells nothing, or a name that isn't listed.
 use Rattle.std.specs.Prelude.{◌≡◌, ⊤, List, ℕ, Option, Some, None, Result, Ok, Err}
 use Rattle.serde_json.specs.Data.{Data}
-use Rattle.jh_spec.specs.declared.spec.SpecFault.{SpecFault}
-use Rattle.jh_spec.specs.declared.spec.SpecFault.TheVariants.{Json, Member, NoMemory}
+use Rattle.jh_spec.specs.declared.fault.JsonFault.{JsonFault}
+use Rattle.jh_spec.specs.declared.fault.JsonFault.TheVariants.{Json, Member, NoMemory}
 use Rattle.jh_spec.specs.Json.{unlisted}
 
 infixl 10 ◌>>=◌
 -- the next step, where this one finds no fault
-unfoldable pub ◌>>=◌ : {X Y : Type 0} → Result X SpecFault → (X → Result Y SpecFault) → Result Y SpecFault
+unfoldable pub ◌>>=◌ : {X Y : Type 0} → Result X JsonFault → (X → Result Y JsonFault) → Result Y JsonFault
 Ok x >>= next = next x
 Err fault >>= next = Err fault
 
 -- what the member of this name tells; it is at fault where it tells nothing
-abbrev pub member_told : {X : Type 0} → List ℕ → Option X → Result X SpecFault
+abbrev pub member_told : {X : Type 0} → List ℕ → Option X → Result X JsonFault
 member_told name (Some x) = Ok x
 member_told name None = Err (Member name)
 
 -- a name is at fault where there is one
-abbrev pub no_name : Option (List ℕ) → Result ⊤ SpecFault
+abbrev pub no_name : Option (List ℕ) → Result ⊤ JsonFault
 no_name None = Ok tt
 no_name (Some name) = Err (Member name)
 
 -- an object has these names alone, or the first of the others is at fault
-abbrev pub all_listed : List (List ℕ) → Data → Result ⊤ SpecFault
+abbrev pub all_listed : List (List ℕ) → Data → Result ⊤ JsonFault
 all_listed names d = no_name (unlisted names d)
 
 -- an error is the fault of the member of this name, or want of memory
-abbrev pub IsFaultOf : List ℕ → SpecFault → Type 0
+abbrev pub IsFaultOf : List ℕ → JsonFault → Type 0
 IsFaultOf name (Member found) = found ≡ name
 IsFaultOf name Json = ⊥
 IsFaultOf name NoMemory = ⊤
 
 -- the answer is the one that is wanted, or want of memory, whichever it is
-abbrev pub IsWantedReading : {X : Type 0} → Result X SpecFault → Result X SpecFault → Type 0
+abbrev pub IsWantedReading : {X : Type 0} → Result X JsonFault → Result X JsonFault → Type 0
 IsWantedReading wanted (Ok x) = wanted ≡ Ok x
 IsWantedReading wanted (Err NoMemory) = ⊤
 IsWantedReading wanted (Err Json) = wanted ≡ Err Json
 IsWantedReading wanted (Err (Member name)) = wanted ≡ Err (Member name)
 
 -- an answer is the one that is wanted, or want of memory
-pub record IsAsWanted {X : Type 0} (wanted result : Result X SpecFault) : Type 0 where
+pub record IsAsWanted {X : Type 0} (wanted result : Result X JsonFault) : Type 0 where
   pub answer : IsWantedReading wanted result

@@ -5,8 +5,8 @@ use Rattle.serde_json.specs.Data.{Data}
 use Rattle.serde_json.specs.Find.{get, as_str, as_object}
 use Rattle.jh_cellcfg.specs.Limits.{IsWithinLimits}
 use Rattle.jh_syscfg.specs.Layout.{IsSystemWithinLimits}
-use Rattle.jh_spec.specs.declared.spec.SpecFault.{SpecFault}
-use Rattle.jh_spec.specs.declared.spec.SpecFault.TheVariants.{Json, Member, NoMemory}
+use Rattle.jh_spec.specs.declared.fault.JsonFault.{JsonFault}
+use Rattle.jh_spec.specs.declared.fault.JsonFault.TheVariants.{Json, Member, NoMemory}
 use Rattle.jh_spec.specs.declared.spec.Spec.{Spec}
 use Rattle.jh_spec.specs.declared.spec.Spec.TheVariants.{Cell as CellSpec, System as SystemSpec}
 use Rattle.jh_spec.specs.declared.spec.Kind.{Kind}
@@ -31,27 +31,27 @@ abbrev pub names_with_kind : List (List ℕ)
 names_with_kind = codes "kind" ∷ cell_names
 
 -- what an object tells, where it is of this kind
-abbrev pub told_by : Option Kind → Data → Result Spec SpecFault
+abbrev pub told_by : Option Kind → Data → Result Spec JsonFault
 told_by (Some Cell) d = cell_told names_with_kind d >>= λ config. Ok (CellSpec config)
 told_by (Some System) d = system_told d >>= λ config. Ok (SystemSpec config)
 told_by None d = Err (Member (codes "kind"))
 
 -- what an object tells, by its kind
-abbrev pub object_told : Data → Result Spec SpecFault
+abbrev pub object_told : Data → Result Spec JsonFault
 object_told d = told_by (kind_told d) d
 
 -- what a value tells, which must be an object
-abbrev pub spec_told : Data → Result Spec SpecFault
+abbrev pub spec_told : Data → Result Spec JsonFault
 spec_told d = if is_some (as_object d) then object_told d else Err Json
 
 -- why no object was read: the bytes are no object's text, or memory ran out
-abbrev pub IsNoSpec : List ℕ → SpecFault → Type 0
+abbrev pub IsNoSpec : List ℕ → JsonFault → Type 0
 IsNoSpec bytes Json = (d : Data) → IsText bytes d → spec_told d ≡ Err Json
 IsNoSpec bytes (Member name) = ⊥
 IsNoSpec bytes NoMemory = ⊤
 
 -- what is answered to these bytes: what their value tells, or that they are no object's text
-abbrev pub IsSpecAnswer : List ℕ → Result Spec SpecFault → Type 0
+abbrev pub IsSpecAnswer : List ℕ → Result Spec JsonFault → Type 0
 IsSpecAnswer bytes (Ok spec) = (d : Data) × IsText bytes d × (spec_told d ≡ Ok spec)
 IsSpecAnswer bytes (Err Json) = (d : Data) → IsText bytes d → spec_told d ≡ Err Json
 IsSpecAnswer bytes (Err (Member name)) = (d : Data) × IsText bytes d × (spec_told d ≡ Err (Member name))

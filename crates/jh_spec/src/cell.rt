@@ -9,26 +9,25 @@ ghost use Rattle.jh_spec.specs.Faults.{IsAsWanted, all_listed, member_told};
 ghost use Rattle.jh_spec.specs.Json.{told_or};
 
 use crate::cpus::{cpu_set, cpu_set_size};
-use crate::fault::{fault_of, named};
+use crate::fault::{JsonFault, fault_of, named};
 use crate::from_json::{FromJson, member};
 use crate::json::first_unlisted;
 use crate::list::list_at;
 use crate::name::cell_name;
-use crate::spec::SpecFault;
 use jh_cellcfg::{CellConfig, Console, Irqchip, PciDevice, Record, Region, Writer};
 use jh_num::{NoMemory, Seq};
 use serde_json::Value;
 use std::alloc::Global;
 
 /// What the object's member of this name tells, or what stands for a missing one; else the member is at fault.
-pub fn field<T: FromJson + Drop>(alloc: Global, object: &Value, name: &str) -> Result<T, SpecFault>
+pub fn field<T: FromJson + Drop>(alloc: Global, object: &Value, name: &str) -> Result<T, JsonFault>
     ensures { IsAsWanted (member_told name.now (told_or T.tells T.missing (get name.now (view object.now)))) result }
 {
     named(alloc, name, member(object, name))
 }
 
 /// Whether all names of the object are among these; else the least that isn't, in order of bytes, is at fault.
-pub fn all_listed(alloc: Global, object: &Value, names: &[&str]) -> Result<(), SpecFault>
+pub fn all_listed(alloc: Global, object: &Value, names: &[&str]) -> Result<(), JsonFault>
     ensures { IsAsWanted (all_listed (map (λ name. name.now) names.now) (view object.now)) result }
 {
     match first_unlisted(object, names) {
@@ -58,7 +57,7 @@ struct Identity {
 
 /// The name, the id, the flags and the CPUs that a cell's members tell, or the first fault among them, in the order of
 /// the members.
-fn identity_of(alloc: Global, object: &Value) -> Result<Identity, SpecFault>
+fn identity_of(alloc: Global, object: &Value) -> Result<Identity, JsonFault>
     ensures told { IsAsWanted (identity_told (view object.now)) result }
     ensures limits { IfOk result IsIdentity }
 {
@@ -84,7 +83,7 @@ struct Lists {
 }
 
 /// The regions, irqchips and devices that a cell's members tell: at most 1,024, 64 and 256 of them.
-fn lists_of(alloc: Global, object: &Value) -> Result<Lists, SpecFault>
+fn lists_of(alloc: Global, object: &Value) -> Result<Lists, JsonFault>
     ensures told { IsAsWanted (lists_told (view object.now)) result }
     ensures limits { IfOk result AreLists }
 {
@@ -108,7 +107,7 @@ struct Settings {
 }
 
 /// What a cell's members behind its lists tell, or the first fault among them.
-fn settings_of(alloc: Global, object: &Value) -> Result<Settings, SpecFault>
+fn settings_of(alloc: Global, object: &Value) -> Result<Settings, JsonFault>
     ensures { IsAsWanted (settings_told (view object.now)) result }
 {
     let vpci_irq_base = field(alloc, object, "vpci_irq_base")?;
@@ -124,7 +123,7 @@ fn settings_of(alloc: Global, object: &Value) -> Result<Settings, SpecFault>
 }
 
 /// The configuration that an object's members tell, where it has no other names than these.
-pub fn cell(alloc: Global, object: &Value, names: &[&str]) -> Result<CellConfig, SpecFault>
+pub fn cell(alloc: Global, object: &Value, names: &[&str]) -> Result<CellConfig, JsonFault>
     ensures told { IsAsWanted (cell_told (map (λ name. name.now) names.now) (view object.now)) result }
     ensures limits { IfOk result IsWithinLimits }
 {

@@ -17,7 +17,7 @@ ghost use Rattle.jh_spec.specs.Cells.{cell_told, system_told};
 ghost use Rattle.jh_spec.specs.Specs.{kind_told, spec_told};
 ghost use Rattle.jh_spec.specs.Laws.{IsRegionOf, IsIrqchipOf, IsDeviceOf, IsConsoleOf, IsCellOf, IsSystemOf, blame};
 
-use crate::spec::SpecFault;
+use crate::fault::JsonFault;
 
 /// Each field of what is told is the number that its member tells, or 0 where there is no such member.
 pub fn each_field_is_its_members_number()
@@ -33,7 +33,7 @@ pub fn each_field_is_its_members_number()
 /// has a fault, else the first name that isn't listed. Where none is, a configuration is told.
 pub fn the_first_fault_is_to_blame()
     ensures member { (d : Data) (m : List ℕ) → is_some (as_object d) ≡ true
-        → (spec_told d ≡ Err (SpecFault.Member m)) ↔ (blame (kind_told d) d ≡ Some m) }
+        → (spec_told d ≡ Err (JsonFault.Member m)) ↔ (blame (kind_told d) d ≡ Some m) }
     ensures told { (d : Data) → is_some (as_object d) ≡ true
         → ((spec : TheSpec) × (spec_told d ≡ Ok spec)) ↔ (blame (kind_told d) d ≡ None) }
 {}

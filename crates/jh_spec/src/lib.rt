@@ -14,7 +14,8 @@ mod records;
 mod spec;
 mod system;
 
+pub use fault::{JsonFault, fault_of};
 pub use laws::{
     a_cpu_that_is_named_has_its_bit, each_field_is_its_members_number, the_first_fault_is_to_blame,
 };
-pub use spec::{Spec, SpecFault, read_spec};
+pub use spec::{Spec, read_spec};

@@ -5,13 +5,11 @@ ghost use Rattle.serde_json.specs.View.{view};
 ghost use Rattle.jh_spec.specs.Json.{IsText};
 ghost use Rattle.jh_spec.specs.Specs.{IsSpecAnswer, MayBeWritten, IsNoSpec, kind_told, object_told};
 ghost use Rattle.jh_spec.specs.Faults.{IsAsWanted};
-ghost use Rattle.jh_spec.specs.declared.spec.SpecFault.TheVariants.{NoMemory as OutOfMemory};
 
 use crate::cell::cell;
-use crate::fault::fault_of;
+use crate::fault::{JsonFault, fault_of};
 use crate::system::system;
 use jh_cellcfg::{CellConfig, SystemConfig};
-use jh_num::{NoMemory, Seq};
 use serde_json::Value;
 use std::alloc::Global;
 
@@ -20,24 +18,6 @@ use std::alloc::Global;
 pub enum Spec {
     Cell(CellConfig),
     System(SystemConfig),
-}
-
-/// Why a text tells no configuration.
-#[derive(Drop)]
-pub enum SpecFault {
-    /// The bytes are no JSON text, or its value is no object.
-    Json,
-    /// The member of this name, in UTF-8, is at fault.
-    Member(Seq<u8>),
-    NoMemory,
-}
-
-impl From<NoMemory> for SpecFault {
-    ghost from_gives = { λ _ e. e ≡ OutOfMemory };
-
-    fn from(_e: NoMemory) -> SpecFault {
-        SpecFault::NoMemory
-    }
 }
 
 #[derive(Clone, Copy)]
@@ -65,7 +45,7 @@ const NAMES: [&str; 13] = [
 
 /// Reads a SPEC, all of the bytes: a JSON text of one object that tells a cell or a system, by its member `kind`. A
 /// refusal names the member at fault.
-pub fn read_spec(alloc: Global, bytes: &[u8]) -> Result<Spec, SpecFault>
+pub fn read_spec(alloc: Global, bytes: &[u8]) -> Result<Spec, JsonFault>
     ensures told { IsSpecAnswer bytes.now result }
     ensures limits { IfOk result MayBeWritten }
 {
@@ -74,7 +54,7 @@ pub fn read_spec(alloc: Global, bytes: &[u8]) -> Result<Spec, SpecFault>
 }
 
 /// What an object tells, by its kind.
-fn spec_of(alloc: Global, object: &Value) -> Result<Spec, SpecFault>
+fn spec_of(alloc: Global, object: &Value) -> Result<Spec, JsonFault>
     ensures told { IsAsWanted (object_told (view object.now)) result }
     ensures limits { IfOk result MayBeWritten }
 {
@@ -97,15 +77,15 @@ fn kind_of(object: &Value) -> Option<Kind>
 }
 
 /// The object that the bytes are the text of.
-fn object(alloc: Global, bytes: &[u8]) -> Result<Value, SpecFault>
+fn object(alloc: Global, bytes: &[u8]) -> Result<Value, JsonFault>
     ensures text { IfOk result (λ value. IsText bytes.now (view value)) }
     ensures object { IfOk result (λ value. is_some (as_object (view value)) ≡ true) }
     ensures fault { IfErr result (IsNoSpec bytes.now) }
 {
     match Value::from_slice(alloc, bytes) {
         Ok(value) if value.is_object() => Ok(value),
-        Ok(_) => Err(SpecFault::Json),
-        Err(e) if e.is_memory() => Err(SpecFault::NoMemory),
-        Err(_) => Err(SpecFault::Json),
+        Ok(_) => Err(JsonFault::Json),
+        Err(e) if e.is_memory() => Err(JsonFault::NoMemory),
+        Err(_) => Err(JsonFault::Json),
     }
 }

@@ -7,8 +7,7 @@ ghost use Rattle.jh_spec.specs.Cells.{platform_told, root_told, system_told, IsF
 ghost use Rattle.jh_spec.specs.Faults.{IsAsWanted};
 
 use crate::cell::{all_listed, cell, field};
-use crate::fault::fault_of;
-use crate::spec::SpecFault;
+use crate::fault::{JsonFault, fault_of};
 use jh_cellcfg::{CellConfig, SystemConfig};
 use jh_syscfg::Platform;
 use serde_json::Value;
@@ -42,7 +41,7 @@ const ROOT_NAMES: [&str; 12] = [
 ];
 
 /// The members before root.
-fn platform_of(alloc: Global, object: &Value) -> Result<Platform, SpecFault>
+fn platform_of(alloc: Global, object: &Value) -> Result<Platform, JsonFault>
     ensures { IsAsWanted (platform_told (view object.now)) result }
 {
     let flags = field(alloc, object, "flags")?;
@@ -65,17 +64,17 @@ fn platform_of(alloc: Global, object: &Value) -> Result<Platform, SpecFault>
 }
 
 /// The fault that a fault inside root is.
-fn fault_in_root(alloc: Global, fault: SpecFault) -> SpecFault
+fn fault_in_root(alloc: Global, fault: JsonFault) -> JsonFault
     ensures { IsFaultInRoot fault result }
 {
     match fault {
-        SpecFault::NoMemory => SpecFault::NoMemory,
+        JsonFault::NoMemory => JsonFault::NoMemory,
         _ => fault_of(alloc, "root"),
     }
 }
 
 /// Root, which is a cell without a kind and must be there.
-fn root(alloc: Global, object: &Value) -> Result<CellConfig, SpecFault>
+fn root(alloc: Global, object: &Value) -> Result<CellConfig, JsonFault>
     ensures told { IsAsWanted (root_told (view object.now)) result }
     ensures limits { IfOk result IsWithinLimits }
 {
@@ -89,7 +88,7 @@ fn root(alloc: Global, object: &Value) -> Result<CellConfig, SpecFault>
 }
 
 /// The system that an object's members tell.
-pub fn system(alloc: Global, object: &Value) -> Result<SystemConfig, SpecFault>
+pub fn system(alloc: Global, object: &Value) -> Result<SystemConfig, JsonFault>
     ensures told { IsAsWanted (system_told (view object.now)) result }
     ensures limits { IfOk result IsSystemWithinLimits }
 {

@@ -1,3 +1,3 @@
-pub mod Platforms
-pub mod Systems
-pub mod SystemsFound
+mod Platforms
+mod Systems
+mod SystemsFound

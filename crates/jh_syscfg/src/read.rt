@@ -7,7 +7,7 @@ ghost use Rattle.jh_syscfg.specs.Layout.{platform_bytes, system_of, system_spell
 ghost use Rattle.jh_syscfg.specs.SystemFaults.{system_start_fault, system_fault, GivesSystem};
 
 use crate::platform::Platform;
-use jh_cellcfg::{CellConfig, ConfigFault, Reader, Record, SystemConfig, read_body};
+use jh_cellcfg::{CellConfig, ConfigFault, REVISION, Reader, Record, SystemConfig, read_body};
 use std::alloc::Global;
 
 impl Platform {
@@ -54,7 +54,7 @@ fn check_start(bytes: &[u8]) -> Result<(), ConfigFault>
         return Err(ConfigFault::Signature);
     }
     let found = u16::from_le_bytes([bytes[6], bytes[7]]);
-    if found != 13 {
+    if found != REVISION {
         return Err(ConfigFault::Revision { found });
     }
     Ok(())

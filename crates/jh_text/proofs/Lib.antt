@@ -1,12 +1,12 @@
-pub mod Acts
-pub mod Calls
-pub mod Digits
-pub mod EveryText
-pub mod Lines
-pub mod Numbers
-pub mod Plain
-pub mod ReadLines
-pub mod Spellings
-pub mod Splits
-pub mod Texts
-pub mod TypedTexts
+mod Acts
+mod Calls
+mod Digits
+mod EveryText
+mod Lines
+mod Numbers
+mod Plain
+mod ReadLines
+mod Spellings
+mod Splits
+mod Texts
+mod TypedTexts

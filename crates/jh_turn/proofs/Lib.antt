@@ -1,8 +1,8 @@
-pub mod Closes
-pub mod Keeps
-pub mod Opens
+mod Closes
+mod Keeps
+mod Opens
 pub mod PortSets
-pub mod Prefixes
-pub mod Seating
-pub mod Seats
-pub mod Turns
+mod Prefixes
+mod Seating
+mod Seats
+mod Turns

@@ -1,3 +1,3 @@
-pub mod SplicedLemmas
+mod SplicedLemmas
 pub mod BitLemmas
-pub mod WordLemmas
+mod WordLemmas

@@ -6,7 +6,9 @@ use Rattle.jh_desc.specs.declared.descriptor.Descriptor.{Descriptor}
 use Rattle.jh_desc.specs.declared.descriptor.Descriptor.TheVariants.{Invalid, Table, Leaf}
 use Rattle.jh_desc.specs.declared.descriptor.Hit.{Hit}
 use Rattle.jh_desc.specs.Descriptors.{read_of}
-use Rattle.jh_desc.specs.Levels.{last_level, index_of, slot_size}
+use Rattle.jh_desc.specs.Levels.{index_of}
+use Rattle.jh_num.specs.declared.level.TheConstants.{LAST_LEVEL}
+use Rattle.jh_num.specs.Levels.{slot_size}
 use Rattle.jh_walk.specs.Walks.{walk_of, walk_on, slot_at}
 use Rattle.jh_walk.specs.Pages.{sum_below, by_next, count, is_page, times, Grows, IsKept}
 use Rattle.jh_walk.proofs.WalkLemmas.{below_end, past_end}
@@ -31,8 +33,8 @@ pub grown_walk : (w w' : ℕ → ℕ) (n t at : ℕ) (hit : Hit) → Grows w w' 
 unfolding walk_of
 grown_walk w w' zero t at hit grows e = cc
 grown_walk w w' (suc n) t at hit grows e =
-    let small : index_of (last_level - n) at < 512 = index_small (at / slot_size (last_level - n)) in
-    grow_by w w' n (last_level - n) (slot_at (last_level - n) t at) at hit (read_of (w (slot_at (last_level - n) t at)) (last_level - n)) refl (grows (index_of (last_level - n) at) small)
+    let small : index_of (LAST_LEVEL - n) at < 512 = index_small (at / slot_size (LAST_LEVEL - n)) in
+    grow_by w w' n (LAST_LEVEL - n) (slot_at (LAST_LEVEL - n) t at) at hit (read_of (w (slot_at (LAST_LEVEL - n) t at)) (LAST_LEVEL - n)) refl (grows (index_of (LAST_LEVEL - n) at) small)
     (λ next more found. grown_walk w w' n next at hit more found) e
 
 sum_le : (n : ℕ) (f g : ℕ → ℕ) → ((i : ℕ) → i < n → f i ≤ g i) → sum_below n f ≤ sum_below n g
@@ -57,5 +59,5 @@ grown_times w w' (suc n) t q grows =
     let a : times w (suc n) t q ≡ is_page q w n t + sum_below 512 (slot_counts (is_page q) w n t) = count_more (is_page q) w n t in
     let b : times w' (suc n) t q ≡ is_page q w' n t + sum_below 512 (slot_counts (is_page q) w' n t) = count_more (is_page q) w' n t in
     let slots : sum_below 512 (slot_counts (is_page q) w n t) ≤ sum_below 512 (slot_counts (is_page q) w' n t) = sum_le 512 (slot_counts (is_page q) w n t) (slot_counts (is_page q) w' n t) (λ i lt.
-    slot_by w w' n q (last_level - n) (t + 8 * i) (read_of (w (t + 8 * i)) (last_level - n)) refl (grows i lt) (λ next more. grown_times w w' n next q more)) in
+    slot_by w w' n q (LAST_LEVEL - n) (t + 8 * i) (read_of (w (t + 8 * i)) (LAST_LEVEL - n)) refl (grows i lt) (λ next more. grown_times w w' n next q more)) in
     omega arith

@@ -1,7 +1,7 @@
-pub mod SumLemmas
-pub mod LiftLemmas
+mod SumLemmas
+mod LiftLemmas
 pub mod WalkLemmas
-pub mod PathLemmas
-pub mod SameLemmas
-pub mod SlotLemmas
-pub mod GrowLemmas
+mod PathLemmas
+mod SameLemmas
+mod SlotLemmas
+mod GrowLemmas

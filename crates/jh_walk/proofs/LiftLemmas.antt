@@ -1,7 +1,7 @@
 -- A change within one page that is reached once changes a sum over all pages by as much.
 use Rattle.std.proofs.Common.{◌≡◌, ◌≢◌, ℕ, ◌+◌, ◌-◌, ◌*◌, ◌%◌, ◌<◌, ◌≤◌, inl, inr, zero, suc, ap, ◌∙◌, sym, subst, arith, refl}
 use Rattle.jh_desc.specs.Descriptors.{read_of}
-use Rattle.jh_desc.specs.Levels.{last_level}
+use Rattle.jh_num.specs.declared.level.TheConstants.{LAST_LEVEL}
 use Rattle.jh_walk.specs.Pages.{sum_below, by_next, count, is_page, times, Weight, AlikeBut, AreAligned, IsReached}
 use Rattle.jh_desc.specs.declared.descriptor.Descriptor.{Descriptor}
 use Rattle.jh_desc.specs.declared.descriptor.Descriptor.TheVariants.{Invalid, Table, Leaf}
@@ -9,9 +9,9 @@ use Rattle.jh_walk.proofs.SumLemmas.{sum_same, sum_falls, term_le, others_none}
 
 -- how much of a sum over all pages the slot of that number leads to
 abbrev pub slot_counts : Weight → (ℕ → ℕ) → ℕ → ℕ → ℕ → ℕ
-slot_counts weight word n page i = by_next (count weight word n) (read_of (word (page + 8 * i)) (last_level - n))
+slot_counts weight word n page i = by_next (count weight word n) (read_of (word (page + 8 * i)) (LAST_LEVEL - n))
 
-pub count_more : (w : Weight) (word : ℕ → ℕ) (n page : ℕ) → count w word (suc n) page ≡ w word n page + sum_below 512 (λ i. by_next (count w word n) (read_of (word (page + 8 * i)) (last_level - n)))
+pub count_more : (w : Weight) (word : ℕ → ℕ) (n page : ℕ) → count w word (suc n) page ≡ w word n page + sum_below 512 (λ i. by_next (count w word n) (read_of (word (page + 8 * i)) (LAST_LEVEL - n)))
 unfolding count
 count_more w word n page = refl
 
@@ -34,7 +34,7 @@ ne_from_weight : (page inner : ℕ) (word : ℕ → ℕ) (n : ℕ) → is_page i
 ne_from_weight page inner word n none e = grind arith
 
 -- what a slot's table counts, the slot counts
-pub slot_is : (w : Weight) (word : ℕ → ℕ) (n page i next : ℕ) → read_of (word (page + 8 * i)) (last_level - n) ≡ Table next → slot_counts w word n page i ≡ count w word n next
+pub slot_is : (w : Weight) (word : ℕ → ℕ) (n page i next : ℕ) → read_of (word (page + 8 * i)) (LAST_LEVEL - n) ≡ Table next → slot_counts w word n page i ≡ count w word n next
 slot_is w word n page i next is = ap (by_next (count w word n)) is
 
 pub slot_le : (w : Weight) (word : ℕ → ℕ) (n page i : ℕ) → i < 512 → w word n page + slot_counts w word n page i ≤ count w word (suc n) page
@@ -42,13 +42,13 @@ slot_le w word n page i lt =
     let term : slot_counts w word n page i ≤ sum_below 512 (slot_counts w word n page) = term_le 512 (slot_counts w word n page) i lt in
     let more : count w word (suc n) page ≡ w word n page + sum_below 512 (slot_counts w word n page) = count_more w word n page in omega arith
 
-aligned_below : (word : ℕ → ℕ) (n page i next : ℕ) → i < 512 → read_of (word (page + 8 * i)) (last_level - n) ≡ Table next → AreAligned word (suc n) page → AreAligned word n next
+aligned_below : (word : ℕ → ℕ) (n page i next : ℕ) → i < 512 → read_of (word (page + 8 * i)) (LAST_LEVEL - n) ≡ Table next → AreAligned word (suc n) page → AreAligned word n next
 aligned_below word n page i next lt is all q some =
     let le : is_page q word n page + slot_counts (is_page q) word n page i ≤ times word (suc n) page q = slot_le (is_page q) word n page i lt in
     let e : slot_counts (is_page q) word n page i ≡ times word n next q = slot_is (is_page q) word n page i next is in
     all q (omega arith)
 
-none_below : (word : ℕ → ℕ) (n page q i next : ℕ) → i < 512 → read_of (word (page + 8 * i)) (last_level - n) ≡ Table next → slot_counts (is_page q) word n page i ≡ 0 → times word n next q ≡ 0
+none_below : (word : ℕ → ℕ) (n page q i next : ℕ) → i < 512 → read_of (word (page + 8 * i)) (LAST_LEVEL - n) ≡ Table next → slot_counts (is_page q) word n page i ≡ 0 → times word n next q ≡ 0
 none_below word n page q i next lt is none = sym (slot_is (is_page q) word n page i next is) ∙ none
 
 -- where the page isn't reached, nothing changes
@@ -59,8 +59,8 @@ count_same w word word' inner alike (suc n) page all none =
     let is : page % 4096 ≡ 0 = all page (self_times word n page page refl) in
     let own : w word' n page ≡ w word n page = alike.weights n page is ne in
     let slots : sum_below 512 (slot_counts w word' n page) ≡ sum_below 512 (slot_counts w word n page) = sum_same 512 (slot_counts w word' n page) (slot_counts w word n page) (λ i lt.
-    ap (λ x. by_next (count w word' n) (read_of x (last_level - n))) (alike.words page i is ne lt)
-    ∙ next_same (count w word' n) (count w word n) (read_of (word (page + 8 * i)) (last_level - n)) (λ next leads.
+    ap (λ x. by_next (count w word' n) (read_of x (LAST_LEVEL - n))) (alike.words page i is ne lt)
+    ∙ next_same (count w word' n) (count w word n) (read_of (word (page + 8 * i)) (LAST_LEVEL - n)) (λ next leads.
     let le : is_page inner word n page + slot_counts (is_page inner) word n page i ≤ times word (suc n) page inner = slot_le (is_page inner) word n page i lt in
     count_same w word word' inner alike n next (aligned_below word n page i next lt leads all) (none_below word n page inner i next lt leads (omega arith)))) in
     count_more w word' n page ∙ (ap (λ x. x + sum_below 512 (slot_counts w word' n page)) own ∙ (ap (λ x. w word n page + x) slots ∙ sym (count_more w word n page)))
@@ -88,13 +88,13 @@ count_falls w word word' inner m alike fall (suc n) page all once (inr (i, (next
     let is : page % 4096 ≡ 0 = all page (self_times word n page page refl) in
     let own : w word' n page ≡ w word n page = alike.weights n page is ne in
     let here : slot_counts w word' n page i + 1 ≡ slot_counts w word n page i =
-    ap (λ x. by_next (count w word' n) (read_of x (last_level - n)) + 1) (alike.words page i is ne lt)
+    ap (λ x. by_next (count w word' n) (read_of x (LAST_LEVEL - n)) + 1) (alike.words page i is ne lt)
     ∙ (ap (λ x. x + 1) (ap (by_next (count w word' n)) leads)
     ∙ (count_falls w word word' inner m alike fall n next (aligned_below word n page i next lt leads all) (omega arith) on
     ∙ sym (slot_is w word n page i next leads))) in
     let there : (j : ℕ) → j < 512 → j ≢ i → slot_counts w word' n page j ≡ slot_counts w word n page j = λ j small other.
-    ap (λ x. by_next (count w word' n) (read_of x (last_level - n))) (alike.words page j is ne small)
-    ∙ next_same (count w word' n) (count w word n) (read_of (word (page + 8 * j)) (last_level - n)) (λ next' leads'.
+    ap (λ x. by_next (count w word' n) (read_of x (LAST_LEVEL - n))) (alike.words page j is ne small)
+    ∙ next_same (count w word' n) (count w word n) (read_of (word (page + 8 * j)) (LAST_LEVEL - n)) (λ next' leads'.
     count_same w word word' inner alike n next' (aligned_below word n page j next' small leads' all)
     (none_below word n page inner j next' small leads' (others_none 512 (slot_counts (is_page inner) word n page) i j lt small other (omega arith) (omega arith)))) in
     let slots : sum_below 512 (slot_counts w word' n page) + 1 ≡ sum_below 512 (slot_counts w word n page) = sum_falls 512 (slot_counts w word n page) (slot_counts w word' n page) i lt here there in

@@ -7,7 +7,7 @@ use Rattle.jh_desc.specs.declared.descriptor.Descriptor.{Descriptor}
 use Rattle.jh_desc.specs.declared.descriptor.Descriptor.TheVariants.{Invalid, Table, Leaf}
 use Rattle.jh_desc.specs.declared.descriptor.Hit.{Hit}
 use Rattle.jh_desc.specs.Descriptors.{read_of}
-use Rattle.jh_desc.specs.Levels.{last_level}
+use Rattle.jh_num.specs.declared.level.TheConstants.{LAST_LEVEL}
 use Rattle.jh_walk.specs.Walks.{walk_of, walk_on, probes_of, probes_on, slot_at}
 use Rattle.jh_walk.specs.Paths.{EndsAtLeaf, IsLeafAt, LeadsTo}
 use Rattle.jh_walk.proofs.WalkLemmas.{below_end, past_end}
@@ -15,9 +15,9 @@ use Rattle.jh_walk.proofs.WalkLemmas.{below_end, past_end}
 pub ends_found : (w : ℕ → ℕ) (n t at : ℕ) (hit : Hit) → EndsAtLeaf w n t at hit → walk_of w n t at ≡ Some hit
 unfolding walk_of
 ends_found w zero t at hit ends = elim ends [ ]
-ends_found w (suc n) t at hit (inl leaf) = ap (walk_on (λ next. walk_of w n next at) (last_level - n) at) leaf.descriptor ∙ ap Some (sym leaf.gives)
+ends_found w (suc n) t at hit (inl leaf) = ap (walk_on (λ next. walk_of w n next at) (LAST_LEVEL - n) at) leaf.descriptor ∙ ap Some (sym leaf.gives)
 ends_found w (suc n) t at hit (inr (next, (leads, ends))) =
-    ap (walk_on (λ next. walk_of w n next at) (last_level - n) at) leads.descriptor
+    ap (walk_on (λ next. walk_of w n next at) (LAST_LEVEL - n) at) leads.descriptor
     ∙ sym (below_end next (walk_of w n next at) None leads.place) ∙ ends_found w n next at hit ends
 
 -- where a walk that finds something goes from a descriptor
@@ -38,7 +38,7 @@ pub only_ends : (w : ℕ → ℕ) (n t at : ℕ) (hit : Hit) → walk_of w n t a
 unfolding walk_of
 only_ends w zero t at hit found = cc
 only_ends w (suc n) t at hit found =
-    found_by w n t at (last_level - n) hit (read_of (w (slot_at (last_level - n) t at)) (last_level - n)) refl (λ next rest. only_ends w n next at hit rest) found
+    found_by w n t at (LAST_LEVEL - n) hit (read_of (w (slot_at (LAST_LEVEL - n) t at)) (LAST_LEVEL - n)) refl (λ next rest. only_ends w n next at hit rest) found
 
 few_of : (b : Bool) (probes : List Probe) (n : ℕ) → length probes ≤ n → length (if b then probes else []) ≤ n
 few_of true probes n le = le
@@ -53,5 +53,5 @@ pub few_probes : (w : ℕ → ℕ) (n t at : ℕ) → length (probes_of w n t at
 unfolding probes_of
 few_probes w zero t at = omega arith
 few_probes w (suc n) t at =
-    let rest : length (probes_on (λ next. probes_of w n next at) (read_of (w (slot_at (last_level - n) t at)) (last_level - n))) ≤ n = few_on (λ next. probes_of w n next at) (read_of (w (slot_at (last_level - n) t at)) (last_level - n)) n (λ next. few_probes w n next at) in
+    let rest : length (probes_on (λ next. probes_of w n next at) (read_of (w (slot_at (LAST_LEVEL - n) t at)) (LAST_LEVEL - n))) ≤ n = few_on (λ next. probes_of w n next at) (read_of (w (slot_at (LAST_LEVEL - n) t at)) (LAST_LEVEL - n)) n (λ next. few_probes w n next at) in
     omega arith

@@ -6,7 +6,9 @@ use Rattle.jh_desc.specs.declared.descriptor.Descriptor.{Descriptor}
 use Rattle.jh_desc.specs.declared.descriptor.Descriptor.TheVariants.{Invalid, Table, Leaf}
 use Rattle.jh_desc.specs.declared.descriptor.Hit.{Hit}
 use Rattle.jh_desc.specs.Descriptors.{read_of}
-use Rattle.jh_desc.specs.Levels.{last_level, index_of, slot_size}
+use Rattle.jh_desc.specs.Levels.{index_of}
+use Rattle.jh_num.specs.declared.level.TheConstants.{LAST_LEVEL}
+use Rattle.jh_num.specs.Levels.{slot_size}
 use Rattle.jh_walk.specs.Walks.{walk_of, walk_on, probes_of, probes_on, slot_at}
 use Rattle.jh_walk.specs.Pages.{sum_below, by_next, count, is_page, times, SameTables}
 use Rattle.jh_walk.proofs.SumLemmas.{sum_same}
@@ -16,7 +18,7 @@ index_small : (x : ℕ) → x % 512 < 512
 index_small x = omega arith
 
 -- the words of a page that the page leads to are the same too
-same_below : (w w' : ℕ → ℕ) (n t i next : ℕ) → SameTables w w' (suc n) t → i < 512 → read_of (w (t + 8 * i)) (last_level - n) ≡ Table next → SameTables w w' n next
+same_below : (w w' : ℕ → ℕ) (n t i next : ℕ) → SameTables w w' (suc n) t → i < 512 → read_of (w (t + 8 * i)) (LAST_LEVEL - n) ≡ Table next → SameTables w w' n next
 same_below w w' n t i next same lt leads = record {
   words = λ q j some small.
       let e : slot_counts (is_page q) w n t i ≡ times w n next q = slot_is (is_page q) w n t i next leads in
@@ -36,11 +38,11 @@ pub walk_same : (w w' : ℕ → ℕ) (n t at : ℕ) → SameTables w w' n t → 
 unfolding walk_of
 walk_same w w' zero t at same = refl
 walk_same w w' (suc n) t at same =
-    let small : index_of (last_level - n) at < 512 = index_small (at / slot_size (last_level - n)) in
-    let word : w' (slot_at (last_level - n) t at) ≡ w (slot_at (last_level - n) t at) = same_here w w' n t (index_of (last_level - n) at) same small in
-    ap (λ z. walk_on (λ next. walk_of w' n next at) (last_level - n) at (read_of z (last_level - n))) word
-    ∙ on_same (λ next. walk_of w n next at) (λ next. walk_of w' n next at) (last_level - n) at (read_of (w (slot_at (last_level - n) t at)) (last_level - n)) (λ next leads.
-    walk_same w w' n next at (same_below w w' n t (index_of (last_level - n) at) next same small leads))
+    let small : index_of (LAST_LEVEL - n) at < 512 = index_small (at / slot_size (LAST_LEVEL - n)) in
+    let word : w' (slot_at (LAST_LEVEL - n) t at) ≡ w (slot_at (LAST_LEVEL - n) t at) = same_here w w' n t (index_of (LAST_LEVEL - n) at) same small in
+    ap (λ z. walk_on (λ next. walk_of w' n next at) (LAST_LEVEL - n) at (read_of z (LAST_LEVEL - n))) word
+    ∙ on_same (λ next. walk_of w n next at) (λ next. walk_of w' n next at) (LAST_LEVEL - n) at (read_of (w (slot_at (LAST_LEVEL - n) t at)) (LAST_LEVEL - n)) (λ next leads.
+    walk_same w w' n next at (same_below w w' n t (index_of (LAST_LEVEL - n) at) next same small leads))
 
 probes_on_same : (on on' : ℕ → List Probe) (d : Descriptor) → ((next : ℕ) → d ≡ Table next → on' next ≡ on next) → probes_on on' d ≡ probes_on on d
 probes_on_same on on' Invalid h = refl
@@ -51,18 +53,18 @@ pub probes_same : (w w' : ℕ → ℕ) (n t at : ℕ) → SameTables w w' n t �
 unfolding probes_of
 probes_same w w' zero t at same = refl
 probes_same w w' (suc n) t at same =
-    let small : index_of (last_level - n) at < 512 = index_small (at / slot_size (last_level - n)) in
-    let word : w' (slot_at (last_level - n) t at) ≡ w (slot_at (last_level - n) t at) = same_here w w' n t (index_of (last_level - n) at) same small in
-    let first : Probe = record { at = slot_at (last_level - n) t at; word = w (slot_at (last_level - n) t at) } in
-    ap (λ z. record { at = slot_at (last_level - n) t at; word = z } ∷ probes_on (λ next. probes_of w' n next at) (read_of z (last_level - n))) word
-    ∙ ap (λ l. first ∷ l) (probes_on_same (λ next. probes_of w n next at) (λ next. probes_of w' n next at) (read_of (w (slot_at (last_level - n) t at)) (last_level - n)) (λ next leads.
-    probes_same w w' n next at (same_below w w' n t (index_of (last_level - n) at) next same small leads)))
+    let small : index_of (LAST_LEVEL - n) at < 512 = index_small (at / slot_size (LAST_LEVEL - n)) in
+    let word : w' (slot_at (LAST_LEVEL - n) t at) ≡ w (slot_at (LAST_LEVEL - n) t at) = same_here w w' n t (index_of (LAST_LEVEL - n) at) same small in
+    let first : Probe = record { at = slot_at (LAST_LEVEL - n) t at; word = w (slot_at (LAST_LEVEL - n) t at) } in
+    ap (λ z. record { at = slot_at (LAST_LEVEL - n) t at; word = z } ∷ probes_on (λ next. probes_of w' n next at) (read_of z (LAST_LEVEL - n))) word
+    ∙ ap (λ l. first ∷ l) (probes_on_same (λ next. probes_of w n next at) (λ next. probes_of w' n next at) (read_of (w (slot_at (LAST_LEVEL - n) t at)) (LAST_LEVEL - n)) (λ next leads.
+    probes_same w w' n next at (same_below w w' n t (index_of (LAST_LEVEL - n) at) next same small leads)))
 
 pub times_same : (w w' : ℕ → ℕ) (n t q : ℕ) → SameTables w w' n t → times w' n t q ≡ times w n t q
 times_same w w' zero t q same = count_none (is_page q) w' t ∙ sym (count_none (is_page q) w t)
 times_same w w' (suc n) t q same =
     let slots : sum_below 512 (slot_counts (is_page q) w' n t) ≡ sum_below 512 (slot_counts (is_page q) w n t) = sum_same 512 (slot_counts (is_page q) w' n t) (slot_counts (is_page q) w n t) (λ i lt.
-    ap (λ z. by_next (count (is_page q) w' n) (read_of z (last_level - n))) (same_here w w' n t i same lt)
-    ∙ next_same (count (is_page q) w' n) (count (is_page q) w n) (read_of (w (t + 8 * i)) (last_level - n)) (λ next leads.
+    ap (λ z. by_next (count (is_page q) w' n) (read_of z (LAST_LEVEL - n))) (same_here w w' n t i same lt)
+    ∙ next_same (count (is_page q) w' n) (count (is_page q) w n) (read_of (w (t + 8 * i)) (LAST_LEVEL - n)) (λ next leads.
     times_same w w' n next q (same_below w w' n t i next same lt leads))) in
     count_more (is_page q) w' n t ∙ ap (λ x. is_page q w n t + x) slots ∙ sym (count_more (is_page q) w n t)

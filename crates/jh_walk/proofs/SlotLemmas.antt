@@ -3,7 +3,9 @@ use Rattle.std.proofs.Common.{◌≡◌, ℕ, ◌+◌, ◌-◌, ◌*◌, ◌/◌
 use Rattle.jh_desc.specs.declared.descriptor.Descriptor.TheVariants.{Table, Leaf}
 use Rattle.jh_desc.specs.declared.descriptor.Hit.{Hit}
 use Rattle.jh_desc.specs.Descriptors.{read_of}
-use Rattle.jh_desc.specs.Levels.{index_of, last_level, slot_size}
+use Rattle.jh_desc.specs.Levels.{index_of}
+use Rattle.jh_num.specs.declared.level.TheConstants.{LAST_LEVEL}
+use Rattle.jh_num.specs.Levels.{slot_size}
 use Rattle.jh_walk.specs.Walks.{walk_of, levels}
 use Rattle.jh_walk.specs.Paths.{EndsAtLeaf, IsLeafAt, LeadsTo, shifted}
 use Rattle.jh_walk.proofs.PathLemmas.{ends_found, only_ends}
@@ -41,22 +43,22 @@ coarser a b (suc (suc zero)) lt same = omega arith
 coarser a b (suc (suc (suc n))) lt same = omega arith
 
 -- and so of each level on the way to the leaf
-coarse : (w : ℕ → ℕ) (n t at other : ℕ) (hit : Hit) → n ≤ last_level → other / hit.span ≡ at / hit.span → EndsAtLeaf w (suc n) t at hit → other / slot_size (last_level - n) ≡ at / slot_size (last_level - n)
-coarse w n t at other hit few same (inl leaf) = same_slot at other hit.span (slot_size (last_level - n)) (span_is w (last_level - n) t at hit leaf) same
+coarse : (w : ℕ → ℕ) (n t at other : ℕ) (hit : Hit) → n ≤ LAST_LEVEL → other / hit.span ≡ at / hit.span → EndsAtLeaf w (suc n) t at hit → other / slot_size (LAST_LEVEL - n) ≡ at / slot_size (LAST_LEVEL - n)
+coarse w n t at other hit few same (inl leaf) = same_slot at other hit.span (slot_size (LAST_LEVEL - n)) (span_is w (LAST_LEVEL - n) t at hit leaf) same
 coarse w zero t at other hit few same (inr (next, (leads, ends))) = elim ends [ ]
 coarse w (suc n) t at other hit few same (inr (next, (leads, ends))) =
-    let below : other / slot_size (last_level - n) ≡ at / slot_size (last_level - n) = coarse w n next at other hit (omega arith) same ends in
-    let above : last_level - n ≡ suc (last_level - suc n) = omega arith in
-    coarser at other (last_level - suc n) (omega arith) (subst (λ l. other / slot_size l ≡ at / slot_size l) above below)
+    let below : other / slot_size (LAST_LEVEL - n) ≡ at / slot_size (LAST_LEVEL - n) = coarse w n next at other hit (omega arith) same ends in
+    let above : LAST_LEVEL - n ≡ suc (LAST_LEVEL - suc n) = omega arith in
+    coarser at other (LAST_LEVEL - suc n) (omega arith) (subst (λ l. other / slot_size l ≡ at / slot_size l) above below)
 
-ends_moved : (w : ℕ → ℕ) (n t at other : ℕ) (hit : Hit) → n ≤ last_level + 1 → other / hit.span ≡ at / hit.span → EndsAtLeaf w n t at hit → EndsAtLeaf w n t other (shifted at other hit)
+ends_moved : (w : ℕ → ℕ) (n t at other : ℕ) (hit : Hit) → n ≤ LAST_LEVEL + 1 → other / hit.span ≡ at / hit.span → EndsAtLeaf w n t at hit → EndsAtLeaf w n t other (shifted at other hit)
 ends_moved w zero t at other hit few same ends = elim ends [ ]
 ends_moved w (suc n) t at other hit few same (inl leaf) =
-    let slot : other / slot_size (last_level - n) ≡ at / slot_size (last_level - n) = coarse w n t at other hit (omega arith) same (inl leaf) in
-    inl (leaf_moved w (last_level - n) t at other hit (ap (λ i. i % 512) slot) leaf)
+    let slot : other / slot_size (LAST_LEVEL - n) ≡ at / slot_size (LAST_LEVEL - n) = coarse w n t at other hit (omega arith) same (inl leaf) in
+    inl (leaf_moved w (LAST_LEVEL - n) t at other hit (ap (λ i. i % 512) slot) leaf)
 ends_moved w (suc n) t at other hit few same (inr (next, (leads, ends))) =
-    let slot : other / slot_size (last_level - n) ≡ at / slot_size (last_level - n) = coarse w n t at other hit (omega arith) same (inr (next, (leads, ends))) in
-    inr (next, (led_moved w (last_level - n) t at other next (ap (λ i. i % 512) slot) leads, ends_moved w n next at other hit (omega arith) same ends))
+    let slot : other / slot_size (LAST_LEVEL - n) ≡ at / slot_size (LAST_LEVEL - n) = coarse w n t at other hit (omega arith) same (inr (next, (leads, ends))) in
+    inr (next, (led_moved w (LAST_LEVEL - n) t at other next (ap (λ i. i % 512) slot) leads, ends_moved w n next at other hit (omega arith) same ends))
 
 pub hit_covers : (w : ℕ → ℕ) (t at other : ℕ) (hit : Hit) → walk_of w levels t at ≡ Some hit → other / hit.span ≡ at / hit.span → walk_of w levels t other ≡ Some (shifted at other hit)
 hit_covers w t at other hit found same =

@@ -3,7 +3,7 @@ use Rattle.std.specs.Prelude.{◌≡◌, ◌≢◌, ℕ, ◌+◌, ◌-◌, ◌*�
 use Rattle.jh_desc.specs.declared.descriptor.Descriptor.{Descriptor}
 use Rattle.jh_desc.specs.declared.descriptor.Descriptor.TheVariants.{Invalid, Table, Leaf}
 use Rattle.jh_desc.specs.Descriptors.{read_of}
-use Rattle.jh_desc.specs.Levels.{last_level}
+use Rattle.jh_num.specs.declared.level.TheConstants.{LAST_LEVEL}
 
 -- the sum of the function's values at the numbers below n
 unfoldable pub sum_below : ℕ → (ℕ → ℕ) → ℕ
@@ -24,7 +24,7 @@ Weight = (ℕ → ℕ) → ℕ → ℕ → ℕ
 unfoldable pub count : Weight → (ℕ → ℕ) → ℕ → ℕ → ℕ
 count weight word zero page = 0
 count weight word (suc n) page =
-    weight word n page + sum_below 512 (λ i. by_next (count weight word n) (read_of (word (page + 8 * i)) (last_level - n)))
+    weight word n page + sum_below 512 (λ i. by_next (count weight word n) (read_of (word (page + 8 * i)) (LAST_LEVEL - n)))
 
 -- the weight of a page: 1 where it is this one, else 0
 abbrev pub is_page : ℕ → Weight
@@ -51,7 +51,7 @@ pub record AlikeBut (inner : ℕ) (w : Weight) (word word' : ℕ → ℕ) : Type
 abbrev pub IsReached : (ℕ → ℕ) → ℕ → ℕ → ℕ → ℕ → Type 0
 IsReached word zero page m inner = ⊥
 IsReached word (suc n) page m inner =
-    ((suc n ≡ m) × (page ≡ inner)) ⊎ ((i : ℕ) × ((next : ℕ) × ((i < 512) × ((read_of (word (page + 8 * i)) (last_level - n) ≡ Table next) × IsReached word n next m inner))))
+    ((suc n ≡ m) × (page ≡ inner)) ⊎ ((i : ℕ) × ((next : ℕ) × ((i < 512) × ((read_of (word (page + 8 * i)) (LAST_LEVEL - n) ≡ Table next) × IsReached word n next m inner))))
 
 -- what is asked of a slot: where its descriptor is valid its word stays, and below a table the same goes on
 abbrev pub IsKept : (ℕ → Type 0) → Descriptor → Type 0 → Type 0
@@ -63,4 +63,4 @@ IsKept below (Table next) same = same × below next
 abbrev pub Grows : (ℕ → ℕ) → (ℕ → ℕ) → ℕ → ℕ → Type 0
 Grows word word' zero page = Unit {0}
 Grows word word' (suc n) page =
-    (i : ℕ) → i < 512 → IsKept (Grows word word' n) (read_of (word (page + 8 * i)) (last_level - n)) (word' (page + 8 * i) ≡ word (page + 8 * i))
+    (i : ℕ) → i < 512 → IsKept (Grows word word' n) (read_of (word (page + 8 * i)) (LAST_LEVEL - n)) (word' (page + 8 * i) ≡ word (page + 8 * i))

@@ -5,7 +5,7 @@ use Rattle.jh_num.specs.declared.rights.Rights.{Rights}
 use Rattle.jh_desc.specs.declared.descriptor.Descriptor.TheVariants.{Table, Leaf}
 use Rattle.jh_desc.specs.declared.descriptor.Hit.{Hit}
 use Rattle.jh_desc.specs.Descriptors.{read_of}
-use Rattle.jh_desc.specs.Levels.{last_level}
+use Rattle.jh_num.specs.declared.level.TheConstants.{LAST_LEVEL}
 use Rattle.jh_walk.specs.Walks.{slot_at, hit_of}
 
 -- the descriptor of the address in the table of the level leads to that table of the next level
@@ -25,7 +25,7 @@ pub record IsLeafAt (word : ℕ → ℕ) (level table at : ℕ) (hit : Hit) : Ty
 abbrev pub EndsAtLeaf : (ℕ → ℕ) → ℕ → ℕ → ℕ → Hit → Type 0
 EndsAtLeaf word zero table at hit = ⊥
 EndsAtLeaf word (suc n) table at hit =
-    IsLeafAt word (last_level - n) table at hit ⊎ ((next : ℕ) × (LeadsTo word (last_level - n) table at next × EndsAtLeaf word n next at hit))
+    IsLeafAt word (LAST_LEVEL - n) table at hit ⊎ ((next : ℕ) × (LeadsTo word (LAST_LEVEL - n) table at next × EndsAtLeaf word n next at hit))
 
 -- what the same leaf gives another address of its slot
 abbrev pub shifted : ℕ → ℕ → Hit → Hit

@@ -9,11 +9,13 @@ use Rattle.jh_desc.specs.declared.descriptor.Descriptor.{Descriptor}
 use Rattle.jh_desc.specs.declared.descriptor.Descriptor.TheVariants.{Invalid, Table, Leaf}
 use Rattle.jh_desc.specs.declared.descriptor.Hit.{Hit}
 use Rattle.jh_desc.specs.Descriptors.{read_of}
-use Rattle.jh_desc.specs.Levels.{first_level, last_level, index_of, slot_size}
+use Rattle.jh_desc.specs.Levels.{index_of}
+use Rattle.jh_num.specs.declared.level.TheConstants.{LAST_LEVEL, FIRST_LEVEL}
+use Rattle.jh_num.specs.Levels.{slot_size}
 
 -- how many levels there are
 abbrev pub levels : ℕ
-levels = last_level + 1 - first_level
+levels = LAST_LEVEL + 1 - FIRST_LEVEL
 
 -- where the descriptor of the address stands in its table of the level
 abbrev pub slot_at : ℕ → ℕ → ℕ → ℕ
@@ -33,7 +35,7 @@ walk_on on level at (Table next) = if nat_lt next ADDRESS_END then on next else 
 unfoldable pub walk_of : (ℕ → ℕ) → ℕ → ℕ → ℕ → Option Hit
 walk_of word zero table at = None
 walk_of word (suc n) table at =
-    walk_on (λ next. walk_of word n next at) (last_level - n) at (read_of (word (slot_at (last_level - n) table at)) (last_level - n))
+    walk_on (λ next. walk_of word n next at) (LAST_LEVEL - n) at (read_of (word (slot_at (LAST_LEVEL - n) table at)) (LAST_LEVEL - n))
 
 -- the reads that a descriptor leads to
 abbrev pub probes_on : (ℕ → List Probe) → Descriptor → List Probe
@@ -45,8 +47,8 @@ probes_on on (Table next) = if nat_lt next ADDRESS_END then on next else []
 unfoldable pub probes_of : (ℕ → ℕ) → ℕ → ℕ → ℕ → List Probe
 probes_of word zero table at = []
 probes_of word (suc n) table at =
-    record { at = slot_at (last_level - n) table at; word = word (slot_at (last_level - n) table at) }
-    ∷ probes_on (λ next. probes_of word n next at) (read_of (word (slot_at (last_level - n) table at)) (last_level - n))
+    record { at = slot_at (LAST_LEVEL - n) table at; word = word (slot_at (LAST_LEVEL - n) table at) }
+    ∷ probes_on (λ next. probes_of word n next at) (read_of (word (slot_at (LAST_LEVEL - n) table at)) (LAST_LEVEL - n))
 
 -- counted reads after one more
 abbrev pub counted : Counted → Probe → Counted

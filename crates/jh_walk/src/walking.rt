@@ -2,14 +2,15 @@
 ghost use Rattle.std.specs.Prelude.{◌≡◌, ℕ, ◌+◌, ◌-◌, ◌*◌, ◌%◌, ◌^◌, ◌<◌, ◌≤◌};
 ghost use Rattle.jh_num.specs.declared.address.TheConstants.{ADDRESS_END};
 ghost use Rattle.jh_desc.specs.Descriptors.{read_of};
-ghost use Rattle.jh_desc.specs.Levels.{first_level, last_level, index_of, slot_size};
+ghost use Rattle.jh_desc.specs.Levels.{index_of};
+ghost use Rattle.jh_num.specs.Levels.{slot_size};
 ghost use Rattle.jh_frames.specs.Memory.{byte_at, word_in};
 ghost use Rattle.jh_walk.specs.Private.Onwards.{found_on, onward_of, reads_on, IsTablePlace, LeadsToPlace};
 ghost use Rattle.jh_walk.specs.Walks.{all_counted, counted, levels, probes_of, slot_at, walk_of};
 
-use jh_desc::{Descriptor, FIRST_LEVEL, Hit, LAST_LEVEL, index, offset, read, slot_size};
+use jh_desc::{Descriptor, Hit, index, offset, read};
 use jh_frames::Frames;
-use jh_num::{ADDRESS_END, Probe, Rights, Steps};
+use jh_num::{ADDRESS_END, FIRST_LEVEL, LAST_LEVEL, Probe, Steps, slot_size};
 
 /// How many levels tables have.
 const LEVELS: u8 = LAST_LEVEL + 1 - FIRST_LEVEL;
@@ -26,7 +27,7 @@ enum Onward {
 
 /// The word of the address's descriptor in its table of the level, told to `steps`.
 fn descriptor_word(f: &Frames, level: u8, table: u64, ipa: u64, steps: &mut Steps) -> u64
-    requires level { level ≤ last_level }
+    requires level { level ≤ LAST_LEVEL }
     requires table { IsTablePlace table }
     ensures word { result ≡ word_in (byte_at f.now) (slot_at level table ipa) }
     ensures steps { steps.new ≡ counted steps.old (record { at = slot_at level table ipa; word = word_in (byte_at f.now) (slot_at level table ipa) }) }
@@ -39,8 +40,8 @@ fn descriptor_word(f: &Frames, level: u8, table: u64, ipa: u64, steps: &mut Step
 
 /// Where the descriptor that the word says at the level leads the address.
 fn lead(word: u64, level: u8, ipa: u64) -> Onward
-    requires first { first_level ≤ level }
-    requires last { level ≤ last_level }
+    requires first { FIRST_LEVEL ≤ level }
+    requires last { level ≤ LAST_LEVEL }
     ensures value { result ≡ onward_of level ipa (read_of word level) }
     ensures table { LeadsToPlace result }
 {

@@ -122,7 +122,7 @@ device_breaks-breaks-requires-clause-repeated c = λ f.
     let devices = c.as_slice-devices.result.now in
     let known = c.as_slice-known.result.now in
     let own = subst (λ marks. AreMarkedBy c.args.a devices c.loop-n.n marks) (sym c.as_slice-known.ensures.value) (subst (λ xs. AreMarkedBy c.args.a xs c.loop-n.n c.loop-n.marks.items) (sym c.as_slice-devices.ensures.value) c.loop-n.invariant.own) in
-    once_unmarked known c.args.a c.loop-n.n devices (get_or devices c.loop-n.n none) own (c.is_marked_by-repeated.ensures f)
+    once_unmarked known c.args.a c.loop-n.n devices (get_or devices c.loop-n.n none) own (c.has_mark_of-repeated.ensures.another f)
 
 pub device_breaks-breaks-requires-clause-doubted : goal.device_breaks-breaks-requires-clause-doubted
 device_breaks-breaks-requires-clause-doubted c = c.may_differ-doubted.ensures

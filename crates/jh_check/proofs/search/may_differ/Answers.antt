@@ -6,9 +6,9 @@ use Rattle.jh_check.proofs.BusLemmas.{agrees_unmarked}
 use Rattle.jh_check.proofs.FitLemmas.{agrees_sure}
 use Rattle.jh_check.proofs.search.may_differ.Goals as goal
 
-pub returns-then-not-is_marked : goal.returns-then-not-is_marked
-returns-then-not-is_marked c = λ f.
-    agrees_unmarked (take c.args.a (cells_of c.args.setup.now)) c.args.marks.now c.args.cell.now.memory_regions c.args.device.now c.requires.bdfs (c.is_marked.ensures c.if-not-is_marked.true)
+pub returns-then-not-has_mark : goal.returns-then-not-has_mark
+returns-then-not-has_mark c = λ f.
+    agrees_unmarked (take c.args.a (cells_of c.args.setup.now)) c.args.marks.now c.args.cell.now.memory_regions c.args.device.now c.requires.bdfs (c.has_mark.ensures.unmarked c.if-not-has_mark.true)
 
 pub returns-then-is_sure : goal.returns-then-is_sure
 returns-then-is_sure c = λ f.

@@ -2,7 +2,7 @@
 use Rattle.std.proofs.Common.{List, ℕ, Err, refl, subst, inl, inr}
 use Rattle.std.specs.Prelude.{codes}
 use Rattle.jh_spec.specs.Specs.{IsSpecAnswer}
-use Rattle.jh_spec.specs.declared.spec.SpecFault.TheVariants.{Json}
+use Rattle.jh_spec.specs.declared.fault.JsonFault.TheVariants.{Json}
 use Rattle.jh_cli.specs.Limits.{most_of_a_file}
 use Rattle.jh_cli.specs.Pack.{SpecRefusal}
 use Rattle.jh_cli.proofs.OrderLemmas.{refuses_one}

@@ -1,6 +1,6 @@
 use Rattle.std.proofs.Common.{◌/◌, ◌<◌, ◌≤◌, arith}
 use Rattle.jh_num.specs.declared.address.TheConstants.{ADDRESS_END}
-use Rattle.jh_shape.specs.Shapes.{slot_size}
+use Rattle.jh_num.specs.Levels.{slot_size}
 use Rattle.jh_shape.proofs.MarkLemmas.{slot_below, slots_fewer}
 use Rattle.jh_shape.proofs.region.marked_around.Goals as goal
 

@@ -1,19 +1,20 @@
 -- The bytes of a word are those of its page, zeros where it isn't held.
 use Rattle.std.proofs.Common.{◌≡◌, Some, None, ◌∙◌, sym, ap}
 use Rattle.jh_num.specs.Memory.{spelled}
-use Rattle.jh_board.specs.Pages.{page_at, byte_in, bytes_from}
+use Rattle.jh_board.specs.Pages.{bytes_from}
+use Rattle.jh_num.specs.Pages.{page_at, byte_of_page}
 use Rattle.jh_board.proofs.PieceLemmas.{zeros_spell_nothing, fits_zero}
 use Rattle.jh_board.proofs.comm_pages.CommPages.value.Goals as goal
 
 pub returns-in-Some-clause-spells : goal.returns-in-Some-clause-spells
 returns-in-Some-clause-spells c =
     let there : Some c.in-Some.page.now ≡ page_at c.args.self.now c.args.word.cell = rw (← c.self.view_is) c.in-Some.ensures.value in
-    c.value.ensures.spells ∙ ap (λ p. spelled (bytes_from (byte_in p) c.args.word.offset c.args.word.count)) there
+    c.value.ensures.spells ∙ ap (λ p. spelled (bytes_from (byte_of_page p) c.args.word.offset c.args.word.count)) there
 
 pub returns-in-None-clause-spells : goal.returns-in-None-clause-spells
 returns-in-None-clause-spells c =
     let there : None ≡ page_at c.args.self.now c.args.word.cell = rw (← c.self.view_is) c.in-None.ensures.value in
-    sym (zeros_spell_nothing c.args.word.offset c.args.word.count) ∙ ap (λ p. spelled (bytes_from (byte_in p) c.args.word.offset c.args.word.count)) there
+    sym (zeros_spell_nothing c.args.word.offset c.args.word.count) ∙ ap (λ p. spelled (bytes_from (byte_of_page p) c.args.word.offset c.args.word.count)) there
 
 pub returns-in-None-clause-fits : goal.returns-in-None-clause-fits
 returns-in-None-clause-fits c = fits_zero c.args.word.count

@@ -1,6 +1,6 @@
 -- One piece more.
 use Rattle.std.proofs.Common.{◌+◌, ◌≤◌, ◌∙◌, arith}
-use Rattle.jh_board.specs.Pages.{byte_at}
+use Rattle.jh_num.specs.Pages.{paged_byte}
 use Rattle.jh_board.proofs.RowLemmas.{row_more}
 use Rattle.jh_board.proofs.physical.Physical.append.Goals as goal
 
@@ -10,5 +10,5 @@ loop-done-preserved c =
     let within : c.loop-done.done + c.min-here.result ≤ c.args.count = omega arith in
     record {
       within = within;
-      bytes = c.in_ok-append_piece.ensures ∙ row_more c.args.bytes.now.items c.loop-done.bytes.items (byte_at c.args.self.now) c.args.at c.loop-done.done c.min-here.result c.loop-done.invariant.bytes;
+      bytes = c.in_ok-append_piece.ensures ∙ row_more c.args.bytes.now.items c.loop-done.bytes.items (paged_byte c.args.self.now) c.args.at c.loop-done.done c.min-here.result c.loop-done.invariant.bytes;
     }

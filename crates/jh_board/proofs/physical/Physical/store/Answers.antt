@@ -1,6 +1,6 @@
 -- One piece more.
 use Rattle.std.proofs.Common.{◌≤◌, length, ◌∙◌, arith}
-use Rattle.jh_board.specs.Pages.{byte_at}
+use Rattle.jh_num.specs.Pages.{paged_byte}
 use Rattle.jh_board.proofs.PieceLemmas.{stored_more}
 use Rattle.jh_board.proofs.physical.Physical.store.Goals as goal
 
@@ -11,5 +11,5 @@ loop-done-preserved c =
     let within : c.min-end.result ≤ length c.args.bytes.now = omega arith in
     record {
       within = within;
-      bytes = λ q. c.in_ok-put.ensures.ok q ∙ stored_more (byte_at c.args.self.now) (byte_at c.loop-done.self) c.args.at c.loop-done.done c.min-end.result c.args.bytes.now q on within (c.loop-done.invariant.bytes q);
+      bytes = λ q. c.in_ok-put.ensures.ok q ∙ stored_more (paged_byte c.args.self.now) (paged_byte c.loop-done.self) c.args.at c.loop-done.done c.min-end.result c.args.bytes.now q on within (c.loop-done.invariant.bytes q);
     }

@@ -1,7 +1,8 @@
 -- The bytes of a piece are those of its page, zeros where it isn't held.
 use Rattle.std.proofs.Common.{◌≡◌, ◌/◌, ◌%◌, Some, None, ◌∙◌, sym, ap}
 use Rattle.jh_num.specs.Memory.{spelled}
-use Rattle.jh_board.specs.Pages.{page_at, byte_in, bytes_from}
+use Rattle.jh_board.specs.Pages.{bytes_from}
+use Rattle.jh_num.specs.Pages.{page_at, byte_of_page}
 use Rattle.jh_board.proofs.PieceLemmas.{spelled_of_page, zeros_spell_nothing, fits_zero}
 use Rattle.jh_board.proofs.physical.Physical.value.Goals as goal
 
@@ -9,13 +10,13 @@ pub returns-in-Some-clause-spells : goal.returns-in-Some-clause-spells
 returns-in-Some-clause-spells c =
     let there : Some c.in-Some.page.now ≡ page_at c.args.self.now (c.args.piece.at / 4096) = rw (← c.self.view_is) c.in-Some.ensures.value in
     spelled_of_page c.args.self.now c.args.piece.at c.args.piece.count c.value.result c.requires.page
-    (c.value.ensures.spells ∙ ap (λ p. spelled (bytes_from (byte_in p) (c.args.piece.at % 4096) c.args.piece.count)) there)
+    (c.value.ensures.spells ∙ ap (λ p. spelled (bytes_from (byte_of_page p) (c.args.piece.at % 4096) c.args.piece.count)) there)
 
 pub returns-in-None-clause-spells : goal.returns-in-None-clause-spells
 returns-in-None-clause-spells c =
     let there : None ≡ page_at c.args.self.now (c.args.piece.at / 4096) = rw (← c.self.view_is) c.in-None.ensures.value in
     spelled_of_page c.args.self.now c.args.piece.at c.args.piece.count 0 c.requires.page
-    (sym (zeros_spell_nothing (c.args.piece.at % 4096) c.args.piece.count) ∙ ap (λ p. spelled (bytes_from (byte_in p) (c.args.piece.at % 4096) c.args.piece.count)) there)
+    (sym (zeros_spell_nothing (c.args.piece.at % 4096) c.args.piece.count) ∙ ap (λ p. spelled (bytes_from (byte_of_page p) (c.args.piece.at % 4096) c.args.piece.count)) there)
 
 pub returns-in-None-clause-fits : goal.returns-in-None-clause-fits
 returns-in-None-clause-fits c = fits_zero c.args.piece.count

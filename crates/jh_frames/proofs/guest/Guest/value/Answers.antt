@@ -1,6 +1,6 @@
 -- A page's own bytes, or zeros where there is none.
 use Rattle.std.proofs.Common.{◌≡◌, ◌/◌, sym, ◌∙◌, Some, None}
-use Rattle.jh_frames.specs.Memory.{page_at}
+use Rattle.jh_num.specs.Pages.{page_at}
 use Rattle.jh_frames.proofs.MemoryLemmas.{guest_value, no_value}
 use Rattle.jh_frames.proofs.guest.Guest.value.Goals as goal
 

@@ -1,6 +1,6 @@
 use Rattle.std.proofs.Common.{min, arith}
 use Rattle.jh_num.specs.declared.address.TheConstants.{ADDRESS_END}
-use Rattle.jh_shape.specs.Shapes.{slot_size}
+use Rattle.jh_num.specs.Levels.{slot_size}
 use Rattle.jh_shape.proofs.LawLemmas.{size_some}
 use Rattle.jh_shape.proofs.MarkLemmas.{slots_fewer, spanned_below, spanned_slots}
 use Rattle.jh_shape.proofs.interval.Interval.spanned.Goals as goal

@@ -1,5 +1,5 @@
 use Rattle.std.proofs.Common.{arith}
-use Rattle.jh_shape.specs.Shapes.{slot_size}
+use Rattle.jh_num.specs.Levels.{slot_size}
 use Rattle.jh_shape.proofs.MarkLemmas.{place_fits, slots_alone}
 use Rattle.jh_shape.proofs.interval.Slots.span.Goals as goal
 

@@ -9,7 +9,8 @@ use Rattle.jh_cellcfg.specs.Regions.{virt_end}
 use Rattle.jh_shape.specs.declared.interval.Span.{Span}
 use Rattle.jh_shape.specs.Intervals.{touches}
 use Rattle.jh_shape.specs.Marks.{is_marked, marked_slots, past_slot}
-use Rattle.jh_shape.specs.Shapes.{slot_size, is_mapped, is_met_by}
+use Rattle.jh_shape.specs.Shapes.{is_mapped, is_met_by}
+use Rattle.jh_num.specs.Levels.{slot_size}
 use Rattle.jh_shape.proofs.CountLemmas.{grown, grown_bound}
 use Rattle.jh_shape.proofs.MarkLemmas.{any_step, met_from_span, met_not_mapped, marked_few, none_beyond, nothing_more_met}
 use Rattle.jh_shape.proofs.target.Target.add_met.Goals as goal

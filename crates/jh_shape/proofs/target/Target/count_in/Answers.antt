@@ -5,7 +5,8 @@ use Rattle.jh_cellcfg.specs.declared.region.Region.{Region}
 use Rattle.jh_shape.specs.Claims.{claims_of}
 use Rattle.jh_shape.specs.Marks.{is_beyond, is_marked, marked_slots}
 use Rattle.jh_shape.specs.Pages.{count_below, tables_at}
-use Rattle.jh_shape.specs.Shapes.{slot_size, is_leaf, is_met}
+use Rattle.jh_shape.specs.Shapes.{is_leaf, is_met}
+use Rattle.jh_num.specs.Levels.{slot_size}
 use Rattle.jh_shape.proofs.CountLemmas.{count_below_agree, count_below_either, grown_same}
 use Rattle.jh_shape.proofs.target.Target.count_in.Goals as goal
 

@@ -1,7 +1,8 @@
 use Rattle.std.proofs.Common.{◌*◌, take}
 use Rattle.jh_shape.specs.Claims.{held_from}
 use Rattle.jh_shape.specs.Marks.{AreMarkedBelow}
-use Rattle.jh_shape.specs.Shapes.{slot_size, are_cut}
+use Rattle.jh_shape.specs.Shapes.{are_cut}
+use Rattle.jh_num.specs.Levels.{slot_size}
 use Rattle.jh_shape.proofs.target.Target.fill_cuts.Given as goal
 
 abbrev pub invariant-loop-i : goal.invariant-loop-i

@@ -3,7 +3,8 @@ use Rattle.std.specs.List.{list_any}
 use Rattle.std.proofs.lemmas.List.{take_all}
 use Rattle.jh_cellcfg.specs.declared.region.Region.{Region}
 use Rattle.jh_shape.specs.Claims.{claims_of}
-use Rattle.jh_shape.specs.Shapes.{slot_size, is_leaf_by}
+use Rattle.jh_shape.specs.Shapes.{is_leaf_by}
+use Rattle.jh_num.specs.Levels.{slot_size}
 use Rattle.jh_shape.proofs.MarkLemmas.{none_beyond}
 use Rattle.jh_shape.proofs.target.Target.fill_leaves.Goals as goal
 

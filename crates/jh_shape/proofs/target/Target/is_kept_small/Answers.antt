@@ -2,7 +2,8 @@ use Rattle.std.proofs.Common.{◌≡◌, ℕ, ◌+◌, ◌-◌, ◌*◌, ◌/◌
 use Rattle.std.proofs.lemmas.Bool.{eqb-true}
 use Rattle.jh_cellcfg.specs.Regions.{place_in}
 use Rattle.jh_shape.specs.Claims.{claims_of}
-use Rattle.jh_shape.specs.Shapes.{slot_size, are_cut}
+use Rattle.jh_shape.specs.Shapes.{are_cut}
+use Rattle.jh_num.specs.Levels.{slot_size}
 use Rattle.jh_shape.proofs.LawLemmas.{size_some}
 use Rattle.jh_shape.proofs.MarkLemmas.{far_slot, place_of_slot}
 use Rattle.jh_shape.proofs.target.Target.is_kept_small.Goals as goal

@@ -2,7 +2,7 @@
 use Rattle.std.proofs.Common.{◌+◌, ◌-◌, ◌*◌, ◌^◌, ◌<◌, length, arith}
 use Rattle.jh_num.proofs.MemoryLemmas.{byte_fits}
 use Rattle.jh_frames.proofs.ByteLemmas.{spelled_start, spelled_more, spelled_end, next_fits}
-use Rattle.jh_frames.proofs.bytes.number_of.Goals as goal
+use Rattle.jh_frames.proofs.bytes.spelled.Goals as goal
 
 pub loop-k-init : goal.loop-k-init
 loop-k-init c = record { number = spelled_start c.args.bytes.now; small = omega arith }
