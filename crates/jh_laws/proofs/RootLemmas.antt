@@ -80,10 +80,6 @@ few_ops : (image : Image) (name : List ℕ) (cpu : ℕ) (o : Option Program) →
 few_ops image name cpu None admitted e = omega arith
 few_ops image name cpu (Some p) admitted e = (All_from_find (is_program_of name cpu) IsSoundProgram image.programs p e admitted.programs).few
 
-pub program_of_few : (image : Image) (name : List ℕ) (cpu : ℕ) → IsAdmitted image → length (program_of image name cpu) ≤ 4096
-unfolding program_of
-program_of_few image name cpu admitted = few_ops image name cpu (find (is_program_of name cpu) image.programs) admitted refl
-
 at_op : (ops : List Op) (i : ℕ) (op : Op) → All IsWellFormed ops → slice_get ops i ≡ Some op → IsWellFormed op
 at_op ops i op all e =
     let within : i < length ops = slice_get_within ops i op e in
