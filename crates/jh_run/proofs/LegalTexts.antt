@@ -1,10 +1,8 @@
 -- The entries of a legal journal are ones that a text may hold.
-use Rattle.std.proofs.Common.{◌≡◌, ℕ, ◌^◌, ◌<◌, ◌≤◌, List, [], ◌∷◌, ◌++◌, length, slice_get, Option, Some, None, Bool, refl, sym, subst, append_assoc, arith}
-use Rattle.std.specs.Prelude.{All, find}
+use Rattle.std.proofs.Common.{◌≡◌, ℕ, ◌^◌, ◌<◌, ◌≤◌, List, [], ◌∷◌, ◌++◌, length, slice_get, Some, refl, sym, subst, append_assoc}
+use Rattle.std.specs.Prelude.{All}
 use Rattle.std.specs.List.{AllByRecursion}
-use Rattle.std.specs.Option.{option_map_or}
 use Rattle.std.proofs.lemmas.Option.{slice_get_within, get_or_from_slice_get}
-use Rattle.jh_num.proofs.Lists.{All_from_find}
 use Rattle.jh_cellcfg.specs.declared.config.CellConfig.{CellConfig}
 use Rattle.jh_cellcfg.specs.Cells.{name_of}
 use Rattle.jh_script.specs.declared.image.Image.{Image}
@@ -42,11 +40,6 @@ pub record JournalLaws : Type 0 where
 
 got_all : {X : Type 0} (P : X → Type 0) (xs : List X) (i : ℕ) (x : X) → All P xs → slice_get xs i ≡ Some x → P x
 got_all P xs i x all e = subst P (get_or_from_slice_get xs i x x e) (all i x (slice_get_within xs i x e))
-
-found_ops : (Q : Op → Type 0) (programs : List Program) (test : Program → Bool) (o : Option Program) → find test programs ≡ o → All (λ (p : Program). All Q p.ops) programs
-    → All Q (option_map_or (λ (p : Program). p.ops) o [])
-found_ops Q programs test None e all = λ k d lt. absurd (omega (arith, lt))
-found_ops Q programs test (Some p) e all = All_from_find test (λ (q : Program). All Q q.ops) programs p e all
 
 -- the operation that the entry makes is within its limits, and its numbers are below the ends of their types
 record IsFitOp (op : Op) : Type 0 where
