@@ -17,6 +17,7 @@ use Rattle.jh_check.specs.Broken.{StandsAmong}
 use Rattle.jh_check.specs.Clean.{IsDevice, IsShmem, AreLinked, IsSection, IsStateTable, IsSectionRegion, IsGoodDevice, DevicesAreGood, DevicesAreSingle, AgreesWith, LinksAgree, IsSoundBitmap, CpusAreFew}
 use Rattle.jh_check.proofs.BoolLemmas.{false_from_not, not_both}
 use Rattle.jh_check.proofs.CleanLemmas.{get_take, take_get, any_at, any_of, and_rest}
+use Rattle.jh_cellcfg.proofs.Found.{pointwise_same}
 
 -- ---- lists by number
 
@@ -37,16 +38,6 @@ all_at p (y ∷ xs) t (suc i) x h = all_at p xs (and_parts (p y) (list_all p xs)
 pub all_from : {X : Type 0} (p : X → Bool) (xs : List X) → ((i : ℕ) (x : X) → slice_get xs i ≡ Some x → p x ≡ true) → list_all p xs ≡ true
 all_from p [] h = refl
 all_from p (y ∷ xs) h = and_from (p y) (list_all p xs) (h 0 y refl) (all_from p xs (λ i x k. h (suc i) x k))
-
-same_numbers : (xs ys : List ℕ) → pointwise nat_eq xs ys ≡ true → xs ≡ ys
-same_numbers [] [] h = refl
-same_numbers [] (y ∷ ys) h = absurd (false≢true h)
-same_numbers (x ∷ xs) [] h = absurd (false≢true h)
-same_numbers (x ∷ xs) (y ∷ ys) h =
-    let p = and_parts (nat_eq x y) (pointwise nat_eq xs ys) h in
-    let e : x ≡ y = eqb-true x y p.0 in
-    let f = same_numbers xs ys p.1 in
-    cc
 
 themselves : (xs : List ℕ) → pointwise nat_eq xs xs ≡ true
 themselves [] = refl
@@ -326,7 +317,7 @@ sound_from cell d peers bars all sound =
       few = leb-true d.shmem_peers 16 q.0;
       own = ltb-true d.shmem_dev_id d.shmem_peers q.1;
       vectors = leb-true d.num_msix_vectors 16 u.0;
-      bars = same_numbers d.bar_mask (bars_of d) u.1;
+      bars = pointwise_same d.bar_mask (bars_of d) u.1;
       exist = leb-true (d.shmem_regions_start + section_count d) (length cell.memory_regions) all;
       table = λ x h. table_parts x (table_at xs x v.0 (section_in cell d 0 x h));
       plain = λ k x h. plain_parts x (all_at is_section_region xs w.0 k x (section_in cell d k x h));

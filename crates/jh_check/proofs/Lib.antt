@@ -11,7 +11,7 @@ mod BusLemmas
 mod LinkLemmas
 mod SeatLemmas
 mod FitLemmas
-mod VerdictLemmas
+pub mod VerdictLemmas
 mod Tested
 mod FoundLemmas
 mod CleanLemmas
@@ -23,4 +23,4 @@ pub mod GivenLemmas
 pub mod RefusalLemmas
 pub mod CappedLemmas
 mod IdleLemmas
-mod MaskLemmas
+pub mod MaskLemmas

@@ -10,7 +10,7 @@ use Rattle.jh_check.specs.declared.seats.Seat.{Seat}
 use Rattle.jh_check.specs.Devices.{is_shmem, are_linked, are_same_memory, sections_of, agrees_with, agrees_with_all}
 use Rattle.jh_check.specs.Private.Seats.{seat_of, HasSeats, AgreesAt}
 use Rattle.jh_check.proofs.BoolLemmas.{and_right}
-use Rattle.jh_check.proofs.BusLemmas.{all_each}
+use Rattle.jh_num.proofs.Lists.{list_all_each}
 
 -- ---- side by side
 
@@ -56,8 +56,8 @@ agrees_seated cells number regions device seats has agree k cell other low withi
 
 pub agrees_linked : (cells : List CellConfig) (number : ℕ) (regions : List Region) (device : PciDevice) (seats : List Seat) → number ≤ length cells → HasSeats cells seats → ((x : Seat) → Contains seats x → x.bdf ≡ device.bdf → AgreesAt cells number regions device x) → agrees_with_all (take number cells) regions device ≡ true
 agrees_linked cells number regions device seats bound has agree =
-    all_each (λ (cell : CellConfig). list_all (λ (other : PciDevice). agrees_with regions device cell.memory_regions other) cell.pci_devices) (take number cells) (λ cell cc.
-    all_each (λ (other : PciDevice). agrees_with regions device cell.memory_regions other) cell.pci_devices (λ other co.
+    list_all_each (λ (cell : CellConfig). list_all (λ (other : PciDevice). agrees_with regions device cell.memory_regions other) cell.pci_devices) (take number cells) (λ cell cc.
+    list_all_each (λ (other : PciDevice). agrees_with regions device cell.memory_regions other) cell.pci_devices (λ other co.
     let k = cc.0 in
     let size = length-take number cells in
     let inside = cc.1 in

@@ -18,17 +18,13 @@ use Rattle.jh_check.specs.Findings.{rule_number, finding_of, spot, beside, besid
 use Rattle.jh_check.specs.Verdicts.{is_invalid, is_busy, verdict_by, verdict_of}
 use Rattle.jh_check.specs.declared.verdict.NewCell.TheVariants.{Invalid}
 use Rattle.jh_cellcfg.specs.declared.config.SystemConfig.{SystemConfig}
-use Rattle.jh_check.proofs.BoolLemmas.{and_right, and_both, and_first, and_second, or_none, same_number}
+use Rattle.jh_check.proofs.BoolLemmas.{and_right, and_both, and_first, and_second, or_none, same_number, or_right}
 use Rattle.jh_check.proofs.ListLemmas.{append_nil, is_any_append, any_only, found_drop, found_end}
 use Rattle.jh_check.proofs.BreakLemmas.{between_apart, joins_same}
 
-or_false : (b : Bool) → (b || false) ≡ b
+pub or_false : (b : Bool) → (b || false) ≡ b
 or_false true = refl
 or_false false = refl
-
-or_second : (a b : Bool) → b ≡ true → (a || b) ≡ true
-or_second true b h = refl
-or_second false b h = h
 
 only_false : (p : Finding → Bool) (test : Bool) (finding : Finding) → p finding ≡ false → list_any p (only_if test finding) ≡ false
 unfolding only_if
@@ -104,7 +100,7 @@ invalid_overlap n a r b s = and_second ((a == n) || (b == n)) false refl
 
 busy_own : (n a r s : ℕ) → is_busy n (finding_of CellsOverlap a r n s) ≡ true
 unfolding finding_of
-busy_own n a r s = and_both ((a == n) || (n == n)) true (or_second (a == n) (n == n) (same_number n)) refl
+busy_own n a r s = and_both ((a == n) || (n == n)) true (or_right (a == n) (n == n) (same_number n)) refl
 
 busy_other : (n a r b s : ℕ) → (a ≡ n → ⊥) → (b ≡ n → ⊥) → is_busy n (finding_of CellsOverlap a r b s) ≡ false
 unfolding finding_of

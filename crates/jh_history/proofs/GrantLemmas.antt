@@ -11,6 +11,7 @@ use Rattle.jh_history.specs.Access.{gives, right_of, place_in_cell, region_of, p
 use Rattle.jh_history.proofs.FactsLemmas.{same_function}
 use Rattle.jh_num.proofs.Lists.{IsFound_from_find}
 use Rattle.jh_history.proofs.AccessLemmas.{places_from_row, places_from_none}
+use Rattle.jh_mmio.proofs.IndexLemmas.{address_low}
 
 -- what ends at a page's border has all of the page or nothing
 page_below : (s at k : ℕ) → s % 4096 ≡ 0 → at % 4096 + k < 4096 → at < s → at + k < s
@@ -69,9 +70,6 @@ place_in_cell_further id r at k le = by_comm id r at k (is_comm r) le
 pub gives_has : (access : Access) (at : ℕ) (r : Region) → gives access at r ≡ true → IsTrue (has_address r at)
 gives_has access at r h = (and_parts (has_address r at) (is_page_mapped r) (and_parts (has_address r at && is_page_mapped r) (has_flags (right_of access) r) h).0).0
 
-pub has_start : (r : Region) (at : ℕ) → IsTrue (has_address r at) → r.virt_start ≤ at
-has_start r at h = leb-true r.virt_start at (and_parts (leb r.virt_start at) (ltb at (r.virt_start + r.size)) h).0
-
 pub has_some : (r : Region) (at : ℕ) → IsTrue (has_address r at) → 0 < r.size
 has_some r at h =
     let parts = and_parts (leb r.virt_start at) (ltb at (r.virt_start + r.size)) h in
@@ -85,7 +83,7 @@ pub places_from_page : (id : ℕ) (regions : List Region) (access : Access) (at 
 unfolding place_of
 places_from_page id regions access at count r within is =
     let passes = (IsFound_from_find (gives access at) regions r is).passes in
-    let low = has_start r at (gives_has access at r passes) in
+    let low = address_low r at (gives_has access at r passes) in
     places_from_row (place_of id regions access) (place_in_cell id r at) at count
     (λ k lt. ap (option_map (λ (s : Region). place_in_cell id s (at + k))) (region_of_same regions access at k (omega arith) ∙ is) ∙ ap Some (place_in_cell_further id r at k low))
 

@@ -15,6 +15,7 @@ use Rattle.jh_history.specs.declared.place.Place.{Place}
 use Rattle.jh_history.specs.Places.{further, places_in_row}
 use Rattle.jh_shape.specs.Lives.{configs_of, with_marks}
 use Rattle.jh_history.proofs.PlaceLemmas.{further_none, further_next}
+use Rattle.jh_check.proofs.VerdictLemmas.{or_false}
 
 pub any_found : {X : Type 0} (p : X → Bool) (xs : List X) (i : ℕ) (x : X) → i < length xs → x ≡ get_or xs i x → p x ≡ true → list_any p xs ≡ true
 any_found p xs i x lt is passes = list_any_at p xs i x lt (ap p (sym is) ∙ passes)
@@ -53,13 +54,8 @@ joined_read i cells marks c m even lt is =
     ∙ ap (λ (x : CellConfig). live_of x (get_or marks i (get_or marks i m))) (sym is)
     ∙ ap (λ (b : Bool). live_of c b) (sym (read_again marks i m (omega arith))))
 
--- a row of places
-or_none : (b : Bool) → (b || false) ≡ b
-or_none true = refl
-or_none false = refl
-
 row_more : (p : Place → Bool) (first : Place) (k : ℕ) → list_any p (places_in_row first (suc k)) ≡ (list_any p (places_in_row first k) || p (further first k))
-row_more p first zero = or_none (p first) ∙ ap p (sym (further_none first))
+row_more p first zero = or_false (p first) ∙ ap p (sym (further_none first))
 row_more p first (suc k) =
     ap (λ b. p first || b) (row_more p (further first 1) k)
     ∙ sym (or_assoc (p first) (list_any p (places_in_row (further first 1) k)) (p (further (further first 1) k)))

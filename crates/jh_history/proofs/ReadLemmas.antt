@@ -199,7 +199,7 @@ abbrev reaches : Reach → Bool
 reaches (Memory ps) = true
 reaches found = false
 
-nothing_memory : (ps : List Place) → Nothing ≡ Memory ps → ⊥
+pub nothing_memory : (ps : List Place) → Nothing ≡ Memory ps → ⊥
 nothing_memory ps e = both_ways true (ap reaches (sym e)) refl
 
 same_memory : (ps qs : List Place) → Memory ps ≡ Memory qs → ps ≡ qs

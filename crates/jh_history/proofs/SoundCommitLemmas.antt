@@ -23,8 +23,9 @@ use Rattle.jh_history.specs.Cpus.{end_in_root}
 use Rattle.jh_history.specs.Phases.{keeps_commit}
 use Rattle.jh_shape.specs.Lives.{configs_of, marked}
 use Rattle.jh_history.specs.Sound.{AreSoundCells, HasItsCpus, IsOwner, AreOwned, IsCalm, IsHalted, IsAsked, IsHalting, IsCaller, IsAboutLive, MayCome, IsNews, IsInPhase, IsOpen}
-use Rattle.jh_history.proofs.SoundCpusLemmas.{owned_kept, other_root, unknown_id, named_same, root_unnamed}
+use Rattle.jh_history.proofs.SoundCpusLemmas.{owned_kept, other_root, named_same, root_unnamed}
 use Rattle.jh_history.proofs.SoundDecideLemmas.{IsLate, open_late, board_few, absent_unnamed}
+use Rattle.jh_history.proofs.SpecsLemmas.{other_id}
 
 -- ---- the Commit of a call about a cell that lives
 
@@ -269,7 +270,7 @@ lent_has image configs cpu caller new config sound owned may held =
           (lent_or_kept new cpu i);
       named = λ i is.
           ⊎_elim
-          (λ lent. absurd (unknown_id (image.system.root ∷ configs) new config may.unknown (Contains_tail image.system.root configs config held) (sym is ∙ lent.1)))
+          (λ lent. absurd (other_id (image.system.root ∷ configs) new config may.unknown (Contains_tail image.system.root configs config held) (sym is ∙ lent.1)))
           (λ kept. has.named i (sym (ap (λ (c : Cpu). c.owner) kept.1) ∙ is))
           (lent_or_kept new cpu i);
       board = has.board;
@@ -279,8 +280,8 @@ lent_has image configs cpu caller new config sound owned may held =
 not_yet : (image : Image) (configs : List CellConfig) (cpu : ℕ → Cpu) (new : CellConfig) (i : ℕ) → AreOwned image configs cpu → is_known (image.system.root ∷ configs) new ≡ false → (cpu i).owner ≢ new.id
 not_yet image configs cpu new i owned unknown is =
     ⊎_elim
-    (λ root. unknown_id (image.system.root ∷ configs) new image.system.root unknown (Contains_head image.system.root configs) (sym root ∙ is))
-    (λ cell. unknown_id (image.system.root ∷ configs) new cell.0 unknown (Contains_tail image.system.root configs cell.0 cell.1) (sym cell.2 ∙ is))
+    (λ root. other_id (image.system.root ∷ configs) new image.system.root unknown (Contains_head image.system.root configs) (sym root ∙ is))
+    (λ cell. other_id (image.system.root ∷ configs) new cell.0 unknown (Contains_tail image.system.root configs cell.0 cell.1) (sym cell.2 ∙ is))
     (owned.others i)
 
 -- and the new one has those of its set
@@ -323,7 +324,7 @@ open_created image cells cpu caller at new sound owned opens =
     let configs : List CellConfig = configs_of cells in
     let all : List CellConfig = configs ++ new ∷ [] in
     let may : MayCome image configs cpu caller new = opens.phase.1 in
-    let apart : root ≢ new.id = unknown_id (image.system.root ∷ configs) new image.system.root may.unknown (Contains_head image.system.root configs) in
+    let apart : root ≢ new.id = other_id (image.system.root ∷ configs) new image.system.root may.unknown (Contains_head image.system.root configs) in
     let next = told_first image all (cell_lent new cpu) caller new.id (Create at) (pos new.id) cells
     (λ live held _. Contains-append_left configs (new ∷ []) live.config (Contains_map (λ (l : Live). l.config) cells live held))
     (new, Contains-push configs new, refl, refl) in

@@ -158,7 +158,7 @@ acted_follow image f cell (Finish answer) apart = follow_same f.endpoints
 
 -- ---- a cell comes
 
-nothing_in : {X : Type 0} (x : X) → Contains [] x → ⊥
+pub nothing_in : {X : Type 0} (x : X) → Contains [] x → ⊥
 nothing_in x h = let below : h.0 < 0 = h.1 in omega arith
 
 specs_open : (image : Image) (now : List EndpointSpec) → HaveJoined [] (specs_of image.system.root) now → AreSpecs image [] now
@@ -234,7 +234,7 @@ beside_cell gone id x of other s h =
     and_left (eqb x.cell s.cell) (eqb x.device s.device) (ne_eqb x.cell s.cell (λ same. other s h (same ∙ of s h)))
 
 -- the endpoint of a cell's device has the cell's id
-spec_cell : (config : CellConfig) (s : EndpointSpec) → Contains (specs_of config) s → s.cell ≡ config.id
+pub spec_cell : (config : CellConfig) (s : EndpointSpec) → Contains (specs_of config) s → s.cell ≡ config.id
 spec_cell config s h = ap (λ (x : EndpointSpec). x.cell) (specs_device config s h).is
 
 specs_go : (image : Image) (configs : List CellConfig) (id : ℕ) (specs gone now : List EndpointSpec) → AreSpecs image configs specs → AreOfCell image configs id gone → HaveLeft specs gone now

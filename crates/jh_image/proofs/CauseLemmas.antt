@@ -46,7 +46,7 @@ not_oversize contents name bytes told has over =
     let same : bytes ≡ over.bytes = bytes_one contents name bytes over.bytes told has.handed over.handed in
     omega (arith, ap length same)
 
-ok_err : {X E : Type 0} (r : Result X E) (x : X) (e : E) → r ≡ Ok x → r ≡ Err e → ⊥
+pub ok_err : {X E : Type 0} (r : Result X E) (x : X) (e : E) → r ≡ Ok x → r ≡ Err e → ⊥
 ok_err r x e h k = let same : r ≡ Ok x = h in cc
 
 -- ---- the board's own file

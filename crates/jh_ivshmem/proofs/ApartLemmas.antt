@@ -3,16 +3,12 @@ use Rattle.std.proofs.Common.{ℕ, ◌≡◌, ◌≢◌, ◌<◌, Bool, true, fa
 use Rattle.std.proofs.lemmas.Bool.{cases_Bool, cases_eq, cases_lt}
 use Rattle.std.proofs.lemmas.Bool.Decides.{nat_tests}
 use Rattle.std.proofs.lemmas.List.{length-set, length-map, get_or-map, get_or-set_same, get_or-set_other, get_or_default, same_lists}
-use Rattle.jh_vpci.proofs.BitLemmas.{equals}
+use Rattle.jh_vpci.proofs.BitLemmas.{equals, both}
 use Rattle.jh_ivshmem.specs.declared.endpoint.Endpoint.{Endpoint}
 use Rattle.jh_ivshmem.specs.declared.spec.EndpointSpec.{EndpointSpec}
 use Rattle.jh_ivshmem.specs.Specs.{is_device, is_peer, AreEndpointsApart}
 use Rattle.jh_ivshmem.specs.Changes.{changed}
 use Rattle.jh_ivshmem.specs.Keys.{key_of, is_key_apart}
-
-both_true : (a b : Bool) → (a && b) ≡ true → (a ≡ true) × (b ≡ true)
-both_true true b h = (refl, h)
-both_true false b h = cc
 
 never : (b : Bool) → b ≡ true → b ≡ false → ⊥
 never b h g = cc
@@ -20,12 +16,12 @@ never b h g = cc
 -- the two numbers that name an endpoint
 pub device_is : (cell device : ℕ) (a : EndpointSpec) → is_device cell device a ≡ true → (a.cell ≡ cell) × (a.device ≡ device)
 device_is cell device a h =
-    let both = both_true (a.cell == cell) (a.device == device) h in
+    let both = both (a.cell == cell) (a.device == device) h in
     (equals a.cell cell both.0, equals a.device device both.1)
 
 pub peer_is : (bdf id : ℕ) (a : EndpointSpec) → is_peer bdf id a ≡ true → (a.bdf ≡ bdf) × (a.id ≡ id)
 peer_is bdf id a h =
-    let both = both_true (a.bdf == bdf) (a.id == id) h in
+    let both = both (a.bdf == bdf) (a.id == id) h in
     (equals a.bdf bdf both.0, equals a.id id both.1)
 
 -- of two that are apart not both have the name

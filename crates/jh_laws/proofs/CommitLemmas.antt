@@ -31,7 +31,8 @@ use Rattle.jh_history.specs.Sound.{IsInPhase, IsOpen, IsSound}
 use Rattle.jh_laws.specs.Ways.{is_phase, is_commit, is_finish, call_begun, begun}
 use Rattle.jh_history.proofs.SoundLemmas.{sound_after, legal_sound}
 use Rattle.jh_history.proofs.PlainStepLemmas.{after_call, after_cells}
-use Rattle.jh_laws.proofs.CallLemmas.{Expects, phase_expects, phase_of_due, phase_goes, sound_open, call_counted, IsBeside, entry_of_call, along, stretch, begun_of, past_from, not_same, IsPast}
+use Rattle.jh_laws.proofs.CallLemmas.{Expects, phase_expects, phase_of_due, phase_goes, call_counted, IsBeside, entry_of_call, along, stretch, begun_of, past_from, not_same, IsPast}
+use Rattle.jh_history.proofs.DueComesLemmas.{call_open}
 
 -- no other entry than a Commit changes which cells live
 kept_by : (call : Option OpenCall) (cells : List Live) (act : Act) → is_commit act ≡ false → cells_by call cells act ≡ cells
@@ -69,7 +70,7 @@ commit_of image before rest entry first admitted legal act is =
     let due : due_at image f entry.cpu ≡ Some entry = due_split image before rest entry legal in
     let of = phase_of_due image f entry sound due (ap is_phase act) in
     let o : OpenCall = of.o in
-    let opens : IsOpen image (configs_of f.cells) f.cpu o = sound_open image f o sound of.opens in
+    let opens : IsOpen image (configs_of f.cells) f.cpu o = call_open image f o sound of.opens in
     let begins = begun_of image before o of.opens in
     let call : o.call ≡ call_begun first.act = begins.3 ∙ ap (λ (e : Entry). call_begun e.act) (same_Some begins.0 first (sym begins.1 ∙ is)) in
     let P : Call → Type 0 = λ k. IsInPhase image (configs_of f.cells) f.cpu entry.cpu k o.phase in

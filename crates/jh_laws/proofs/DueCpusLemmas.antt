@@ -38,7 +38,7 @@ use Rattle.jh_history.specs.Pages.{named_cell}
 use Rattle.jh_history.specs.Wants.{goes_on, pending_op}
 use Rattle.jh_history.specs.Phases.{phase_act, keeps_decide, keeps_commit, decision, is_down, is_over, settled_by, settled_of, heard_by, heard_of, state_word, reply_word}
 use Rattle.jh_shape.specs.Lives.{configs_of}
-use Rattle.jh_history.specs.Due.{due_at, entry_of, entry_by, next_act, state_act, act_of, await_of, got_by, caller_act, is_idle_but}
+use Rattle.jh_history.specs.Due.{due_at, entry_of, next_act, state_act, act_of, await_of, got_by, caller_act, is_idle_but}
 use Rattle.jh_history.specs.Admitted.{IsAdmitted}
 use Rattle.jh_history.specs.Sound.{AreSoundCells, IsHalted, IsAsked, IsHalting, IsCaller, IsOpen, IsSound}
 use Rattle.jh_laws.specs.Ends.{IsAnswered, IsReadBy, IsGotBy}
@@ -47,10 +47,11 @@ use Rattle.jh_history.proofs.SoundCpusLemmas.{calm_goes, goes_calm, goes_running
 use Rattle.jh_history.proofs.SoundDecideLemmas.{board_few, halted_to_decide, found_live}
 use Rattle.jh_history.proofs.SoundCommitLemmas.{halted_to_commit, named_board}
 use Rattle.jh_history.proofs.SoundDueLemmas.{IsOfProgram, state_parts}
-use Rattle.jh_laws.proofs.CallLemmas.{sound_open}
 use Rattle.jh_laws.proofs.HeldLemmas.{found_by_id}
 use Rattle.jh_laws.proofs.PendingLemmas.{next_some_holds, next_is}
 use Rattle.jh_laws.proofs.EndsLemmas.{got_of_cell, one_value, width_some, ops_plain}
+use Rattle.jh_history.proofs.DueComesLemmas.{call_open}
+use Rattle.jh_history.proofs.DueLemmas.{is_some_entry}
 
 -- ---- what an operation comes to
 
@@ -92,15 +93,11 @@ due_op image f id (HvcOp code a b) sound plain due = refl
 
 -- ---- what is due, by the act
 
-some_entry : (cpu cell : ℕ) (o : Option Act) → is_some (option_map (entry_by cpu cell) o) ≡ is_some o
-some_entry cpu cell None = refl
-some_entry cpu cell (Some act) = refl
-
 due_on : (image : Image) (f : Facts) (cpu : ℕ) → is_on_board image cpu ≡ true → is_some (due_at image f cpu) ≡ is_some (next_act image f (f.cpu cpu) cpu)
 unfolding due_at
 due_on image f cpu on =
     let here : cond (is_on_board image cpu) (entry_of image f (f.cpu cpu) cpu) None ≡ entry_of image f (f.cpu cpu) cpu = rw on refl in
-    ap (λ (o : Option Entry). is_some o) here ∙ some_entry cpu (f.cpu cpu).owner (next_act image f (f.cpu cpu) cpu)
+    ap (λ (o : Option Entry). is_some o) here ∙ is_some_entry cpu (f.cpu cpu).owner (next_act image f (f.cpu cpu) cpu)
 
 due_off : (image : Image) (f : Facts) (cpu : ℕ) → is_on_board image cpu ≡ false → is_some (due_at image f cpu) ≡ false
 unfolding due_at
@@ -520,7 +517,7 @@ ready_by image f cpu None admitted sound is h =
     ⊎_elim (λ asked. inl asked) (λ program. inr (inr program))
     (state_ready image f cpu admitted sound (λ o opens. absurd (none-some o (sym is ∙ opens))) (sym (ap (λ (a : Option Act). is_some a) (next_none image f cpu is)) ∙ h))
 ready_by image f cpu (Some o) admitted sound is h =
-    let opens = sound_open image f o sound is in
+    let opens = call_open image f o sound is in
     ⊎_elim
     (λ (own : eqb o.caller cpu ≡ true).
     let same : o.caller ≡ cpu = eqb-true o.caller cpu own in
@@ -547,7 +544,7 @@ state_next image f cpu (Some o) is none = next_some image f cpu o false is (ne_e
 -- a CPU that is asked made no call
 asked_none : (image : Image) (f : Facts) (cpu : ℕ) → IsSound image f → (f.cpu cpu).asked ≡ true → (o : OpenCall) → f.call ≡ Some o → o.caller ≢ cpu
 asked_none image f cpu sound asked o is own =
-    let caller = (sound_open image f o sound is).caller in
+    let caller = (call_open image f o sound is).caller in
     let P : ℕ → Type 0 = λ k. (f.cpu k).asked ≡ false in
     both_ways (f.cpu cpu).asked (subst P own caller.calm.asked) asked
 
@@ -560,7 +557,7 @@ due_from_ready image f cpu admitted sound ready =
     ⊎_elim
     (λ (caller : IsReadyCaller image f cpu).
     let o : OpenCall = caller.0 in
-    let opens = sound_open image f o sound caller.1 in
+    let opens = call_open image f o sound caller.1 in
     ap (λ (a : Option Act). is_some a) (own_next image f o cpu caller.1 caller.2 opens.caller) ∙ ready_phase image f o.caller o.call o.phase sound caller.1 opens caller.3)
     (λ (program : IsReadyProgram image f cpu). ap (λ (a : Option Act). is_some a) (state_next image f cpu f.call refl program.none) ∙ program_state image f cpu admitted sound program)
     rest)

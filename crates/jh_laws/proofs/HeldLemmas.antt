@@ -1,9 +1,8 @@
 -- What live cells are granted on a sound board.
 use Rattle.std.proofs.Common.{◌≡◌, ◌≢◌, ℕ, suc, ◌+◌, ◌-◌, ◌<◌, ◌≤◌, List, [], Bool, true, false, cond, eqb, length, get_or, map, Option, Some, None, refl, sym, ap, subst, ◌∙◌, inl, inr, ⊎_elim, arith}
-use Rattle.std.specs.Prelude.{Contains, find, option_map, option_and_then, slice_get, nat_eq}
+use Rattle.std.specs.Prelude.{Contains, find, option_map, option_and_then, slice_get}
 use Rattle.std.specs.Option.{option_map_or}
-use Rattle.std.specs.Cmp.Lexicographic.{pointwise}
-use Rattle.std.proofs.lemmas.Bool.{both_ways, or_parts, and_parts, and_from, eqb-true, eq-eqb, ne_eqb, cases_lt, false_from_ne_true}
+use Rattle.std.proofs.lemmas.Bool.{both_ways, and_parts, and_from, eqb-true, eq-eqb, ne_eqb, cases_lt, false_from_ne_true}
 use Rattle.std.proofs.lemmas.Option.{none-some, same_Some, slice_get-get_or, get_or_from_slice_get}
 use Rattle.jh_num.specs.declared.address.TheConstants.{ADDRESS_END}
 use Rattle.jh_num.proofs.Lists.{IsOnly, IsFound_from_find, find_only, find_some, Contains_from_map}
@@ -12,7 +11,6 @@ use Rattle.jh_cellcfg.specs.declared.config.SystemConfig.{SystemConfig}
 use Rattle.jh_cellcfg.specs.declared.live.Live.{Live}
 use Rattle.jh_cellcfg.specs.declared.region.Region.{Region}
 use Rattle.jh_cellcfg.specs.Lives.{has_id}
-use Rattle.jh_cellcfg.specs.Cells.{name_of}
 use Rattle.jh_cellcfg.specs.Regions.{has_flags, has_address, virt_end, is_comm}
 use Rattle.jh_check.specs.Laws.{IsNumbered}
 use Rattle.jh_check.specs.Refusals.{AreTwo}
@@ -35,13 +33,9 @@ use Rattle.jh_laws.specs.Held.{IsRootOrLive, IsLeft, IsGrantedTo}
 use Rattle.jh_laws.proofs.RootLemmas.{has_address_first, has_address_last, has_address_from, gives_address, gives_pages, gives_right, gives_from}
 use Rattle.jh_history.proofs.SoundCpusLemmas.{other_root}
 use Rattle.jh_history.proofs.SoundDecideLemmas.{found_live}
+use Rattle.jh_history.proofs.FewLemmas.{two_ids}
 
 -- ---- live cells by their ids
-
--- two cells at different places of the list differ
-pub two_ids : (earlier later : CellConfig) → AreTwo earlier later → earlier.id ≢ later.id
-two_ids earlier later two is =
-    both_ways (eqb earlier.id later.id) (or_parts (eqb earlier.id later.id) (pointwise nat_eq (name_of earlier) (name_of later)) two).0 (eq-eqb earlier.id later.id is)
 
 pub at_same : (xs : List CellConfig) (i : ℕ) (a b : CellConfig) → i < length xs → get_or xs i a ≡ a → get_or xs i b ≡ b → a ≡ b
 at_same xs i a b lt is_a is_b = sym is_a ∙ get_or_from_slice_get xs i (get_or xs i b) a (slice_get-get_or xs i b lt) ∙ is_b

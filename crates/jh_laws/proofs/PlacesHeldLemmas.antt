@@ -66,6 +66,7 @@ use Rattle.jh_laws.proofs.WordLemmas.{IsByteAt, IsApart, slot_cases, slot_other,
 use Rattle.jh_laws.proofs.HeldLemmas.{at_same}
 use Rattle.jh_laws.proofs.StoredLemmas.{IsGivenTo, listed_at, byte_put, IsStored, IsWord, placed, places_given}
 use Rattle.jh_history.proofs.SoundLemmas.{legal_sound}
+use Rattle.jh_history.proofs.SoundEndpointsLemmas.{spec_cell}
 
 -- ---- places
 
@@ -394,9 +395,6 @@ changing_is image f entry spec sound held =
 abbrev pub IsOwnerOf : Image → Facts → Entry → CellConfig → ℕ → ℕ → Type 0
 IsOwnerOf image f entry holder number id =
     IsOwnOrLinked f.cells holder number id ⊎ IsOwnOrLinked (cells_after f entry) holder number id ⊎ (id ≡ image.system.root.id)
-
-spec_cell : (config : CellConfig) (spec : EndpointSpec) → Contains (specs_of config) spec → spec.cell ≡ config.id
-spec_cell config spec own = ap (λ (t : EndpointSpec). t.cell) (spec_is config spec own).is
 
 coming_owner : (image : Image) (f : Facts) (entry : Entry) (live : Live) (number : ℕ) (region : Region) (place : ℕ) (config : CellConfig) → IsHeld f.cells live number region place → IsClean image.system (configs_of f.cells ++ config ∷ [])
     → configs_of (cells_after f entry) ≡ configs_of f.cells ++ config ∷ [] → HasPlace config place → IsOwnerOf image f entry live.config number config.id

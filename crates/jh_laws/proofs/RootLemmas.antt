@@ -7,7 +7,7 @@ use Rattle.std.proofs.lemmas.Bool.{and_parts, and_from, eqb-true, leb-true, ltb-
 use Rattle.std.proofs.lemmas.Slice.Eq.{bytes_eq-Decides}
 use Rattle.std.proofs.lemmas.Option.{slice_get_within, get_or_from_slice_get}
 use Rattle.jh_num.specs.declared.address.TheConstants.{ADDRESS_END}
-use Rattle.jh_num.proofs.Lists.{IsOnly, All_from_find, find_only, find_nothing}
+use Rattle.jh_num.proofs.Lists.{IsOnly, find_only, find_nothing}
 use Rattle.jh_num.proofs.Booleans.{same_number}
 use Rattle.jh_cellcfg.specs.declared.region.Region.{Region}
 use Rattle.jh_cellcfg.specs.Regions.{has_flags, has_address, is_page_mapped, is_comm, virt_end}
@@ -19,7 +19,7 @@ use Rattle.jh_script.specs.declared.op.Op.{Op}
 use Rattle.jh_script.specs.Operations.{IsWellFormed}
 use Rattle.jh_history.specs.declared.access.Access.{Access}
 use Rattle.jh_history.specs.Access.{gives, right_of}
-use Rattle.jh_history.specs.Admitted.{IsAdmitted, IsSoundProgram}
+use Rattle.jh_history.specs.Admitted.{IsAdmitted}
 use Rattle.jh_history.specs.Lives.{is_program_of, program_of, is_on_board}
 use Rattle.jh_history.proofs.AdmittedLemmas.{sound_root, program_of_plain}
 
@@ -74,15 +74,6 @@ few_cpus image admitted cpu on =
       | inl lt ↦ lt
       | inr le ↦ absurd (both_ways (is_on_board image cpu) (zero_names image.system.root.cpu_set cpu (bitmap.few (cpu / 8) (omega arith))) on)
     ]
-
--- a program is of so many operations at most, each within its limits
-few_ops : (image : Image) (name : List ℕ) (cpu : ℕ) (o : Option Program) → IsAdmitted image → find (is_program_of name cpu) image.programs ≡ o → length (option_map_or (λ (p : Program). p.ops) o []) ≤ 4096
-few_ops image name cpu None admitted e = omega arith
-few_ops image name cpu (Some p) admitted e = (All_from_find (is_program_of name cpu) IsSoundProgram image.programs p e admitted.programs).few
-
-pub program_of_few : (image : Image) (name : List ℕ) (cpu : ℕ) → IsAdmitted image → length (program_of image name cpu) ≤ 4096
-unfolding program_of
-program_of_few image name cpu admitted = few_ops image name cpu (find (is_program_of name cpu) image.programs) admitted refl
 
 at_op : (ops : List Op) (i : ℕ) (op : Op) → All IsWellFormed ops → slice_get ops i ≡ Some op → IsWellFormed op
 at_op ops i op all e =

@@ -55,7 +55,7 @@ use Rattle.jh_laws.specs.Grants.{place_behind}
 use Rattle.jh_laws.specs.Held.{IsGrantedTo}
 use Rattle.jh_laws.specs.Ends.{IsAnswered, IsAnsweredByWindow, IsReadBy, IsGotBy}
 use Rattle.jh_laws.specs.Typed.{OpensTyped, TellsTyped}
-use Rattle.jh_laws.proofs.CallLemmas.{IsMadeBy, Stopping, Running, Calling, made_by, phase_of_due, sound_open}
+use Rattle.jh_laws.proofs.CallLemmas.{IsMadeBy, Stopping, Running, Calling, made_by, phase_of_due}
 use Rattle.jh_laws.proofs.DevicesLemmas.{endpoint_held}
 use Rattle.jh_laws.proofs.EndsLemmas.{got_of_cell, ops_plain, width_some}
 use Rattle.jh_laws.proofs.FewCellsLemmas.{AreTyped, IsTypedPhase, IsTypedBoard, few_typed, legal_typed, typed_phase}
@@ -63,6 +63,7 @@ use Rattle.jh_laws.proofs.FewLemmas.{length_map}
 use Rattle.jh_laws.proofs.PendingLemmas.{endpoint_of_pending, next_is}
 use Rattle.jh_laws.proofs.RefusalLemmas.{FitsRefusal, refusal_fits}
 use Rattle.jh_laws.proofs.RegisterLemmas.{HasRegisters, register_small}
+use Rattle.jh_history.proofs.DueComesLemmas.{call_open}
 
 -- ---- the value of an access
 
@@ -260,7 +261,7 @@ made_told image f entry admitted sound typed due (Calling phase) =
     let of = phase_of_due image f entry sound due phase in
     let o = of.o in
     let act = phase_act_holds image f (is_idle_but image f o.caller) o.caller o.call o.phase entry.act of.act in
-    in_phase image f o.caller o.call o.phase entry.act act (sound_open image f o sound of.opens).phase typed.cells (typed_phase f.call o of.opens typed.call) (refusal_fits image f entry sound due)
+    in_phase image f o.caller o.call o.phase entry.act act (call_open image f o sound of.opens).phase typed.cells (typed_phase f.call o of.opens typed.call) (refusal_fits image f entry sound due)
 made_told image f entry admitted sound typed due (Running program) =
     let state : Cpu = f.cpu entry.cpu in
     let plain = ops_plain image entry.cpu (cell_in image f.cells state.owner) state.position program.op admitted program.at in

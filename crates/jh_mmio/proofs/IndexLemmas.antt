@@ -11,7 +11,7 @@ use Rattle.jh_cellcfg.specs.declared.region.Region.{Region}
 use Rattle.jh_cellcfg.specs.Regions.{has_address}
 use Rattle.jh_mmio.specs.Index.{SharesNoAddress, IsNumberAt, AreNumbers, IsOrder, size_at, start_at}
 
-address_low : (r : Region) (at : ℕ) → IsTrue (has_address r at) → r.virt_start ≤ at
+pub address_low : (r : Region) (at : ℕ) → IsTrue (has_address r at) → r.virt_start ≤ at
 address_low r at h = grind (arith, nat_tests)
 
 address_high : (r : Region) (at : ℕ) → IsTrue (has_address r at) → at < r.virt_start + r.size
@@ -20,7 +20,7 @@ address_high r at h = grind (arith, nat_tests)
 pub has_address_from : (r : Region) (at : ℕ) → r.virt_start ≤ at → at < r.virt_start + r.size → IsTrue (has_address r at)
 has_address_from r at low high = grind (arith, nat_tests)
 
-leb_at : (a b : ℕ) → leb a b ≡ true → a ≤ b
+pub leb_at : (a b : ℕ) → leb a b ≡ true → a ≤ b
 leb_at a b h = grind (arith, nat_tests)
 
 leb_not : (a b : ℕ) → leb a b ≡ false → a ≤ b → ⊥

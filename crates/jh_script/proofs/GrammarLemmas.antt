@@ -20,7 +20,8 @@ use Rattle.jh_script.specs.Numbers.{are_digits, value_of, decimal_of, hexadecima
 use Rattle.jh_script.specs.Words.{words, blanks}
 use Rattle.jh_script.specs.Operations.{none_of, one_of, two_of, three_of, op_of, is_well_formed, IsWellFormed, line_of, line_of_op, line_of_words}
 use Rattle.jh_script.specs.Grammar.{IsDecimal, IsNumber, IsCallOf0, IsCallOf1, IsCallOf2, IsCallOf3, are_ascii, IsSkipped, IsTooWide, Writes}
-use Rattle.jh_script.proofs.OperationLemmas.{both, plain, plain_from}
+use Rattle.jh_script.proofs.OperationLemmas.{plain, plain_from}
+use Rattle.jh_cellcfg.proofs.Found.{and_splits}
 
 -- ---- numbers
 
@@ -28,7 +29,7 @@ digits_to : (base : ℕ) (ds : List ℕ) → are_digits base ds ≡ true → All
 unfolding are_digits
 digits_to base [] h = tt
 digits_to base (d ∷ ds) h =
-    let parts = both (ltb (digit_value d) base) (are_digits base ds) h in
+    let parts = and_splits (ltb (digit_value d) base) (are_digits base ds) h in
     (ltb-true (digit_value d) base parts.0, digits_to base ds parts.1)
 
 digits_from : (base : ℕ) (ds : List ℕ) → AllDigits base ds → are_digits base ds ≡ true
@@ -48,7 +49,7 @@ value_to base ds n e = by (are_digits base ds && ltb (digits_value base ds) (2 ^
     by : (t : Bool) → (are_digits base ds && ltb (digits_value base ds) (2 ^ 64)) ≡ t → cond t (Some (digits_value base ds)) None ≡ Some n → HasValue base ds n
     by false h e = absurd (none-some _ e)
     by true h e =
-        let parts = both (are_digits base ds) (ltb (digits_value base ds) (2 ^ 64)) h in
+        let parts = and_splits (are_digits base ds) (ltb (digits_value base ds) (2 ^ 64)) h in
         let value : digits_value base ds ≡ n = same_Some _ _ e in
         let small : digits_value base ds < 2 ^ 64 = ltb-true (digits_value base ds) (2 ^ 64) parts.1 in
         record { all = digits_to base ds parts.0; value = value; small = omega arith }
@@ -111,7 +112,7 @@ hexadecimal_to digits n e = by (ltb 0 (length digits) && leb (length digits) 16)
     by : (t : Bool) → (ltb 0 (length digits) && leb (length digits) 16) ≡ t → cond t (value_of 16 digits) None ≡ Some n → (0 < length digits) × (length digits ≤ 16) × HasValue 16 digits n
     by false h e = absurd (none-some _ e)
     by true h e =
-        let parts = both (ltb 0 (length digits)) (leb (length digits) 16) h in
+        let parts = and_splits (ltb 0 (length digits)) (leb (length digits) 16) h in
         (ltb-true 0 (length digits) parts.0, leb-true (length digits) 16 parts.1, value_to 16 digits n e)
 
 hexadecimal_from : (digits : List ℕ) (n : ℕ) → 0 < length digits → length digits ≤ 16 → HasValue 16 digits n → hexadecimal_of digits ≡ Some n
@@ -121,11 +122,11 @@ hexadecimal_from digits n some few h = rw (lt-ltb 0 (length digits) some, le-leb
 marked : (word : List ℕ) → starts_with nat_eq word (codes "0x") ≡ true → word ≡ 48 ∷ 120 ∷ drop 2 word
 marked [] h = absurd (false≢true h)
 marked (a ∷ []) h =
-    let parts = both (eqb 48 a) false h in
+    let parts = and_splits (eqb 48 a) false h in
     absurd (false≢true parts.1)
 marked (a ∷ b ∷ rest) h =
-    let parts = both (eqb 48 a) (eqb 120 b && true) h in
-    let second = both (eqb 120 b) true parts.1 in
+    let parts = and_splits (eqb 48 a) (eqb 120 b && true) h in
+    let second = and_splits (eqb 120 b) true parts.1 in
     ap (λ x. x ∷ b ∷ rest) (sym (eqb-true 48 a parts.0)) ∙ ap (λ x. 48 ∷ x ∷ rest) (sym (eqb-true 120 b second.0))
 
 pub number_to : (word : List ℕ) (n : ℕ) → number_written word ≡ Some n → IsNumber word n

@@ -19,7 +19,7 @@ unfolding value_after
 value_after_all base n ds i h = at_drop_all (value_after base n) ds i h
 
 -- more digits make no smaller number
-value_ge : (base n : ℕ) (ds : List ℕ) → 0 < base → n ≤ digits_value_after base n ds
+pub value_ge : (base n : ℕ) (ds : List ℕ) → 0 < base → n ≤ digits_value_after base n ds
 value_ge base n [] some = omega arith
 value_ge base n (d ∷ ds) some =
     omega (arith, le-mul_of_pos_right {m = base} n some, value_ge base (n * base + digit_value d) ds some)

@@ -5,20 +5,17 @@ use Rattle.jh_script.specs.declared.op.Op.{Op}
 use Rattle.jh_script.specs.declared.op.Op.TheVariants.{Read, Write, Fetch, Await, Irq, Hvc}
 use Rattle.jh_script.specs.declared.line.Line.TheVariants.{Operation, Width}
 use Rattle.jh_script.specs.Operations.{IsWellFormed, IsWellFormedLine, is_well_formed, is_width, line_of_op}
-
-pub both : (a b : Bool) → (a && b) ≡ true → (a ≡ true) × (b ≡ true)
-both true b h = (refl, h)
-both false b h = absurd (false≢true h)
+use Rattle.jh_cellcfg.proofs.Found.{and_splits}
 
 pub plain : (op : Op) → is_well_formed op ≡ true → IsWellFormed op
 unfolding is_well_formed
 plain (Read width at) h = h
 plain (Write width at value) h =
-    let parts = both (is_width width) (ltb value (256 ^ width)) h in
+    let parts = and_splits (is_width width) (ltb value (256 ^ width)) h in
     (parts.0, ltb-true value (256 ^ width) parts.1)
 plain (Fetch at) h = eqb-true (at % 4) 0 h
 plain (Await width at value) h =
-    let parts = both (is_width width) (ltb value (256 ^ width)) h in
+    let parts = and_splits (is_width width) (ltb value (256 ^ width)) h in
     (parts.0, ltb-true value (256 ^ width) parts.1)
 plain Irq h = tt
 plain (Hvc code a b) h = tt

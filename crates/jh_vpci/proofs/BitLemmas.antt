@@ -16,7 +16,7 @@ abbrev each_below : ℕ → (ℕ → Bool) → Bool
 each_below zero p = true
 each_below (suc n) p = p n && each_below n p
 
-both : (a b : Bool) → (a && b) ≡ true → (a ≡ true) × (b ≡ true)
+pub both : (a b : Bool) → (a && b) ≡ true → (a ≡ true) × (b ≡ true)
 both true true h = (refl, refl)
 both true false h = cc
 both false b h = cc
