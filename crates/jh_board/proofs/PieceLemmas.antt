@@ -156,13 +156,6 @@ written_piece old new a n v bytes few is put same (Physical q) =
     ∙ ap (λ (x : ℕ). written (byte_of old) (places_in_row (Physical a) n) x (Physical q)) (div-one v)
 written_piece old new a n v bytes few is put same (Page cell offset) = ap (λ (pages : Pages). comm_byte pages cell offset) same ∙ sym (written_elsewhere (byte_of old) a n v cell offset)
 
--- a number of no bytes is one of any
-pub fits_zero : (n : ℕ) → 0 < 256 ^ n
-fits_zero n =
-    let least : 0 ≤ n = omega arith in
-    let h : 256 ^ 0 ≤ 256 ^ n = pow-le-pow_right (omega arith) least in
-    omega (arith, h)
-
 -- a number of so many bytes as a row has places
 pub fits_in_row : (v n : ℕ) (p : Place) (places : List Place) → places ≡ places_in_row p n → v < 256 ^ n → v < 256 ^ length places
 fits_in_row v n p places is h =

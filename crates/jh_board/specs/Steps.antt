@@ -17,7 +17,7 @@ use Rattle.jh_history.specs.declared.access.Reach.TheVariants.{Memory, Subpage, 
 use Rattle.jh_history.specs.declared.call.OpenCall.{OpenCall}
 use Rattle.jh_history.specs.declared.entry.Entry.{Entry}
 use Rattle.jh_history.specs.declared.entry.Act.{Act}
-use Rattle.jh_history.specs.declared.entry.Act.TheVariants.{Write, Irq, Decide, Commit}
+use Rattle.jh_history.specs.declared.entry.Act.TheVariants.{Write, Irq, Decide}
 use Rattle.jh_history.specs.declared.device_change.DeviceChange.TheVariants.{Join}
 use Rattle.jh_history.specs.declared.place.Place.{Place}
 use Rattle.jh_history.specs.Admitted.{IsAdmitted}
@@ -62,11 +62,6 @@ change_of_call call = Keep
 abbrev pub change_of_cells : Option OpenCall → Act → CellsChange
 change_of_cells call Commit = option_map_or (λ (o : OpenCall). change_of_call o.call) call Keep
 change_of_cells call act = Keep
-
--- the act is a Commit, as no other act changes which cells live
-abbrev pub is_commit : Act → Bool
-is_commit Commit = true
-is_commit act = false
 
 -- the cells after the change
 abbrev pub changed_cells : CellsChange → List Live → List Live

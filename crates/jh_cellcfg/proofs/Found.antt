@@ -1,9 +1,9 @@
 -- Bytes without a fault spell a configuration.
 use Rattle.std.proofs.Common.{◌≡◌, ℕ, zero, suc, ◌+◌, ◌-◌, ◌<◌, ◌≤◌, Bool, true, false, not, ◌==◌, List, [], ◌∷◌, ◌++◌, length, take, drop, Option, Some, None, All, refl, sym, ap, subst, ◌∙◌, length-append, length-drop, arith, inl, inr}
-use Rattle.std.specs.Prelude.{nat_lt, codes, ◌&&◌, nat_eq}
+use Rattle.std.specs.Prelude.{nat_lt, codes, nat_eq}
 use Rattle.std.specs.List.{starts_with}
 use Rattle.std.specs.Cmp.Lexicographic.{pointwise}
-use Rattle.std.proofs.lemmas.Bool.{ltb-false, eqb-true, cases_lt}
+use Rattle.std.proofs.lemmas.Bool.{ltb-false, eqb-true, cases_lt, and_parts}
 use Rattle.std.proofs.lemmas.List.{append-nil, drop-drop, nil_from_length, get_or_past, take-append-drop, length-take}
 use Rattle.std.proofs.lemmas.List.Elements.{All-get_or}
 use Rattle.std.proofs.lemmas.Nat.{le_bytes_2}
@@ -183,16 +183,12 @@ body_found front body all long none =
       t.is ∙ (λ i. header_bytes (sym found.2 i) ++ found.3 i),
     )
 
-pub and_splits : (a b : Bool) → (a && b) ≡ true → (a ≡ true) × (b ≡ true)
-and_splits true b e = (refl, e)
-and_splits false b e = absurd cc
-
 pub pointwise_same : (xs ys : List ℕ) → pointwise nat_eq xs ys ≡ true → xs ≡ ys
 pointwise_same [] [] e = refl
 pointwise_same [] (y ∷ ys) e = absurd cc
 pointwise_same (x ∷ xs) [] e = absurd cc
 pointwise_same (x ∷ xs) (y ∷ ys) e =
-    let p = and_splits (nat_eq x y) (pointwise nat_eq xs ys) e in
+    let p = and_parts (nat_eq x y) (pointwise nat_eq xs ys) e in
     let first : x ≡ y = eqb-true x y p.0 in
     let others = pointwise_same xs ys p.1 in
     λ i. first i ∷ others i

@@ -3,7 +3,7 @@ use Rattle.std.proofs.Common.{◌≡◌, ◌≢◌, ℕ, ◌+◌, ◌-◌, ◌<�
 use Rattle.std.specs.Prelude.{if◌then◌else◌}
 use Rattle.std.specs.List.{list_all}
 use Rattle.std.specs.Cmp.Lexicographic.{pointwise}
-use Rattle.std.proofs.lemmas.Bool.{false≢true, ltb-true, leb-true, lt-ltb, le-leb, eqb-true, eqb-false, eq-eqb, ne_eqb, cases_eq, cases_order, cases_Bool, and_parts, and_from, or_cases, or_parts, or_left, or_right, not-true, not-false, not_from_false}
+use Rattle.std.proofs.lemmas.Bool.{false≢true, ltb-true, leb-true, lt-ltb, le-leb, eqb-true, eqb-false, eq-eqb, ne_eqb, cases_eq, cases_order, cases_Bool, and_parts, and_from, or_cases, or_parts, or_left, or_right, not-true, not-false, not_from_false, false_from_ne_true, both_ways}
 use Rattle.std.proofs.lemmas.Option.{slice_get-get_or}
 use Rattle.std.proofs.lemmas.List.{length-take, get_or-drop}
 use Rattle.jh_cellcfg.specs.declared.region.Region.{Region}
@@ -15,9 +15,9 @@ use Rattle.jh_cellcfg.specs.Limits.{is_zero}
 use Rattle.jh_check.specs.Devices.{is_shmem, are_linked, section_count, sections_of, has_good_peers, has_good_bars, bars_of, has_all_sections, is_good_table, has_good_table, is_section_region, are_read_only, are_alike, follows, are_in_a_row, is_twice, is_same_memory, are_same_memory, agrees_with, agrees_with_all, has_good_sections, is_good_shmem, device_breaks, cpus_break}
 use Rattle.jh_check.specs.Broken.{StandsAmong}
 use Rattle.jh_check.specs.Clean.{IsDevice, IsShmem, AreLinked, IsSection, IsStateTable, IsSectionRegion, IsGoodDevice, DevicesAreGood, DevicesAreSingle, AgreesWith, LinksAgree, IsSoundBitmap, CpusAreFew}
-use Rattle.jh_check.proofs.BoolLemmas.{false_from_not, not_both}
 use Rattle.jh_check.proofs.CleanLemmas.{get_take, take_get, any_at, any_of, and_rest}
 use Rattle.jh_cellcfg.proofs.Found.{pointwise_same}
+use Rattle.jh_cellcfg.proofs.AddressLemmas.{no_region}
 
 -- ---- lists by number
 
@@ -78,12 +78,9 @@ output_in cell d p x h = get_drop 2 (sections_of cell.memory_regions d) p ∙ se
 in_output : (cell : CellConfig) (d : PciDevice) (p : ℕ) (x : Region) → slice_get (drop 2 (sections_of cell.memory_regions d)) p ≡ Some x → IsSection cell d (2 + p) x
 in_output cell d p x h = in_section cell d (2 + p) x (sym (get_drop 2 (sections_of cell.memory_regions d) p) ∙ h)
 
-empty : Region
-empty = record { phys_start = 0; virt_start = 0; size = 0; flags = 0 }
-
 pub section_exists : (cell : CellConfig) (d : PciDevice) (k : ℕ) → d.shmem_regions_start + (2 + d.shmem_peers) ≤ length cell.memory_regions → k < 2 + d.shmem_peers → (x : Region) × IsSection cell d k x
 section_exists cell d k all l =
-    (get_or cell.memory_regions (d.shmem_regions_start + k) empty, record { number = l; item = slice_get-get_or cell.memory_regions (d.shmem_regions_start + k) empty (omega arith) })
+    (get_or cell.memory_regions (d.shmem_regions_start + k) no_region, record { number = l; item = slice_get-get_or cell.memory_regions (d.shmem_regions_start + k) no_region (omega arith) })
 
 sections_number : (cell : CellConfig) (d : PciDevice) → d.shmem_regions_start + (2 + d.shmem_peers) ≤ length cell.memory_regions → length (sections_of cell.memory_regions d) ≡ 2 + d.shmem_peers
 sections_number cell d all =
@@ -176,7 +173,7 @@ alike_from (first ∷ others) h = all_from (λ (other : Region). other.size == f
 
 -- ---- sections in a row
 
--- all before that one are empty
+-- all before that one are past
 abbrev AreEmptyTo : List Region → ℕ → Type 0
 AreEmptyTo xs k = (i : ℕ) (z : Region) → i < k → slice_get xs i ≡ Some z → z.size ≡ 0
 
@@ -392,7 +389,7 @@ agrees_from one d other e t linked =
     let rest = (d.shmem_peers == e.shmem_peers) && last in
     let agree : rest ≡ true =
     elim (or_cases (not (are_linked d e)) rest t) [
-      | inl n ↦ absurd (not_both (are_linked d e) (linked_whole d e linked) (not-true (are_linked d e) n))
+      | inl n ↦ absurd (both_ways (are_linked d e) (not-true (are_linked d e) n) (linked_whole d e linked))
       | inr k ↦ k
     ] in
     let p = and_parts (d.shmem_peers == e.shmem_peers) last agree in
@@ -481,7 +478,7 @@ pub words_good : (all : List CellConfig) (a : ℕ) (cell : CellConfig) (n : ℕ)
 words_good all a cell n d kind g among =
     let regions = cell.memory_regions in
     let earlier = take n cell.pci_devices in
-    let once : is_twice earlier d ≡ false = false_from_not (is_twice earlier d) (λ u.
+    let once : is_twice earlier d ≡ false = false_from_ne_true (is_twice earlier d) (λ u.
     let w = any_of (λ (e : PciDevice). is_shmem e && (e.bdf == d.bdf)) earlier u in
     let v = get_take n cell.pci_devices w.0 w.1 w.2 in
     let k = and_parts (is_shmem w.1) (w.1.bdf == d.bdf) w.3 in
@@ -503,7 +500,7 @@ good_words all a cell n d kind t =
     let inner = λ (lower : CellConfig). list_all (λ (f : PciDevice). agrees_with cell.memory_regions d lower.memory_regions f) lower.pci_devices in (
       sound_from cell d p.0 p.1 p.2 p.3,
       record {
-        single = λ m other l i linked. not_both (is_twice (take n cell.pci_devices) d) (twice cell m n other d l i linked) p.4;
+        single = λ m other l i linked. both_ways (is_twice (take n cell.pci_devices) d) p.4 (twice cell m n other d l i linked);
         links = λ b other below nb m e j linked.
             let q : inner other ≡ true = all_at inner (take a all) p.5 b other (take_get a all b other below nb) in
             agrees_from cell d other e (all_at (λ (f : PciDevice). agrees_with cell.memory_regions d other.memory_regions f) other.pci_devices q m e j) linked;
@@ -545,7 +542,7 @@ devices_to system cells sound single links a one n d na i t =
       single = λ m other l j linked. let same : m ≡ n = single a one na m n other d j i linked in omega arith;
       links = λ b other below nb m e j linked. links a b one other below na nb n m d e i j linked;
     } in
-    not_both good (words_good all a one n d kind (sound a one na n d i kind) among) (not-true good p.1)
+    both_ways good (not-true good p.1) (words_good all a one n d kind (sound a one na n d i kind) among)
 
 -- ---- CPU sets
 
@@ -569,7 +566,7 @@ unfolding cpus_break
 bitmap_from set h =
     let none = list_all is_zero set in
     let high = list_all is_zero (drop 2 set) in
-    let p = or_parts none (not high) (false_from_not (none || not high) h) in
+    let p = or_parts none (not high) (false_from_ne_true (none || not high) h) in
     record {
       some = some_byte set p.0;
       few = λ i l.

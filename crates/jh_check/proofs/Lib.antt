@@ -1,4 +1,3 @@
-pub mod BoolLemmas
 pub mod ListLemmas
 mod BreakLemmas
 mod SectionLemmas
@@ -11,7 +10,7 @@ mod BusLemmas
 mod LinkLemmas
 mod SeatLemmas
 mod FitLemmas
-pub mod VerdictLemmas
+mod VerdictLemmas
 mod Tested
 mod FoundLemmas
 mod CleanLemmas

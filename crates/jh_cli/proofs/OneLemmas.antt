@@ -1,6 +1,7 @@
 -- What files spell, and what they are refused for, is one.
 use Rattle.std.proofs.Common.{◌≡◌, ◌≢◌, ℕ, ◌+◌, Bool, true, false, List, [], ◌∷◌, ◌++◌, length, Option, None, Some, Result, Err, ◌↔◌, inl, inr, refl, sym, ◌∙◌, ap, subst}
 use Rattle.std.specs.Prelude.{fold, IsTrue, codes}
+use Rattle.jh_num.proofs.Results.{ok_one}
 use Rattle.jh_cellcfg.specs.declared.config.CellConfig.{CellConfig}
 use Rattle.jh_cellcfg.specs.declared.config.SystemConfig.{SystemConfig}
 use Rattle.jh_cellcfg.specs.Faults.{first_fault}
@@ -37,7 +38,7 @@ use Rattle.jh_cli.specs.Pack.{IsSpecFile, SpecRefusal}
 use Rattle.jh_cli.specs.Play.{ScheduleRefusal}
 use Rattle.jh_cli.specs.Audit.{JournalRefusal, IsAudited, verdict_status, verdict_text}
 use Rattle.jh_cli.specs.Complete.{AreNamesTold}
-use Rattle.jh_cli.proofs.GoodLemmas.{CellsAreFaultless, no_more, ok_one, cell_sound, same_for_image}
+use Rattle.jh_cli.proofs.GoodLemmas.{CellsAreFaultless, no_more, cell_sound, same_for_image}
 use Rattle.jh_cli.proofs.StopLemmas.{refused_said}
 
 -- ---- the laws of the layers below

@@ -1,5 +1,5 @@
 -- What the Commit of a call and the notes behind it leave sound.
-use Rattle.std.proofs.Common.{◌≡◌, ◌≢◌, ℕ, ◌<◌, List, [], ◌∷◌, ◌++◌, Bool, true, false, cond, not, eqb, map, pos, ℤ, Option, Some, None, refl, sym, ap, subst, ◌∙◌, inl, inr, ◌⊎◌, ⊎_elim}
+use Rattle.std.proofs.Common.{◌≡◌, ◌≢◌, ℕ, ◌<◌, List, [], ◌∷◌, ◌++◌, Bool, true, false, cond, not, eqb, pos, ℤ, Option, Some, None, refl, sym, ap, subst, ◌∙◌, inl, inr, ◌⊎◌, ⊎_elim}
 use Rattle.std.specs.Prelude.{Contains, find, filter, option_map}
 use Rattle.std.proofs.lemmas.Bool.{both_ways, and_parts, cond_both, eqb-true, eq-eqb, ne_eqb, not-true}
 use Rattle.std.proofs.lemmas.List.Elements.{Contains-append_left, Contains-push, Contains-push_cases}
@@ -21,7 +21,7 @@ use Rattle.jh_history.specs.Calls.{is_named, is_told, first_told, telling, behin
 use Rattle.jh_history.specs.Commits.{is_other}
 use Rattle.jh_history.specs.Cpus.{end_in_root}
 use Rattle.jh_history.specs.Phases.{keeps_commit}
-use Rattle.jh_shape.specs.Lives.{configs_of, marked}
+use Rattle.jh_shape.specs.Lives.{configs_of}
 use Rattle.jh_history.specs.Sound.{AreSoundCells, HasItsCpus, IsOwner, AreOwned, IsCalm, IsHalted, IsAsked, IsHalting, IsCaller, IsAboutLive, MayCome, IsNews, IsInPhase, IsOpen}
 use Rattle.jh_history.proofs.SoundCpusLemmas.{owned_kept, other_root, named_same, root_unnamed}
 use Rattle.jh_history.proofs.SoundDecideLemmas.{IsLate, open_late, board_few, absent_unnamed}
@@ -95,16 +95,6 @@ restarted_calm cpu h = record { asked = h.asked; stopped = refl }
 
 pub parked_calm : (cpu : Cpu) → IsHalted cpu → IsCalm (parked cpu)
 parked_calm cpu h = record { asked = h.asked; stopped = refl }
-
--- marks change no configuration
-marked_config : (id : ℕ) (loadable : Bool) (live : Live) → (marked id loadable live).config ≡ live.config
-marked_config id loadable live =
-    let same : Live → Type 0 = λ l. l.config ≡ live.config in
-    cond_both (has_id id live) (record live { loadable = loadable }) live same (λ _. refl) (λ _. refl)
-
-pub configs_marked : (id : ℕ) (loadable : Bool) (cells : List Live) → configs_of (map (marked id loadable) cells) ≡ configs_of cells
-configs_marked id loadable [] = refl
-configs_marked id loadable (live ∷ cells) = ap (λ (c : CellConfig). c ∷ configs_of (map (marked id loadable) cells)) (marked_config id loadable live) ∙ ap (λ (cs : List CellConfig). live.config ∷ cs) (configs_marked id loadable cells)
 
 -- ---- the Commit of a destroy
 

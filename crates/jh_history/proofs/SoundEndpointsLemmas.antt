@@ -36,10 +36,11 @@ use Rattle.jh_history.specs.Endpoints.{endpoints_put, function_put, space_put, e
 use Rattle.jh_history.specs.Grants.{reach, devices_of}
 use Rattle.jh_history.specs.Commits.{committed_cells, cells_by, is_other}
 use Rattle.jh_shape.specs.Lives.{configs_of, marked}
+use Rattle.jh_shape.proofs.JoinedLemmas.{configs_marked}
 use Rattle.jh_history.specs.History.{cells_after}
 use Rattle.jh_history.specs.Sound.{AreSoundCells, IsInPhase, IsSoundCall, IsOfDevice, HasEndpoint, IsSoundEndpoint, AreEndpoints, IsSound}
 use Rattle.jh_history.proofs.SoundCpusLemmas.{other_root}
-use Rattle.jh_history.proofs.SoundCommitLemmas.{configs_marked, is_other_config, configs_others, configs_joined}
+use Rattle.jh_history.proofs.SoundCommitLemmas.{is_other_config, configs_others, configs_joined}
 use Rattle.jh_history.proofs.SpecsLemmas.{specs_device, specs_within, specs_apart, specs_apart_new, held_numbered}
 use Rattle.jh_history.proofs.LinkLemmas.{AreRow, HaveJoined, HaveLeft, IsBeside, one_of_pairs, all_join, all_leave}
 use Rattle.jh_history.proofs.EndpointLemmas.{specs_in, placed, without, Follow, follow_same, follow_option, follow_space, follow_written, follow_taken, follow_reset, specs_join, sound_join, specs_leave, sound_leave}

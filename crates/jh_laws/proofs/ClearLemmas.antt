@@ -37,7 +37,7 @@ use Rattle.jh_laws.specs.Vectors.{PutsRegister, IsAbout, Clears}
 use Rattle.jh_laws.proofs.CallLemmas.{Expects, phase_of_due, phase_expects, not_same}
 use Rattle.jh_history.specs.Due.{due_at, is_idle_but}
 use Rattle.jh_history.proofs.SoundLemmas.{opened_call}
-use Rattle.jh_laws.specs.Ways.{is_phase, is_commit}
+use Rattle.jh_laws.specs.Ways.{is_phase}
 use Rattle.jh_laws.proofs.HeldLemmas.{found_by_id}
 use Rattle.jh_laws.proofs.DevicesLemmas.{endpoint_held, endpoint_sound, cell_named}
 use Rattle.jh_laws.proofs.LinkedLemmas.{IsClearing, IsQuietAt, quiet_all, is_told, told_in, HaveLinks, AreTwoOfCell, cleared_all, joined_all}
@@ -46,6 +46,7 @@ use Rattle.jh_laws.proofs.RaiseLemmas.{Calls, IsDropped, HasBecome, IsNow, becom
 use Rattle.jh_laws.proofs.WindowLemmas.{spec_is}
 use Rattle.jh_history.proofs.DueComesLemmas.{call_open}
 use Rattle.jh_history.proofs.SoundEndpointsLemmas.{spec_cell}
+use Rattle.jh_history.specs.Commits.{is_commit}
 
 -- ---- devices of one live cell
 

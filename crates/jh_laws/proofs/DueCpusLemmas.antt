@@ -44,10 +44,10 @@ use Rattle.jh_history.specs.Sound.{AreSoundCells, IsHalted, IsAsked, IsHalting, 
 use Rattle.jh_laws.specs.Ends.{IsAnswered, IsReadBy, IsGotBy}
 use Rattle.jh_laws.specs.Ready.{IsDueIn, NothingElse, HasHeard, RootHasStopped, IsPhaseDue, IsReadyCaller, IsReadyProgram, IsReadyAt}
 use Rattle.jh_history.proofs.SoundCpusLemmas.{calm_goes, goes_calm, goes_running, running_mode, root_unnamed}
-use Rattle.jh_history.proofs.SoundDecideLemmas.{board_few, halted_to_decide, found_live}
+use Rattle.jh_history.proofs.SoundDecideLemmas.{board_few, halted_to_decide}
 use Rattle.jh_history.proofs.SoundCommitLemmas.{halted_to_commit, named_board}
 use Rattle.jh_history.proofs.SoundDueLemmas.{IsOfProgram, state_parts}
-use Rattle.jh_laws.proofs.HeldLemmas.{found_by_id}
+use Rattle.jh_laws.proofs.HeldLemmas.{found_by_id, live_found}
 use Rattle.jh_laws.proofs.PendingLemmas.{next_some_holds, next_is}
 use Rattle.jh_laws.proofs.EndsLemmas.{got_of_cell, one_value, width_some, ops_plain}
 use Rattle.jh_history.proofs.DueComesLemmas.{call_open}
@@ -392,18 +392,11 @@ tells_heard state reply over h =
     more)))
     h
 
--- the cell that is waited for
-pub live_of : (cells : List Live) (id : ℕ) (o : Option Live) (config : CellConfig) → find (has_id id) cells ≡ o → option_map (λ (l : Live). l.config) o ≡ Some config → Contains (configs_of cells) config × (config.id ≡ id)
-live_of cells id None config is h = absurd (none-some config h)
-live_of cells id (Some live) config is h =
-    let P : CellConfig → Type 0 = λ c. Contains (configs_of cells) c × (c.id ≡ id) in
-    subst P (same_Some live.config config h) (found_live cells id live is)
-
 pub named_of : (cells : List Live) (call : Call) (config : CellConfig) → named_cell cells call ≡ Some config → Contains (configs_of cells) config × (is_named call config.id ≡ true)
 named_of cells (Create at) config h = absurd (none-some config h)
-named_of cells (Start id) config h = let live = live_of cells id (find (has_id id) cells) config refl h in (live.0, eq-eqb id config.id (sym live.1))
-named_of cells (Loadable id) config h = let live = live_of cells id (find (has_id id) cells) config refl h in (live.0, eq-eqb id config.id (sym live.1))
-named_of cells (Destroy id) config h = let live = live_of cells id (find (has_id id) cells) config refl h in (live.0, eq-eqb id config.id (sym live.1))
+named_of cells (Start id) config h = let live = live_found cells id (find (has_id id) cells) config refl h in (live.0, eq-eqb id config.id (sym live.1))
+named_of cells (Loadable id) config h = let live = live_found cells id (find (has_id id) cells) config refl h in (live.0, eq-eqb id config.id (sym live.1))
+named_of cells (Destroy id) config h = let live = live_found cells id (find (has_id id) cells) config refl h in (live.0, eq-eqb id config.id (sym live.1))
 named_of cells (Info kind) config h = absurd (none-some config h)
 named_of cells (State id) config h = absurd (none-some config h)
 named_of cells (CpuInfo cpu kind) config h = absurd (none-some config h)
@@ -461,7 +454,7 @@ note_due image f o id about waited answer sound is h =
     let idle : Bool = is_idle_but image f o.caller in
     let found = some_then (heard_with f idle id waited) (live_in f.cells id) h in
     let c : CellConfig = found.0 in
-    let live = live_of f.cells id (find (has_id id) f.cells) c refl found.1 in
+    let live = live_found f.cells id (find (has_id id) f.cells) c refl found.1 in
     let P : ℕ → Type 0 = λ k. (is_down (state_word f k) ≡ true) ⊎ ((reply_word f k ≢ 0) ⊎ (is_over c.msg_reply_timeout waited idle ≡ true)) in
     (c, live.0, live.1, heard_from image f o c waited sound is (subst P (sym live.1) (heard_tells (state_word f id) (reply_word f id) (is_over c.msg_reply_timeout waited idle) found.2)))
 

@@ -26,7 +26,6 @@ use Rattle.jh_history.specs.Due.{due_at, IsLegal}
 use Rattle.jh_history.specs.Admitted.{IsAdmitted}
 use Rattle.jh_history.proofs.FactsLemmas.{facts_push, cpu_after_holds}
 use Rattle.jh_history.specs.Sound.{IsSound}
-use Rattle.jh_laws.specs.Ways.{is_commit}
 use Rattle.jh_laws.specs.Moves.{ended}
 use Rattle.jh_laws.specs.Outcomes.{is_violation}
 use Rattle.jh_laws.specs.Ready.{IsReadyAt, IsReadyCaller, IsReadyProgram}
@@ -38,6 +37,7 @@ use Rattle.jh_laws.proofs.WordLemmas.{specs_none}
 use Rattle.jh_laws.proofs.EntryLemmas.{runs_at}
 use Rattle.jh_laws.proofs.DueCpusLemmas.{ready_from_due}
 use Rattle.jh_history.proofs.DueComesLemmas.{call_open}
+use Rattle.jh_history.specs.Commits.{is_commit}
 
 -- ---- what it writes
 

@@ -43,17 +43,17 @@ use Rattle.jh_history.specs.Endpoints.{specs_changing, with_words}
 use Rattle.jh_history.specs.Bytes.{byte_written, byte_after}
 use Rattle.jh_history.specs.Calls.{is_named, counted, telling, first_told, behind, decided, after_settle, after_commit, after_note, after_noted, phase_after, call_by}
 use Rattle.jh_num.specs.Numbers.{counted_up}
-use Rattle.jh_history.specs.Commits.{cells_by, committed_cells, is_other}
+use Rattle.jh_history.specs.Commits.{cells_by, committed_cells, is_other, is_commit}
 use Rattle.jh_history.specs.Configs.{bytes_at, read_whole, read_behind, read_from, read_at, config_read}
 use Rattle.jh_history.specs.Cpus.{acted, changed, change_of, settled, is_agreed, cpu_after}
 use Rattle.jh_history.specs.History.{start, after, facts, coming_by, coming_of}
 use Rattle.jh_history.specs.Pages.{is_left, failing, unless_good, asking, committing, named_cell, page_write_by, on_page}
 use Rattle.jh_shape.specs.Lives.{configs_of, marked}
+use Rattle.jh_shape.proofs.JoinedLemmas.{configs_marked}
 use Rattle.jh_history.specs.Due.{due_at, IsLegal, IsLegalFrom}
 use Rattle.jh_history.specs.Admitted.{IsAdmitted}
 use Rattle.jh_history.specs.Sound.{IsMadeOfBytes, IsSound}
-use Rattle.jh_laws.specs.Ways.{is_commit}
-use Rattle.jh_history.proofs.SoundCommitLemmas.{configs_joined, configs_marked, configs_others, is_other_config}
+use Rattle.jh_history.proofs.SoundCommitLemmas.{configs_joined, configs_others, is_other_config}
 use Rattle.jh_history.proofs.SoundCpusLemmas.{changed_owner}
 use Rattle.jh_history.proofs.SoundDecideLemmas.{board_few, found_live, settled_owner}
 use Rattle.jh_history.proofs.SoundStepLemmas.{begun_owner, finished_owner}

@@ -19,7 +19,7 @@ use Rattle.jh_history.specs.declared.entry.Act.TheVariants.{Decide, Settle, Comm
 use Rattle.jh_history.specs.Admitted.{IsAdmitted}
 use Rattle.jh_history.specs.Calls.{counted, telling, first_told, behind, call_by, is_call}
 use Rattle.jh_num.specs.Numbers.{counted_up}
-use Rattle.jh_history.specs.Commits.{committed_cells, cells_by}
+use Rattle.jh_history.specs.Commits.{committed_cells, cells_by, is_commit}
 use Rattle.jh_history.specs.Due.{due_at, is_idle_but, IsLegal}
 use Rattle.jh_history.specs.Facts.{Facts}
 use Rattle.jh_history.specs.History.{after, facts, coming_of}
@@ -28,7 +28,7 @@ use Rattle.jh_history.specs.Sound.{IsInPhase, IsSound}
 use Rattle.jh_history.proofs.FactsLemmas.{facts_push}
 use Rattle.jh_history.proofs.PlainStepLemmas.{after_call}
 use Rattle.jh_history.proofs.SoundLemmas.{sound_after}
-use Rattle.jh_laws.specs.Ways.{is_phase, is_finish, is_commit, call_begun, begun}
+use Rattle.jh_laws.specs.Ways.{is_phase, is_finish, call_begun, begun}
 use Rattle.jh_laws.proofs.CallLemmas.{Expects, IsBeside, along, begun_of, call_counted, entry_of_call, not_same, phase_expects, phase_of_due, stretch}
 use Rattle.jh_history.proofs.DueComesLemmas.{call_open}
 

@@ -36,7 +36,7 @@ use Rattle.jh_history.specs.declared.call.OpenCall.{OpenCall}
 use Rattle.jh_history.specs.declared.call.Phase.{Phase}
 use Rattle.jh_history.specs.declared.call.Phase.TheVariants.{ToDecide, ToSettle, ToCreate, ToCommit, ToNote, ToNoted, ToFinish}
 use Rattle.jh_history.specs.Access.{with_slot_if}
-use Rattle.jh_history.specs.Commits.{cells_by}
+use Rattle.jh_history.specs.Commits.{cells_by, is_commit}
 use Rattle.jh_history.specs.Devices.{place_of_section, specs_of}
 use Rattle.jh_history.specs.Endpoints.{changing, changing_by, specs_changing, with_words}
 use Rattle.jh_history.specs.Facts.{Facts}
@@ -54,7 +54,6 @@ use Rattle.jh_history.proofs.SoundCommitLemmas.{configs_joined}
 use Rattle.jh_history.proofs.SoundDecideLemmas.{found_live}
 use Rattle.jh_laws.specs.Held.{IsHeld, AreLinkedSections, IsOwnOrLinked}
 use Rattle.jh_laws.specs.Vectors.{PutsRegister}
-use Rattle.jh_laws.specs.Ways.{is_commit}
 use Rattle.jh_laws.specs.Written.{WritesWordThere}
 use Rattle.jh_laws.proofs.ListedLemmas.{same_place}
 use Rattle.jh_num.proofs.MemoryLemmas.{listed}

@@ -14,6 +14,7 @@ use Rattle.jh_cellcfg.specs.declared.config.SystemConfig.{SystemConfig}
 use Rattle.jh_cellcfg.specs.declared.live.Live.{Live}
 use Rattle.jh_cellcfg.specs.declared.region.Region.{Region}
 use Rattle.jh_cellcfg.specs.Regions.{has_size, has_address, is_page_mapped, virt_end, allows_width, allows_unaligned}
+use Rattle.jh_cellcfg.proofs.AddressLemmas.{has_address_from}
 use Rattle.jh_mmio.specs.declared.hitting.Hitting.TheVariants.{Ecam, Bar, Nothing as HitsNothing}
 use Rattle.jh_mmio.specs.declared.hitting.Window.{Window as TheWindow}
 use Rattle.jh_mmio.specs.Dispatch.{lies_between, is_at_closed, takes_all, has_right, lets_through, by_ecam_at, by_window, window_has}
@@ -42,7 +43,6 @@ use Rattle.jh_history.proofs.BehindLemmas.{takes_all_subpage, kept_row, answer_w
 use Rattle.jh_laws.specs.Grants.{may}
 use Rattle.jh_laws.specs.Held.{IsRootOrLive, IsGrantedTo, AreGrantedTo}
 use Rattle.jh_laws.specs.Ends.{HasAccess, LetsThrough, IsBehindMemory, IsAnsweredBy, IsInEcam, IsAnsweredByWindow, IsAnsweredByRegister, IsAnswered, GivesPlaces, AreItsPlaces}
-use Rattle.jh_laws.proofs.RootLemmas.{has_address_from}
 use Rattle.jh_laws.proofs.DevicesLemmas.{position_single, window_lies, window_none, found_passes}
 use Rattle.jh_laws.proofs.ListedLemmas.{places_from_listed, places_from_each, places_from_some}
 use Rattle.jh_laws.proofs.HeldLemmas.{live_cell, cell_live, number_of_holds, granted_to, to_granted_holds, regions_of_live, left_free, free_left}

@@ -30,7 +30,7 @@ use Rattle.jh_history.specs.Facts.{Facts}
 use Rattle.jh_history.specs.Lives.{is_on_board, program_of, cell_in}
 use Rattle.jh_history.specs.Admitted.{IsAdmitted}
 use Rattle.jh_history.specs.Calls.{is_named, is_call}
-use Rattle.jh_history.specs.Commits.{cells_by, committed_cells}
+use Rattle.jh_history.specs.Commits.{cells_by, committed_cells, is_commit}
 use Rattle.jh_history.specs.Cpus.{acted, changed, change_if, begun as begun_cpu, settled, committed, finished, resumed_in, is_running}
 use Rattle.jh_history.specs.History.{facts}
 use Rattle.jh_shape.specs.Lives.{configs_of}
@@ -38,7 +38,7 @@ use Rattle.jh_history.specs.Due.{is_idle_but, IsLegal}
 use Rattle.jh_history.proofs.FactsLemmas.{facts_push, cpu_after_holds}
 use Rattle.jh_history.proofs.LegalLemmas.{due_split, IsLegal_begin}
 use Rattle.jh_history.specs.Sound.{IsCaller, IsInPhase}
-use Rattle.jh_laws.specs.Ways.{is_phase, is_commit, is_agreement, call_begun, begun}
+use Rattle.jh_laws.specs.Ways.{is_phase, is_agreement, call_begun, begun}
 use Rattle.jh_laws.specs.Moves.{stepped, ended}
 use Rattle.jh_laws.specs.Outcomes.{is_violation}
 use Rattle.jh_laws.specs.States.{changes_others, is_stop_act, HasBegun, HasAgreed, HasCommitted, HasFinished}

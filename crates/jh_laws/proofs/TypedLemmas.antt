@@ -8,6 +8,7 @@ use Rattle.std.proofs.lemmas.List.Elements.{All-contains}
 use Rattle.std.proofs.lemmas.Option.{none-some, same_Some}
 use Rattle.jh_num.specs.declared.error.TheConstants.{EPERM, ENOENT, EINVAL, ENOSYS}
 use Rattle.jh_num.specs.Memory.{little_endian}
+use Rattle.jh_num.proofs.MemoryLemmas.{zero_fits}
 use Rattle.jh_cellcfg.specs.declared.live.Live.{Live}
 use Rattle.jh_check.specs.Devices.{is_shmem}
 use Rattle.jh_cpu.specs.declared.cpu.Cpu.{Cpu}
@@ -74,10 +75,6 @@ spelled_fits : (width : ℕ) (byte : ℕ → ℕ) → ((k : ℕ) → byte k < 25
 spelled_fits zero byte small = omega arith
 spelled_fits (suc n) byte small = rw (pow-succ' 256 n) (one_more (little_endian n byte) (byte n) (256 ^ n) (spelled_fits n byte small) (small n))
 
-power_positive : (n : ℕ) → 0 < 256 ^ n
-power_positive zero = omega arith
-power_positive (suc n) = rw (pow-succ' 256 n) (omega (arith, power_positive n))
-
 -- a place for each number below the width, of those that there are
 abbrev chosen : {P : ℕ → Place → Type 0} (width : ℕ) → ((k : ℕ) → k < width → (place : Place) × P k place) → (k : ℕ) → (k < width) ⊎ (width ≤ k) → Place
 chosen width given k (inl lt) = (given k lt).0
@@ -102,7 +99,7 @@ window_fits image f id access at width value window read = elim (cases_lt value 
   | inr large ↦
       let of_function : (n : ℕ) → value ≡ n % 2 ^ (8 * width) → ⊥ = λ n is. let small = cut_fits n width window.wide in absurd (omega (arith, large, is, small)) in
       let ones : value ≡ 256 ^ width - 1 = read.ones window (λ e has. of_function _ (read.function e window has)) in
-      absurd (omega (arith, large, ones, power_positive width))
+      absurd (omega (arith, large, ones, zero_fits width))
 ]
 
 -- by what answers it
