@@ -15,14 +15,12 @@ returns-in-None c =
     subst P same (subpage_none c.as_slice-regions.result.now (has_byte c.args.closed.now.ranges) c.args.at c.args.width no_region c.requires.some c.in-None.ensures)
 
 pub returns-then-takes_all : goal.returns-then-takes_all
-unfolding no_region
 returns-then-takes_all c =
     let same = c.as_slice-regions.ensures.value ∙ c.self.view_is in
     let P : List Region → Type 0 = λ xs. Some c.in-Some.number ≡ position (takes_all (has_byte c.args.closed.now.ranges) c.args.at c.args.width) xs in
     subst P same (subpage_found c.as_slice-regions.result.now (has_byte c.args.closed.now.ranges) c.args.at c.args.width c.in-Some.number no_region c.requires.some c.in-Some.ensures (sym c.if-takes_all.ensures))
 
 pub returns-else-takes_all : goal.returns-else-takes_all
-unfolding no_region
 returns-else-takes_all c =
     let same = c.as_slice-regions.ensures.value ∙ c.self.view_is in
     let P : List Region → Type 0 = λ xs. None ≡ position (takes_all (has_byte c.args.closed.now.ranges) c.args.at c.args.width) xs in
