@@ -37,5 +37,5 @@ same_region xs x y at disjoint cx cy hx hy =
     (cases_order i j)
 
 -- a region of no address
-pub no_region : Region
+abbrev pub no_region : Region
 no_region = record { phys_start = 0; virt_start = 0; size = 0; flags = 0 }
