@@ -6,6 +6,7 @@ use Rattle.std.specs.Cmp.Lexicographic.{pointwise}
 use Rattle.std.proofs.lemmas.Bool.{false≢true, ltb-true, leb-true, lt-ltb, le-leb, eqb-true, eqb-false, eq-eqb, ne_eqb, cases_eq, cases_order, cases_Bool, and_parts, and_from, or_cases, or_parts, or_left, or_right, not-true, not-false, not_from_false, false_from_ne_true, both_ways}
 use Rattle.std.proofs.lemmas.Option.{slice_get-get_or}
 use Rattle.std.proofs.lemmas.List.{length-take, get_or-drop}
+use Rattle.std.proofs.lemmas.Slice.Eq.{bytes_eq-Decides}
 use Rattle.jh_cellcfg.specs.declared.region.Region.{Region}
 use Rattle.jh_cellcfg.specs.declared.config.PciDevice.{PciDevice}
 use Rattle.jh_cellcfg.specs.declared.config.CellConfig.{CellConfig}
@@ -16,8 +17,28 @@ use Rattle.jh_check.specs.Devices.{is_shmem, are_linked, section_count, sections
 use Rattle.jh_check.specs.Broken.{StandsAmong}
 use Rattle.jh_check.specs.Clean.{IsDevice, IsShmem, AreLinked, IsSection, IsStateTable, IsSectionRegion, IsGoodDevice, DevicesAreGood, DevicesAreSingle, AgreesWith, LinksAgree, IsSoundBitmap, CpusAreFew}
 use Rattle.jh_check.proofs.CleanLemmas.{get_take, take_get, any_at, any_of, and_rest}
-use Rattle.jh_cellcfg.proofs.Found.{pointwise_same}
 use Rattle.jh_cellcfg.proofs.AddressLemmas.{no_region}
+
+-- a device whose fields are all 0, for places past a list's end
+abbrev pub no_device : PciDevice
+no_device = record {
+  kind = 0;
+  iommu = 0;
+  domain = 0;
+  bdf = 0;
+  bar_mask = [];
+  caps_start = 0;
+  num_caps = 0;
+  num_msi_vectors = 0;
+  msi_bits = 0;
+  num_msix_vectors = 0;
+  msix_region_size = 0;
+  msix_address = 0;
+  shmem_regions_start = 0;
+  shmem_dev_id = 0;
+  shmem_peers = 0;
+  shmem_protocol = 0;
+}
 
 -- ---- lists by number
 
@@ -314,7 +335,7 @@ sound_from cell d peers bars all sound =
       few = leb-true d.shmem_peers 16 q.0;
       own = ltb-true d.shmem_dev_id d.shmem_peers q.1;
       vectors = leb-true d.num_msix_vectors 16 u.0;
-      bars = pointwise_same d.bar_mask (bars_of d) u.1;
+      bars = (bytes_eq-Decides d.bar_mask (bars_of d)).0 u.1;
       exist = leb-true (d.shmem_regions_start + section_count d) (length cell.memory_regions) all;
       table = λ x h. table_parts x (table_at xs x v.0 (section_in cell d 0 x h));
       plain = λ k x h. plain_parts x (all_at is_section_region xs w.0 k x (section_in cell d k x h));

@@ -206,24 +206,44 @@ decide_due : (image : Image) (f : Facts) (o : OpenCall) → AreSoundCells image.
     → any_below (λ i. keeps_decide image o.caller i (f.cpu i)) 16 ≡ false → RootHasStopped image f o.caller
 decide_due image f o sound come none i on other root = (halted_to_decide image o.caller i f.cpu (board_few image (configs_of f.cells) sound.clean i on) none on other root (come i on other root)).asked
 
+-- a CPU that a Decide waits for: another one of root's, that runs and hasn't stopped
+pub record KeepsDecide (image : Image) (f : Facts) (caller i : ℕ) : Type 0 where
+  pub on_board : is_on_board image i ≡ true
+  pub other : i ≢ caller
+  pub of_root : (f.cpu i).owner ≡ image.system.root.id
+  pub runs : is_running (f.cpu i).mode ≡ true
+  pub goes_on : (f.cpu i).stopped ≡ false
+
+pub keeps_a_decide : (image : Image) (f : Facts) (caller : ℕ) → any_below (λ i. keeps_decide image caller i (f.cpu i)) 16 ≡ true → (i : ℕ) × KeepsDecide image f caller i
+keeps_a_decide image f caller some =
+    let found = below_of (λ i. keeps_decide image caller i (f.cpu i)) 16 some in
+    let i : ℕ = found.0 in
+    let cpu : Cpu = f.cpu i in
+    let root : ℕ = image.system.root.id in
+    let a = and_parts (is_on_board image i && not (eqb i caller) && eqb cpu.owner root && is_running cpu.mode) (not cpu.stopped) found.2 in
+    let b = and_parts (is_on_board image i && not (eqb i caller) && eqb cpu.owner root) (is_running cpu.mode) a.0 in
+    let c = and_parts (is_on_board image i && not (eqb i caller)) (eqb cpu.owner root) b.0 in
+    let d = and_parts (is_on_board image i) (not (eqb i caller)) c.0 in
+    (i, record {
+      on_board = d.0;
+      other = λ e. both_ways (eqb i caller) (not-true (eqb i caller) d.1) (eq-eqb i caller e);
+      of_root = eqb-true cpu.owner root c.1;
+      runs = b.1;
+      goes_on = not-true cpu.stopped a.1;
+    })
+
 due_decide : (image : Image) (f : Facts) (o : OpenCall)
     → ((i : ℕ) → is_on_board image i ≡ true → i ≢ o.caller → (f.cpu i).owner ≡ image.system.root.id → IsHalting (f.cpu i))
     → RootHasStopped image f o.caller → any_below (λ i. keeps_decide image o.caller i (f.cpu i)) 16 ≡ false
 due_decide image f o come stopped =
     false_from_ne_true (any_below (λ i. keeps_decide image o.caller i (f.cpu i)) 16)
     (λ some.
-    let found = below_of (λ i. keeps_decide image o.caller i (f.cpu i)) 16 some in
+    let found = keeps_a_decide image f o.caller some in
     let i : ℕ = found.0 in
+    let k = found.1 in
     let cpu : Cpu = f.cpu i in
-    let root : ℕ = image.system.root.id in
-    let a = and_parts (is_on_board image i && not (eqb i o.caller) && eqb cpu.owner root && is_running cpu.mode) (not cpu.stopped) found.2 in
-    let b = and_parts (is_on_board image i && not (eqb i o.caller) && eqb cpu.owner root) (is_running cpu.mode) a.0 in
-    let c = and_parts (is_on_board image i && not (eqb i o.caller)) (eqb cpu.owner root) b.0 in
-    let d = and_parts (is_on_board image i) (not (eqb i o.caller)) c.0 in
-    let other : i ≢ o.caller = λ e. both_ways (eqb i o.caller) (not-true (eqb i o.caller) d.1) (eq-eqb i o.caller e) in
-    let is_root : cpu.owner ≡ root = eqb-true cpu.owner root c.1 in
-    let halted = stays_halted cpu (come i d.0 other is_root) (stopped i d.0 other is_root) in
-    both_ways cpu.stopped (not-true cpu.stopped a.1) (halted.stopped ∙ b.1))
+    let halted = stays_halted cpu (come i k.on_board k.other k.of_root) (stopped i k.on_board k.other k.of_root) in
+    both_ways cpu.stopped k.goes_on (halted.stopped ∙ k.runs))
 
 commit_due : (image : Image) (f : Facts) (caller : ℕ) (call : Call) → AreSoundCells image.system (configs_of f.cells) → IsSound image f → IsOpen image (configs_of f.cells) f.cpu (record { caller = caller; call = call; phase = ToCommit })
     → any_below (λ i. keeps_commit image call i (f.cpu i)) 16 ≡ false → (i : ℕ) → is_named call (f.cpu i).owner ≡ true → (f.cpu i).asked ≡ false
@@ -233,21 +253,36 @@ commit_due image f caller call cells sound opens none i named =
     let apart : (f.cpu i).owner ≢ image.system.root.id = λ e. both_ways (is_named call (f.cpu i).owner) (ap (is_named call) e ∙ unnamed) named in
     (halted_to_commit image call i f.cpu (board_few image (configs_of f.cells) cells.clean i on) none on named ((opens.cells i apart).0 named)).asked
 
-due_commit : (image : Image) (f : Facts) (caller : ℕ) (call : Call) → AreSoundCells image.system (configs_of f.cells) → IsOpen image (configs_of f.cells) f.cpu (record { caller = caller; call = call; phase = ToCommit })
-    → ((i : ℕ) → is_named call (f.cpu i).owner ≡ true → (f.cpu i).asked ≡ false) → any_below (λ i. keeps_commit image call i (f.cpu i)) 16 ≡ false
-due_commit image f caller call cells opens stopped =
-    false_from_ne_true (any_below (λ i. keeps_commit image call i (f.cpu i)) 16)
-    (λ some.
+-- a CPU that a Commit waits for: one of the call's cell, that runs and hasn't stopped
+pub record KeepsCommit (image : Image) (f : Facts) (call : Call) (i : ℕ) : Type 0 where
+  pub on_board : is_on_board image i ≡ true
+  pub named : is_named call (f.cpu i).owner ≡ true
+  pub runs : is_running (f.cpu i).mode ≡ true
+  pub goes_on : (f.cpu i).stopped ≡ false
+
+pub keeps_a_commit : (image : Image) (f : Facts) (call : Call) → any_below (λ i. keeps_commit image call i (f.cpu i)) 16 ≡ true → (i : ℕ) × KeepsCommit image f call i
+keeps_a_commit image f call some =
     let found = below_of (λ i. keeps_commit image call i (f.cpu i)) 16 some in
     let i : ℕ = found.0 in
     let cpu : Cpu = f.cpu i in
     let a = and_parts (is_on_board image i && is_named call cpu.owner && is_running cpu.mode) (not cpu.stopped) found.2 in
     let b = and_parts (is_on_board image i && is_named call cpu.owner) (is_running cpu.mode) a.0 in
     let c = and_parts (is_on_board image i) (is_named call cpu.owner) b.0 in
+    (i, record { on_board = c.0; named = c.1; runs = b.1; goes_on = not-true cpu.stopped a.1 })
+
+due_commit : (image : Image) (f : Facts) (caller : ℕ) (call : Call) → AreSoundCells image.system (configs_of f.cells) → IsOpen image (configs_of f.cells) f.cpu (record { caller = caller; call = call; phase = ToCommit })
+    → ((i : ℕ) → is_named call (f.cpu i).owner ≡ true → (f.cpu i).asked ≡ false) → any_below (λ i. keeps_commit image call i (f.cpu i)) 16 ≡ false
+due_commit image f caller call cells opens stopped =
+    false_from_ne_true (any_below (λ i. keeps_commit image call i (f.cpu i)) 16)
+    (λ some.
+    let found = keeps_a_commit image f call some in
+    let i : ℕ = found.0 in
+    let k = found.1 in
+    let cpu : Cpu = f.cpu i in
     let unnamed = root_unnamed image.system (configs_of f.cells) call cells opens.phase in
-    let apart : cpu.owner ≢ image.system.root.id = λ e. both_ways (is_named call cpu.owner) (ap (is_named call) e ∙ unnamed) c.1 in
-    let halted = stays_halted cpu ((opens.cells i apart).0 c.1) (stopped i c.1) in
-    both_ways cpu.stopped (not-true cpu.stopped a.1) (halted.stopped ∙ b.1))
+    let apart : cpu.owner ≢ image.system.root.id = λ e. both_ways (is_named call cpu.owner) (ap (is_named call) e ∙ unnamed) k.named in
+    let halted = stays_halted cpu ((opens.cells i apart).0 k.named) (stopped i k.named) in
+    both_ways cpu.stopped k.goes_on (halted.stopped ∙ k.runs))
 
 -- ---- answers of cells
 
