@@ -1,7 +1,7 @@
 -- A region gives a whole page of addresses, or none.
 use Rattle.std.proofs.Common.{◌≡◌, ℕ, ◌+◌, ◌-◌, ◌%◌, ◌<◌, ◌≤◌, List, Bool, true, false, ◌&&◌, cond, leb, ltb, eqb, Some, None, refl, ap, sym, ◌∙◌, arith, inl, inr}
 use Rattle.std.specs.Prelude.{find, option_map, IsTrue}
-use Rattle.std.proofs.lemmas.Bool.{cases_lt, lt-leb, le-leb, lt-ltb, le-ltb, eqb-true, and_parts, and_right}
+use Rattle.std.proofs.lemmas.Bool.{cases_lt, lt-leb, le-leb, lt-ltb, le-ltb, eqb-true, and_parts, and_right, and_from}
 use Rattle.jh_cellcfg.specs.declared.region.Region.{Region}
 use Rattle.jh_cellcfg.specs.Regions.{has_address, is_page_mapped, is_comm, has_flags, place_in, byte_in}
 use Rattle.jh_cellcfg.proofs.AddressLemmas.{has_address_first}
