@@ -223,14 +223,16 @@ keeps_a_decide image f caller some =
     let a = and_parts (is_on_board image i && not (eqb i caller) && eqb cpu.owner root && is_running cpu.mode) (not cpu.stopped) found.2 in
     let b = and_parts (is_on_board image i && not (eqb i caller) && eqb cpu.owner root) (is_running cpu.mode) a.0 in
     let c = and_parts (is_on_board image i && not (eqb i caller)) (eqb cpu.owner root) b.0 in
-    let d = and_parts (is_on_board image i) (not (eqb i caller)) c.0 in
-    (i, record {
-      on_board = d.0;
-      other = λ e. both_ways (eqb i caller) (not-true (eqb i caller) d.1) (eq-eqb i caller e);
-      of_root = eqb-true cpu.owner root c.1;
-      runs = b.1;
-      goes_on = not-true cpu.stopped a.1;
-    })
+    let d = and_parts (is_on_board image i) (not (eqb i caller)) c.0 in (
+      i,
+      record {
+        on_board = d.0;
+        other = λ e. both_ways (eqb i caller) (not-true (eqb i caller) d.1) (eq-eqb i caller e);
+        of_root = eqb-true cpu.owner root c.1;
+        runs = b.1;
+        goes_on = not-true cpu.stopped a.1;
+      },
+    )
 
 due_decide : (image : Image) (f : Facts) (o : OpenCall)
     → ((i : ℕ) → is_on_board image i ≡ true → i ≢ o.caller → (f.cpu i).owner ≡ image.system.root.id → IsHalting (f.cpu i))
