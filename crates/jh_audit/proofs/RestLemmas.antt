@@ -1,6 +1,5 @@
 -- The lines behind the first illegal entry.
-use Rattle.std.proofs.Common.{◌≡◌, ℕ, List, [], ◌∷◌, ◌++◌, Some, Result, Ok, Err, sym, subst, append_assoc}
-use Rattle.std.specs.Result.{IfErr, IsErrAnd}
+use Rattle.std.proofs.Common.{ℕ, List, [], ◌∷◌, ◌++◌, Some, subst, append_assoc}
 use Rattle.jh_history.specs.declared.entry.Entry.{Entry}
 use Rattle.jh_text.specs.declared.fault.JournalFault.{JournalFault}
 use Rattle.jh_text.specs.Faults.{IsFault}
@@ -28,8 +27,3 @@ reads_on goes_on first old new entry so_far passes = record {
 -- a line is refused for the fault of the text
 pub ends_at : Refused → (first old new : LinesView) (fault : JournalFault) → ReadsOn first old → RefusesLine old fault new → EndsAtFault first fault
 ends_at refused first old new fault so_far refuses = λ text before h. refused text (before ++ so_far.between) old new fault (so_far.told text before h) refuses
-
--- a fault that is passed up
-pub passed_up : {X E : Type 0} (r : Result X E) (e : E) (P : E → Type 0) → IsErrAnd r (λ y. y ≡ e) → P e → IfErr r P
-passed_up (Ok x) e P is p = tt
-passed_up (Err y) e P is p = subst P (sym is) p

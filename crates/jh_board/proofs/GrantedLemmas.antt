@@ -7,6 +7,7 @@ use Rattle.std.specs.Option.{option_map_or}
 use Rattle.std.proofs.lemmas.Bool.Decides.{nat_tests}
 use Rattle.std.proofs.lemmas.List.Folds.{list_any-append}
 use Rattle.jh_num.specs.declared.address.TheConstants.{ADDRESS_END}
+use Rattle.jh_num.proofs.Booleans.{within_both}
 use Rattle.jh_cellcfg.specs.declared.config.CellConfig.{CellConfig}
 use Rattle.jh_cellcfg.specs.declared.live.Live.{Live}
 use Rattle.jh_script.specs.declared.image.Image.{Image}
@@ -48,9 +49,6 @@ within_low start end p h = grind (arith, nat_tests)
 
 within_high : (start end p : ℕ) → (nat_le start p && nat_lt p end) ≡ true → p < end
 within_high start end p h = grind (arith, nat_tests)
-
-within_both : (start end p : ℕ) → start ≤ p → p < end → (nat_le start p && nat_lt p end) ≡ true
-within_both start end p low high = grind (arith, nat_tests)
 
 -- a test whether a place of the range is closed
 kept_row : (image : Image) (lives : List Live) (start n : ℕ) (b : Bool) → (IsTrue b ↔ ((p : ℕ) × IsTrue ((nat_le start p && nat_lt p (start + n)) && is_closed_by lives p)))

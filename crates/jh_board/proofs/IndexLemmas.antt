@@ -17,10 +17,11 @@ use Rattle.jh_cellcfg.specs.declared.config.CellConfig.{CellConfig}
 use Rattle.jh_cellcfg.specs.declared.live.Live.{Live}
 use Rattle.jh_script.specs.Operations.{IsWellFormed}
 use Rattle.jh_cellcfg.specs.Regions.{has_address, IsInRange}
+use Rattle.jh_cellcfg.proofs.AddressLemmas.{has_some}
 use Rattle.std.proofs.lemmas.List.Elements.{All-contains}
 use Rattle.jh_history.specs.Admitted.{IsAdmitted}
 use Rattle.jh_history.proofs.AdmittedLemmas.{within}
-use Rattle.jh_history.proofs.GrantLemmas.{gives_has, has_some}
+use Rattle.jh_history.proofs.GrantLemmas.{gives_has}
 use Rattle.jh_board.specs.declared.indexed.FoundProgram.{FoundProgram}
 use Rattle.jh_board.specs.Indexed.{ops_at, AreRootPrograms, AreFound}
 

@@ -2,7 +2,7 @@
 use Rattle.std.proofs.Common.{◌≡◌, ℕ, zero, suc, ◌+◌, ◌-◌, ◌*◌, ◌/◌, ◌%◌, ◌^◌, ◌<◌, ◌≤◌, List, [], ◌∷◌, ◌++◌, length, length-take, take, map, cond, leb, ltb, eqb, refl, sym, ◌∙◌, ap, inl, inr, arith}
 use Rattle.std.specs.Prelude.{min, slice_index, slice_range, ◌&&◌}
 use Rattle.std.specs.Int.{byte_at as byte_of_number, bytes_low_first}
-use Rattle.std.proofs.lemmas.Bool.{cases_eq, cases_lt, eq-eqb, ne_eqb, le-leb, lt-leb, lt-ltb, le-ltb, and_right}
+use Rattle.std.proofs.lemmas.Bool.{cases_eq, cases_lt, eq-eqb, ne_eqb, le-leb, lt-ltb}
 use Rattle.std.proofs.lemmas.List.{get_or-append_right, get_or_append_left, length-append}
 use Rattle.std.proofs.lemmas.Grind.{pow_more}
 use Rattle.std.proofs.Math.Seq.{take-add}
@@ -14,6 +14,7 @@ use Rattle.jh_history.specs.Places.{places_in_row, with_byte, written}
 use Rattle.jh_history.proofs.ValueLemmas.{row_length}
 use Rattle.jh_board.specs.Pages.{bytes_from, byte_of, comm_byte, MemoryView}
 use Rattle.jh_num.specs.Pages.{page_at, byte_of_page, paged_byte}
+use Rattle.jh_num.proofs.MemoryLemmas.{stored_before, stored_behind}
 
 abbrev Pages : Type 0
 Pages = List (ℕ × List ℕ)
@@ -37,11 +38,6 @@ spelled_of_page pages at n v within is = is ∙ ap spelled (sym (row_of_page pag
 pub row_of_memory : (memory : MemoryView) (a n : ℕ) → map (byte_of memory) (places_in_row (Physical a) n) ≡ bytes_from (paged_byte memory.physical) a n
 row_of_memory memory a zero = refl
 row_of_memory memory a (suc n) = ap (λ (bs : List ℕ). paged_byte memory.physical a ∷ bs) (row_of_memory memory (a + 1) n)
-
--- the bytes at places of a communication page in a row
-pub row_of_comm : (memory : MemoryView) (cell offset n : ℕ) → map (byte_of memory) (places_in_row (Page cell offset) n) ≡ bytes_from (comm_byte memory.comms cell) offset n
-row_of_comm memory cell offset zero = refl
-row_of_comm memory cell offset (suc n) = ap (λ (bs : List ℕ). comm_byte memory.comms cell offset ∷ bs) (row_of_comm memory cell (offset + 1) n)
 
 -- zeros spell nothing
 pub zeros_spell_nothing : (offset n : ℕ) → spelled (bytes_from (λ k. 0) offset n) ≡ 0
@@ -72,12 +68,6 @@ word_next v b n k some le few small byte =
 -- the bytes of a list where it is stored, below it and above it
 stored_there : (byte : ℕ → ℕ) (at : ℕ) (bytes : List ℕ) (q : ℕ) → at ≤ q → q < at + length bytes → stored byte at bytes q ≡ slice_index bytes (q - at)
 stored_there byte at bytes q above below = rw (le-leb at q above, lt-ltb q (at + length bytes) below) refl
-
-stored_before : (byte : ℕ → ℕ) (at : ℕ) (bytes : List ℕ) (q : ℕ) → q < at → stored byte at bytes q ≡ byte q
-stored_before byte at bytes q below = rw (lt-leb at q below) refl
-
-stored_behind : (byte : ℕ → ℕ) (at : ℕ) (bytes : List ℕ) (q : ℕ) → at + length bytes ≤ q → stored byte at bytes q ≡ byte q
-stored_behind byte at bytes q above = rw (and_right (leb at q) (ltb q (at + length bytes)) (le-ltb q (at + length bytes) above)) refl
 
 -- one list behind another
 stored_append : (byte : ℕ → ℕ) (at : ℕ) (xs ys : List ℕ) (q : ℕ) → stored (stored byte at xs) (at + length xs) ys q ≡ stored byte at (xs ++ ys) q
@@ -165,13 +155,6 @@ written_piece old new a n v bytes few is put same (Physical q) =
     put q ∙ ap (λ (bs : List ℕ). stored (paged_byte old.physical) a bs q) is ∙ sym (written_low_first (byte_of old) a n 0 8 v q few)
     ∙ ap (λ (x : ℕ). written (byte_of old) (places_in_row (Physical a) n) x (Physical q)) (div-one v)
 written_piece old new a n v bytes few is put same (Page cell offset) = ap (λ (pages : Pages). comm_byte pages cell offset) same ∙ sym (written_elsewhere (byte_of old) a n v cell offset)
-
--- a number of no bytes is one of any
-pub fits_zero : (n : ℕ) → 0 < 256 ^ n
-fits_zero n =
-    let least : 0 ≤ n = omega arith in
-    let h : 256 ^ 0 ≤ 256 ^ n = pow-le-pow_right (omega arith) least in
-    omega (arith, h)
 
 -- a number of so many bytes as a row has places
 pub fits_in_row : (v n : ℕ) (p : Place) (places : List Place) → places ≡ places_in_row p n → v < 256 ^ n → v < 256 ^ length places

@@ -1,10 +1,9 @@
 -- The regions of live cells, and what a map tells of grants.
-use Rattle.std.proofs.Common.{◌≡◌, ℕ, ◌+◌, ◌-◌, ◌<◌, leb, ltb, Bool, true, false, cond, ◌&&◌, ◌||◌, not, eqb, List, [], length, get_or, map, Option, Some, None, Result, refl, sym, ap, subst, ◌∙◌, ⊎_elim, arith}
+use Rattle.std.proofs.Common.{◌≡◌, ℕ, ◌+◌, ◌-◌, leb, ltb, Bool, true, false, cond, ◌&&◌, ◌||◌, not, eqb, List, [], get_or, map, Option, Some, None, Result, refl, sym, ap, subst, ◌∙◌, ⊎_elim, arith}
 use Rattle.std.specs.Prelude.{AllPairs, Contains, IfOk, find, option_map, option_and_then}
 use Rattle.std.specs.Option.{option_map_or}
-use Rattle.std.proofs.lemmas.Bool.{and_parts, and_from, and_left, eq-eqb, ne_eqb, cases_Bool, cases_order, both_ways, false_from_ne_true, leb-true, ltb-true, le-leb, lt-ltb}
+use Rattle.std.proofs.lemmas.Bool.{and_parts, and_from, and_left, eq-eqb, ne_eqb, cases_Bool, both_ways, false_from_ne_true, leb-true, ltb-true, le-leb, lt-ltb}
 use Rattle.std.proofs.lemmas.Option.{slice_get-get_or}
-use Rattle.std.proofs.lemmas.List.{get_or_default}
 use Rattle.std.proofs.lemmas.List.Elements.{All-contains}
 use Rattle.jh_num.proofs.Lists.{IsFound, IsFound_from_find, find_None, find_nothing, find_unique}
 use Rattle.jh_num.specs.declared.no_memory.NoMemory.{NoMemory}
@@ -13,8 +12,9 @@ use Rattle.jh_num.specs.Bytes.{has_byte}
 use Rattle.jh_cellcfg.specs.declared.config.CellConfig.{CellConfig}
 use Rattle.jh_cellcfg.specs.declared.live.Live.{Live}
 use Rattle.jh_cellcfg.specs.declared.region.Region.{Region}
-use Rattle.jh_cellcfg.specs.Regions.{has_address, has_flags, is_comm, is_page_mapped, place_in, byte_in, rights_of}
-use Rattle.jh_check.specs.Clean.{IsClean, SharesNoAddress}
+use Rattle.jh_cellcfg.specs.Regions.{has_address, has_flags, is_comm, is_page_mapped, place_in, byte_in, rights_of, SharesNoAddress}
+use Rattle.jh_cellcfg.proofs.AddressLemmas.{same_region}
+use Rattle.jh_check.specs.Clean.{IsClean}
 use Rattle.jh_check.specs.Laws.{IsNumbered}
 use Rattle.jh_map.specs.declared.run.Run.{Run}
 use Rattle.jh_map.specs.Maps.{is_granted, leads_to, IsIn, IsRunOf, IsRunIn, IsMap}
@@ -29,6 +29,7 @@ use Rattle.jh_history.specs.Grants.{unless, granted_by}
 use Rattle.jh_history.specs.Lives.{cell_in, regions_in}
 use Rattle.jh_shape.specs.Lives.{configs_of}
 use Rattle.jh_history.proofs.GrantedLemmas.{numbered_cell}
+use Rattle.jh_history.proofs.GrantLemmas.{gives_from}
 use Rattle.jh_board.specs.Closed.{AreInRange, is_closed_by}
 use Rattle.jh_board.specs.Maps.{is_kept_at, is_right, is_told, place_told, told_grant}
 
@@ -57,21 +58,6 @@ apart_of (Some c) each = each c refl
 pub regions_apart : (image : Image) (lives : List Live) (id : ℕ) → IsClean image.system (configs_of lives) → AllPairs SharesNoAddress (regions_in image lives id)
 regions_apart image lives id clean = apart_of (cell_in image lives id) (λ c e. cell_apart image lives id c clean e)
 
--- regions of one list that share an address are one
-same_region : (regions : List Region) (r s : Region) (at : ℕ) → AllPairs SharesNoAddress regions → Contains regions r → Contains regions s → has_address r at ≡ true → has_address s at ≡ true → r ≡ s
-same_region regions r s at apart (i, il, i_is) (j, jl, j_is) r_has s_has = ⊎_elim
-    (λ (e : i ≡ j). sym i_is ∙ ap (λ k. get_or regions k r) e ∙ get_or_default regions j r s jl ∙ j_is)
-    (λ o. ⊎_elim
-    (λ (lt : i < j). absurd (not_both i j r s il jl i_is j_is r_has s_has lt))
-    (λ (gt : j < i). absurd (not_both j i s r jl il j_is i_is s_has r_has gt))
-    o)
-    (cases_order i j)
-  where
-    not_both : (i j : ℕ) (r s : Region) → i < length regions → j < length regions → get_or regions i r ≡ r → get_or regions j s ≡ s → has_address r at ≡ true → has_address s at ≡ true → i < j → ⊥
-    not_both i j r s il jl i_is j_is r_has s_has lt =
-        let P : Region → Type 0 = λ x. has_address x at ≡ true in
-        apart i j r lt jl at (subst P (sym i_is) r_has) (subst P (sym (get_or_default regions j r s jl ∙ j_is)) s_has)
-
 -- ---- what a map tells
 
 -- the laws of maps: where an address leads, by the run that has it, and that no address is in two runs
@@ -91,9 +77,6 @@ gives_parts access at r h =
     let outer = and_parts (has_address r at && is_page_mapped r) (has_flags (right_of access) r) h in
     let inner = and_parts (has_address r at) (is_page_mapped r) outer.0 in
     (inner.0, inner.1, outer.1)
-
-gives_from : (access : Access) (at : ℕ) (r : Region) → has_address r at ≡ true → is_page_mapped r ≡ true → has_flags (right_of access) r ≡ true → gives access at r ≡ true
-gives_from access at r has page right = and_from (has_address r at && is_page_mapped r) (has_flags (right_of access) r) (and_from (has_address r at) (is_page_mapped r) has page) right
 
 told_in : (access : Access) (at : ℕ) (run : Run) → is_told access at run ≡ true → IsIn run at
 told_in access at run h =

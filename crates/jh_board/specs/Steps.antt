@@ -63,11 +63,6 @@ abbrev pub change_of_cells : Option OpenCall → Act → CellsChange
 change_of_cells call Commit = option_map_or (λ (o : OpenCall). change_of_call o.call) call Keep
 change_of_cells call act = Keep
 
--- the act is a Commit, as no other act changes which cells live
-abbrev pub is_commit : Act → Bool
-is_commit Commit = true
-is_commit act = false
-
 -- the cells after the change
 abbrev pub changed_cells : CellsChange → List Live → List Live
 changed_cells Keep cells = cells

@@ -3,11 +3,11 @@ ghost use Rattle.std.specs.Prelude.{◌≡◌, ◌↔◌, ℕ, ◌+◌, ◌<◌,
 ghost use Rattle.std.specs.Option.{option_copied};
 ghost use Rattle.jh_num.specs.Bytes.{in_range, has_byte};
 ghost use Rattle.jh_cellcfg.specs.declared.region.Region.{Region as TheRegion};
-ghost use Rattle.jh_cellcfg.specs.Regions.{has_address, IsInRange};
+ghost use Rattle.jh_cellcfg.specs.Regions.{has_address, IsInRange, SharesNoAddress};
 ghost use Rattle.jh_mmio.specs.Dispatch.{takes_all, unless_closed};
 ghost use Rattle.jh_check.specs.Refusals.{is_known};
 ghost use Rattle.jh_shape.specs.Pages.{pages_of};
-ghost use Rattle.jh_mmio.specs.Index.{IsRegionAt, SharesNoAddress};
+ghost use Rattle.jh_mmio.specs.Index.{IsRegionAt};
 ghost use Rattle.jh_life.specs.Lives.{has_config_id, new_live};
 ghost use Rattle.jh_shape.specs.Lives.{configs_of, marked};
 ghost use Rattle.jh_history.specs.Commits.{is_other};

@@ -3,7 +3,7 @@ ghost use Rattle.std.specs.Prelude.{◌≡◌, ℕ, ◌<◌, ◌≤◌, List, Op
 ghost use Rattle.std.specs.Option.{option_map_or};
 ghost use Rattle.jh_cellcfg.specs.declared.config.CellConfig.{CellConfig as TheConfig};
 ghost use Rattle.jh_ivshmem.specs.Specs.{IsInItsLimits};
-ghost use Rattle.jh_mmio.specs.Index.{SharesNoAddress};
+ghost use Rattle.jh_cellcfg.specs.Regions.{SharesNoAddress};
 ghost use Rattle.jh_script.specs.declared.image.Image.{Image};
 ghost use Rattle.jh_history.specs.declared.place.Place.{Place as ThePlace};
 ghost use Rattle.jh_history.specs.Access.{with_slot_if, slot_of_reach};
@@ -12,7 +12,7 @@ ghost use Rattle.jh_history.specs.declared.call.OpenCall.{OpenCall as TheOpenCal
 ghost use Rattle.jh_cellcfg.specs.declared.live.Live.{Live as TheLive};
 ghost use Rattle.jh_history.specs.Endpoints.{endpoints_put, endpoints_changed, change_by, changing_by, specs_changing, with_words, HasGoodDevices};
 ghost use Rattle.jh_history.specs.Calls.{call_by};
-ghost use Rattle.jh_history.specs.Commits.{cells_by, created_by};
+ghost use Rattle.jh_history.specs.Commits.{cells_by, created_by, is_commit};
 ghost use Rattle.jh_history.specs.DueFacts.{NamesCpu};
 ghost use Rattle.jh_history.specs.Facts.{Facts};
 ghost use Rattle.jh_history.specs.History.{after};
@@ -23,7 +23,7 @@ ghost use Rattle.jh_board.specs.Pages.{byte_of, HoldsComm, HoldsPlace};
 ghost use Rattle.jh_board.specs.Indexed.{AreFound};
 ghost use Rattle.jh_board.specs.Judged.{IsJudged};
 ghost use Rattle.jh_board.specs.Means.{Means, IsReady, IsReadyFor};
-ghost use Rattle.jh_board.specs.Steps.{decides_to_go_on, create_of, change_of_call, change_of_cells, changed_cells, is_commit, IsNext, IsRead, IsFree, WillBeReady, IsPrepared, MayWrite, MayWriteOf, MayWriteSlot, MayCommit, MayJoinCells, IsSameButDevices, joined_cells, devices_held, memory_written, memory_after, slot_after, endpoints_acted_by};
+ghost use Rattle.jh_board.specs.Steps.{decides_to_go_on, create_of, change_of_call, change_of_cells, changed_cells, IsNext, IsRead, IsFree, WillBeReady, IsPrepared, MayWrite, MayWriteOf, MayWriteSlot, MayCommit, MayJoinCells, IsSameButDevices, joined_cells, devices_held, memory_written, memory_after, slot_after, endpoints_acted_by};
 
 use crate::cell_regions::CellRegions;
 use crate::cells::LiveCells;

@@ -4,7 +4,7 @@ use Rattle.std.specs.Prelude.{Result, Ok, Err, IsOk, is_ok, if◌then◌else◌,
 use Rattle.std.specs.List.{filter, find, list_any}
 use Rattle.std.specs.Option.{option_map}
 use Rattle.std.proofs.lemmas.List.{take_all, drop_all, take-append-le}
-use Rattle.std.proofs.lemmas.Bool.{cond-true, cond-false, false_from_ne_true, false≢true, not_from_false, or_parts}
+use Rattle.std.proofs.lemmas.Bool.{cond-true, cond-false, not_from_false, or_parts}
 
 -- what no test takes out stays as it is
 pub kept_any : {X : Type 0} (p : X → Bool) (xs : List X) → list_any p xs ≡ false → filter (λ x. not (p x)) xs ≡ xs
@@ -24,15 +24,6 @@ none_any p (x ∷ xs) e = any_by_cases (p x) (list_any p xs) x (find p xs) (none
 
 pub kept_all : {X : Type 0} (p : X → Bool) (xs : List X) → find p xs ≡ None → filter (λ x. not (p x)) xs ≡ xs
 kept_all p xs e = kept_any p xs (none_any p xs e)
-
-found_by_cases : {X : Type 0} (q : X → Bool) (k : Bool) (x : X) (ys xs : List X) → (q x ≡ true → k ≡ true) → find q ys ≡ find q xs → find q (cond k (x ∷ ys) ys) ≡ cond (q x) (Some x) (find q xs)
-found_by_cases q true x ys xs h e = ap (λ o. cond (q x) (Some x) o) e
-found_by_cases q false x ys xs h e = e ∙ sym (cond-false (q x) (Some x) (find q xs) (false_from_ne_true (q x) (λ t. false≢true (h t))))
-
--- where all that are looked for stay, the first of them is the same
-pub find_kept : {X : Type 0} (q keep : X → Bool) (xs : List X) → ((x : X) → q x ≡ true → keep x ≡ true) → find q (filter keep xs) ≡ find q xs
-find_kept q keep [] h = refl
-find_kept q keep (x ∷ xs) h = found_by_cases q (keep x) x (filter keep xs) xs (h x) (find_kept q keep xs h)
 
 none_by_cases : {X : Type 0} (q : X → Bool) (k : Bool) (x : X) (ys : List X) → (k ≡ true → q x ≡ false) → find q ys ≡ None → find q (cond k (x ∷ ys) ys) ≡ None
 none_by_cases q true x ys h e = cond-false (q x) (Some x) (find q ys) (h refl) ∙ e

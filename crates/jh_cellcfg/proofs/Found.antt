@@ -1,12 +1,12 @@
 -- Bytes without a fault spell a configuration.
 use Rattle.std.proofs.Common.{◌≡◌, ℕ, zero, suc, ◌+◌, ◌-◌, ◌<◌, ◌≤◌, Bool, true, false, not, ◌==◌, List, [], ◌∷◌, ◌++◌, length, take, drop, Option, Some, None, All, refl, sym, ap, subst, ◌∙◌, length-append, length-drop, arith, inl, inr}
-use Rattle.std.specs.Prelude.{nat_lt, codes, ◌&&◌, nat_eq}
+use Rattle.std.specs.Prelude.{nat_lt, codes, nat_eq}
 use Rattle.std.specs.List.{starts_with}
-use Rattle.std.specs.Cmp.Lexicographic.{pointwise}
 use Rattle.std.proofs.lemmas.Bool.{ltb-false, eqb-true, cases_lt}
 use Rattle.std.proofs.lemmas.List.{append-nil, drop-drop, nil_from_length, get_or_past, take-append-drop, length-take}
 use Rattle.std.proofs.lemmas.List.Elements.{All-get_or}
 use Rattle.std.proofs.lemmas.Nat.{le_bytes_2}
+use Rattle.std.proofs.lemmas.Slice.Eq.{bytes_eq-Decides}
 use Rattle.jh_cellcfg.specs.declared.config.CellConfig.{CellConfig}
 use Rattle.jh_cellcfg.specs.declared.fault.ConfigFault.{ConfigFault}
 use Rattle.jh_cellcfg.specs.declared.fault.ConfigFault.TheVariants.{Short, Signature, Revision, Name, Count, Trailing}
@@ -183,25 +183,11 @@ body_found front body all long none =
       t.is ∙ (λ i. header_bytes (sym found.2 i) ++ found.3 i),
     )
 
-pub and_splits : (a b : Bool) → (a && b) ≡ true → (a ≡ true) × (b ≡ true)
-and_splits true b e = (refl, e)
-and_splits false b e = absurd cc
-
-pub pointwise_same : (xs ys : List ℕ) → pointwise nat_eq xs ys ≡ true → xs ≡ ys
-pointwise_same [] [] e = refl
-pointwise_same [] (y ∷ ys) e = absurd cc
-pointwise_same (x ∷ xs) [] e = absurd cc
-pointwise_same (x ∷ xs) (y ∷ ys) e =
-    let p = and_splits (nat_eq x y) (pointwise nat_eq xs ys) e in
-    let first : x ≡ y = eqb-true x y p.0 in
-    let others = pointwise_same xs ys p.1 in
-    λ i. first i ∷ others i
-
 start_found : (bytes : List ℕ) → IsBytes bytes → 8 ≤ length bytes → start_fault bytes ≡ None → bytes ≡ codes "JHCELL" ++ (u16_bytes 13 ++ drop 8 bytes)
 unfolding start_fault
 start_found bytes all long none =
     let e = free (fault_if (not (starts_with nat_eq bytes (codes "JHCELL"))) Signature ∷ fault_if (not (u16_at bytes 6 == 13)) (Revision (u16_at bytes 6)) ∷ []) none in
-    let signature : take 6 bytes ≡ codes "JHCELL" = sym (pointwise_same (codes "JHCELL") (take 6 bytes) (both_true (starts_with nat_eq bytes (codes "JHCELL")) (passed (not (starts_with nat_eq bytes (codes "JHCELL"))) Signature (head_none e)))) in
+    let signature : take 6 bytes ≡ codes "JHCELL" = sym ((bytes_eq-Decides (codes "JHCELL") (take 6 bytes)).0 (both_true (starts_with nat_eq bytes (codes "JHCELL")) (passed (not (starts_with nat_eq bytes (codes "JHCELL"))) Signature (head_none e)))) in
     let last = rest_none e in
     let number : u16_at bytes 6 ≡ 13 = eqb-true (u16_at bytes 6) 13 (both_true (u16_at bytes 6 == 13) (passed (not (u16_at bytes 6 == 13)) (Revision (u16_at bytes 6)) (head_none last))) in
     let two = take 2 (drop 6 bytes) in

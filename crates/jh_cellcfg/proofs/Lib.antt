@@ -6,3 +6,4 @@ pub mod Fields
 pub mod Found
 mod Told
 mod Writing
+pub mod AddressLemmas

@@ -1,6 +1,6 @@
 -- What a memory region says of an address: whether it is one of the region's, what place it has, and
 -- what may be done with it.
-use Rattle.std.specs.Prelude.{◌≡◌, ℕ, ◌+◌, ◌-◌, ◌%◌, ◌≤◌, Bool, false, ◌&&◌, not, ◌==◌, nat_lt, nat_le, bit_and, if◌then◌else◌}
+use Rattle.std.specs.Prelude.{◌≡◌, ℕ, ◌+◌, ◌-◌, ◌%◌, ◌≤◌, Bool, false, ◌&&◌, not, ◌==◌, nat_lt, nat_le, bit_and, IsTrue, if◌then◌else◌}
 use Rattle.jh_num.specs.declared.address.TheConstants.{ADDRESS_END, PAGE_SIZE}
 use Rattle.jh_num.specs.declared.rights.Rights.{Rights}
 use Rattle.jh_cellcfg.specs.declared.region.Region.{Region}
@@ -20,6 +20,10 @@ phys_end region = region.phys_start + region.size
 -- the address is one of the region's; a region of size 0 has none
 abbrev pub has_address : Region → ℕ → Bool
 has_address region at = nat_le region.virt_start at && nat_lt at (virt_end region)
+
+-- no address is one of both regions
+abbrev pub SharesNoAddress : Region → Region → Type 0
+SharesNoAddress region other = (at : ℕ) → IsTrue (has_address region at) → IsTrue (has_address other at) → ⊥
 
 -- the physical place is one of the region's
 abbrev pub has_place : Region → ℕ → Bool

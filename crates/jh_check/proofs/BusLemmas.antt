@@ -1,40 +1,28 @@
 -- Devices whose bdf on the bus isn't marked are linked with none, and those whose bdf isn't marked by their own cell are
 -- the first of it there.
-use Rattle.std.proofs.Common.{◌≡◌, ◌≢◌, ℕ, suc, ◌+◌, ◌<◌, Bool, true, false, ◌&&◌, not, ◌==◌, List, [], ◌∷◌, length, get_or, take, refl, sym, ap, subst, ◌∙◌, inl, inr, arith}
-use Rattle.std.specs.List.{Contains, list_all, list_any}
-use Rattle.std.proofs.lemmas.Bool.{eqb-true, not_from_false, or_left, cases_eq}
+use Rattle.std.proofs.Common.{◌≡◌, ◌≢◌, ℕ, ◌+◌, ◌<◌, true, false, ◌&&◌, not, ◌==◌, List, [], length, get_or, take, sym, ap, subst, ◌∙◌, inl, inr, arith}
+use Rattle.std.specs.List.{Contains, list_all}
+use Rattle.std.proofs.lemmas.Bool.{eqb-true, not_from_false, or_left, cases_eq, false_from_ne_true, and_parts}
 use Rattle.std.proofs.lemmas.List.{get_or-take, get_or_default, length-take}
 use Rattle.jh_cellcfg.specs.declared.region.Region.{Region}
 use Rattle.jh_cellcfg.specs.declared.config.PciDevice.{PciDevice}
 use Rattle.jh_cellcfg.specs.declared.config.CellConfig.{CellConfig}
 use Rattle.jh_check.specs.Devices.{is_shmem, are_linked, are_same_memory, sections_of, agrees_with, agrees_with_all, is_twice}
 use Rattle.jh_check.specs.Private.Bus.{HasBdfs, AreMarkedBy}
-use Rattle.jh_check.proofs.BoolLemmas.{false_from_not, and_right, and_both, or_none}
-
--- all pass a test where each does
-pub all_each : {X : Type 0} (p : X → Bool) (xs : List X) → ((x : X) → Contains xs x → p x ≡ true) → list_all p xs ≡ true
-all_each p [] h = refl
-all_each p (x ∷ xs) h =
-    and_both (p x) (list_all p xs) (h x (0, omega arith, refl)) (all_each p xs (λ y cy. let within = cy.1 in h y (suc cy.0, omega arith, cy.2)))
-
--- none passes a test where each doesn't
-none_each : {X : Type 0} (p : X → Bool) (xs : List X) → ((x : X) → Contains xs x → p x ≡ false) → list_any p xs ≡ false
-none_each p [] h = refl
-none_each p (x ∷ xs) h =
-    or_none (p x) (list_any p xs) (h x (0, omega arith, refl)) (none_each p xs (λ y cy. let within = cy.1 in h y (suc cy.0, omega arith, cy.2)))
+use Rattle.jh_num.proofs.Lists.{list_all_each, list_any_nothing}
 
 unlinked : (marks : List ℕ) (device other : PciDevice) → get_or marks device.bdf 0 ≡ 0 → 0 < get_or marks other.bdf 0 → are_linked device other ≡ false
 unlinked marks device other unmarked marked =
-    false_from_not (are_linked device other) (λ t.
-    let both = and_right (is_shmem device) (is_shmem other && (device.bdf == other.bdf)) t in
-    let e = eqb-true device.bdf other.bdf (and_right (is_shmem other) (device.bdf == other.bdf) both) in
+    false_from_ne_true (are_linked device other) (λ t.
+    let both = (and_parts (is_shmem device) (is_shmem other && (device.bdf == other.bdf)) t).1 in
+    let e = eqb-true device.bdf other.bdf ((and_parts (is_shmem other) (device.bdf == other.bdf) both).1) in
     let none : get_or marks other.bdf 0 ≡ 0 = subst (λ bdf. get_or marks bdf 0 ≡ 0) e unmarked in
     omega arith)
 
 pub agrees_unmarked : (cells : List CellConfig) (marks : List ℕ) (regions : List Region) (device : PciDevice) → HasBdfs cells marks → get_or marks device.bdf 0 ≡ 0 → agrees_with_all cells regions device ≡ true
 agrees_unmarked cells marks regions device has unmarked =
-    all_each (λ (cell : CellConfig). list_all (λ (other : PciDevice). agrees_with regions device cell.memory_regions other) cell.pci_devices) cells (λ cell cc.
-    all_each (λ (other : PciDevice). agrees_with regions device cell.memory_regions other) cell.pci_devices (λ other co.
+    list_all_each (λ (cell : CellConfig). list_all (λ (other : PciDevice). agrees_with regions device cell.memory_regions other) cell.pci_devices) cells (λ cell cc.
+    list_all_each (λ (other : PciDevice). agrees_with regions device cell.memory_regions other) cell.pci_devices (λ other co.
     let rest = (device.shmem_peers == other.shmem_peers) && (not (device.shmem_dev_id == other.shmem_dev_id) && are_same_memory (sections_of regions device) (sections_of cell.memory_regions other)) in
     or_left (not (are_linked device other)) rest (not_from_false (are_linked device other) (unlinked marks device other unmarked (has cell other cc co)))))
 
@@ -84,13 +72,13 @@ marked_more old new cell n devices none within others own before = λ k d h.
 -- a device whose bdf the cell hasn't marked is none of those over again
 pub once_unmarked : (marks : List ℕ) (cell n : ℕ) (devices : List PciDevice) (device : PciDevice) → AreMarkedBy cell devices n marks → get_or marks device.bdf 0 ≢ cell + 1 → is_twice (take n devices) device ≡ false
 once_unmarked marks cell n devices device each unmarked =
-    none_each (λ (other : PciDevice). is_shmem other && (other.bdf == device.bdf)) (take n devices) (λ other co.
-    false_from_not (is_shmem other && (other.bdf == device.bdf)) (λ t.
+    list_any_nothing (λ (other : PciDevice). is_shmem other && (other.bdf == device.bdf)) (take n devices) (λ other co.
+    false_from_ne_true (is_shmem other && (other.bdf == device.bdf)) (λ t.
     let k = co.0 in
     let h = co.1 in
     let size = length-take n devices in
     let low : k < n = omega arith in
     let is : get_or devices k other ≡ other = sym (get_or-take n devices k other low) ∙ co.2 in
-    let e = eqb-true other.bdf device.bdf (and_right (is_shmem other) (other.bdf == device.bdf) t) in
+    let e = eqb-true other.bdf device.bdf ((and_parts (is_shmem other) (other.bdf == device.bdf) t).1) in
     let marked : get_or marks other.bdf 0 ≡ cell + 1 = subst (λ (d : PciDevice). get_or marks d.bdf 0 ≡ cell + 1) is (each k other low) in
     unmarked (subst (λ b. get_or marks b 0 ≡ cell + 1) e marked)))

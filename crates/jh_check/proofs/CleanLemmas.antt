@@ -1,8 +1,9 @@
 -- Where no rule about regions or the hypervisor's memory is broken, and what that says in the rule's own words.
 use Rattle.std.proofs.Common.{◌≡◌, ℕ, ◌+◌, ◌-◌, ◌%◌, ◌<◌, ◌≤◌, Bool, true, false, ◌&&◌, ◌||◌, not, ◌==◌, nat_lt, nat_le, List, [], ◌∷◌, take, zero, suc, Some, slice_get, refl, sym, subst, inl, inr, arith}
 use Rattle.std.specs.List.{list_any}
-use Rattle.std.proofs.lemmas.Bool.{false≢true, ltb-true, ltb-false, leb-true, lt-ltb, le-ltb, le-leb, eqb-true, eq-eqb, ne_eqb, cases_lt, cases_order, and_parts, and_from, or_cases, or_parts, or_left, or_right, not-true, not-false, not_from_false}
+use Rattle.std.proofs.lemmas.Bool.{false≢true, ltb-true, ltb-false, leb-true, lt-ltb, le-ltb, le-leb, eqb-true, eq-eqb, ne_eqb, cases_lt, cases_order, and_parts, and_from, or_cases, or_parts, or_left, or_right, not-true, not-false, not_from_false, false_from_ne_true, both_ways, true_from_ne_false}
 use Rattle.jh_num.specs.declared.address.TheConstants.{ADDRESS_END, PAGE_SIZE}
+use Rattle.jh_num.proofs.Booleans.{same_number}
 use Rattle.jh_cellcfg.specs.declared.region.Region.{Region}
 use Rattle.jh_cellcfg.specs.declared.config.PciDevice.{PciDevice}
 use Rattle.jh_cellcfg.specs.declared.config.CellConfig.{CellConfig}
@@ -15,14 +16,13 @@ use Rattle.jh_check.specs.Devices.{are_same_section, are_sections_of, are_linked
 use Rattle.jh_check.specs.Findings.{spot}
 use Rattle.jh_check.specs.Laws.{IsNumbered, IsItem, AddressesAreSingle, HypervisorIsAlone}
 use Rattle.jh_check.specs.Clean.{PlacesAreSingle, EachRegion, IsReadIfExecuted, IsAligned, IsSoundMemory, RootIsIdentity, RootHasNoComm, CommsArePages, RootKeepsItsPages, IsSameSection, CellsShareAsTheySay}
-use Rattle.jh_check.proofs.BoolLemmas.{false_from_not, true_from_not, not_both, same_number}
 use Rattle.jh_check.proofs.BreakLemmas.{share_parts, within_parts}
 
 -- ---- tests
 
 -- where both don't hold and the first does, the second doesn't
 pub and_rest : (a b : Bool) → ((a && b) ≡ true → ⊥) → a ≡ true → b ≡ false
-and_rest a b h t = false_from_not b (λ u. h (and_from a b t u))
+and_rest a b h t = false_from_ne_true b (λ u. h (and_from a b t u))
 
 pub positive : (a : ℕ) → not (a == 0) ≡ true → 0 < a
 positive zero h = absurd (false≢true h)
@@ -206,7 +206,7 @@ unfolding hypervisor_breaks
 memory_from h range align =
     let far = nat_lt ADDRESS_END (phys_end h) in
     let big = nat_lt 0x4000000 h.size in
-    let p = or_parts (h.size == 0) (big || far) (false_from_not ((h.size == 0) || (big || far)) range) in
+    let p = or_parts (h.size == 0) (big || far) (false_from_ne_true ((h.size == 0) || (big || far)) range) in
     let q = or_parts big far p.1 in
     let some : 0 < h.size = positive h.size (not_from_false (h.size == 0) p.0) in
     let few : h.size ≤ 0x4000000 = ltb-false 0x4000000 h.size q.0 in
@@ -233,7 +233,7 @@ memory_range h m t =
       | inl e ↦ let z = eqb-true h.size 0 e in omega arith
       | inr k ↦ elim (or_cases big far k) [
         | inl e ↦ let z = ltb-true 0x4000000 h.size e in omega arith
-        | inr e ↦ not_both far e (le-ltb ADDRESS_END (phys_end h) near)
+        | inr e ↦ both_ways far (le-ltb ADDRESS_END (phys_end h) near) e
       ]
     ]
 
@@ -244,8 +244,8 @@ memory_align h m t =
     let two = h.size % PAGE_SIZE == 0 in
     let p = and_parts (has_size h) (not one || not two) t in
     elim (or_cases (not one) (not two) p.1) [
-      | inl e ↦ not_both one (eq-eqb (h.phys_start % PAGE_SIZE) 0 m.aligned) (not-true one e)
-      | inr e ↦ not_both two (eq-eqb (h.size % PAGE_SIZE) 0 m.whole) (not-true two e)
+      | inl e ↦ both_ways one (not-true one e) (eq-eqb (h.phys_start % PAGE_SIZE) 0 m.aligned)
+      | inr e ↦ both_ways two (not-true two e) (eq-eqb (h.size % PAGE_SIZE) 0 m.whole)
     ]
 
 -- ---- one region
@@ -257,7 +257,7 @@ within_from system cells k a cell n r x i some =
     let p = or_parts (nat_lt ADDRESS_END (virt_end x)) (not (is_comm x) && far) f in
     record {
       virt = ltb-false ADDRESS_END (virt_end x) p.0;
-      phys = λ c. ltb-false ADDRESS_END (phys_end x) (and_rest (not (is_comm x)) far (λ t. not_both (not (is_comm x) && far) t p.1) (not_from_false (is_comm x) c));
+      phys = λ c. ltb-false ADDRESS_END (phys_end x) (and_rest (not (is_comm x)) far (λ t. both_ways (not (is_comm x) && far) p.1 t) (not_from_false (is_comm x) c));
     }
 
 pub within_to : (system : SystemConfig) (cells : List CellConfig) → EachRegion system cells IsInRange → RegionsHold OutOfRange system.hypervisor_memory (system.root ∷ cells)
@@ -267,30 +267,30 @@ within_to system cells k a cell r x n i t =
     let near = nat_lt ADDRESS_END (virt_end x) in
     let far = nat_lt ADDRESS_END (phys_end x) in
     elim (or_cases near (not (is_comm x) && far) p.1) [
-      | inl e ↦ not_both near e (le-ltb ADDRESS_END (virt_end x) w.virt)
+      | inl e ↦ both_ways near (le-ltb ADDRESS_END (virt_end x) w.virt) e
       | inr e ↦
           let q = and_parts (not (is_comm x)) far e in
-          not_both far q.1 (le-ltb ADDRESS_END (phys_end x) (w.phys (not-true (is_comm x) q.0)))
+          both_ways far (le-ltb ADDRESS_END (phys_end x) (w.phys (not-true (is_comm x) q.0))) q.1
     ]
 
 pub readable_from : (system : SystemConfig) (cells : List CellConfig) → RegionsHold ExecuteWithoutRead system.hypervisor_memory (system.root ∷ cells) → EachRegion system cells IsReadIfExecuted
 readable_from system cells k a cell n r x i some e =
     let f = alone ExecuteWithoutRead system.hypervisor_memory (system.root ∷ cells) k a cell r x n i some in
-    not-false (has_flags 0x1 x) (and_rest (has_flags 0x4 x) (not (has_flags 0x1 x)) (λ t. not_both (has_flags 0x4 x && not (has_flags 0x1 x)) t f) e)
+    not-false (has_flags 0x1 x) (and_rest (has_flags 0x4 x) (not (has_flags 0x1 x)) (λ t. both_ways (has_flags 0x4 x && not (has_flags 0x1 x)) f t) e)
 
 pub readable_to : (system : SystemConfig) (cells : List CellConfig) → EachRegion system cells IsReadIfExecuted → RegionsHold ExecuteWithoutRead system.hypervisor_memory (system.root ∷ cells)
 readable_to system cells k a cell r x n i t =
     let p = parts ExecuteWithoutRead system.hypervisor_memory a (take r cell.memory_regions) x t in
     let q = and_parts (has_flags 0x4 x) (not (has_flags 0x1 x)) p.1 in
-    not_both (has_flags 0x1 x) (k a cell n r x i p.0 q.0) (not-true (has_flags 0x1 x) q.1)
+    both_ways (has_flags 0x1 x) (not-true (has_flags 0x1 x) q.1) (k a cell n r x i p.0 q.0)
 
 pub aligned_from : (system : SystemConfig) (cells : List CellConfig) → RegionsHold PhysAlign system.hypervisor_memory (system.root ∷ cells) → EachRegion system cells IsAligned
 aligned_from system cells k a cell n r x i some mapped comm =
     let f = alone PhysAlign system.hypervisor_memory (system.root ∷ cells) k a cell r x n i some in
     let even = x.phys_start % PAGE_SIZE == 0 in
     let rest = not (is_comm x) && not even in
-    let g = and_rest (is_page_mapped x) rest (λ t. not_both (is_page_mapped x && rest) t f) mapped in
-    let l = and_rest (not (is_comm x)) (not even) (λ t. not_both rest t g) (not_from_false (is_comm x) comm) in
+    let g = and_rest (is_page_mapped x) rest (λ t. both_ways (is_page_mapped x && rest) f t) mapped in
+    let l = and_rest (not (is_comm x)) (not even) (λ t. both_ways rest g t) (not_from_false (is_comm x) comm) in
     eqb-true (x.phys_start % PAGE_SIZE) 0 (not-false even l)
 
 pub aligned_to : (system : SystemConfig) (cells : List CellConfig) → EachRegion system cells IsAligned → RegionsHold PhysAlign system.hypervisor_memory (system.root ∷ cells)
@@ -299,7 +299,7 @@ aligned_to system cells k a cell r x n i t =
     let even = x.phys_start % PAGE_SIZE == 0 in
     let q = and_parts (is_page_mapped x) (not (is_comm x) && not even) p.1 in
     let u = and_parts (not (is_comm x)) (not even) q.1 in
-    not_both even (eq-eqb (x.phys_start % PAGE_SIZE) 0 (k a cell n r x i p.0 q.0 (not-true (is_comm x) u.0))) (not-true even u.1)
+    both_ways even (not-true even u.1) (eq-eqb (x.phys_start % PAGE_SIZE) 0 (k a cell n r x i p.0 q.0 (not-true (is_comm x) u.0)))
 
 -- ---- root
 
@@ -318,7 +318,7 @@ identity_to system cells k a cell r x n i t =
     let q = and_parts (a == 0) (not (x.phys_start == x.virt_start)) p.1 in
     let e = root_of system cells a cell (eqb-true a 0 q.0) n in
     let i' : IsItem system.root r x = subst (λ (c : CellConfig). IsItem c r x) (sym e) i in
-    not_both (x.phys_start == x.virt_start) (eq-eqb x.phys_start x.virt_start (k r x i' p.0)) (not-true (x.phys_start == x.virt_start) q.1)
+    both_ways (x.phys_start == x.virt_start) (not-true (x.phys_start == x.virt_start) q.1) (eq-eqb x.phys_start x.virt_start (k r x i' p.0))
 
 pub no_comm_from : (system : SystemConfig) (cells : List CellConfig) → RegionsHold CommInRoot system.hypervisor_memory (system.root ∷ cells) → RootHasNoComm system
 no_comm_from system cells k r x i some = alone CommInRoot system.hypervisor_memory (system.root ∷ cells) k 0 system.root r x refl i some
@@ -329,7 +329,7 @@ no_comm_to system cells k a cell r x n i t =
     let q = and_parts (a == 0) (is_comm x) p.1 in
     let e = root_of system cells a cell (eqb-true a 0 q.0) n in
     let i' : IsItem system.root r x = subst (λ (c : CellConfig). IsItem c r x) (sym e) i in
-    not_both (is_comm x) q.1 (k r x i' p.0)
+    both_ways (is_comm x) (k r x i' p.0) q.1
 
 -- ---- communication regions
 
@@ -338,8 +338,8 @@ shaped : (system : SystemConfig) (cells : List CellConfig) → RegionsHold CommS
 shaped system cells k a cell above n r x i some comm =
     let f = alone CommShape system.hypervisor_memory (system.root ∷ cells) k a cell r x n i some in
     let bad = is_misshapen (take r cell.memory_regions) x in
-    let g = and_rest (not (a == 0)) (is_comm x && bad) (λ t. not_both (not (a == 0) && (is_comm x && bad)) t f) (not_zero a above) in
-    and_rest (is_comm x) bad (λ t. not_both (is_comm x && bad) t g) comm
+    let g = and_rest (not (a == 0)) (is_comm x && bad) (λ t. both_ways (not (a == 0) && (is_comm x && bad)) f t) (not_zero a above) in
+    and_rest (is_comm x) bad (λ t. both_ways (is_comm x && bad) g t) comm
 
 misshapen_parts : (earlier : List Region) (x : Region) → is_misshapen earlier x ≡ false → (x.size ≡ PAGE_SIZE) × (x.virt_start % PAGE_SIZE ≡ 0) × (list_any is_counted_comm earlier ≡ false)
 misshapen_parts earlier x f =
@@ -362,10 +362,10 @@ comms_from system cells k a cell above n r x i some comm =
       aligned = p.1;
       only = λ s y j some' comm'. elim (cases_order s r) [
         | inl same ↦ same
-        | inr (inl l) ↦ absurd (not_both (list_any is_counted_comm (take r cell.memory_regions)) (earlier_comm cell r s y l j some' comm') p.2)
+        | inr (inl l) ↦ absurd (both_ways (list_any is_counted_comm (take r cell.memory_regions)) p.2 (earlier_comm cell r s y l j some' comm'))
         | inr (inr l) ↦
             let q = misshapen_parts (take s cell.memory_regions) y (shaped system cells k a cell above n s y j some' comm') in
-            absurd (not_both (list_any is_counted_comm (take s cell.memory_regions)) (earlier_comm cell s r x l i some comm) q.2)
+            absurd (both_ways (list_any is_counted_comm (take s cell.memory_regions)) q.2 (earlier_comm cell s r x l i some comm))
       ];
     }
 
@@ -379,9 +379,9 @@ comms_to system cells k a cell r x n i t =
     let whole = x.size == PAGE_SIZE in
     let even = x.virt_start % PAGE_SIZE == 0 in
     elim (or_cases (not whole) (not even || list_any is_counted_comm earlier) u.1) [
-      | inl e ↦ not_both whole (eq-eqb x.size PAGE_SIZE page.size) (not-true whole e)
+      | inl e ↦ both_ways whole (not-true whole e) (eq-eqb x.size PAGE_SIZE page.size)
       | inr e ↦ elim (or_cases (not even) (list_any is_counted_comm earlier) e) [
-        | inl f ↦ not_both even (eq-eqb (x.virt_start % PAGE_SIZE) 0 page.aligned) (not-true even f)
+        | inl f ↦ both_ways even (not-true even f) (eq-eqb (x.virt_start % PAGE_SIZE) 0 page.aligned)
         | inr f ↦
             let w = any_of is_counted_comm earlier f in
             let g = get_take r cell.memory_regions w.0 w.1 w.2 in
@@ -484,7 +484,7 @@ pub together_from : (system : SystemConfig) (cells : List CellConfig) → PairsH
 unfolding pair_breaks
 together_from system cells h a b one other above below na nb r s x y ir is cx cy place hx hy own =
     let section = are_same_section one r other s in
-    same_section_from one r other s (true_from_not section (λ f.
+    same_section_from one r other s (true_from_ne_false section (λ f.
     let last = not (both_shared x y) && not section in
     let rest = share_places x y && last in
     h a b one other r s x y na nb ir is (
@@ -506,4 +506,4 @@ together_to system cells h a b one other r s x y na nb ir is t =
     let w = share_parts x y u.0 in
     let m = common_phys x y w.2 in
     let same = h a b one other (ltb-true 0 a p.0) (ltb-true a b q.0) na nb r s x y ir is (not-true (is_comm x) w.0) (not-true (is_comm y) w.1) m.0 m.1 m.2 (not-true (both_shared x y) v.0) in
-    not_both section (same_section_to one r other s same) (not-true section v.1)
+    both_ways section (not-true section v.1) (same_section_to one r other s same)

@@ -3,9 +3,10 @@ use Rattle.std.proofs.Common.{◌≡◌, ◌≢◌, ℕ, ◌+◌, ◌-◌, ◌<�
 use Rattle.std.specs.Prelude.{if◌then◌else◌}
 use Rattle.std.specs.List.{list_all}
 use Rattle.std.specs.Cmp.Lexicographic.{pointwise}
-use Rattle.std.proofs.lemmas.Bool.{false≢true, ltb-true, leb-true, lt-ltb, le-leb, eqb-true, eqb-false, eq-eqb, ne_eqb, cases_eq, cases_order, cases_Bool, and_parts, and_from, or_cases, or_parts, or_left, or_right, not-true, not-false, not_from_false}
+use Rattle.std.proofs.lemmas.Bool.{false≢true, ltb-true, leb-true, lt-ltb, le-leb, eqb-true, eqb-false, eq-eqb, ne_eqb, cases_eq, cases_order, cases_Bool, and_parts, and_from, or_cases, or_parts, or_left, or_right, not-true, not-false, not_from_false, false_from_ne_true, both_ways}
 use Rattle.std.proofs.lemmas.Option.{slice_get-get_or}
 use Rattle.std.proofs.lemmas.List.{length-take, get_or-drop}
+use Rattle.std.proofs.lemmas.Slice.Eq.{bytes_eq-Decides}
 use Rattle.jh_cellcfg.specs.declared.region.Region.{Region}
 use Rattle.jh_cellcfg.specs.declared.config.PciDevice.{PciDevice}
 use Rattle.jh_cellcfg.specs.declared.config.CellConfig.{CellConfig}
@@ -15,8 +16,29 @@ use Rattle.jh_cellcfg.specs.Limits.{is_zero}
 use Rattle.jh_check.specs.Devices.{is_shmem, are_linked, section_count, sections_of, has_good_peers, has_good_bars, bars_of, has_all_sections, is_good_table, has_good_table, is_section_region, are_read_only, are_alike, follows, are_in_a_row, is_twice, is_same_memory, are_same_memory, agrees_with, agrees_with_all, has_good_sections, is_good_shmem, device_breaks, cpus_break}
 use Rattle.jh_check.specs.Broken.{StandsAmong}
 use Rattle.jh_check.specs.Clean.{IsDevice, IsShmem, AreLinked, IsSection, IsStateTable, IsSectionRegion, IsGoodDevice, DevicesAreGood, DevicesAreSingle, AgreesWith, LinksAgree, IsSoundBitmap, CpusAreFew}
-use Rattle.jh_check.proofs.BoolLemmas.{false_from_not, not_both}
 use Rattle.jh_check.proofs.CleanLemmas.{get_take, take_get, any_at, any_of, and_rest}
+use Rattle.jh_cellcfg.proofs.AddressLemmas.{no_region}
+
+-- a device whose fields are all 0, for places past a list's end
+abbrev pub no_device : PciDevice
+no_device = record {
+  kind = 0;
+  iommu = 0;
+  domain = 0;
+  bdf = 0;
+  bar_mask = [];
+  caps_start = 0;
+  num_caps = 0;
+  num_msi_vectors = 0;
+  msi_bits = 0;
+  num_msix_vectors = 0;
+  msix_region_size = 0;
+  msix_address = 0;
+  shmem_regions_start = 0;
+  shmem_dev_id = 0;
+  shmem_peers = 0;
+  shmem_protocol = 0;
+}
 
 -- ---- lists by number
 
@@ -37,16 +59,6 @@ all_at p (y ∷ xs) t (suc i) x h = all_at p xs (and_parts (p y) (list_all p xs)
 pub all_from : {X : Type 0} (p : X → Bool) (xs : List X) → ((i : ℕ) (x : X) → slice_get xs i ≡ Some x → p x ≡ true) → list_all p xs ≡ true
 all_from p [] h = refl
 all_from p (y ∷ xs) h = and_from (p y) (list_all p xs) (h 0 y refl) (all_from p xs (λ i x k. h (suc i) x k))
-
-same_numbers : (xs ys : List ℕ) → pointwise nat_eq xs ys ≡ true → xs ≡ ys
-same_numbers [] [] h = refl
-same_numbers [] (y ∷ ys) h = absurd (false≢true h)
-same_numbers (x ∷ xs) [] h = absurd (false≢true h)
-same_numbers (x ∷ xs) (y ∷ ys) h =
-    let p = and_parts (nat_eq x y) (pointwise nat_eq xs ys) h in
-    let e : x ≡ y = eqb-true x y p.0 in
-    let f = same_numbers xs ys p.1 in
-    cc
 
 themselves : (xs : List ℕ) → pointwise nat_eq xs xs ≡ true
 themselves [] = refl
@@ -87,12 +99,9 @@ output_in cell d p x h = get_drop 2 (sections_of cell.memory_regions d) p ∙ se
 in_output : (cell : CellConfig) (d : PciDevice) (p : ℕ) (x : Region) → slice_get (drop 2 (sections_of cell.memory_regions d)) p ≡ Some x → IsSection cell d (2 + p) x
 in_output cell d p x h = in_section cell d (2 + p) x (sym (get_drop 2 (sections_of cell.memory_regions d) p) ∙ h)
 
-empty : Region
-empty = record { phys_start = 0; virt_start = 0; size = 0; flags = 0 }
-
 pub section_exists : (cell : CellConfig) (d : PciDevice) (k : ℕ) → d.shmem_regions_start + (2 + d.shmem_peers) ≤ length cell.memory_regions → k < 2 + d.shmem_peers → (x : Region) × IsSection cell d k x
 section_exists cell d k all l =
-    (get_or cell.memory_regions (d.shmem_regions_start + k) empty, record { number = l; item = slice_get-get_or cell.memory_regions (d.shmem_regions_start + k) empty (omega arith) })
+    (get_or cell.memory_regions (d.shmem_regions_start + k) no_region, record { number = l; item = slice_get-get_or cell.memory_regions (d.shmem_regions_start + k) no_region (omega arith) })
 
 sections_number : (cell : CellConfig) (d : PciDevice) → d.shmem_regions_start + (2 + d.shmem_peers) ≤ length cell.memory_regions → length (sections_of cell.memory_regions d) ≡ 2 + d.shmem_peers
 sections_number cell d all =
@@ -185,7 +194,7 @@ alike_from (first ∷ others) h = all_from (λ (other : Region). other.size == f
 
 -- ---- sections in a row
 
--- all before that one are empty
+-- all before that one are past
 abbrev AreEmptyTo : List Region → ℕ → Type 0
 AreEmptyTo xs k = (i : ℕ) (z : Region) → i < k → slice_get xs i ≡ Some z → z.size ≡ 0
 
@@ -326,7 +335,7 @@ sound_from cell d peers bars all sound =
       few = leb-true d.shmem_peers 16 q.0;
       own = ltb-true d.shmem_dev_id d.shmem_peers q.1;
       vectors = leb-true d.num_msix_vectors 16 u.0;
-      bars = same_numbers d.bar_mask (bars_of d) u.1;
+      bars = (bytes_eq-Decides d.bar_mask (bars_of d)).0 u.1;
       exist = leb-true (d.shmem_regions_start + section_count d) (length cell.memory_regions) all;
       table = λ x h. table_parts x (table_at xs x v.0 (section_in cell d 0 x h));
       plain = λ k x h. plain_parts x (all_at is_section_region xs w.0 k x (section_in cell d k x h));
@@ -401,7 +410,7 @@ agrees_from one d other e t linked =
     let rest = (d.shmem_peers == e.shmem_peers) && last in
     let agree : rest ≡ true =
     elim (or_cases (not (are_linked d e)) rest t) [
-      | inl n ↦ absurd (not_both (are_linked d e) (linked_whole d e linked) (not-true (are_linked d e) n))
+      | inl n ↦ absurd (both_ways (are_linked d e) (not-true (are_linked d e) n) (linked_whole d e linked))
       | inr k ↦ k
     ] in
     let p = and_parts (d.shmem_peers == e.shmem_peers) last agree in
@@ -490,7 +499,7 @@ pub words_good : (all : List CellConfig) (a : ℕ) (cell : CellConfig) (n : ℕ)
 words_good all a cell n d kind g among =
     let regions = cell.memory_regions in
     let earlier = take n cell.pci_devices in
-    let once : is_twice earlier d ≡ false = false_from_not (is_twice earlier d) (λ u.
+    let once : is_twice earlier d ≡ false = false_from_ne_true (is_twice earlier d) (λ u.
     let w = any_of (λ (e : PciDevice). is_shmem e && (e.bdf == d.bdf)) earlier u in
     let v = get_take n cell.pci_devices w.0 w.1 w.2 in
     let k = and_parts (is_shmem w.1) (w.1.bdf == d.bdf) w.3 in
@@ -512,7 +521,7 @@ good_words all a cell n d kind t =
     let inner = λ (lower : CellConfig). list_all (λ (f : PciDevice). agrees_with cell.memory_regions d lower.memory_regions f) lower.pci_devices in (
       sound_from cell d p.0 p.1 p.2 p.3,
       record {
-        single = λ m other l i linked. not_both (is_twice (take n cell.pci_devices) d) (twice cell m n other d l i linked) p.4;
+        single = λ m other l i linked. both_ways (is_twice (take n cell.pci_devices) d) p.4 (twice cell m n other d l i linked);
         links = λ b other below nb m e j linked.
             let q : inner other ≡ true = all_at inner (take a all) p.5 b other (take_get a all b other below nb) in
             agrees_from cell d other e (all_at (λ (f : PciDevice). agrees_with cell.memory_regions d other.memory_regions f) other.pci_devices q m e j) linked;
@@ -554,7 +563,7 @@ devices_to system cells sound single links a one n d na i t =
       single = λ m other l j linked. let same : m ≡ n = single a one na m n other d j i linked in omega arith;
       links = λ b other below nb m e j linked. links a b one other below na nb n m d e i j linked;
     } in
-    not_both good (words_good all a one n d kind (sound a one na n d i kind) among) (not-true good p.1)
+    both_ways good (not-true good p.1) (words_good all a one n d kind (sound a one na n d i kind) among)
 
 -- ---- CPU sets
 
@@ -578,7 +587,7 @@ unfolding cpus_break
 bitmap_from set h =
     let none = list_all is_zero set in
     let high = list_all is_zero (drop 2 set) in
-    let p = or_parts none (not high) (false_from_not (none || not high) h) in
+    let p = or_parts none (not high) (false_from_ne_true (none || not high) h) in
     record {
       some = some_byte set p.0;
       few = λ i l.

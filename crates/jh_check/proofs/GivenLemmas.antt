@@ -13,6 +13,7 @@ use Rattle.jh_cellcfg.specs.declared.config.CellConfig.{CellConfig}
 use Rattle.jh_cellcfg.specs.declared.config.SystemConfig.{SystemConfig}
 use Rattle.jh_cellcfg.specs.Cells.{is_cpu_set}
 use Rattle.jh_cellcfg.specs.Regions.{has_flags, has_address, has_place, place_in, virt_end, phys_end, is_page_mapped, is_comm}
+use Rattle.jh_cellcfg.proofs.AddressLemmas.{has_some}
 use Rattle.jh_check.specs.Regions.{both_shared}
 use Rattle.jh_check.specs.Laws.{IsItem, CellsAreApart}
 use Rattle.jh_check.specs.Clean.{IsClean, IsSoundRegion, IsSoundRoot, PagesAreWhole, IsSoundBitmap, IsSoundCpuSet, AreLinked, EndpointsMayJoin, LinksHaveNumbers}
@@ -21,7 +22,7 @@ use Rattle.jh_check.proofs.DeviceLemmas.{section_exists}
 
 -- ---- root
 
-item_at : (xs : List Region) (k : ℕ) (d : Region) → k < length xs → slice_get xs k ≡ Some (get_or xs k d)
+pub item_at : (xs : List Region) (k : ℕ) (d : Region) → k < length xs → slice_get xs k ≡ Some (get_or xs k d)
 item_at xs k d l = slice_get-get_or xs k d l
 
 sound_region : (system : SystemConfig) (cells : List CellConfig) → IsClean system cells → (k : ℕ) (x : Region) → IsItem system.root k x → 0 < x.size → IsSoundRegion system.hypervisor_memory x
@@ -94,17 +95,10 @@ page_places y at j mapped even h l =
     let end = page_within y.phys_start y.virt_start y.size at j m.0 m.1 p0 p1 even l in
     and_from (nat_le y.phys_start (place_in y at + j)) (nat_lt (place_in y at + j) (phys_end y)) (le-leb y.phys_start (place_in y at + j) (omega arith)) (lt-ltb (place_in y at + j) (phys_end y) end)
 
-address_size : (y : Region) (at : ℕ) → has_address y at ≡ true → 0 < y.size
-address_size y at h =
-    let p = and_parts (nat_le y.virt_start at) (nat_lt at (virt_end y)) h in
-    let p0 = leb-true y.virt_start at p.0 in
-    let p1 = ltb-true at (virt_end y) p.1 in
-    omega arith
-
 pub whole_pages : (system : SystemConfig) (cells : List CellConfig) → IsClean system cells → PagesAreWhole system cells
 whole_pages system cells c a cell above n r s x y ir is own mapped at even h j k jl kl =
     let page = place_in y at in
-    let some = address_size y at h in
+    let some = has_some y at h in
     let m = mapped_parts y mapped in
     let p = and_parts (nat_le y.virt_start at) (nat_lt at (virt_end y)) h in
     let places : y.phys_start % 4096 ≡ 0 = c.aligned 0 system.root refl s y is some mapped (c.no_comm s y is some) in

@@ -2,7 +2,7 @@
 use Rattle.std.proofs.Common.{◌≡◌, ℕ, ◌+◌, ◌<◌, ◌≤◌, Bool, true, false, not, ◌==◌, List, [], ◌∷◌, ◌++◌, length, take, zero, suc, Some, slice_get, refl, sym, ap, subst, ◌⊎◌, inl, inr, arith}
 use Rattle.std.specs.Prelude.{Contains}
 use Rattle.std.specs.List.{list_any}
-use Rattle.std.proofs.lemmas.Bool.{eq-eqb, or_left, or_right, and_from, cases_Bool, not_from_false}
+use Rattle.std.proofs.lemmas.Bool.{eq-eqb, or_left, or_right, and_from, cases_Bool, not_from_false, both_ways}
 use Rattle.std.proofs.lemmas.List.{take-append-le}
 use Rattle.jh_cellcfg.specs.declared.region.Region.{Region}
 use Rattle.jh_cellcfg.specs.declared.config.CellConfig.{CellConfig}
@@ -18,7 +18,6 @@ use Rattle.jh_check.specs.Verdicts.{names, is_overlap, is_invalid, is_busy, verd
 use Rattle.jh_check.proofs.Tested.{OfPair, OfRegion, OfMemory, OfDevice, OfCpus, OfRule, IsTested}
 use Rattle.jh_check.specs.Clean.{IsClean}
 use Rattle.jh_num.proofs.Lists.{list_any_from_Contains}
-use Rattle.jh_check.proofs.BoolLemmas.{not_both}
 use Rattle.jh_check.proofs.FoundLemmas.{nothing_in, in_nothing, tested_from_listed, listed_from_tested}
 use Rattle.jh_check.proofs.CleanLemmas.{PairsHold, RegionsHold, addresses_from, addresses_to, places_from, places_to, hypervisor_from, hypervisor_to, memory_from, memory_range, memory_align, within_from, within_to, readable_from, readable_to, aligned_from, aligned_to, identity_from, identity_to, no_comm_from, no_comm_to, comms_from, comms_to, pages_from, pages_to, together_from, together_to}
 use Rattle.jh_check.proofs.DeviceLemmas.{DevicesHold, CpusHold, devices_from, single_from, links_from, devices_to, cpus_from, cpus_to}
@@ -207,8 +206,8 @@ clean_parts false false h = (refl, refl)
 unnamed : (xs : List Finding) (n : ℕ) → list_any (is_invalid n) xs ≡ false → list_any (is_busy n) xs ≡ false → (f : Finding) → Contains xs f → names n f ≡ true → ⊥
 unnamed xs n i b f c t =
     elim (cases_Bool (is_overlap f)) [
-      | inl o ↦ not_both (list_any (is_busy n) xs) (list_any_from_Contains (is_busy n) xs f c (and_from (names n f) (is_overlap f) t o)) b
-      | inr o ↦ not_both (list_any (is_invalid n) xs) (list_any_from_Contains (is_invalid n) xs f c (and_from (names n f) (not (is_overlap f)) t (not_from_false (is_overlap f) o))) i
+      | inl o ↦ both_ways (list_any (is_busy n) xs) b (list_any_from_Contains (is_busy n) xs f c (and_from (names n f) (is_overlap f) t o))
+      | inr o ↦ both_ways (list_any (is_invalid n) xs) i (list_any_from_Contains (is_invalid n) xs f c (and_from (names n f) (not (is_overlap f)) t (not_from_false (is_overlap f) o)))
     ]
 
 pub joins_clean : (system : SystemConfig) (live : List CellConfig) (new : CellConfig) → IsClean system live → verdict_of system live new ≡ Clean → IsClean system (live ++ new ∷ [])

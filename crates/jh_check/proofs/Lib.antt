@@ -1,4 +1,3 @@
-pub mod BoolLemmas
 pub mod ListLemmas
 mod BreakLemmas
 mod SectionLemmas
@@ -23,4 +22,4 @@ pub mod GivenLemmas
 pub mod RefusalLemmas
 pub mod CappedLemmas
 mod IdleLemmas
-mod MaskLemmas
+pub mod MaskLemmas

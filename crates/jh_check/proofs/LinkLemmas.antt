@@ -1,16 +1,13 @@
 -- What is noted of two cells: sections of linked devices at the same offset.
-use Rattle.std.proofs.Common.{◌≡◌, ◌≢◌, ℕ, ◌+◌, ◌-◌, ◌<◌, Bool, true, ◌&&◌, ◌==◌, List, Option, None, Some, length, get_or, refl, sym, subst, ◌∙◌, inl, inr, arith}
+use Rattle.std.proofs.Common.{◌≡◌, ◌≢◌, ℕ, ◌+◌, ◌-◌, ◌<◌, true, ◌&&◌, ◌==◌, List, Option, None, Some, get_or, refl, sym, subst, ◌∙◌, inl, inr, arith}
 use Rattle.std.specs.List.{Contains, list_any}
 use Rattle.std.proofs.lemmas.Bool.{and_from, eq-eqb, cases_eq}
-use Rattle.std.proofs.lemmas.Option.{slice_get_read}
 use Rattle.jh_cellcfg.specs.declared.config.PciDevice.{PciDevice}
 use Rattle.jh_cellcfg.specs.declared.config.CellConfig.{CellConfig}
 use Rattle.jh_check.specs.Devices.{are_linked, section_count, is_section, are_sections_of, are_same_section}
 use Rattle.jh_check.specs.Private.Links.{ArePartners}
-use Rattle.jh_check.proofs.CleanLemmas.{any_at, at_section}
-
-any_holds : {X : Type 0} (p : X → Bool) (xs : List X) (x : X) → Contains xs x → p x ≡ true → list_any p xs ≡ true
-any_holds p xs x cx t = any_at p xs cx.0 x (slice_get_read xs (length xs) cx.0 x refl cx.1 (sym cx.2)) t
+use Rattle.jh_check.proofs.CleanLemmas.{at_section}
+use Rattle.jh_num.proofs.Lists.{list_any_from_Contains}
 
 -- the regions at one offset of two linked devices are the same section
 same_section : (one other : CellConfig) (d e : PciDevice) (k : ℕ) → Contains one.pci_devices d → Contains other.pci_devices e → are_linked d e ≡ true → k < section_count d → k < section_count e → are_same_section one (d.shmem_regions_start + k) other (e.shmem_regions_start + k) ≡ true
@@ -24,7 +21,7 @@ same_section one other d e k cd ce linked h i =
     and_from (are_linked d e) (is_section d r && (is_section e s && same)) linked (
     and_from (is_section d r) (is_section e s && same) (at_section r d.shmem_regions_start (section_count d) k refl h) (
     and_from (is_section e s) same (at_section s e.shmem_regions_start (section_count e) k refl i) (eq-eqb (r - d.shmem_regions_start) (s - e.shmem_regions_start) offset))) in
-    any_holds (λ (d : PciDevice). list_any (λ (e : PciDevice). are_sections_of r s d e) other.pci_devices) one.pci_devices d cd (any_holds (λ (e : PciDevice). are_sections_of r s d e) other.pci_devices e ce both)
+    list_any_from_Contains (λ (d : PciDevice). list_any (λ (e : PciDevice). are_sections_of r s d e) other.pci_devices) one.pci_devices d cd (list_any_from_Contains (λ (e : PciDevice). are_sections_of r s d e) other.pci_devices e ce both)
 
 -- one pair of them more is noted
 pub partners_more : (one other : CellConfig) (old new : List (Option ℕ)) (d e : PciDevice) (k : ℕ) → ArePartners one other old → ((i : ℕ) → i ≢ d.shmem_regions_start + k → get_or new i None ≡ get_or old i None) → ((s : ℕ) → get_or new (d.shmem_regions_start + k) None ≡ Some s → e.shmem_regions_start + k ≡ s) → Contains one.pci_devices d → Contains other.pci_devices e → are_linked d e ≡ true → k < section_count d → k < section_count e → ArePartners one other new

@@ -1,15 +1,15 @@
 -- Lists of findings, one item more at a time.
 use Rattle.std.proofs.Common.{◌≡◌, ℕ, ◌+◌, ◌<◌, ◌≤◌, zero, suc, Bool, ◌&&◌, true, false, ◌||◌, List, [], ◌∷◌, ◌++◌, length, get_or, take, drop, refl, sym, ap, subst, ◌∙◌, append_assoc, add-zero, arith}
-use Rattle.std.proofs.lemmas.List.{take-append-le, drop_more, get_or-take, length-take}
+use Rattle.std.proofs.lemmas.List.{take-append-le, drop_more, get_or-take, length-take, append-nil}
 use Rattle.std.specs.List.{list_all}
 use Rattle.std.proofs.lemmas.Bool.{or_left, or_right}
 use Rattle.std.proofs.Math.ListN.{drop_of_length-le}
 use Rattle.jh_check.specs.declared.finding.Finding.{Finding}
 use Rattle.jh_check.specs.Lists.{found_from, only_if, capped, is_any}
 
+-- under a name that a function's tactic can cite
 pub append_nil : {X : Type 0} (xs : List X) → xs ++ [] ≡ xs
-append_nil [] = refl
-append_nil (x ∷ xs) = ap (λ rest. x ∷ rest) (append_nil xs)
+append_nil xs = append-nil xs
 
 -- what is left of a list, one item on
 pub found_drop : {X : Type 0} (found : ℕ → X → List Finding) (xs : List X) (i : ℕ) (d : X) → i < length xs → found_from found i (drop i xs) ≡ found i (get_or xs i d) ++ found_from found (i + 1) (drop (i + 1) xs)
@@ -48,7 +48,7 @@ found_step found xs i d old new goal h e g =
 
 pub found_done : {X : Type 0} (found : ℕ → X → List Finding) (xs : List X) (i : ℕ) (new goal : List Finding) → length xs ≤ i → capped (new ++ found_from found i (drop i xs)) ≡ goal → capped new ≡ goal
 found_done found xs i new goal h g =
-    ap capped (sym (append_nil new)) ∙ ap (λ xs. capped (new ++ xs)) (sym (found_end found xs i h)) ∙ g
+    ap capped (sym (append-nil new)) ∙ ap (λ xs. capped (new ++ xs)) (sym (found_end found xs i h)) ∙ g
 
 -- two parts of a list, one after the other
 pub capped_then : (old mid new one more : List Finding) → capped mid ≡ capped (old ++ one) → capped new ≡ capped (mid ++ more) → capped new ≡ capped (old ++ (one ++ more))

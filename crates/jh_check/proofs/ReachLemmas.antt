@@ -2,8 +2,8 @@
 use Rattle.std.proofs.Common.{◌≡◌, ◌≢◌, ℕ, zero, suc, ◌+◌, ◌^◌, leb, take, drop, length-drop, ◌-◌, ◌<◌, ◌≤◌, Bool, true, false, ◌&&◌, not, ◌==◌, nat_lt, Some, None, IfSome, List, [], ◌∷◌, ◌++◌, length, get_or, refl, sym, ap, subst, ◌∙◌, inl, inr, arith}
 use Rattle.std.specs.List.{Contains, AllWithin}
 use Rattle.std.specs.List.Sorted.{IsNonDecreasingBy}
-use Rattle.std.proofs.lemmas.Bool.{false≢true, cases_Bool, ltb-true, ltb-false, leb-true, cases_eq, cases_lt, cases_order}
-use Rattle.std.proofs.lemmas.List.{get_or_default, get_or_append_left, get_or_push, length_push, get_or-take, get_or-drop, length-take}
+use Rattle.std.proofs.lemmas.Bool.{false≢true, cases_Bool, ltb-true, ltb-false, leb-true, cases_eq, cases_lt, cases_order, false_from_ne_true, both_ways, and_parts, and_from}
+use Rattle.std.proofs.lemmas.List.{get_or_default, get_or_append_left, get_or_push, length_push, get_or-take, get_or-drop, length-take, append-nil}
 use Rattle.std.proofs.lemmas.List.Elements.{Contains-append_left, Contains-push}
 use Rattle.jh_cellcfg.specs.declared.region.Region.{Region}
 use Rattle.jh_cellcfg.specs.declared.config.CellConfig.{CellConfig}
@@ -21,8 +21,7 @@ use Rattle.jh_check.specs.Spans.{joins, takes_part, span_of, is_within}
 use Rattle.jh_check.specs.Lists.{capped, found_from, only_if}
 use Rattle.jh_check.specs.Findings.{spot, beside, beside_at, finding_of}
 use Rattle.jh_check.specs.Private.Reaches.{passes_shared, may_follow, unshared_of, reaches_for, HasOthers, InOrder, IsRising, IsReached, TellsEach, TellsPairs, IsOwn, TellsOthers, AreOf, IsIn, HasHits}
-use Rattle.jh_check.proofs.BoolLemmas.{false_from_not, not_both, and_left, and_right, and_both}
-use Rattle.jh_check.proofs.ListLemmas.{append_nil, found_drop, found_end, found_none}
+use Rattle.jh_check.proofs.ListLemmas.{found_drop, found_end, found_none}
 use Rattle.jh_check.proofs.BreakLemmas.{pair_order, pair_joins, pair_takes_part, pair_second, pair_meets, beside_none, joins_same, two_parts, pages_parts, overlap_second, meet_swap}
 
 -- ---- one span after the other
@@ -210,8 +209,8 @@ reach_tells spans reaches n end low all = λ x z cx meets.
     let none : Reach = record { start = 0; end = 0; item = 0 } in
     let k = cx.0 in
     let by = get_or reaches k none in
-    let begins : x.start < z.end = ltb-true x.start z.end (and_left (nat_lt x.start z.end) (nat_lt z.start x.end) meets) in
-    let ends : z.start < x.end = ltb-true z.start x.end (and_right (nat_lt x.start z.end) (nat_lt z.start x.end) meets) in
+    let begins : x.start < z.end = ltb-true x.start z.end ((and_parts (nat_lt x.start z.end) (nat_lt z.start x.end) meets).0) in
+    let ends : z.start < x.end = ltb-true z.start x.end ((and_parts (nat_lt x.start z.end) (nat_lt z.start x.end) meets).1) in
     let here : k < length reaches = let c = all.count in let w = cx.1 in omega arith in
     let a : by.start ≡ x.start = subst (λ (s : Span). by.start ≡ s.start) cx.2 (all.starts k none x (let w = cx.1 in omega arith)) in
     let b : x.end ≤ by.end = subst (λ (s : Span). s.end ≤ by.end) cx.2 (all.ends k none x (let w = cx.1 in omega arith)) in
@@ -229,8 +228,8 @@ pub pairs_tell : (spans : List Span) (reaches : List Reach) (n far end last : �
 pairs_tell spans reaches n far end last low order all = λ x y cx cy differ some other meets.
     let p = cx.0 in
     let q = cy.0 in
-    let first : x.start < y.end = ltb-true x.start y.end (and_left (nat_lt x.start y.end) (nat_lt y.start x.end) meets) in
-    let second : y.start < x.end = ltb-true y.start x.end (and_right (nat_lt x.start y.end) (nat_lt y.start x.end) meets) in
+    let first : x.start < y.end = ltb-true x.start y.end ((and_parts (nat_lt x.start y.end) (nat_lt y.start x.end) meets).0) in
+    let second : y.start < x.end = ltb-true y.start x.end ((and_parts (nat_lt x.start y.end) (nat_lt y.start x.end) meets).1) in
     let wx = cx.1 in
     let wy = cy.1 in
     let ex : get_or spans p x ≡ x = cx.2 in
@@ -261,17 +260,17 @@ pair_follows PhysOverlap pass one other p h = pair_second PhysOverlap one other 
 pair_follows SubpageTaken pass one other p h =
     let t = two_parts (not (one.cell == 0)) (other.cell == 0) (takes_pages one.region other.region) h in
     let q = pages_parts one.region other.region t.1 in
-    and_both (other.cell == 0) (has_size other.region && is_page_mapped other.region) (and_right (not (one.cell == 0)) (other.cell == 0) t.0) (and_both (has_size other.region) (is_page_mapped other.region) q.3 q.2)
+    and_from (other.cell == 0) (has_size other.region && is_page_mapped other.region) ((and_parts (not (one.cell == 0)) (other.cell == 0) t.0).1) (and_from (has_size other.region) (is_page_mapped other.region) q.3 q.2)
 pair_follows CellsOverlap pass one other p h =
     let x = one.region in
     let y = other.region in
     let apart = not (are_same_section one.config one.item other.config other.item) in
     let rest = not (both_shared x y) && apart in
     let k = (two_parts (nat_lt 0 one.cell) (nat_lt one.cell other.cell) (share_places x y && rest) h).1 in
-    let n : not (has_flags 0x80 x && has_flags 0x80 y) ≡ true = and_left (not (both_shared x y)) apart (and_right (share_places x y) rest k) in
+    let n : not (has_flags 0x80 x && has_flags 0x80 y) ≡ true = (and_parts (not (both_shared x y)) apart ((and_parts (share_places x y) rest k).1)).0 in
     let m = not_shared pass (has_flags 0x80 x) (has_flags 0x80 y) p n in
     let w = overlap_second one other h in
-    and_both (has_size y) (not (is_comm y) && not (pass && has_flags 0x80 y)) (and_left (has_size y) (not (is_comm y)) w) (and_both (not (is_comm y)) (not (pass && has_flags 0x80 y)) (and_right (has_size y) (not (is_comm y)) w) m)
+    and_from (has_size y) (not (is_comm y) && not (pass && has_flags 0x80 y)) ((and_parts (has_size y) (not (is_comm y)) w).0) (and_from (not (is_comm y)) (not (pass && has_flags 0x80 y)) ((and_parts (has_size y) (not (is_comm y)) w).1) m)
 pair_follows _ pass one other p h = absurd (false≢true h)
 
 -- so may the first, where both are of one cell
@@ -289,7 +288,7 @@ longer start size h = let s = ltb-true 0 size h in omega arith
 
 span_some : (rule : Rule) (r : ℕ) (x : Region) → is_within rule ≡ true → takes_part rule x ≡ true → (span_of rule r x).start < (span_of rule r x).end
 span_some VirtOverlap r x w h = longer x.virt_start x.size h
-span_some PhysOverlap r x w h = longer x.phys_start x.size (and_left (has_size x) (not (is_comm x)) h)
+span_some PhysOverlap r x w h = longer x.phys_start x.size ((and_parts (has_size x) (not (is_comm x)) h).0)
 span_some _ r x w h = absurd (false≢true w)
 
 -- what is told of spans is told of the regions that have them
@@ -319,7 +318,7 @@ others_pairs rule pass b cell spans reaches w has tells = λ one s d own passes 
     omega arith
     in
     let r = tells (span_of rule one.item one.region) (span_of rule s y) cx cy differ (span_some rule one.item one.region w t) (span_some rule s y w (pair_second rule one other w breaks)) (pair_meets rule one other breaks) in
-    (r.0, λ f. absurd (not_both (is_within rule) w f), subst (λ n. n ≤ r.0.by.item) (span_item rule s y) r.1)
+    (r.0, λ f. absurd (both_ways (is_within rule) f w), subst (λ n. n ≤ r.0.by.item) (span_item rule s y) r.1)
 
 -- those of a cell whose regions are in no pair as the other tell nothing
 pub others_none : (rule : Rule) (pass : Bool) (b : ℕ) (cell : CellConfig) → ((a : ℕ) → joins rule a b ≡ true → ⊥) → TellsOthers rule pass b cell []
@@ -447,7 +446,7 @@ found_rest found xs n d h =
 pub beside_outside : (rule : Rule) (one : Spot) (b : ℕ) (other : CellConfig) (window : Window) → HasHits rule one b other window → (s : ℕ) (d : Region) → s < length other.memory_regions → s < 2 ^ 64 → (IsIn window s → ⊥) → beside_at rule one b other s (get_or other.memory_regions s d) ≡ []
 unfolding only_if
 beside_outside rule one b other window hits s d within small out =
-    ap (λ t. only_if t (finding_of rule one.cell one.item b s)) (false_from_not (pair_breaks rule one (spot b other s (get_or other.memory_regions s d))) (λ breaks. out (hits s d within small breaks)))
+    ap (λ t. only_if t (finding_of rule one.cell one.item b s)) (false_from_ne_true (pair_breaks rule one (spot b other s (get_or other.memory_regions s d))) (λ breaks. out (hits s d within small breaks)))
 
 -- what is among those between the borders
 pub among_parted : (reaches : List Reach) (span : Span) (begin m n : ℕ) → begin ≤ m → begin ≤ n → n ≤ length reaches → AllWithin (λ (reach : Reach). nat_lt reach.start span.end ≡ false) reaches n (length reaches) → AllWithin (λ (reach : Reach). leb reach.end span.start ≡ true) reaches 0 m → (x : Reach) → Contains reaches x → x.start < span.end → span.start < x.end → Contains (take (n - begin) (drop begin reaches)) x
@@ -472,7 +471,7 @@ among_parted reaches span begin m n low high bound after before x cx begins ends
     (k - begin, omega arith, get_or-take (n - begin) (drop begin reaches) (k - begin) x (omega arith) ∙ get_or-drop begin reaches (k - begin) x ∙ ap (λ i. get_or reaches i x) sum ∙ cx.2)
 
 pub capped_none_more : (found more : List Finding) → more ≡ [] → capped found ≡ capped (found ++ more)
-capped_none_more found more e = ap capped (sym (append_nil found) ∙ ap (λ xs. found ++ xs) (sym e))
+capped_none_more found more e = ap capped (sym (append-nil found) ∙ ap (λ xs. found ++ xs) (sym e))
 
 -- ---- regions that lie all beyond what others reach
 

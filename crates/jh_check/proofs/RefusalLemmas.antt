@@ -2,7 +2,7 @@
 use Rattle.std.proofs.Common.{◌≡◌, ℕ, ◌+◌, ◌-◌, ◌*◌, ◌/◌, ◌^◌, ◌<◌, ◌≤◌, Bool, true, false, ◌||◌, not, nat_lt, List, [], ◌∷◌, length, drop, get_or, zero, suc, Some, None, refl, sym, ap, subst, inl, inr, ◌∙◌, arith}
 use Rattle.std.specs.Prelude.{if◌then◌else◌, Option, ℤ}
 use Rattle.std.specs.List.{list_all}
-use Rattle.std.proofs.lemmas.Bool.{false≢true, ltb-false, le-ltb, cases_lt, cases_Bool, and_parts, and_from, or_cases, or_from, or_left, or_right, not-true, not_from_false}
+use Rattle.std.proofs.lemmas.Bool.{false≢true, ltb-false, le-ltb, cases_lt, cases_Bool, and_parts, and_from, or_cases, or_from, or_left, or_right, not-true, not_from_false, true_from_ne_false}
 use Rattle.std.proofs.lemmas.List.{get_or-drop}
 use Rattle.jh_num.proofs.Booleans.{same_test}
 use Rattle.jh_num.specs.Bits.{has_bit}
@@ -15,7 +15,6 @@ use Rattle.jh_check.specs.declared.verdict.NewCell.TheVariants.{Clean, Invalid, 
 use Rattle.jh_cellcfg.specs.Limits.{is_zero}
 use Rattle.jh_check.specs.Verdicts.{verdict_of}
 use Rattle.jh_check.specs.Refusals.{is_known, any_below, is_beyond, names_beyond, by_check, refusal_of, IsAccepted}
-use Rattle.jh_check.proofs.BoolLemmas.{true_from_not}
 use Rattle.jh_check.proofs.DeviceLemmas.{some_byte, each_zero}
 use Rattle.jh_check.proofs.GivenLemmas.{byte_names, zero_names}
 use Rattle.jh_check.proofs.MaskLemmas.{high_bit}
@@ -155,7 +154,7 @@ accepted_from system live new may pages pool h =
     let p = not_refused (is_known (system.root ∷ live) new) (names_beyond may new.cpu_set) (verdict_of system live new) (nat_lt pool pages) h in
     record {
       unknown = p.0;
-      cpus = λ cpu t. true_from_not (may cpu) (λ f. false≢true (sym p.1 ∙ named_beyond may new.cpu_set cpu t f));
+      cpus = λ cpu t. true_from_ne_false (may cpu) (λ f. false≢true (sym p.1 ∙ named_beyond may new.cpu_set cpu t f));
       clean = p.2;
       room = ltb-false pool pages p.3;
     }

@@ -1,7 +1,7 @@
 -- Cells whose regions begin in the order of their numbers.
 use Rattle.std.proofs.Common.{◌≡◌, ℕ, ◌^◌, ◌+◌, ◌<◌, ◌≤◌, zero, suc, true, false, [], ◌∷◌, ◌++◌, List, length, get_or, inl, inr, sym, ap, subst, ◌∙◌, add-zero, arith}
-use Rattle.std.proofs.lemmas.Bool.{cases_eq, cases_lt, cases_Bool, ltb-true}
-use Rattle.std.proofs.lemmas.List.{get_or_default}
+use Rattle.std.proofs.lemmas.Bool.{cases_eq, cases_lt, cases_Bool, ltb-true, both_ways}
+use Rattle.std.proofs.lemmas.List.{get_or_default, append-nil}
 use Rattle.jh_cellcfg.specs.declared.region.Region.{Region}
 use Rattle.jh_cellcfg.specs.declared.config.CellConfig.{CellConfig}
 use Rattle.jh_check.specs.declared.rule.Rule.{Rule}
@@ -13,10 +13,9 @@ use Rattle.jh_check.specs.Lists.{found_from}
 use Rattle.jh_check.specs.Findings.{spot, beside, between, from_cell}
 use Rattle.jh_check.specs.Private.Reaches.{HasHits}
 use Rattle.jh_check.specs.Private.Rising.{TakesPart, start_at, end_at, IsRisingTo, IsStretch, IsRowTo, IsJoined, IsRowMore, EndsBefore}
-use Rattle.jh_check.proofs.BoolLemmas.{not_both}
 use Rattle.jh_check.proofs.SpanLemmas.{span_ordered}
 use Rattle.jh_check.proofs.BreakLemmas.{pair_order, pair_second, pair_takes_part, pair_meets, met_before, beside_none, between_apart, joins_same}
-use Rattle.jh_check.proofs.ListLemmas.{append_nil, found_none}
+use Rattle.jh_check.proofs.ListLemmas.{found_none}
 
 -- none, and one more
 pub row_none : (rule : Rule) (regions : List Region) (row : Row) → IsRowTo rule regions 0 row
@@ -36,7 +35,7 @@ row_same rule regions n x row within is idle before =
     let below : (i : ℕ) (d : Region) → i < n + 1 → TakesPart rule regions d i → i < n = λ i d h t. elim (cases_eq i n) [
       | inl e ↦
           let same : x ≡ get_or regions i d = is ∙ get_or_default regions n x d within ∙ ap (λ k. get_or regions k d) (sym e) in
-          absurd (not_both (takes_part rule x) (subst (λ y. takes_part rule y ≡ true) (sym same) t) idle)
+          absurd (both_ways (takes_part rule x) idle (subst (λ y. takes_part rule y ≡ true) (sym same) t))
       | inr m ↦ omega arith
     ]
     in
@@ -223,7 +222,7 @@ unfolding found_from
 single_from found n [] k d h others = absurd (omega arith)
 single_from found n (x ∷ xs) zero d h others =
     let rest : found_from found (n + 1) xs ≡ [] = found_none found (n + 1) xs d (λ i j. subst (λ m. found m (get_or xs i d) ≡ []) (let e : n + suc i ≡ (n + 1) + i = omega arith in e) (others (suc i) (omega arith) (λ e. omega arith))) in
-    ap (λ ys. found n x ++ ys) rest ∙ append_nil (found n x) ∙ ap (λ m. found m x) (sym (add-zero n))
+    ap (λ ys. found n x ++ ys) rest ∙ append-nil (found n x) ∙ ap (λ m. found m x) (sym (add-zero n))
 single_from found n (x ∷ xs) (suc k) d h others =
     let here : found n x ≡ [] = subst (λ m. found m x ≡ []) (add-zero n) (others 0 (omega arith) (λ e. omega arith)) in
     let place : n + suc k ≡ (n + 1) + k = omega arith in

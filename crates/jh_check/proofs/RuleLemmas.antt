@@ -2,7 +2,7 @@
 use Rattle.std.proofs.Common.{◌≡◌, ◌≢◌, ℕ, ◌%◌, ◌<◌, Bool, true, false, ◌&&◌, ◌||◌, not, ◌==◌, nat_lt, List, ◌∷◌, take, ◌⊎◌, inl, inr}
 use Rattle.std.specs.Prelude.{Contains}
 use Rattle.std.specs.List.{list_any}
-use Rattle.std.proofs.lemmas.Bool.{false≢true, ltb-true, lt-ltb, eqb-true, eqb-false, eq-eqb, ne_eqb, cases_Bool, and_parts, and_from, or_cases, or_left, or_right, not-true, not_from_false}
+use Rattle.std.proofs.lemmas.Bool.{false≢true, ltb-true, lt-ltb, eqb-true, eqb-false, eq-eqb, ne_eqb, cases_Bool, and_parts, and_from, or_cases, or_left, or_right, not-true, not_from_false, both_ways}
 use Rattle.jh_num.specs.declared.address.TheConstants.{ADDRESS_END, PAGE_SIZE}
 use Rattle.jh_cellcfg.specs.declared.region.Region.{Region}
 use Rattle.jh_cellcfg.specs.declared.config.CellConfig.{CellConfig}
@@ -16,7 +16,6 @@ use Rattle.jh_check.specs.Devices.{is_shmem, are_same_section, is_good_shmem, de
 use Rattle.jh_check.specs.Findings.{spot, findings}
 use Rattle.jh_check.specs.Clean.{IsSameSection}
 use Rattle.jh_check.specs.Broken.{Located, BreakTogether, HasEarlierComm, BreaksAlone, BreaksMemory, TellsOfTwo, TellsOfOne, TellsOfMemory, TellsOfDevice, TellsOfCpus, IsFoundBy, IsBroken}
-use Rattle.jh_check.proofs.BoolLemmas.{not_both}
 use Rattle.jh_check.proofs.BreakLemmas.{share_parts, within_parts}
 use Rattle.jh_check.proofs.CleanLemmas.{positive, not_zero, get_take, take_get, any_at, any_of, virt_common, phys_common, common_virt, common_phys, shared, same_section_from, same_section_to}
 use Rattle.jh_check.proofs.DeviceLemmas.{good_words, words_good, bitmap_from, bitmap_to}
@@ -32,7 +31,7 @@ abbrev at_spot : Located → Spot
 at_spot l = spot l.a l.cell l.r l.region
 
 no_section : (one : Located) (other : Located) → are_same_section one.cell one.r other.cell other.r ≡ false → IsSameSection one.cell one.r other.cell other.r → ⊥
-no_section one other f h = not_both (are_same_section one.cell one.r other.cell other.r) (same_section_to one.cell one.r other.cell other.r h) f
+no_section one other f h = both_ways (are_same_section one.cell one.r other.cell other.r) f (same_section_to one.cell one.r other.cell other.r h)
 
 no_test : (one : Located) (other : Located) → (IsSameSection one.cell one.r other.cell other.r → ⊥) → not (are_same_section one.cell one.r other.cell other.r) ≡ true
 no_test one other n =
@@ -337,7 +336,7 @@ device_tells all f p =
       is_cell = p.is_one;
       is_device = p.is_device;
       kind = kind;
-      breaks = λ sound among. not_both good (words_good all p.a p.one p.n p.device kind sound among) (not-true good q.1);
+      breaks = λ sound among. both_ways good (not-true good q.1) (words_good all p.a p.one p.n p.device kind sound among);
       told = p.told;
     }
 
@@ -367,7 +366,7 @@ tell_cpus : (all : List CellConfig) (f : Finding) → TellsOfCpus all f → OfCp
 tell_cpus all f t =
     let bad : cpus_break t.cell.cpu_set ≡ true = elim (cases_Bool (cpus_break t.cell.cpu_set)) [
       | inl b ↦ b
-      | inr b ↦ absurd (t.breaks (bitmap_from t.cell.cpu_set (λ u. not_both (cpus_break t.cell.cpu_set) u b)))
+      | inr b ↦ absurd (t.breaks (bitmap_from t.cell.cpu_set (λ u. both_ways (cpus_break t.cell.cpu_set) b u)))
     ] in
     record { a = t.a; one = t.cell; is_one = t.is_cell; breaks = bad; told = t.told }
 

@@ -1,7 +1,7 @@
 -- The seats of devices: those of one bdf stand side by side, and tell of all that are linked.
 use Rattle.std.proofs.Common.{◌≡◌, ℕ, ◌+◌, ◌-◌, ◌<◌, ◌≤◌, true, false, ◌&&◌, not, ◌==◌, nat_lt, leb, List, length, get_or, take, drop, length-drop, sym, ap, subst, ◌∙◌, inl, inr, arith}
 use Rattle.std.specs.List.{Contains, AllWithin, list_all}
-use Rattle.std.proofs.lemmas.Bool.{cases_Bool, cases_lt, ltb-true, leb-false, eqb-true, not_from_false, or_left}
+use Rattle.std.proofs.lemmas.Bool.{cases_Bool, cases_lt, ltb-true, leb-false, eqb-true, not_from_false, or_left, and_parts}
 use Rattle.std.proofs.lemmas.List.{get_or-take, get_or-drop, length-take}
 use Rattle.jh_cellcfg.specs.declared.region.Region.{Region}
 use Rattle.jh_cellcfg.specs.declared.config.PciDevice.{PciDevice}
@@ -9,8 +9,7 @@ use Rattle.jh_cellcfg.specs.declared.config.CellConfig.{CellConfig}
 use Rattle.jh_check.specs.declared.seats.Seat.{Seat}
 use Rattle.jh_check.specs.Devices.{is_shmem, are_linked, are_same_memory, sections_of, agrees_with, agrees_with_all}
 use Rattle.jh_check.specs.Private.Seats.{seat_of, HasSeats, AgreesAt}
-use Rattle.jh_check.proofs.BoolLemmas.{and_right}
-use Rattle.jh_check.proofs.BusLemmas.{all_each}
+use Rattle.jh_num.proofs.Lists.{list_all_each}
 
 -- ---- side by side
 
@@ -46,8 +45,8 @@ agrees_seated cells number regions device seats has agree k cell other low withi
     let rest = (device.shmem_peers == other.shmem_peers) && (not (device.shmem_dev_id == other.shmem_dev_id) && are_same_memory (sections_of regions device) (sections_of there.memory_regions other)) in
     elim (cases_Bool (are_linked device other)) [
       | inl t ↦
-          let both = and_right (is_shmem device) (is_shmem other && (device.bdf == other.bdf)) t in
-          let e = eqb-true device.bdf other.bdf (and_right (is_shmem other) (device.bdf == other.bdf) both) in
+          let both = (and_parts (is_shmem device) (is_shmem other && (device.bdf == other.bdf)) t).1 in
+          let e = eqb-true device.bdf other.bdf ((and_parts (is_shmem other) (device.bdf == other.bdf) both).1) in
           let seated : Contains seats (seat_of k n other) = subst (λ (d : PciDevice). Contains seats (seat_of k n d)) co.2 (has k cell within n other co.1) in
           let fits = agree (seat_of k n other) seated (sym e) cell other low co.1 in
           subst (λ (d : PciDevice). agrees_with regions device there.memory_regions d ≡ true) co.2 fits
@@ -56,8 +55,8 @@ agrees_seated cells number regions device seats has agree k cell other low withi
 
 pub agrees_linked : (cells : List CellConfig) (number : ℕ) (regions : List Region) (device : PciDevice) (seats : List Seat) → number ≤ length cells → HasSeats cells seats → ((x : Seat) → Contains seats x → x.bdf ≡ device.bdf → AgreesAt cells number regions device x) → agrees_with_all (take number cells) regions device ≡ true
 agrees_linked cells number regions device seats bound has agree =
-    all_each (λ (cell : CellConfig). list_all (λ (other : PciDevice). agrees_with regions device cell.memory_regions other) cell.pci_devices) (take number cells) (λ cell cc.
-    all_each (λ (other : PciDevice). agrees_with regions device cell.memory_regions other) cell.pci_devices (λ other co.
+    list_all_each (λ (cell : CellConfig). list_all (λ (other : PciDevice). agrees_with regions device cell.memory_regions other) cell.pci_devices) (take number cells) (λ cell cc.
+    list_all_each (λ (other : PciDevice). agrees_with regions device cell.memory_regions other) cell.pci_devices (λ other co.
     let k = cc.0 in
     let size = length-take number cells in
     let inside = cc.1 in

@@ -1,6 +1,6 @@
 -- Cells of which no region breaks a rule about one region.
 use Rattle.std.proofs.Common.{◌≡◌, ℕ, ◌<◌, true, false, ◌&&◌, ◌||◌, not, ◌==◌, List, length, take, get_or, ap}
-use Rattle.std.proofs.lemmas.Bool.{false≢true, not-true}
+use Rattle.std.proofs.lemmas.Bool.{false≢true, not-true, false_from_ne_true, both_ways, and_parts, and_from, or_left, or_right}
 use Rattle.jh_cellcfg.specs.declared.region.Region.{Region}
 use Rattle.jh_cellcfg.specs.Regions.{is_comm, has_size}
 use Rattle.jh_check.specs.declared.rule.Rule.{Rule}
@@ -9,7 +9,6 @@ use Rattle.jh_check.specs.Regions.{is_misshapen, breaks_alone, region_breaks}
 use Rattle.jh_check.specs.Lists.{only_if}
 use Rattle.jh_check.specs.Findings.{in_cell, in_cell_at, finding_of}
 use Rattle.jh_check.specs.Private.Sound.{breaks_in_cell, breaks_one, breaks_any, AreSound}
-use Rattle.jh_check.proofs.BoolLemmas.{false_from_not, not_both, and_left, and_right, and_both, or_left, or_right}
 use Rattle.jh_check.proofs.ListLemmas.{found_none0}
 
 -- what breaks a rule of one cell's regions
@@ -49,12 +48,12 @@ tested PhysAlign h cell earlier x t =
     or_right (breaks_alone Hypervisor h cell earlier x) (second || (third || (fourth || last))) (or_right second (third || (fourth || last)) (or_right third (fourth || last) (or_left fourth last t)))
 tested RootNotIdentity h cell earlier x t =
     let differs = not (x.phys_start == x.virt_start) in
-    in_last h cell earlier x (in_root cell earlier x (and_left (cell == 0) differs t) (or_left differs (is_comm x) (and_right (cell == 0) differs t)))
+    in_last h cell earlier x (in_root cell earlier x ((and_parts (cell == 0) differs t).0) (or_left differs (is_comm x) ((and_parts (cell == 0) differs t).1)))
 tested CommInRoot h cell earlier x t =
-    in_last h cell earlier x (in_root cell earlier x (and_left (cell == 0) (is_comm x) t) (or_right (not (x.phys_start == x.virt_start)) (is_comm x) (and_right (cell == 0) (is_comm x) t)))
+    in_last h cell earlier x (in_root cell earlier x ((and_parts (cell == 0) (is_comm x) t).0) (or_right (not (x.phys_start == x.virt_start)) (is_comm x) ((and_parts (cell == 0) (is_comm x) t).1)))
 tested CommShape h cell earlier x t =
     let shape = is_comm x && is_misshapen earlier x in
-    in_last h cell earlier x (in_other cell earlier x (not-true (cell == 0) (and_left (not (cell == 0)) shape t)) (and_right (not (cell == 0)) shape t))
+    in_last h cell earlier x (in_other cell earlier x (not-true (cell == 0) ((and_parts (not (cell == 0)) shape t).0)) ((and_parts (not (cell == 0)) shape t).1))
 tested _ h cell earlier x t = absurd (false≢true t)
 
 -- a region that breaks none of the tested rules breaks none
@@ -62,8 +61,8 @@ pub breaks_none : (rule : Rule) (h : Region) (cell : ℕ) (earlier : List Region
 unfolding region_breaks
 breaks_none rule h cell earlier x e =
     let alone = breaks_alone rule h cell earlier x in
-    false_from_not (has_size x && alone) (λ t.
-    not_both (has_size x && breaks_one h cell earlier x) (and_both (has_size x) (breaks_one h cell earlier x) (and_left (has_size x) alone t) (tested rule h cell earlier x (and_right (has_size x) alone t))) e)
+    false_from_ne_true (has_size x && alone) (λ t.
+    both_ways (has_size x && breaks_one h cell earlier x) e (and_from (has_size x) (breaks_one h cell earlier x) ((and_parts (has_size x) alone t).0) (tested rule h cell earlier x ((and_parts (has_size x) alone t).1))))
 
 -- where all of them are such, the cell is sound
 pub sound_all : (h : Region) (cell : ℕ) (regions : List Region) → ((i : ℕ) (d : Region) → i < length regions → breaks_any h cell (take i regions) (get_or regions i d) ≡ false) → AreSound h cell regions

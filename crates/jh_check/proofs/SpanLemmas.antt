@@ -2,14 +2,13 @@
 use Rattle.std.proofs.Common.{◌≡◌, ℕ, ◌+◌, ◌-◌, ◌<◌, ◌≤◌, true, false, nat_lt, leb, List, length, get_or, take, drop, sym, ap, subst, ◌∙◌, inl, inr, arith, length-drop}
 use Rattle.std.specs.List.{Contains, AllWithin}
 use Rattle.std.specs.List.Sorted.{IsPartitionedBy}
-use Rattle.std.proofs.lemmas.Bool.{ltb-true, ltb-false, lt-ltb, leb-true, le-leb, cases_eq, cases_lt}
+use Rattle.std.proofs.lemmas.Bool.{ltb-true, ltb-false, lt-ltb, leb-true, le-leb, cases_eq, cases_lt, and_parts}
 use Rattle.std.proofs.lemmas.List.{get_or_default, get_or-take, get_or-drop, length-take}
 use Rattle.jh_cellcfg.specs.declared.region.Region.{Region}
 use Rattle.jh_check.specs.declared.rule.Rule.{Rule}
 use Rattle.jh_check.specs.declared.rule.Rule.TheVariants.{VirtOverlap}
 use Rattle.jh_check.specs.declared.spans.Span.{Span}
 use Rattle.jh_check.specs.Spans.{takes_part, span_of, spans_meet, AreApartTo, AreSpansApart, LiesWithin, StandApartTo}
-use Rattle.jh_check.proofs.BoolLemmas.{and_left, and_right}
 
 -- none is apart from nothing, and one more
 pub apart_none : (spans : List Span) → AreApartTo spans 0
@@ -78,7 +77,7 @@ met_begins spans other n after x k within is meets =
       | inr h ↦
           let P : Span → Type 0 = λ s. nat_lt s.start other.end ≡ false in
           let a = ltb-false x.start other.end (subst P is (after k x h within)) in
-          let b = ltb-true x.start other.end (and_left (nat_lt x.start other.end) (nat_lt other.start x.end) meets) in
+          let b = ltb-true x.start other.end ((and_parts (nat_lt x.start other.end) (nat_lt other.start x.end) meets).0) in
           absurd (omega arith)
     ]
 
@@ -88,7 +87,7 @@ met_ends spans other m before x k is meets =
       | inl h ↦
           let P : Span → Type 0 = λ s. leb s.end other.start ≡ true in
           let a = leb-true x.end other.start (subst P is (before k x (omega arith) h)) in
-          let b = ltb-true other.start x.end (and_right (nat_lt x.start other.end) (nat_lt other.start x.end) meets) in
+          let b = ltb-true other.start x.end ((and_parts (nat_lt x.start other.end) (nat_lt other.start x.end) meets).1) in
           absurd (omega arith)
       | inr h ↦ h
     ]
@@ -109,8 +108,8 @@ pub between_none : (spans : List Span) (other : Span) (n : ℕ) → AreSpansApar
 between_none spans other n apart behind before bound x cx meets =
     let k = cx.0 in
     let within = cx.1 in
-    let begins = ltb-true x.start other.end (and_left (nat_lt x.start other.end) (nat_lt other.start x.end) meets) in
-    let ends = ltb-true other.start x.end (and_right (nat_lt x.start other.end) (nat_lt other.start x.end) meets) in
+    let begins = ltb-true x.start other.end ((and_parts (nat_lt x.start other.end) (nat_lt other.start x.end) meets).0) in
+    let ends = ltb-true other.start x.end ((and_parts (nat_lt x.start other.end) (nat_lt other.start x.end) meets).1) in
     elim (cases_lt k n) [
       | inl h ↦
           let rise = ends_rise spans apart k (n - 1) x (omega arith) (omega arith) in

@@ -1,10 +1,12 @@
 -- Which findings name a new cell.
 use Rattle.std.proofs.Common.{◌≡◌, ℕ, ◌+◌, ◌<◌, ◌≤◌, suc, Bool, true, false, ◌||◌, not, ◌==◌, nat_lt, List, [], ◌∷◌, ◌++◌, length, take, drop, get_or, refl, sym, ap, subst, ◌∙◌, append_assoc, length-append, arith}
 use Rattle.std.specs.List.{list_any}
-use Rattle.std.proofs.lemmas.Bool.{ltb-true, eqb-true, ne_eqb}
+use Rattle.std.proofs.lemmas.Bool.{ltb-true, eqb-true, ne_eqb, and_parts, and_from, and_left, and_right, or_from, or_right}
 use Rattle.std.proofs.lemmas.List.Folds.{list_any-append}
 use Rattle.std.proofs.Math.Seq.{take-append_seam, take-length}
-use Rattle.std.proofs.lemmas.List.{get_or_append_left}
+use Rattle.std.proofs.lemmas.List.{get_or_append_left, append-nil}
+use Rattle.std.proofs.Math.Bool.{or-false}
+use Rattle.jh_num.proofs.Booleans.{same_number}
 use Rattle.jh_cellcfg.specs.declared.region.Region.{Region}
 use Rattle.jh_cellcfg.specs.declared.config.CellConfig.{CellConfig}
 use Rattle.jh_check.specs.declared.finding.Finding.{Finding}
@@ -18,21 +20,12 @@ use Rattle.jh_check.specs.Findings.{rule_number, finding_of, spot, beside, besid
 use Rattle.jh_check.specs.Verdicts.{is_invalid, is_busy, verdict_by, verdict_of}
 use Rattle.jh_check.specs.declared.verdict.NewCell.TheVariants.{Invalid}
 use Rattle.jh_cellcfg.specs.declared.config.SystemConfig.{SystemConfig}
-use Rattle.jh_check.proofs.BoolLemmas.{and_right, and_both, and_first, and_second, or_none, same_number}
-use Rattle.jh_check.proofs.ListLemmas.{append_nil, is_any_append, any_only, found_drop, found_end}
+use Rattle.jh_check.proofs.ListLemmas.{is_any_append, any_only, found_drop, found_end}
 use Rattle.jh_check.proofs.BreakLemmas.{between_apart, joins_same}
-
-or_false : (b : Bool) → (b || false) ≡ b
-or_false true = refl
-or_false false = refl
-
-or_second : (a b : Bool) → b ≡ true → (a || b) ≡ true
-or_second true b h = refl
-or_second false b h = h
 
 only_false : (p : Finding → Bool) (test : Bool) (finding : Finding) → p finding ≡ false → list_any p (only_if test finding) ≡ false
 unfolding only_if
-only_false p true finding h = or_none (p finding) false h refl
+only_false p true finding h = or_from (p finding) false h refl
 only_false p false finding h = refl
 
 only_true : (p : Finding → Bool) (test : Bool) (finding : Finding) → p finding ≡ true → list_any p (only_if test finding) ≡ is_any (only_if test finding)
@@ -44,7 +37,7 @@ skip : (p : Finding → Bool) (xs ys : List Finding) → list_any p xs ≡ false
 skip p xs ys h = list_any-append p xs ys ∙ ap (λ b. b || list_any p ys) h
 
 keep : (p : Finding → Bool) (xs ys : List Finding) → list_any p ys ≡ false → list_any p (xs ++ ys) ≡ list_any p xs
-keep p xs ys h = list_any-append p xs ys ∙ ap (λ b. list_any p xs || b) h ∙ or_false (list_any p xs)
+keep p xs ys h = list_any-append p xs ys ∙ ap (λ b. list_any p xs || b) h ∙ or-false (list_any p xs)
 
 -- no item gives such a finding
 any_none : {X : Type 0} (p : Finding → Bool) (found : ℕ → X → List Finding) (n : ℕ) (xs : List X) → ((i : ℕ) (d : X) → i < length xs → list_any p (found (n + i) (get_or xs i d)) ≡ false) → list_any p (found_from found n xs) ≡ false
@@ -71,7 +64,7 @@ any_all p found n (x ∷ xs) h =
 
 found_last : {X : Type 0} (found : ℕ → X → List Finding) (n : ℕ) (xs : List X) (x : X) → found_from found n (xs ++ x ∷ []) ≡ found_from found n xs ++ found (n + length xs) x
 unfolding found_from
-found_last found n [] x = append_nil (found n x) ∙ ap (λ m. found m x) (let e : n ≡ n + 0 = omega arith in e)
+found_last found n [] x = append-nil (found n x) ∙ ap (λ m. found m x) (let e : n ≡ n + 0 = omega arith in e)
 found_last found n (y ∷ ys) x =
     ap (λ rest. found n y ++ rest) (found_last found (n + 1) ys x)
     ∙ sym (append_assoc (found n y) (found_from found (n + 1) ys) (found ((n + 1) + length ys) x))
@@ -92,27 +85,27 @@ any_first p found x xs h = keep p (found 0 x) (found_from found 1 xs) (any_none 
 -- findings that name a cell, or don't
 invalid_own : (rule : Rule) (n r b s : ℕ) → (rule_number rule == 10) ≡ false → is_invalid n (finding_of rule n r b s) ≡ true
 unfolding finding_of
-invalid_own rule n r b s e = and_both ((n == n) || (b == n)) (not (rule_number rule == 10)) (ap (λ t. t || (b == n)) (same_number n)) (ap not e)
+invalid_own rule n r b s e = and_from ((n == n) || (b == n)) (not (rule_number rule == 10)) (ap (λ t. t || (b == n)) (same_number n)) (ap not e)
 
 invalid_other : (rule : Rule) (n a r b s : ℕ) → (a ≡ n → ⊥) → (b ≡ n → ⊥) → is_invalid n (finding_of rule a r b s) ≡ false
 unfolding finding_of
-invalid_other rule n a r b s h k = and_first ((a == n) || (b == n)) (not (rule_number rule == 10)) (or_none (a == n) (b == n) (ne_eqb a n h) (ne_eqb b n k))
+invalid_other rule n a r b s h k = and_left ((a == n) || (b == n)) (not (rule_number rule == 10)) (or_from (a == n) (b == n) (ne_eqb a n h) (ne_eqb b n k))
 
 invalid_overlap : (n a r b s : ℕ) → is_invalid n (finding_of CellsOverlap a r b s) ≡ false
 unfolding finding_of
-invalid_overlap n a r b s = and_second ((a == n) || (b == n)) false refl
+invalid_overlap n a r b s = and_right ((a == n) || (b == n)) false refl
 
 busy_own : (n a r s : ℕ) → is_busy n (finding_of CellsOverlap a r n s) ≡ true
 unfolding finding_of
-busy_own n a r s = and_both ((a == n) || (n == n)) true (or_second (a == n) (n == n) (same_number n)) refl
+busy_own n a r s = and_from ((a == n) || (n == n)) true (or_right (a == n) (n == n) (same_number n)) refl
 
 busy_other : (n a r b s : ℕ) → (a ≡ n → ⊥) → (b ≡ n → ⊥) → is_busy n (finding_of CellsOverlap a r b s) ≡ false
 unfolding finding_of
-busy_other n a r b s h k = and_first ((a == n) || (b == n)) true (or_none (a == n) (b == n) (ne_eqb a n h) (ne_eqb b n k))
+busy_other n a r b s h k = and_left ((a == n) || (b == n)) true (or_from (a == n) (b == n) (ne_eqb a n h) (ne_eqb b n k))
 
 busy_rule : (rule : Rule) (n : ℕ) → (rule_number rule == 10) ≡ false → (a r b s : ℕ) → is_busy n (finding_of rule a r b s) ≡ false
 unfolding finding_of
-busy_rule rule n e a r b s = and_second ((a == n) || (b == n)) (rule_number rule == 10) e
+busy_rule rule n e a r b s = and_right ((a == n) || (b == n)) (rule_number rule == 10) e
 
 -- the pairs of two cells
 between_false_by : (p : Finding → Bool) (rule : Rule) (a : ℕ) (one : CellConfig) (b : ℕ) (other : CellConfig) (t : Bool) → joins rule a b ≡ t → (joins rule a b ≡ true → (r s : ℕ) → p (finding_of rule a r b s) ≡ false) → list_any p (between rule a one b other) ≡ false
@@ -152,7 +145,7 @@ invalid_within rule xs new w e =
     ∙ between_true p rule n new n new (λ r s. invalid_own rule n r n s e)
 
 joins_root : (a b : ℕ) → joins SubpageTaken a b ≡ true → b ≡ 0
-joins_root a b h = eqb-true b 0 (and_right (not (a == 0)) (b == 0) h)
+joins_root a b h = eqb-true b 0 ((and_parts (not (a == 0)) (b == 0) h).1)
 
 -- the rule about root's pages
 pub invalid_taken : (root : CellConfig) (live : List CellConfig) (new : CellConfig) → list_any (is_invalid (length (root ∷ live))) (in_pairs SubpageTaken ((root ∷ live) ++ new ∷ [])) ≡ is_any (between SubpageTaken (length (root ∷ live)) new 0 root)
@@ -310,7 +303,7 @@ busy_last xs new one =
     let all = xs ++ new ∷ [] in
     any_none0 p (between CellsOverlap n one) all (λ b d l.
     between_false p CellsOverlap n one b (get_or all b d) (λ j r s.
-    let above = ltb-true n b (and_right (nat_lt 0 n) (nat_lt n b) j) in
+    let above = ltb-true n b ((and_parts (nat_lt 0 n) (nat_lt n b) j).1) in
     let size = length-append xs (new ∷ []) in
     absurd (omega arith)))
 

@@ -8,10 +8,10 @@ use Rattle.jh_cellcfg.specs.declared.config.PciDevice.{PciDevice}
 use Rattle.jh_cellcfg.specs.declared.config.CellConfig.{CellConfig}
 use Rattle.jh_cellcfg.specs.declared.config.SystemConfig.{SystemConfig}
 use Rattle.jh_cellcfg.specs.Cells.{is_cpu_set}
-use Rattle.jh_cellcfg.specs.Regions.{IsWithin, IsInRange, has_flags, has_address, has_place, virt_end, phys_end, place_in, is_page_mapped, is_comm, is_unshared, is_loadable}
+use Rattle.jh_cellcfg.specs.Regions.{IsWithin, IsInRange, has_flags, has_address, has_place, virt_end, phys_end, place_in, is_page_mapped, is_comm, is_unshared, is_loadable, SharesNoAddress}
 use Rattle.jh_check.specs.Regions.{both_shared}
 use Rattle.jh_check.specs.Devices.{bars_of}
-use Rattle.jh_check.specs.Laws.{IsItem, EachCell, EachTwoCells, EachOtherCell, EachTwoOthers, EachItem, EachTwoItems, GiveTogetherOnlyIf, MeetOnlyIf, SharesNoPlace, AddressesAreSingle, HypervisorIsAlone}
+use Rattle.jh_check.specs.Laws.{IsItem, EachCell, EachTwoCells, EachOtherCell, EachTwoOthers, EachItem, EachTwoItems, MeetOnlyIf, SharesNoPlace, AddressesAreSingle, HypervisorIsAlone}
 
 -- ---- regions
 
@@ -207,10 +207,6 @@ pub record IsClean (system : SystemConfig) (cells : List CellConfig) : Type 0 wh
   pub aligned : EachRegion system cells IsAligned
 
 -- ---- what it gives
-
--- no address is one of both regions
-abbrev pub SharesNoAddress : Region → Region → Type 0
-SharesNoAddress x y = GiveTogetherOnlyIf x y ⊥
 
 -- a region of root that isn't empty ends within the addresses and the places, lies outside the hypervisor's
 -- memory, is mapped to the same place as its address, is no communication region, isn't executable without being

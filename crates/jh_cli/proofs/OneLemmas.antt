@@ -1,7 +1,7 @@
 -- What files spell, and what they are refused for, is one.
 use Rattle.std.proofs.Common.{◌≡◌, ◌≢◌, ℕ, ◌+◌, Bool, true, false, List, [], ◌∷◌, ◌++◌, length, Option, None, Some, Result, Err, ◌↔◌, inl, inr, refl, sym, ◌∙◌, ap, subst}
 use Rattle.std.specs.Prelude.{fold, IsTrue, codes}
-use Rattle.jh_outside.specs.Reads.{KnownFile, HandsOut}
+use Rattle.jh_num.proofs.Results.{ok_one}
 use Rattle.jh_cellcfg.specs.declared.config.CellConfig.{CellConfig}
 use Rattle.jh_cellcfg.specs.declared.config.SystemConfig.{SystemConfig}
 use Rattle.jh_cellcfg.specs.Faults.{first_fault}
@@ -28,7 +28,7 @@ use Rattle.jh_text.specs.FaultText.{fault_text as journal_fault_text}
 use Rattle.jh_audit.specs.declared.verdict.Verdict.{Verdict}
 use Rattle.jh_audit.specs.declared.verdict.Verdict.TheVariants.{Legal, Illegal}
 use Rattle.jh_audit.specs.Judges.{Judges, IsFirstIllegal}
-use Rattle.jh_image.proofs.OneLemmas.{OneSpelling}
+use Rattle.jh_image.proofs.OneLemmas.{OneSpelling, hands_one}
 use Rattle.jh_cli.specs.declared.status.Status.TheVariants.{ReadFault}
 use Rattle.jh_cli.specs.Limits.{most_of_a_file, most_of_a_journal}
 use Rattle.jh_image.specs.Files.{Contents}
@@ -38,7 +38,7 @@ use Rattle.jh_cli.specs.Pack.{IsSpecFile, SpecRefusal}
 use Rattle.jh_cli.specs.Play.{ScheduleRefusal}
 use Rattle.jh_cli.specs.Audit.{JournalRefusal, IsAudited, verdict_status, verdict_text}
 use Rattle.jh_cli.specs.Complete.{AreNamesTold}
-use Rattle.jh_cli.proofs.GoodLemmas.{CellsAreFaultless, no_more, ok_one, cell_sound, same_for_image}
+use Rattle.jh_cli.proofs.GoodLemmas.{CellsAreFaultless, no_more, cell_sound, same_for_image}
 use Rattle.jh_cli.proofs.StopLemmas.{refused_said}
 
 -- ---- the laws of the layers below
@@ -56,11 +56,6 @@ abbrev pub OneLine : Type 0
 OneLine = (text : List ℕ) (m n : ℕ) → IsFirstBadLine text m → IsFirstBadLine text n → m ≡ n
 
 -- ---- one file
-
-pub one_handed : (told : KnownFile) (most : ℕ) (a b : List ℕ) → told ≢ None → HandsOut told most a → HandsOut told most b → a ≡ b
-one_handed None most a b is h k = absurd (is refl)
-one_handed (Some None) most a b is h k = absurd h
-one_handed (Some (Some held)) most a b is h k = h ∙ sym k
 
 abbrev audited_said : Verdict → Reply
 audited_said verdict = record { status = verdict_status verdict; text = verdict_text verdict }
@@ -82,19 +77,19 @@ module _ {A : Type 0} (most : ℕ) (contents : Contents) (name : List ℕ) (is_t
   one_stop words one other (inl h) k read also = absurd (read (ap (λ (s : Reply). s.status) h))
   one_stop words one other (inr h) (inl k) read also = absurd (also (ap (λ (s : Reply). s.status) k))
   one_stop words one other (inr h) (inr k) read also =
-      let bytes : h.bytes ≡ k.bytes = one_handed (contents name) most h.bytes k.bytes is_told h.handed k.handed in
+      let bytes : h.bytes ≡ k.bytes = hands_one (contents name) most h.bytes k.bytes is_told h.handed k.handed in
       let same : h.words ≡ k.words = words k.bytes h.words k.words (subst (λ b. Why b h.words) bytes h.why) k.why in
       h.told ∙ ap (refused_said name) same ∙ sym k.told
 
   spelled_or_stopped : Apart → (value : A) (said : Reply) → SpellsAt most contents name Form value → StopsAt most contents name Why said → IsRead said → ⊥
   spelled_or_stopped apart value said spells (inl h) read = read (ap (λ (s : Reply). s.status) h)
   spelled_or_stopped apart value said spells (inr h) read =
-      let bytes : h.bytes ≡ spells.bytes = one_handed (contents name) most h.bytes spells.bytes is_told h.handed spells.handed in
+      let bytes : h.bytes ≡ spells.bytes = hands_one (contents name) most h.bytes spells.bytes is_told h.handed spells.handed in
       apart spells.bytes value h.words spells.spelled (subst (λ b. Why b h.words) bytes h.why)
 
   one_spelled : OneValue → (a b : A) → SpellsAt most contents name Form a → SpellsAt most contents name Form b → a ≡ b
   one_spelled values a b h k =
-      let bytes : h.bytes ≡ k.bytes = one_handed (contents name) most h.bytes k.bytes is_told h.handed k.handed in
+      let bytes : h.bytes ≡ k.bytes = hands_one (contents name) most h.bytes k.bytes is_told h.handed k.handed in
       values k.bytes a b (subst (λ x. Form x a) bytes h.spelled) k.spelled
 
   pub one_reading : OneWord → OneValue → Apart → (next : A → Reply → Type 0) (one other : Reply)

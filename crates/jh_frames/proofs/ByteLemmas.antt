@@ -1,9 +1,9 @@
 -- Numbers that bytes spell, and bytes that are stored.
-use Rattle.std.proofs.Common.{◌≡◌, ℕ, suc, ◌+◌, ◌-◌, ◌*◌, ◌^◌, ◌<◌, ◌≤◌, ◌⊎◌, inl, inr, List, get_or, take, drop, length, refl, sym, ap, ◌∙◌, leb, ltb, arith, drop-cons}
-use Rattle.std.proofs.lemmas.Bool.{le-leb, lt-leb, lt-ltb, le-ltb, and_right, cases_lt}
+use Rattle.std.proofs.Common.{◌≡◌, ℕ, suc, ◌+◌, ◌-◌, ◌*◌, ◌^◌, ◌<◌, ◌≤◌, ◌⊎◌, inl, inr, List, get_or, take, drop, length, refl, sym, ap, ◌∙◌, arith, drop-cons}
+use Rattle.std.proofs.lemmas.Bool.{le-leb, lt-ltb, cases_lt}
 use Rattle.std.proofs.lemmas.List.{length-take, length-drop, get_or-take, get_or-drop, drop_all}
 use Rattle.jh_num.specs.Memory.{spelled, stored}
-use Rattle.jh_num.proofs.MemoryLemmas.{word_fits, byte_fits}
+use Rattle.jh_num.proofs.MemoryLemmas.{word_fits, byte_fits, stored_before, stored_behind}
 
 pub next_fits : (v b m : ℕ) → m < 8 → v < 256 ^ m → b < 256 → v * 256 + b < 2 ^ 64
 next_fits v b m few small byte =
@@ -29,14 +29,6 @@ spelled_end xs k number past e = let none : length xs - k ≡ 0 = omega arith in
 -- the bytes of a list where it is stored
 pub stored_in : (byte : ℕ → ℕ) (at : ℕ) (bytes : List ℕ) (q : ℕ) → at ≤ q → q < at + length bytes → stored byte at bytes q ≡ get_or bytes (q - at) 0
 stored_in byte at bytes q above below = rw (le-leb at q above, lt-ltb q (at + length bytes) below) refl
-
--- the bytes below
-pub stored_before : (byte : ℕ → ℕ) (at : ℕ) (bytes : List ℕ) (q : ℕ) → q < at → stored byte at bytes q ≡ byte q
-stored_before byte at bytes q below = rw (lt-leb at q below) refl
-
--- and above
-pub stored_behind : (byte : ℕ → ℕ) (at : ℕ) (bytes : List ℕ) (q : ℕ) → at + length bytes ≤ q → stored byte at bytes q ≡ byte q
-stored_behind byte at bytes q above = rw (and_right (leb at q) (ltb q (at + length bytes)) (le-ltb q (at + length bytes) above)) refl
 
 -- where a list was stored before, and more of it is stored behind
 more_by_cases : (f g : ℕ → ℕ) (at : ℕ) (xs : List ℕ) (d e q : ℕ) → d ≤ e → e ≤ length xs → g q ≡ stored f at (take d xs) q → (q < at + d) ⊎ (at + d ≤ q) → (q < at + e) ⊎ (at + e ≤ q) → (q < at) ⊎ (at ≤ q) → stored g (at + d) (take (e - d) (drop d xs)) q ≡ stored f at (take e xs) q

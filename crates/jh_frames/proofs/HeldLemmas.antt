@@ -6,6 +6,7 @@ use Rattle.std.proofs.lemmas.Bool.{cases_eq, cases_lt, ne_eqb, false≢true}
 use Rattle.std.proofs.lemmas.List.Sums.{sum_by-cons}
 use Rattle.jh_frames.specs.Memory.{FramesView, is_own, holds, missing, missing_from, pages_in}
 use Rattle.jh_num.specs.Pages.{page_at}
+use Rattle.jh_num.proofs.Booleans.{count_few}
 use Rattle.jh_frames.specs.Kept.{IsWhole}
 use Rattle.jh_frames.proofs.MemoryLemmas.{own_page}
 
@@ -40,15 +41,11 @@ missing_last v first (suc count) =
     let last : lacking v (first + 1 + count) ≡ lacking v (first + suc count) = ap (lacking v) same in
     omega arith
 
-lacking_few : (b : Bool) → cond (not b) 1 0 ≤ 1
-lacking_few true = omega arith
-lacking_few false = omega arith
-
 pub missing_few : (v : FramesView) (first count : ℕ) → missing_from v first count ≤ count
 missing_few v first zero = omega arith
 missing_few v first (suc count) =
     let all : missing_from v first (suc count) ≡ lacking v first + missing_from v (first + 1) count = missing_more v first count in
-    let one : lacking v first ≤ 1 = lacking_few (holds v (4096 * first)) in
+    let one : lacking v first ≤ 1 = count_few (holds v (4096 * first)) in
     let rest : missing_from v (first + 1) count ≤ count = missing_few v (first + 1) count in
     omega arith
 

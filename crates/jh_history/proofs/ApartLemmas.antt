@@ -1,10 +1,11 @@
 -- When two ranges have a number in common.
-use Rattle.std.proofs.Common.{◌≡◌, ℕ, ◌+◌, ◌-◌, ◌<◌, ◌≤◌, Bool, true, leb, Decides, inl, inr, arith, List, length, get_or, take, drop, length-drop, subst, sym, ap, ◌∙◌}
+use Rattle.std.proofs.Common.{◌≡◌, ℕ, ◌+◌, ◌-◌, ◌<◌, ◌≤◌, Bool, leb, Decides, inl, inr, arith, List, length, get_or, take, drop, length-drop, subst, sym, ap, ◌∙◌}
 use Rattle.std.specs.Prelude.{IsTrue, All, AllPairs}
 use Rattle.std.proofs.lemmas.Bool.{cases_lt, le-leb}
 use Rattle.std.proofs.lemmas.List.{take_all, get_or-drop, get_or_read}
 use Rattle.std.proofs.lemmas.Bool.Decides.{nat_tests}
 use Rattle.jh_history.specs.Private.Apart.{is_among, HasNoneOf}
+use Rattle.jh_mmio.proofs.IndexLemmas.{leb_at}
 
 is_among_from : (start len k : ℕ) → start ≤ k → k < start + len → IsTrue (is_among start len k)
 is_among_from start len k low high = grind (arith, nat_tests)
@@ -27,14 +28,11 @@ pub HasNoneOf_apart : (a n b m : ℕ) → ((k : ℕ) → a ≤ k → k < a + n �
 HasNoneOf_apart a n b m apart k in_a in_b =
     apart k (is_among_low a n k in_a) (is_among_high a n k in_a) (is_among_low b m k in_b) (is_among_high b m k in_b)
 
-leb_le : (a b : ℕ) → leb a b ≡ true → a ≤ b
-leb_le a b h = grind (arith, nat_tests)
-
 -- where the first range begins no later than the second, which has a number, they have none in common
 -- exactly where the first ends before the second begins
 pub HasNoneOf_decided : (a n b m : ℕ) → a ≤ b → 0 < m → Decides (leb n (b - a)) (HasNoneOf a n b m)
 HasNoneOf_decided a n b m first some = (
-  λ t. HasNoneOf_apart a n b m (λ k low high low' high'. let few : n ≤ b - a = leb_le n (b - a) t in absurd (omega arith)),
+  λ t. HasNoneOf_apart a n b m (λ k low high low' high'. let few : n ≤ b - a = leb_at n (b - a) t in absurd (omega arith)),
   λ none. elim (cases_lt (b - a) n) [
     | inl lt ↦ absurd (HasNoneOf_meets a n b m (omega arith) some (omega arith) (omega arith) none)
     | inr le ↦ le-leb n (b - a) le

@@ -1,6 +1,6 @@
 -- What a cell that comes is, and what it is beside those that live.
-use Rattle.std.proofs.Common.{◌≡◌, ℕ, ◌<◌, List, [], ◌∷◌, ◌++◌, length, get_or, suc, false, Option, Some, sym, ap, subst, ◌∙◌, arith}
-use Rattle.std.specs.Prelude.{Contains, slice_get}
+use Rattle.std.proofs.Common.{◌≡◌, ℕ, ◌<◌, List, [], ◌∷◌, ◌++◌, get_or, suc, false, Option, Some, sym, ap, subst, ◌∙◌, arith}
+use Rattle.std.specs.Prelude.{Contains}
 use Rattle.std.proofs.lemmas.Option.{same_Some, slice_get-get_or}
 use Rattle.std.proofs.lemmas.List.Elements.{Contains-push}
 use Rattle.jh_cellcfg.specs.declared.config.CellConfig.{CellConfig}
@@ -26,15 +26,13 @@ use Rattle.jh_history.specs.Sound.{MayCome, IsSoundCall, IsInPhase, IsOpen, IsSo
 use Rattle.jh_history.specs.DueFacts.{MayLive}
 use Rattle.jh_history.proofs.SoundDecideLemmas.{coming_from_decision}
 use Rattle.jh_history.proofs.DueDecideLemmas.{read_from_comes}
+use Rattle.jh_check.proofs.GivenLemmas.{item_at}
 
 -- ---- a cell in which nothing is found
 
 -- a cell besides root by its number
 pub numbered : (system : SystemConfig) (configs : List CellConfig) (config : CellConfig) → Contains configs config → (a : ℕ) × (0 < a) × IsNumbered system configs a config
 numbered system configs config held = (suc held.0, omega arith, slice_get-get_or configs held.0 config held.1 ∙ ap Some held.2)
-
-item : (regions : List Region) (k : ℕ) (d : Region) → k < length regions → slice_get regions k ≡ Some (get_or regions k d)
-item regions k d lt = slice_get-get_or regions k d lt
 
 pub clean_lives : (image : Image) (f : Facts) (config : CellConfig) → is_known (image.system.root ∷ configs_of f.cells) config ≡ false → IsClean image.system (configs_of f.cells ++ config ∷ []) → MayLive image f.cells config
 clean_lives image f config unknown clean =
@@ -43,9 +41,9 @@ clean_lives image f config unknown clean =
     record {
       unknown = unknown;
       apart = λ i j d lt within at hx hy.
-          let same : i ≡ j = clean.addresses n.0 config n.2 i j (get_or regions i d) (get_or regions j d) (item regions i d (omega arith)) (item regions j d within) at hx hy in
+          let same : i ≡ j = clean.addresses n.0 config n.2 i j (get_or regions i d) (get_or regions j d) (item_at regions i d (omega arith)) (item_at regions j d within) at hx hy in
           absurd (omega arith);
-      within = λ k d lt some. clean.within n.0 config n.2 k (get_or regions k d) (item regions k d lt) some;
+      within = λ k d lt some. clean.within n.0 config n.2 k (get_or regions k d) (item_at regions k d lt) some;
       cpus = clean.cpus n.0 config n.2;
     }
 

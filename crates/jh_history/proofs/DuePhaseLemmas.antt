@@ -92,7 +92,7 @@ IsActIn image f caller call (ToNote id about answer) act = act ≡ Note id
 IsActIn image f caller call (ToNoted id about answer waited) act = (how : Heard) × (act ≡ Noted id how)
 IsActIn image f caller call (ToFinish answer) act = act ≡ Finish answer
 
-unless : (b : Bool) (other act : Act) → cond b None (Some other) ≡ Some act → act ≡ other
+pub unless : (b : Bool) (other act : Act) → cond b None (Some other) ≡ Some act → act ≡ other
 unless true other act h = absurd (none-some act h)
 unless false other act h = sym (same_Some other act h)
 

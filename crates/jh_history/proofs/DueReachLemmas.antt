@@ -13,6 +13,7 @@ use Rattle.jh_cellcfg.specs.declared.live.Live.{Live}
 use Rattle.jh_cellcfg.specs.declared.region.Region.{Region}
 use Rattle.jh_cellcfg.specs.Lives.{has_id}
 use Rattle.jh_cellcfg.specs.Regions.{has_address, is_page_mapped, is_comm, byte_in, place_in}
+use Rattle.jh_cellcfg.proofs.AddressLemmas.{has_some}
 use Rattle.jh_check.specs.Clean.{IsClean}
 use Rattle.jh_ivshmem.specs.declared.endpoint.Endpoint.{Endpoint}
 use Rattle.jh_mmio.specs.declared.hitting.Window.{Window as TheWindow}
@@ -41,7 +42,7 @@ use Rattle.jh_history.specs.Wants.{IsReachOfAct, IsReachOfEntry}
 use Rattle.jh_history.specs.Sound.{IsSound}
 use Rattle.jh_history.specs.DueFacts.{IsLive, IsOfCells, ReachesCells, WritesCells}
 use Rattle.jh_history.proofs.BehindLemmas.{takes_all_size, takes_all_subpage}
-use Rattle.jh_history.proofs.GrantLemmas.{gives_has, has_some}
+use Rattle.jh_history.proofs.GrantLemmas.{gives_has}
 use Rattle.jh_history.proofs.SoundDecideLemmas.{found_live}
 use Rattle.jh_history.proofs.DueComesLemmas.{numbered}
 

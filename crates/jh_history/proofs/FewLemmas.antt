@@ -52,7 +52,7 @@ ids_by : (a b : Bool) → (a || b) ≡ false → a ≡ false
 ids_by true b h = absurd (both_ways true h refl)
 ids_by false b h = refl
 
-two_ids : (earlier later : CellConfig) → AreTwo earlier later → earlier.id ≢ later.id
+pub two_ids : (earlier later : CellConfig) → AreTwo earlier later → earlier.id ≢ later.id
 two_ids earlier later two e = both_ways (eqb earlier.id later.id) (ids_by (eqb earlier.id later.id) _ two) (eq-eqb earlier.id later.id e)
 
 first_ids : (x : CellConfig) (xs : List CellConfig) → AllPairs AreTwo (x ∷ xs) → AllByRecursion (λ (c : CellConfig). x.id ≢ c.id) xs

@@ -1,9 +1,10 @@
 -- A region gives a whole page of addresses, or none.
 use Rattle.std.proofs.Common.{◌≡◌, ℕ, ◌+◌, ◌-◌, ◌%◌, ◌<◌, ◌≤◌, List, Bool, true, false, ◌&&◌, cond, leb, ltb, eqb, Some, None, refl, ap, sym, ◌∙◌, arith, inl, inr}
 use Rattle.std.specs.Prelude.{find, option_map, IsTrue}
-use Rattle.std.proofs.lemmas.Bool.{cases_lt, lt-leb, le-leb, lt-ltb, le-ltb, leb-true, ltb-true, eqb-true, and_parts, and_right}
+use Rattle.std.proofs.lemmas.Bool.{cases_lt, lt-leb, le-leb, lt-ltb, le-ltb, eqb-true, and_parts, and_right, and_from}
 use Rattle.jh_cellcfg.specs.declared.region.Region.{Region}
 use Rattle.jh_cellcfg.specs.Regions.{has_address, is_page_mapped, is_comm, has_flags, place_in, byte_in}
+use Rattle.jh_cellcfg.proofs.AddressLemmas.{has_address_first}
 use Rattle.jh_history.specs.declared.place.Place.TheVariants.{Physical, Page}
 use Rattle.jh_history.specs.declared.access.Access.{Access}
 use Rattle.jh_history.specs.Places.{further, places_in_row}
@@ -69,15 +70,14 @@ place_in_cell_further id r at k le = by_comm id r at k (is_comm r) le
 pub gives_has : (access : Access) (at : ℕ) (r : Region) → gives access at r ≡ true → IsTrue (has_address r at)
 gives_has access at r h = (and_parts (has_address r at) (is_page_mapped r) (and_parts (has_address r at && is_page_mapped r) (has_flags (right_of access) r) h).0).0
 
-pub has_start : (r : Region) (at : ℕ) → IsTrue (has_address r at) → r.virt_start ≤ at
-has_start r at h = leb-true r.virt_start at (and_parts (leb r.virt_start at) (ltb at (r.virt_start + r.size)) h).0
+pub gives_pages : (access : Access) (at : ℕ) (r : Region) → gives access at r ≡ true → is_page_mapped r ≡ true
+gives_pages access at r h = (and_parts (has_address r at) (is_page_mapped r) (and_parts (has_address r at && is_page_mapped r) (has_flags (right_of access) r) h).0).1
 
-pub has_some : (r : Region) (at : ℕ) → IsTrue (has_address r at) → 0 < r.size
-has_some r at h =
-    let parts = and_parts (leb r.virt_start at) (ltb at (r.virt_start + r.size)) h in
-    let low : r.virt_start ≤ at = leb-true r.virt_start at parts.0 in
-    let high : at < r.virt_start + r.size = ltb-true at (r.virt_start + r.size) parts.1 in
-    omega arith
+pub gives_right : (access : Access) (at : ℕ) (r : Region) → gives access at r ≡ true → has_flags (right_of access) r ≡ true
+gives_right access at r h = (and_parts (has_address r at && is_page_mapped r) (has_flags (right_of access) r) h).1
+
+pub gives_from : (access : Access) (at : ℕ) (r : Region) → has_address r at ≡ true → is_page_mapped r ≡ true → has_flags (right_of access) r ≡ true → gives access at r ≡ true
+gives_from access at r has pages right = and_from (has_address r at && is_page_mapped r) (has_flags (right_of access) r) (and_from (has_address r at) (is_page_mapped r) has pages) right
 
 -- what the region found gives the addresses of its page
 pub places_from_page : (id : ℕ) (regions : List Region) (access : Access) (at count : ℕ) (r : Region) → at % 4096 + count ≤ 4096 → region_of regions access at ≡ Some r
@@ -85,7 +85,7 @@ pub places_from_page : (id : ℕ) (regions : List Region) (access : Access) (at 
 unfolding place_of
 places_from_page id regions access at count r within is =
     let passes = (IsFound_from_find (gives access at) regions r is).passes in
-    let low = has_start r at (gives_has access at r passes) in
+    let low = has_address_first r at (gives_has access at r passes) in
     places_from_row (place_of id regions access) (place_in_cell id r at) at count
     (λ k lt. ap (option_map (λ (s : Region). place_in_cell id s (at + k))) (region_of_same regions access at k (omega arith) ∙ is) ∙ ap Some (place_in_cell_further id r at k low))
 

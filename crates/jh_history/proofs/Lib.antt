@@ -23,11 +23,11 @@ pub mod SoundDecideLemmas
 pub mod SoundCommitLemmas
 mod EndpointLemmas
 pub mod LinkLemmas
-mod SoundEndpointsLemmas
+pub mod SoundEndpointsLemmas
 pub mod SoundLemmas
 pub mod DuePhaseLemmas
 mod DueDecideLemmas
-mod DueComesLemmas
+pub mod DueComesLemmas
 mod DuePageLemmas
 mod DueReachLemmas
 mod DueFewLemmas
@@ -38,7 +38,7 @@ mod PageWriteLemmas
 pub mod PlainStepLemmas
 mod DeviceLoopLemmas
 mod FollowLemmas
-mod FewLemmas
+pub mod FewLemmas
 pub mod ReadLemmas
 mod PlainReadLemmas
 pub mod ReachLemmas

@@ -1,16 +1,17 @@
 -- Live cells by their configurations, and lists that loops change an element at a time.
-use Rattle.std.proofs.Common.{◌≡◌, ℕ, zero, suc, ◌+◌, ◌-◌, ◌<◌, ◌≤◌, Bool, true, false, cond, ◌||◌, ◌&&◌, not, eqb, List, [], ◌∷◌, ◌++◌, length, get_or, drop, set, remove, Option, Some, None, refl, sym, ap, ◌∙◌, arith}
+use Rattle.std.proofs.Common.{◌≡◌, ℕ, zero, suc, ◌+◌, ◌-◌, ◌<◌, ◌≤◌, Bool, true, false, cond, ◌||◌, ◌&&◌, not, eqb, List, [], ◌∷◌, length, get_or, drop, set, remove, Option, Some, None, refl, sym, ap, ◌∙◌, arith}
 use Rattle.std.specs.Prelude.{find, map, filter, option_map}
 use Rattle.std.proofs.lemmas.List.{drop_more, drop_all}
+use Rattle.std.proofs.lemmas.List.Edits.{length-remove}
 use Rattle.jh_num.proofs.Lists.{find_map}
 use Rattle.jh_cellcfg.specs.declared.config.CellConfig.{CellConfig}
 use Rattle.jh_cellcfg.specs.declared.live.Live.{Live}
 use Rattle.jh_cellcfg.specs.Lives.{has_id, id_of}
 use Rattle.jh_history.specs.Lives.{live_in}
 use Rattle.jh_shape.specs.Lives.{configs_of, with_marks, marked}
+use Rattle.jh_shape.proofs.JoinedLemmas.{length_joined, joined_remove, live_of}
 use Rattle.jh_history.specs.Calls.{is_told, is_told_by, first_told, behind}
 use Rattle.jh_history.specs.Commits.{is_other}
-use Rattle.jh_history.proofs.LoopLemmas.{live_of}
 
 abbrev config : Live → CellConfig
 config live = live.config
@@ -100,34 +101,6 @@ told_from_next b after about id cells k c lt is fails passed =
     ∙ ap (λ (d : CellConfig). told_from b about id (d ∷ drop (k + 1) cells)) (sym is)
     ∙ told_from_skip b about id c (drop (k + 1) cells) fails
     ∙ ap (λ (p : Bool). told_from p about id (drop (k + 1) cells)) (sym passed))
-
--- configurations with their marks
-pub configs_joined : (cells : List CellConfig) (marks : List Bool) → length marks ≡ length cells → configs_of (with_marks cells marks) ≡ cells
-configs_joined [] marks e = refl
-configs_joined (c ∷ cs) [] e = absurd (omega arith)
-configs_joined (c ∷ cs) (m ∷ ms) e = ap (λ (rest : List CellConfig). c ∷ rest) (configs_joined cs ms (omega arith))
-
-pub length_joined : (cells : List CellConfig) (marks : List Bool) → length marks ≡ length cells → length (with_marks cells marks) ≡ length cells
-length_joined [] marks e = refl
-length_joined (c ∷ cs) [] e = absurd (omega arith)
-length_joined (c ∷ cs) (m ∷ ms) e = ap (λ n. suc n) (length_joined cs ms (omega arith))
-
-pub joined_push : (cells : List CellConfig) (marks : List Bool) (c : CellConfig) (mark : Bool) → length marks ≡ length cells → with_marks (cells ++ c ∷ []) (marks ++ mark ∷ []) ≡ with_marks cells marks ++ live_of c mark ∷ []
-joined_push [] [] c mark e = refl
-joined_push [] (m ∷ ms) c mark e = absurd (omega arith)
-joined_push (x ∷ cs) [] c mark e = absurd (omega arith)
-joined_push (x ∷ cs) (m ∷ ms) c mark e = ap (λ (rest : List Live). live_of x m ∷ rest) (joined_push cs ms c mark (omega arith))
-
-pub joined_remove : (i : ℕ) (cells : List CellConfig) (marks : List Bool) → length marks ≡ length cells → i < length cells → with_marks (remove cells i) (remove marks i) ≡ remove (with_marks cells marks) i
-joined_remove i [] marks e l = absurd (omega arith)
-joined_remove i (c ∷ cs) [] e l = absurd (omega arith)
-joined_remove zero (c ∷ cs) (m ∷ ms) e l = refl
-joined_remove (suc i) (c ∷ cs) (m ∷ ms) e l = ap (λ (rest : List Live). live_of c m ∷ rest) (joined_remove i cs ms (omega arith) (omega arith))
-
-pub length_removed : {X : Type 0} (i : ℕ) (xs : List X) → i < length xs → suc (length (remove xs i)) ≡ length xs
-length_removed i [] l = absurd (omega arith)
-length_removed zero (x ∷ xs) l = refl
-length_removed (suc i) (x ∷ xs) l = ap (λ n. suc n) (length_removed i xs (omega arith))
 
 -- the marks where those of the first so many cells are put
 abbrev pub marks_to : ℕ → ℕ → Bool → List CellConfig → List Bool → List Bool
@@ -242,8 +215,8 @@ leave_drop k id first cells first_marks marks c even_first even lt is left other
 
 pub leave_even : (k : ℕ) (cells : List CellConfig) (marks : List Bool) → length marks ≡ length cells → k < length cells → length (remove marks k) ≡ length (remove cells k)
 leave_even k cells marks even lt =
-    let a = length_removed k cells lt in
-    let b = length_removed k marks (omega arith) in
+    let a = length-remove cells k lt in
+    let b = length-remove marks k (omega arith) in
     omega arith
 
 pub leave_so_far : (i id : ℕ) (lives rest : List Live) → 0 < i → lives ≡ left_from i (is_other id) rest → lives ≡ left_from (suc (i - 1)) (is_other id) rest

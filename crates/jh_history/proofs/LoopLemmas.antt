@@ -1,7 +1,7 @@
 -- Loops that seek an element that passes a test.
 use Rattle.std.proofs.Common.{◌≡◌, ℕ, zero, suc, ◌+◌, ◌<◌, ◌≤◌, ◌||◌, Bool, true, false, List, [], ◌∷◌, length, get_or, take, map, refl, sym, ap, ◌∙◌, arith}
 use Rattle.std.specs.List.{list_any}
-use Rattle.std.proofs.Math.Bool.{or_assoc}
+use Rattle.std.proofs.Math.Bool.{or_assoc, or-false}
 use Rattle.std.proofs.lemmas.Bool.{or_left, or_right}
 use Rattle.std.proofs.lemmas.List.{take_all}
 use Rattle.std.proofs.lemmas.List.Folds.{list_any_more, list_any_at}
@@ -14,6 +14,7 @@ use Rattle.jh_shape.specs.Shapes.{takes, is_closed, holder_of_live}
 use Rattle.jh_history.specs.declared.place.Place.{Place}
 use Rattle.jh_history.specs.Places.{further, places_in_row}
 use Rattle.jh_shape.specs.Lives.{configs_of, with_marks}
+use Rattle.jh_shape.proofs.JoinedLemmas.{live_of}
 use Rattle.jh_history.proofs.PlaceLemmas.{further_none, further_next}
 
 pub any_found : {X : Type 0} (p : X → Bool) (xs : List X) (i : ℕ) (x : X) → i < length xs → x ≡ get_or xs i x → p x ≡ true → list_any p xs ≡ true
@@ -36,9 +37,6 @@ closing place live = list_any (λ (region : Region). takes live.loadable region 
 pub closed_by : (lives : List Live) (place : ℕ) → is_closed (map holder_of_live lives) place ≡ list_any (closing place) lives
 closed_by lives place = list_any_map holder_of_live (λ (holder : Holder). list_any (λ (region : Region). takes holder.loadable region place) holder.regions) lives
 
-abbrev pub live_of : CellConfig → Bool → Live
-live_of c mark = record { config = c; loadable = mark }
-
 pub joined_get : (i : ℕ) (cells : List CellConfig) (marks : List Bool) (c : CellConfig) (m : Bool) → length marks ≡ length cells → i < length cells → get_or (with_marks cells marks) i (live_of c m) ≡ live_of (get_or cells i c) (get_or marks i m)
 joined_get i [] marks c m e lt = absurd (omega arith)
 joined_get i (x ∷ cs) [] c m e lt = absurd (omega arith)
@@ -53,13 +51,8 @@ joined_read i cells marks c m even lt is =
     ∙ ap (λ (x : CellConfig). live_of x (get_or marks i (get_or marks i m))) (sym is)
     ∙ ap (λ (b : Bool). live_of c b) (sym (read_again marks i m (omega arith))))
 
--- a row of places
-or_none : (b : Bool) → (b || false) ≡ b
-or_none true = refl
-or_none false = refl
-
 row_more : (p : Place → Bool) (first : Place) (k : ℕ) → list_any p (places_in_row first (suc k)) ≡ (list_any p (places_in_row first k) || p (further first k))
-row_more p first zero = or_none (p first) ∙ ap p (sym (further_none first))
+row_more p first zero = or-false (p first) ∙ ap p (sym (further_none first))
 row_more p first (suc k) =
     ap (λ b. p first || b) (row_more p (further first 1) k)
     ∙ sym (or_assoc (p first) (list_any p (places_in_row (further first 1) k)) (p (further (further first 1) k)))

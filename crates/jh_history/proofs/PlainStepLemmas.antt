@@ -1,7 +1,7 @@
 -- What an entry does to the open call and to the live cells, for the slow plain program.
-use Rattle.std.proofs.Common.{◌≡◌, ℤ, ◌≤◌, Bool, true, false, List, length, Option, Some, None, refl, sym, ap, subst, ◌∙◌, inl, inr, ◌⊎◌}
+use Rattle.std.proofs.Common.{◌≡◌, ℤ, ◌≤◌, true, false, List, length, Option, Some, None, refl, sym, ap, subst, ◌∙◌, inl, inr, ◌⊎◌}
 use Rattle.std.specs.Prelude.{All}
-use Rattle.std.proofs.lemmas.Bool.{both_ways}
+use Rattle.std.proofs.lemmas.Bool.{both_ways, true≢false}
 use Rattle.jh_check.specs.Clean.{IsSoundBitmap, IsSoundCpuSet}
 use Rattle.jh_script.specs.declared.image.Image.{Image}
 use Rattle.jh_history.specs.Facts.{Facts}
@@ -17,7 +17,7 @@ use Rattle.jh_history.specs.declared.entry.Entry.{Entry}
 use Rattle.jh_history.specs.declared.entry.Act.{Act}
 use Rattle.jh_history.specs.declared.entry.Act.TheVariants.{Read, Write, Fetch, Await, Irq, Hvc, Begin, Stop, Decide, Settle, Commit, Note, Noted, Finish}
 use Rattle.jh_history.specs.Calls.{call_by}
-use Rattle.jh_history.specs.Commits.{cells_by}
+use Rattle.jh_history.specs.Commits.{cells_by, is_commit}
 
 -- what a create reads matters at its Decide alone
 coming_by : (lives : List Live) (a b : Option CellConfig) (call : Option OpenCall) (entry : Entry) (act : Act) → ((refused : Option ℤ) → act ≡ Decide refused → ⊥) → call_by lives a call entry act ≡ call_by lives b call entry act
@@ -60,15 +60,15 @@ commit_other begun act old other = other_by begun old act other
 
 -- ---- how many cells live
 
-abbrev is_commit : Act → Bool
-is_commit Commit = true
-is_commit _ = false
-
 not_commit : (act : Act) → act ≡ Commit → is_commit act ≡ false → ⊥
 not_commit act e other = both_ways true (sym (ap is_commit e) ∙ other) refl
 
 abbrev Names : List CellConfig → Type 0
 Names configs = All (λ (c : CellConfig). IsSoundBitmap c.cpu_set → IsSoundCpuSet c.cpu_set) configs
+
+-- an act that is no Commit changes no cell
+pub uncommitted_cells : (call : Option OpenCall) (cells : List Live) (act : Act) → is_commit act ≡ false → cells_by call cells act ≡ cells
+uncommitted_cells call cells act other = sym (commit_other call act cells (λ is. true≢false (sym (ap is_commit is) ∙ other)))
 
 pub after_cells : (image : Image) (f : Facts) (entry : Entry) → (after image f entry).cells ≡ cells_by f.call f.cells entry.act
 unfolding after

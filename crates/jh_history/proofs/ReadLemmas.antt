@@ -1,6 +1,6 @@
 -- Reading a configuration byte by byte.
-use Rattle.std.proofs.Common.{◌≡◌, ℕ, zero, suc, ◌+◌, ◌-◌, ◌*◌, ◌<◌, ◌≤◌, List, [], ◌∷◌, ◌++◌, Bool, true, false, leb, ltb, Option, Some, None, map, length, refl, sym, ap, subst, ◌∙◌, inl, inr, arith}
-use Rattle.std.specs.Prelude.{option_map, option_and_then, All, IsTrue}
+use Rattle.std.proofs.Common.{◌≡◌, ℕ, zero, suc, ◌+◌, ◌-◌, ◌*◌, ◌<◌, ◌≤◌, List, [], ◌∷◌, ◌++◌, Bool, true, false, Option, Some, None, map, length, refl, sym, ap, subst, ◌∙◌, inl, inr, arith}
+use Rattle.std.specs.Prelude.{option_map, option_and_then, All}
 use Rattle.jh_num.specs.declared.address.TheConstants.{ADDRESS_END}
 use Rattle.jh_script.specs.declared.image.Image.{Image}
 use Rattle.jh_history.specs.declared.place.Place.{Place}
@@ -11,15 +11,16 @@ use Rattle.jh_history.specs.Grants.{unless, granted_by, granted}
 use Rattle.jh_history.specs.Configs.{bytes_at, read_at, read_cell}
 use Rattle.jh_history.specs.ReadView.{bytes_by, read_by}
 use Rattle.jh_cellcfg.specs.declared.region.Region.{Region}
-use Rattle.jh_cellcfg.specs.Regions.{IsInRange, has_address, virt_end}
-use Rattle.std.proofs.lemmas.Bool.{cases_lt, and_parts, ltb-true, both_ways}
+use Rattle.jh_cellcfg.specs.Regions.{IsInRange}
+use Rattle.jh_cellcfg.proofs.AddressLemmas.{has_address_last, has_some}
+use Rattle.std.proofs.lemmas.Bool.{cases_lt, both_ways}
 use Rattle.jh_history.specs.declared.access.Reach.{Reach}
 use Rattle.jh_history.specs.declared.access.Reach.TheVariants.{Memory, Nothing}
 use Rattle.std.proofs.lemmas.Option.{none-some, same_Some}
 use Rattle.std.proofs.lemmas.List.{append_assoc}
 use Rattle.jh_num.proofs.Lists.{IsFound_from_find}
 use Rattle.jh_history.proofs.AccessLemmas.{reach_by_within, reach_by_beyond}
-use Rattle.jh_history.proofs.GrantLemmas.{region_of_has, has_some}
+use Rattle.jh_history.proofs.GrantLemmas.{region_of_has}
 use Rattle.jh_history.proofs.FactsLemmas.{same_function}
 
 abbrev Bytes : Type 0
@@ -146,9 +147,6 @@ read_by_is image f byte at each =
 
 -- ---- a byte that is reached
 
-has_end : (r : Region) (at : ℕ) → IsTrue (has_address r at) → at < virt_end r
-has_end r at has = ltb-true at (virt_end r) (and_parts (leb r.virt_start at) (ltb at (virt_end r)) has).1
-
 -- where no region gives the address, none is granted
 abbrev InRange : Region → Type 0
 InRange r = 0 < r.size → IsInRange r
@@ -160,7 +158,7 @@ beyond_by id regions kept at (Some r) e within le =
     let has = region_of_has regions Read at r e in
     let held = (IsFound_from_find (gives Read at) regions r e).held in
     let range : IsInRange r = subst InRange held.2 (within held.0 r held.1) (has_some r at has) in
-    let above = has_end r at has in
+    let above = has_address_last r at has in
     let end = range.virt in
     absurd (omega arith)
 
@@ -199,7 +197,7 @@ abbrev reaches : Reach → Bool
 reaches (Memory ps) = true
 reaches found = false
 
-nothing_memory : (ps : List Place) → Nothing ≡ Memory ps → ⊥
+pub nothing_memory : (ps : List Place) → Nothing ≡ Memory ps → ⊥
 nothing_memory ps e = both_ways true (ap reaches (sym e)) refl
 
 same_memory : (ps qs : List Place) → Memory ps ≡ Memory qs → ps ≡ qs

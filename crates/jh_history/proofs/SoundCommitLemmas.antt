@@ -1,5 +1,5 @@
 -- What the Commit of a call and the notes behind it leave sound.
-use Rattle.std.proofs.Common.{◌≡◌, ◌≢◌, ℕ, ◌<◌, List, [], ◌∷◌, ◌++◌, Bool, true, false, cond, not, eqb, map, pos, ℤ, Option, Some, None, refl, sym, ap, subst, ◌∙◌, inl, inr, ◌⊎◌, ⊎_elim}
+use Rattle.std.proofs.Common.{◌≡◌, ◌≢◌, ℕ, ◌<◌, List, [], ◌∷◌, ◌++◌, Bool, true, false, cond, not, eqb, pos, ℤ, Option, Some, None, refl, sym, ap, subst, ◌∙◌, inl, inr, ◌⊎◌, ⊎_elim}
 use Rattle.std.specs.Prelude.{Contains, find, filter, option_map}
 use Rattle.std.proofs.lemmas.Bool.{both_ways, and_parts, cond_both, eqb-true, eq-eqb, ne_eqb, not-true}
 use Rattle.std.proofs.lemmas.List.Elements.{Contains-append_left, Contains-push, Contains-push_cases}
@@ -21,10 +21,11 @@ use Rattle.jh_history.specs.Calls.{is_named, is_told, first_told, telling, behin
 use Rattle.jh_history.specs.Commits.{is_other}
 use Rattle.jh_history.specs.Cpus.{end_in_root}
 use Rattle.jh_history.specs.Phases.{keeps_commit}
-use Rattle.jh_shape.specs.Lives.{configs_of, marked}
+use Rattle.jh_shape.specs.Lives.{configs_of}
 use Rattle.jh_history.specs.Sound.{AreSoundCells, HasItsCpus, IsOwner, AreOwned, IsCalm, IsHalted, IsAsked, IsHalting, IsCaller, IsAboutLive, MayCome, IsNews, IsInPhase, IsOpen}
-use Rattle.jh_history.proofs.SoundCpusLemmas.{owned_kept, other_root, unknown_id, named_same, root_unnamed}
+use Rattle.jh_history.proofs.SoundCpusLemmas.{owned_kept, other_root, named_same, root_unnamed}
 use Rattle.jh_history.proofs.SoundDecideLemmas.{IsLate, open_late, board_few, absent_unnamed}
+use Rattle.jh_history.proofs.SpecsLemmas.{other_id}
 
 -- ---- the Commit of a call about a cell that lives
 
@@ -94,16 +95,6 @@ restarted_calm cpu h = record { asked = h.asked; stopped = refl }
 
 pub parked_calm : (cpu : Cpu) → IsHalted cpu → IsCalm (parked cpu)
 parked_calm cpu h = record { asked = h.asked; stopped = refl }
-
--- marks change no configuration
-marked_config : (id : ℕ) (loadable : Bool) (live : Live) → (marked id loadable live).config ≡ live.config
-marked_config id loadable live =
-    let same : Live → Type 0 = λ l. l.config ≡ live.config in
-    cond_both (has_id id live) (record live { loadable = loadable }) live same (λ _. refl) (λ _. refl)
-
-pub configs_marked : (id : ℕ) (loadable : Bool) (cells : List Live) → configs_of (map (marked id loadable) cells) ≡ configs_of cells
-configs_marked id loadable [] = refl
-configs_marked id loadable (live ∷ cells) = ap (λ (c : CellConfig). c ∷ configs_of (map (marked id loadable) cells)) (marked_config id loadable live) ∙ ap (λ (cs : List CellConfig). live.config ∷ cs) (configs_marked id loadable cells)
 
 -- ---- the Commit of a destroy
 
@@ -269,7 +260,7 @@ lent_has image configs cpu caller new config sound owned may held =
           (lent_or_kept new cpu i);
       named = λ i is.
           ⊎_elim
-          (λ lent. absurd (unknown_id (image.system.root ∷ configs) new config may.unknown (Contains_tail image.system.root configs config held) (sym is ∙ lent.1)))
+          (λ lent. absurd (other_id (image.system.root ∷ configs) new config may.unknown (Contains_tail image.system.root configs config held) (sym is ∙ lent.1)))
           (λ kept. has.named i (sym (ap (λ (c : Cpu). c.owner) kept.1) ∙ is))
           (lent_or_kept new cpu i);
       board = has.board;
@@ -279,8 +270,8 @@ lent_has image configs cpu caller new config sound owned may held =
 not_yet : (image : Image) (configs : List CellConfig) (cpu : ℕ → Cpu) (new : CellConfig) (i : ℕ) → AreOwned image configs cpu → is_known (image.system.root ∷ configs) new ≡ false → (cpu i).owner ≢ new.id
 not_yet image configs cpu new i owned unknown is =
     ⊎_elim
-    (λ root. unknown_id (image.system.root ∷ configs) new image.system.root unknown (Contains_head image.system.root configs) (sym root ∙ is))
-    (λ cell. unknown_id (image.system.root ∷ configs) new cell.0 unknown (Contains_tail image.system.root configs cell.0 cell.1) (sym cell.2 ∙ is))
+    (λ root. other_id (image.system.root ∷ configs) new image.system.root unknown (Contains_head image.system.root configs) (sym root ∙ is))
+    (λ cell. other_id (image.system.root ∷ configs) new cell.0 unknown (Contains_tail image.system.root configs cell.0 cell.1) (sym cell.2 ∙ is))
     (owned.others i)
 
 -- and the new one has those of its set
@@ -323,7 +314,7 @@ open_created image cells cpu caller at new sound owned opens =
     let configs : List CellConfig = configs_of cells in
     let all : List CellConfig = configs ++ new ∷ [] in
     let may : MayCome image configs cpu caller new = opens.phase.1 in
-    let apart : root ≢ new.id = unknown_id (image.system.root ∷ configs) new image.system.root may.unknown (Contains_head image.system.root configs) in
+    let apart : root ≢ new.id = other_id (image.system.root ∷ configs) new image.system.root may.unknown (Contains_head image.system.root configs) in
     let next = told_first image all (cell_lent new cpu) caller new.id (Create at) (pos new.id) cells
     (λ live held _. Contains-append_left configs (new ∷ []) live.config (Contains_map (λ (l : Live). l.config) cells live held))
     (new, Contains-push configs new, refl, refl) in

@@ -3,11 +3,10 @@ use Rattle.std.proofs.Common.{◌≡◌, ◌≢◌, ℕ, suc, List, true, false,
 use Rattle.std.specs.Prelude.{Contains, nat_eq}
 use Rattle.std.specs.Cmp.Lexicographic.{pointwise}
 use Rattle.std.proofs.lemmas.Bool.{both_ways, or_parts, and_parts, cond_both, eqb-true, eq-eqb, false_from_ne_true, not-true}
-use Rattle.jh_num.proofs.Lists.{list_any_false}
 use Rattle.jh_cellcfg.specs.declared.config.CellConfig.{CellConfig}
 use Rattle.jh_cellcfg.specs.declared.config.SystemConfig.{SystemConfig}
 use Rattle.jh_cellcfg.specs.Cells.{name_of}
-use Rattle.jh_check.specs.Refusals.{is_namesake, is_known, AreTwo}
+use Rattle.jh_check.specs.Refusals.{AreTwo}
 use Rattle.jh_cpu.specs.declared.cpu.Cpu.{Cpu}
 use Rattle.jh_cpu.specs.declared.cpu.Mode.{Mode}
 use Rattle.jh_cpu.specs.declared.cpu.Mode.TheVariants.{Running, Parked, Failed}
@@ -200,12 +199,6 @@ other_root system configs config sound held is =
     let P : CellConfig → Type 0 = λ c. AreTwo system.root c in
     let apart : eqb system.root.id config.id ≡ false = (or_parts (eqb system.root.id config.id) (pointwise nat_eq (name_of system.root) (name_of config)) (subst P held.2 two)).0 in
     both_ways (eqb system.root.id config.id) apart (eq-eqb system.root.id config.id (sym is))
-
--- no cell of a list in which a new one isn't known has its id
-pub unknown_id : (cells : List CellConfig) (new config : CellConfig) → is_known cells new ≡ false → Contains cells config → config.id ≢ new.id
-unknown_id cells new config unknown held is =
-    let apart = (or_parts (eqb config.id new.id) (pointwise nat_eq (name_of config) (name_of new)) (list_any_false (is_namesake new) cells config unknown held)).0 in
-    both_ways (eqb config.id new.id) apart (eq-eqb config.id new.id is)
 
 -- a call names one id
 pub named_same : (call : Call) (a b : ℕ) → is_named call a ≡ true → is_named call b ≡ true → a ≡ b

@@ -36,10 +36,11 @@ use Rattle.jh_history.specs.Endpoints.{endpoints_put, function_put, space_put, e
 use Rattle.jh_history.specs.Grants.{reach, devices_of}
 use Rattle.jh_history.specs.Commits.{committed_cells, cells_by, is_other}
 use Rattle.jh_shape.specs.Lives.{configs_of, marked}
+use Rattle.jh_shape.proofs.JoinedLemmas.{configs_marked}
 use Rattle.jh_history.specs.History.{cells_after}
 use Rattle.jh_history.specs.Sound.{AreSoundCells, IsInPhase, IsSoundCall, IsOfDevice, HasEndpoint, IsSoundEndpoint, AreEndpoints, IsSound}
 use Rattle.jh_history.proofs.SoundCpusLemmas.{other_root}
-use Rattle.jh_history.proofs.SoundCommitLemmas.{configs_marked, is_other_config, configs_others, configs_joined}
+use Rattle.jh_history.proofs.SoundCommitLemmas.{is_other_config, configs_others, configs_joined}
 use Rattle.jh_history.proofs.SpecsLemmas.{specs_device, specs_within, specs_apart, specs_apart_new, held_numbered}
 use Rattle.jh_history.proofs.LinkLemmas.{AreRow, HaveJoined, HaveLeft, IsBeside, one_of_pairs, all_join, all_leave}
 use Rattle.jh_history.proofs.EndpointLemmas.{specs_in, placed, without, Follow, follow_same, follow_option, follow_space, follow_written, follow_taken, follow_reset, specs_join, sound_join, specs_leave, sound_leave}
@@ -158,7 +159,7 @@ acted_follow image f cell (Finish answer) apart = follow_same f.endpoints
 
 -- ---- a cell comes
 
-nothing_in : {X : Type 0} (x : X) → Contains [] x → ⊥
+pub nothing_in : {X : Type 0} (x : X) → Contains [] x → ⊥
 nothing_in x h = let below : h.0 < 0 = h.1 in omega arith
 
 specs_open : (image : Image) (now : List EndpointSpec) → HaveJoined [] (specs_of image.system.root) now → AreSpecs image [] now
@@ -234,7 +235,7 @@ beside_cell gone id x of other s h =
     and_left (eqb x.cell s.cell) (eqb x.device s.device) (ne_eqb x.cell s.cell (λ same. other s h (same ∙ of s h)))
 
 -- the endpoint of a cell's device has the cell's id
-spec_cell : (config : CellConfig) (s : EndpointSpec) → Contains (specs_of config) s → s.cell ≡ config.id
+pub spec_cell : (config : CellConfig) (s : EndpointSpec) → Contains (specs_of config) s → s.cell ≡ config.id
 spec_cell config s h = ap (λ (x : EndpointSpec). x.cell) (specs_device config s h).is
 
 specs_go : (image : Image) (configs : List CellConfig) (id : ℕ) (specs gone now : List EndpointSpec) → AreSpecs image configs specs → AreOfCell image configs id gone → HaveLeft specs gone now

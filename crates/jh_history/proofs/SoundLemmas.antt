@@ -40,6 +40,7 @@ use Rattle.jh_history.specs.Wants.{goes_on}
 use Rattle.jh_history.specs.Endpoints.{endpoints_after}
 use Rattle.jh_history.specs.Phases.{phase_act, keeps_decide, keeps_commit, decision, settled_of, heard_of}
 use Rattle.jh_shape.specs.Lives.{configs_of, marked}
+use Rattle.jh_shape.proofs.JoinedLemmas.{configs_marked}
 use Rattle.jh_history.specs.Due.{due_at, is_idle_but, IsLegal, IsLegalFrom}
 use Rattle.jh_history.proofs.FactsLemmas.{same_function}
 use Rattle.jh_history.specs.Sound.{AreSoundCells, AreOwned, IsCalm, IsHalted, IsOpen, IsSoundCall, AreEndpoints, IsSound}
@@ -48,7 +49,7 @@ use Rattle.jh_history.proofs.SoundCpusLemmas.{IsMild, owned_kept, come_rests}
 use Rattle.jh_history.proofs.SoundDueLemmas.{IsNext, next_from_due, IsOfProgram, IsOfState, state_parts, IsOfCall, call_parts}
 use Rattle.jh_history.proofs.SoundStepLemmas.{one_changed, one_owner, calm_one, open_mild, open_stop, owned_begun, open_begun, owned_finished, calm_finished}
 use Rattle.jh_history.proofs.SoundDecideLemmas.{open_decided, owned_settled, open_settled}
-use Rattle.jh_history.proofs.SoundCommitLemmas.{cell_changed, owned_changed, open_changed, restarted_calm, parked_calm, configs_marked, is_other_config, configs_others, owned_returned, open_destroyed, configs_joined, owned_lent, open_created, open_noted, open_note}
+use Rattle.jh_history.proofs.SoundCommitLemmas.{cell_changed, owned_changed, open_changed, restarted_calm, parked_calm, is_other_config, configs_others, owned_returned, open_destroyed, configs_joined, owned_lent, open_created, open_noted, open_note}
 use Rattle.jh_history.proofs.SoundEndpointsLemmas.{endpoints_open, endpoints_after_holds}
 
 -- what an entry changes beside the CPUs, the cells and the call

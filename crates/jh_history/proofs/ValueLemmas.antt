@@ -1,6 +1,6 @@
 -- Numbers that the bytes at places in a row spell.
 use Rattle.std.proofs.Common.{◌≡◌, ℕ, zero, suc, length, refl, subst, ◌+◌, ◌-◌, ◌*◌, ◌^◌, ◌<◌, ◌≤◌, List, [], ◌∷◌, ◌++◌, map, ap, sym, ◌∙◌, arith}
-use Rattle.std.proofs.Math.Nat.{pow-le-pow_right, one-le-pow}
+use Rattle.std.proofs.Math.Nat.{pow-le-pow_right}
 use Rattle.std.proofs.lemmas.List.{append-nil, map-append, length-append}
 use Rattle.jh_num.specs.Memory.{spelled}
 use Rattle.jh_num.proofs.MemoryLemmas.{byte_fits, word_fits}
@@ -27,9 +27,6 @@ fits_more v b n c k some le small byte =
 pub word_more : (v b c k : ℕ) → 0 < k → k ≤ c → c ≤ 8 → v < 256 ^ ((8 - c) + (c - k)) → b < 256 → v * 256 + b < 2 ^ 64
 word_more v b c k some le few small byte =
     word_fits (v * 256 + b) (((8 - c) + (c - k)) + 1) (omega arith) (byte_fits v b ((8 - c) + (c - k)) small byte)
-
-pub none_fits : (n : ℕ) → 0 < 256 ^ n
-none_fits n = let le : 1 ≤ 256 ^ n = one-le-pow n 256 (omega arith) in omega arith
 
 pub fits_below : (v low high : ℕ) → low + high ≤ 8 → v < 256 ^ (0 + high) → v < 256 ^ (8 - low)
 fits_below v low high few small = let le : 256 ^ (0 + high) ≤ 256 ^ (8 - low) = pow-le-pow_right (omega arith) (omega arith) in omega arith

@@ -26,6 +26,11 @@ committed_cells (Loadable id) phase cells = map (marked id true) cells
 committed_cells (Destroy id) phase cells = filter (is_other id) cells
 committed_cells call phase cells = cells
 
+-- the act is a Commit, as no other act changes which cells live
+abbrev pub is_commit : Act → Bool
+is_commit Commit = true
+is_commit act = false
+
 -- the cells after the act, where this call is open before it
 abbrev pub cells_by : Option OpenCall → List Live → Act → List Live
 cells_by call cells Commit = option_map_or (λ (o : OpenCall). committed_cells o.call o.phase cells) call cells

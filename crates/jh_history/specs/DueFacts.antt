@@ -5,8 +5,8 @@ use Rattle.jh_cellcfg.specs.declared.config.CellConfig.{CellConfig}
 use Rattle.jh_cellcfg.specs.declared.live.Live.{Live}
 use Rattle.jh_cellcfg.specs.declared.region.Region.{Region}
 use Rattle.jh_cellcfg.specs.Cells.{is_cpu_set}
-use Rattle.jh_cellcfg.specs.Regions.{IsInRange}
-use Rattle.jh_check.specs.Clean.{SharesNoAddress, IsSoundBitmap}
+use Rattle.jh_cellcfg.specs.Regions.{IsInRange, SharesNoAddress}
+use Rattle.jh_check.specs.Clean.{IsSoundBitmap}
 use Rattle.jh_check.specs.Refusals.{is_known}
 use Rattle.jh_ivshmem.specs.declared.endpoint.Endpoint.{Endpoint}
 use Rattle.jh_ivshmem.specs.declared.spec.Slot.{Slot}

@@ -1,7 +1,8 @@
 -- Where files tell what they hold, no two causes but a failed read stop the reading of a board, and none stops it where
 -- the board makes an image.
-use Rattle.std.proofs.Common.{◌≡◌, ◌≢◌, ℕ, ◌<◌, ◌≤◌, List, [], length, Some, None, Result, Ok, Err, ◌⊎◌, inl, inr, refl, sym, ap, subst, ◌∙◌, arith}
+use Rattle.std.proofs.Common.{◌≡◌, ◌≢◌, ℕ, ◌<◌, ◌≤◌, List, [], length, Some, None, Ok, Err, ◌⊎◌, inl, inr, refl, sym, ap, subst, ◌∙◌, arith}
 use Rattle.std.proofs.lemmas.Option.{same_Some, none-some}
+use Rattle.jh_num.proofs.Results.{ok_err}
 use Rattle.jh_cellcfg.specs.declared.region.Region.{Region}
 use Rattle.jh_cellcfg.specs.declared.config.SystemConfig.{SystemConfig}
 use Rattle.jh_cellcfg.specs.declared.fault.ConfigFault.{ConfigFault}
@@ -45,9 +46,6 @@ not_oversize : (contents : Contents) (name bytes : List ℕ) → AreTold content
 not_oversize contents name bytes told has over =
     let same : bytes ≡ over.bytes = bytes_one contents name bytes over.bytes told has.handed over.handed in
     omega (arith, ap length same)
-
-ok_err : {X E : Type 0} (r : Result X E) (x : X) (e : E) → r ≡ Ok x → r ≡ Err e → ⊥
-ok_err r x e h k = let same : r ≡ Ok x = h in cc
 
 -- ---- the board's own file
 

@@ -3,7 +3,7 @@ use Rattle.std.proofs.Common.{◌≡◌, ℕ, zero, suc, ◌+◌, ◌<◌, ◌�
 use Rattle.std.specs.Prelude.{All, AllPairs, slice_get, IsTrue}
 use Rattle.std.specs.List.{list_any}
 use Rattle.std.specs.Cmp.Lexicographic.{pointwise}
-use Rattle.std.proofs.lemmas.Bool.{false≢true}
+use Rattle.std.proofs.lemmas.Bool.{false≢true, and_parts, and_from}
 use Rattle.std.proofs.lemmas.Bool.Decides.{nat_tests}
 use Rattle.std.proofs.lemmas.List.{take_all, take_more, map_push}
 use Rattle.std.proofs.lemmas.List.Elements.{All-push}
@@ -13,7 +13,6 @@ use Rattle.std.proofs.lemmas.Option.{slice_get_read}
 use Rattle.jh_cellcfg.specs.declared.config.SystemConfig.{SystemConfig}
 use Rattle.jh_script.specs.declared.image.Preload.{Preload}
 use Rattle.jh_script.specs.declared.image.Program.{Program}
-use Rattle.jh_check.proofs.BoolLemmas.{and_left, and_right, and_both}
 use Rattle.jh_history.specs.Lives.{is_program_of}
 use Rattle.jh_history.specs.Admitted.{IsSoundPreload, IsOtherPreload, IsSoundProgram, IsOtherProgram}
 use Rattle.jh_image.specs.declared.board.Listing.{Listing}
@@ -141,14 +140,14 @@ pointwise_swap [] [] h = refl
 pointwise_swap [] (y ∷ ys) h = absurd (false≢true h)
 pointwise_swap (x ∷ xs) [] h = absurd (false≢true h)
 pointwise_swap (x ∷ xs) (y ∷ ys) h =
-    and_both (nat_eq y x) (pointwise nat_eq ys xs) (eq_swap x y (and_left (nat_eq x y) (pointwise nat_eq xs ys) h)) (pointwise_swap xs ys (and_right (nat_eq x y) (pointwise nat_eq xs ys) h))
+    and_from (nat_eq y x) (pointwise nat_eq ys xs) (eq_swap x y ((and_parts (nat_eq x y) (pointwise nat_eq xs ys) h).0)) (pointwise_swap xs ys ((and_parts (nat_eq x y) (pointwise nat_eq xs ys) h).1))
 
 -- a program of the CPU and cell of another has its seat
 program_seat_holds : (p q : Program) → IsTrue (is_program_of p.cell p.cpu q) → is_seat (program_seat p) (program_seat q) ≡ true
 program_seat_holds p q h =
-    and_both (pointwise nat_eq p.cell q.cell) (p.cpu == q.cpu)
-    (pointwise_swap q.cell p.cell (and_left (pointwise nat_eq q.cell p.cell) (q.cpu == p.cpu) h))
-    (eq_swap q.cpu p.cpu (and_right (pointwise nat_eq q.cell p.cell) (q.cpu == p.cpu) h))
+    and_from (pointwise nat_eq p.cell q.cell) (p.cpu == q.cpu)
+    (pointwise_swap q.cell p.cell ((and_parts (pointwise nat_eq q.cell p.cell) (q.cpu == p.cpu) h).0))
+    (eq_swap q.cpu p.cpu ((and_parts (pointwise nat_eq q.cell p.cell) (q.cpu == p.cpu) h).1))
 
 -- no seat stands again behind itself
 seat_once : (seats : List Seat) → are_distinct seats ≡ true → (i j : ℕ) (d : Seat) → i < j → j < length seats → is_seat (get_or seats i d) (get_or seats j d) ≡ true → ⊥
@@ -157,9 +156,9 @@ seat_once [] h i j d lt within same = omega arith
 seat_once (seat ∷ seats) h zero zero d lt within same = omega arith
 seat_once (seat ∷ seats) h zero (suc j) d lt within same =
     let found : list_any (is_seat seat) seats ≡ true = list_any_at (is_seat seat) seats j d (omega arith) same in
-    false≢true (sym (ap not found) ∙ and_left (not (list_any (is_seat seat) seats)) (are_distinct seats) h)
+    false≢true (sym (ap not found) ∙ (and_parts (not (list_any (is_seat seat) seats)) (are_distinct seats) h).0)
 seat_once (seat ∷ seats) h (suc i) zero d lt within same = omega arith
-seat_once (seat ∷ seats) h (suc i) (suc j) d lt within same = seat_once seats (and_right (not (list_any (is_seat seat) seats)) (are_distinct seats) h) i j d (omega arith) (omega arith) same
+seat_once (seat ∷ seats) h (suc i) (suc j) d lt within same = seat_once seats ((and_parts (not (list_any (is_seat seat) seats)) (are_distinct seats) h).1) i j d (omega arith) (omega arith) same
 
 get_seat : (programs : List Program) (i : ℕ) (d : Program) → get_or (map program_seat programs) i (program_seat d) ≡ program_seat (get_or programs i d)
 get_seat [] i d = refl

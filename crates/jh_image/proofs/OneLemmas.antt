@@ -22,7 +22,7 @@ OneSpelling = (a b : SystemConfig) → IsSystem a → IsSystem b → IsSystemWit
 
 -- ---- bytes
 
-hands_one : (told : KnownFile) (most : ℕ) (one other : List ℕ) → told ≢ None → HandsOut told most one → HandsOut told most other → one ≡ other
+pub hands_one : (told : KnownFile) (most : ℕ) (one other : List ℕ) → told ≢ None → HandsOut told most one → HandsOut told most other → one ≡ other
 hands_one None most one other tells h k = absurd (tells refl)
 hands_one (Some None) most one other tells h k = absurd h
 hands_one (Some (Some held)) most one other tells h k = h ∙ sym k

@@ -1,6 +1,6 @@
 -- What stops the reading of a board.
 use Rattle.std.proofs.Common.{◌≡◌, ℕ, ◌<◌, ◌≤◌, List, [], length, Some, subst, sym, Ok, Err}
-use Rattle.std.specs.Prelude.{OnOk, IfErr, IsErrAnd, Result}
+use Rattle.std.specs.Prelude.{OnOk, IfErr, Result}
 use Rattle.jh_syscfg.specs.SystemFaults.{system_fault}
 use Rattle.jh_check.specs.Lists.{capped}
 use Rattle.jh_check.specs.Findings.{findings}
@@ -22,11 +22,6 @@ use Rattle.jh_image.specs.Opening.{IsFaultless}
 use Rattle.jh_image.specs.Files.{Contents, HasBytes, Lists, SpellsSystem, IsPreloadOf}
 use Rattle.jh_image.specs.Images.{SoFar, Stage, nothing, with_listing, with_system, so_far_of, IsNextPreload, IsNextProgram, IsNextFile, a_program, reads_board, reads_system, ReadsTo, nothing_read, one_more_read}
 use Rattle.jh_image.specs.Causes.{StopsReading, cannot_be_read, is_too_large, is_no_object, has_bad_member, is_no_system, has_findings, has_small_pool, is_bad_preload, is_bad_program, OnRefused, HandsOutNothing, IsRefusal, IsBoardRefusal, IsUnsound, IsPoolSmall, IsProgramUnread}
-
--- an error that is passed up
-pub passed_up : {X E : Type 0} (r : Result X E) (e : E) (P : E → Type 0) → IsErrAnd r (λ y. y ≡ e) → P e → IfErr r P
-passed_up (Ok x) e P is p = tt
-passed_up (Err y) e P is p = subst P (sym is) p
 
 -- what holds of the file and the cause that are refused
 pub on_refusal : (P : List ℕ → ImageCause → Type 0) (name : List ℕ) (cause : ImageCause) (fault : ImageFault) → OnRefused (IsRefusal name cause) fault → P name cause → OnRefused P fault

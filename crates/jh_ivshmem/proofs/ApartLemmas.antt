@@ -1,6 +1,6 @@
 -- Endpoints are apart, so a name means one of them.
 use Rattle.std.proofs.Common.{ℕ, ◌≡◌, ◌≢◌, ◌<◌, Bool, true, false, not, ◌&&◌, ◌==◌, cond, List, length, map, AllPairs, get_or, set, inl, inr, refl, sym, ◌∙◌, ap, subst, arith}
-use Rattle.std.proofs.lemmas.Bool.{cases_Bool, cases_eq, cases_lt}
+use Rattle.std.proofs.lemmas.Bool.{cases_Bool, cases_eq, cases_lt, and_parts, both_ways}
 use Rattle.std.proofs.lemmas.Bool.Decides.{nat_tests}
 use Rattle.std.proofs.lemmas.List.{length-set, length-map, get_or-map, get_or-set_same, get_or-set_other, get_or_default, same_lists}
 use Rattle.jh_vpci.proofs.BitLemmas.{equals}
@@ -10,22 +10,15 @@ use Rattle.jh_ivshmem.specs.Specs.{is_device, is_peer, AreEndpointsApart}
 use Rattle.jh_ivshmem.specs.Changes.{changed}
 use Rattle.jh_ivshmem.specs.Keys.{key_of, is_key_apart}
 
-both_true : (a b : Bool) → (a && b) ≡ true → (a ≡ true) × (b ≡ true)
-both_true true b h = (refl, h)
-both_true false b h = cc
-
-never : (b : Bool) → b ≡ true → b ≡ false → ⊥
-never b h g = cc
-
 -- the two numbers that name an endpoint
 pub device_is : (cell device : ℕ) (a : EndpointSpec) → is_device cell device a ≡ true → (a.cell ≡ cell) × (a.device ≡ device)
 device_is cell device a h =
-    let both = both_true (a.cell == cell) (a.device == device) h in
+    let both = and_parts (a.cell == cell) (a.device == device) h in
     (equals a.cell cell both.0, equals a.device device both.1)
 
 pub peer_is : (bdf id : ℕ) (a : EndpointSpec) → is_peer bdf id a ≡ true → (a.bdf ≡ bdf) × (a.id ≡ id)
 peer_is bdf id a h =
-    let both = both_true (a.bdf == bdf) (a.id == id) h in
+    let both = and_parts (a.bdf == bdf) (a.id == id) h in
     (equals a.bdf bdf both.0, equals a.id id both.1)
 
 -- of two that are apart not both have the name
@@ -33,15 +26,15 @@ pub devices_apart : (cell device : ℕ) (a b : EndpointSpec) → AreEndpointsApa
     → is_device cell device b ≡ true → ⊥
 devices_apart cell device a b apart here there =
     let name = device_is cell device a here in
-    never (is_device a.cell a.device b)
-    (ap (λ n. is_device n a.device b) name.0 ∙ ap (λ n. is_device cell n b) name.1 ∙ there) apart.devices
+    both_ways (is_device a.cell a.device b) apart.devices
+    (ap (λ n. is_device n a.device b) name.0 ∙ ap (λ n. is_device cell n b) name.1 ∙ there)
 
 pub peers_apart : (bdf id : ℕ) (a b : EndpointSpec) → AreEndpointsApart a b → is_peer bdf id a ≡ true
     → is_peer bdf id b ≡ true → ⊥
 peers_apart bdf id a b apart here there =
     let name = peer_is bdf id a here in
-    never (is_peer a.bdf a.id b)
-    (ap (λ n. is_peer n a.id b) name.0 ∙ ap (λ n. is_peer bdf n b) name.1 ∙ there) apart.peers
+    both_ways (is_peer a.bdf a.id b) apart.peers
+    (ap (λ n. is_peer n a.id b) name.0 ∙ ap (λ n. is_peer bdf n b) name.1 ∙ there)
 
 -- each at its index is apart from every other
 apart_at : (es : List Endpoint) (i j : ℕ) (d : Endpoint) → AllPairs AreEndpointsApart (map (λ (o : Endpoint). o.spec) es) → i < j

@@ -33,7 +33,7 @@ some_is : (b : Bool) (n i : ℕ) → cond b (Some n) None ≡ Some i → n ≡ i
 some_is true n i h = cc
 some_is false n i h = cc
 
-not_below : (n len : ℕ) → len ≤ n → nat_lt n len ≡ false
+pub not_below : (n len : ℕ) → len ≤ n → nat_lt n len ≡ false
 not_below n len past = grind (arith, nat_tests)
 
 no_some : (i : ℕ) → cond false (Some i) None ≡ Some i → ⊥

@@ -1,7 +1,6 @@
 -- The laws of endpoints.
 use Rattle.std.proofs.Common.{ℕ, ◌≡◌, ◌≢◌, ◌/◌, ◌%◌, ◌^◌, ◌<◌, ◌≤◌, Bool, true, false, not, ◌&&◌, ◌||◌, ◌==◌, nat_lt, cond, List, length, get_or, set, inl, inr, refl, sym, ◌∙◌, ap, arith}
 use Rattle.std.proofs.lemmas.Bool.{cases_Bool, cases_eq, cases_lt}
-use Rattle.std.proofs.lemmas.Bool.Decides.{nat_tests}
 use Rattle.std.proofs.lemmas.List.{get_or-set_same, get_or-set_other, get_or_past}
 use Rattle.jh_vpci.specs.Space.{has_vectors, is_open as is_function_open}
 use Rattle.jh_vpci.proofs.BitLemmas.{differs}
@@ -14,6 +13,7 @@ use Rattle.jh_ivshmem.specs.Registers.{register_written, with_word, is_in_table}
 use Rattle.jh_ivshmem.specs.Changes.{changed}
 use Rattle.jh_ivshmem.specs.Links.{told_of, written, reset_of}
 use Rattle.jh_ivshmem.proofs.ApartLemmas.{changed_at, changed_length}
+use Rattle.jh_ivshmem.proofs.KeyLemmas.{not_below}
 
 pub closed : (v : ℕ) (e : Endpoint) → is_open e v ≡ false → raised v e ≡ e
 unfolding raised
@@ -44,9 +44,6 @@ part_4 false b c d h = refl
 pub closed_control : (v : ℕ) (e : Endpoint) → e.control ≡ false → raised v e ≡ e
 closed_control v e h = closed v e (part_1 e.control (nat_lt v (count_of e.spec)) (is_function_open e.space)
     (not (has_vectors e.spec.function) || not (vector_at e v).masked) h)
-
-not_below : (a b : ℕ) → b ≤ a → nat_lt a b ≡ false
-not_below a b past = grind (arith, nat_tests)
 
 pub closed_count : (v : ℕ) (e : Endpoint) → count_of e.spec ≤ v → raised v e ≡ e
 closed_count v e h = closed v e (part_2 e.control (nat_lt v (count_of e.spec)) (is_function_open e.space)

@@ -1,13 +1,14 @@
 -- The order of endpoints, by which a device is found by halving.
-use Rattle.std.proofs.Common.{ℕ, zero, suc, ◌≡◌, ◌+◌, ◌-◌, ◌<◌, ◌≤◌, ◌⊎◌, Bool, true, false, cond, ◌&&◌, ◌||◌, ◌==◌, nat_lt, ltb, List, [], ◌∷◌, ◌++◌, length, map, take, drop, All, AllPairs, Some, None, Option, option_map, is_some, not, fold, get_or, position, inl, inr, refl, sym, ◌∙◌, ap, subst, arith}
+use Rattle.std.proofs.Common.{ℕ, zero, suc, ◌≡◌, ◌+◌, ◌-◌, ◌<◌, ◌≤◌, ◌⊎◌, Bool, true, false, cond, ◌&&◌, ◌||◌, ◌==◌, nat_lt, List, [], ◌∷◌, ◌++◌, length, map, take, drop, All, AllPairs, Some, None, Option, option_map, is_some, not, fold, get_or, position, inl, inr, refl, sym, ◌∙◌, ap, subst, arith}
 use Rattle.std.specs.Prelude.{if◌then◌else◌}
-use Rattle.std.specs.List.{position_or_len, insert}
+use Rattle.std.specs.List.{insert}
 use Rattle.std.specs.List.Sorted.{IsPartitionedBy, IsPartitionPoint}
-use Rattle.std.proofs.lemmas.Bool.{cases_lt, cases_eq, or_cases, and_parts, and_from, or_left, or_right, ltb-true, lt-ltb, le-ltb, eqb-true, eq-eqb, both_ways, false_from_ne_true}
+use Rattle.std.proofs.lemmas.Bool.{cases_lt, cases_eq, or_cases, and_parts, and_from, or_left, or_right, ltb-true, lt-ltb, le-ltb, eqb-true, eq-eqb, both_ways, false_from_ne_true, ne_eqb}
 use Rattle.std.proofs.lemmas.List.{length-map, length-take, length-drop, get_or-map, get_or-take, get_or-drop, map-append, take-map, drop-map, take-append-drop, take_more, take_all}
 use Rattle.std.proofs.lemmas.List.Edits.{length-insert, get_or-insert_below, get_or-insert_at, get_or-insert_above}
 use Rattle.std.proofs.lemmas.List.Elements.{All-append, All-take, All-drop}
-use Rattle.std.proofs.lemmas.List.Sums.{position_or_len_is, fold-append, fold_push}
+use Rattle.std.proofs.lemmas.List.Sums.{fold-append, fold_push}
+use Rattle.jh_num.proofs.Lists.{position_here, position_nowhere}
 use Rattle.jh_ivshmem.specs.declared.change.Whom.TheVariants.{Device}
 use Rattle.jh_ivshmem.specs.declared.endpoint.Endpoint.{Endpoint}
 use Rattle.jh_ivshmem.specs.declared.spec.EndpointSpec.{EndpointSpec}
@@ -151,21 +152,6 @@ pairs_insert R xs i y bound pairs ahead behind a b d before within =
             ])
       ]
     ]
-
--- the first that passes, where none before does, and none where none passes
-position_here : {X : Type 0} (p : X → Bool) (xs : List X) (k : ℕ) (d : X) → k < length xs
-    → ((j : ℕ) → j < k → p (get_or xs j d) ≡ false) → p (get_or xs k d) ≡ true → Some k ≡ position p xs
-position_here p xs k d lt before passes =
-    let first : position_or_len p xs ≡ k = position_or_len_is p xs k d (omega arith) before (λ h. passes) in
-    let test : ltb k (length xs) ≡ true = lt-ltb k (length xs) lt in
-    sym (ap (λ m. cond (ltb m (length xs)) (Some m) None) first ∙ ap (λ b. cond b (Some k) None) test)
-
-position_nowhere : {X : Type 0} (p : X → Bool) (xs : List X) (d : X) → ((j : ℕ) → j < length xs → p (get_or xs j d) ≡ false)
-    → None ≡ position p xs
-position_nowhere p xs d none =
-    let first : position_or_len p xs ≡ length xs = position_or_len_is p xs (length xs) d (omega arith) none (λ h. absurd (omega arith)) in
-    let test : ltb (length xs) (length xs) ≡ false = le-ltb (length xs) (length xs) (omega arith) in
-    sym (ap (λ m. cond (ltb m (length xs)) (Some m) None) first ∙ ap (λ b. cond b (Some (length xs)) None) test)
 
 -- the keys are in the order of the endpoints
 pub keys_in_order : (es : List Endpoint) (ks : List Key) → AreKept es ks → AreInOrder ks
@@ -345,11 +331,8 @@ fold_kept f told d (x ∷ xs) h = ap (λ now. fold f now xs) (h 0 (omega arith))
 abbrev tell : ℕ → Option (ℕ × ℕ) → Key → Option (ℕ × ℕ)
 tell cell best key = earlier best (pending_by cell key)
 
-other_number : (n m : ℕ) → (n ≡ m → ⊥) → (n == m) ≡ false
-other_number n m differ = false_from_ne_true (n == m) (λ same. differ (eqb-true n m same))
-
 other_cell : (cell : ℕ) (key : Key) → (key.cell ≡ cell → ⊥) → pending_by cell key ≡ None
-other_cell cell key differ = ap (λ b. if b then option_map (λ v. (key.device, v)) key.pending else None) (other_number key.cell cell differ)
+other_cell cell key differ = ap (λ b. if b then option_map (λ v. (key.device, v)) key.pending else None) (ne_eqb key.cell cell differ)
 
 own_cell : (cell : ℕ) (key : Key) → key.cell ≡ cell → pending_by cell key ≡ option_map (λ v. (key.device, v)) key.pending
 own_cell cell key same = ap (λ b. if b then option_map (λ v. (key.device, v)) key.pending else None) (eq-eqb key.cell cell same)

@@ -29,13 +29,15 @@ use Rattle.jh_history.specs.Due.{due_at, is_idle_but, IsLegal}
 use Rattle.jh_history.specs.Admitted.{IsAdmitted}
 use Rattle.jh_history.proofs.LegalLemmas.{facts_append}
 use Rattle.jh_history.specs.Sound.{IsSound}
-use Rattle.jh_laws.specs.Ways.{is_phase, is_decide, is_commit, call_begun, begun}
+use Rattle.jh_laws.specs.Ways.{is_phase, is_decide, call_begun, begun}
 use Rattle.jh_laws.specs.Exchanges.{how_many, made_by_named, made_by_cell, IsSettledBy, IsHeardBy}
 use Rattle.jh_history.proofs.SoundLemmas.{sound_after}
 use Rattle.jh_history.proofs.PlainStepLemmas.{after_call}
+use Rattle.jh_history.specs.Commits.{is_commit}
 use Rattle.jh_laws.proofs.CallLemmas.{Expects, phase_expects, expects_counted, phase_of_due, begun_of, stretch, IsBeside, entry_of_call, not_same}
-use Rattle.jh_laws.proofs.DueCpusLemmas.{named_of, live_of, settled_with, heard_with}
+use Rattle.jh_laws.proofs.DueCpusLemmas.{named_of, settled_with, heard_with}
 use Rattle.jh_laws.proofs.ExchangeLemmas.{counted_over, waits_over, settle_counts, noted_counts, settled_as, heard_as}
+use Rattle.jh_laws.proofs.HeldLemmas.{live_found}
 
 -- ---- the phase that is waited in
 
@@ -184,7 +186,7 @@ hears_by image f caller id about waited other answer call how sound is h =
     let told = heard_in id other (heard_of f idle id waited) how h in
     let found = some_value (heard_with f idle id waited) (live_in f.cells id) how told.0 in
     let c : CellConfig = found.0 in
-    let live = live_of f.cells id (find (has_id id) f.cells) c refl found.1 in
+    let live = live_found f.cells id (find (has_id id) f.cells) c refl found.1 in
     let P : ℕ → Type 0 = λ k. heard_with f idle k waited c ≡ Some how in
     (told.1, (c, live.0, live.1, heard_as image f o c waited how sound.cells is (subst P (sym live.1) found.2)))
 

@@ -1,5 +1,5 @@
 -- Calls over the entries of a legal journal: which is open, who is suspended by it, and what follows what in it.
-use Rattle.std.proofs.Common.{◌≡◌, ◌≢◌, ℕ, ℤ, pos, List, [], ◌∷◌, ◌++◌, Bool, true, false, cond, eqb, Option, Some, None, refl, sym, ap, subst, ◌∙◌, inl, inr, ◌⊎◌, ⊎_elim, All}
+use Rattle.std.proofs.Common.{◌≡◌, ◌≢◌, ℕ, ℤ, pos, List, [], ◌∷◌, ◌++◌, Bool, true, false, eqb, Option, Some, None, refl, sym, ap, subst, ◌∙◌, inl, inr, ◌⊎◌, ⊎_elim, All}
 use Rattle.std.specs.Prelude.{option_map, option_and_then}
 use Rattle.std.specs.List.{fold}
 use Rattle.std.proofs.lemmas.Bool.{both_ways, cond_both, eqb-true, eq-eqb, cases_Bool}
@@ -35,14 +35,16 @@ use Rattle.jh_shape.specs.Lives.{configs_of}
 use Rattle.jh_history.specs.Due.{due_at, due, is_idle_but, IsLegal, IsLegalFrom}
 use Rattle.jh_history.proofs.FactsLemmas.{facts_push}
 use Rattle.jh_history.proofs.LegalLemmas.{due_split, IsLegal_begin, IsLegal_rest}
-use Rattle.jh_history.specs.Sound.{HasCome, IsAboutLive, IsCreate, IsNews, IsOpen, IsSoundCall, IsSound}
-use Rattle.jh_laws.specs.Ways.{is_phase, is_decide, is_finish, is_agreement, is_commit, call_begun, begun_by, begun, IsBegun, IsNoteOr, IsTelling, IsBehindGo, IsBehindCommit, MayFollow}
+use Rattle.jh_history.specs.Sound.{HasCome, IsAboutLive, IsCreate, IsNews, IsOpen, IsSound}
+use Rattle.jh_laws.specs.Ways.{is_phase, is_decide, is_finish, is_agreement, call_begun, begun_by, begun, IsBegun, IsNoteOr, IsTelling, IsBehindGo, IsBehindCommit, MayFollow}
 use Rattle.jh_history.proofs.SoundCpusLemmas.{come_rests, halting_rests, root_unnamed}
 use Rattle.jh_history.proofs.SoundDueLemmas.{IsNext, next_from_due, IsOutcomeOf, IsOfProgram, state_parts, IsOfCall, call_parts}
 use Rattle.jh_history.proofs.SoundDecideLemmas.{coming_from_decision}
 use Rattle.jh_history.proofs.SoundLemmas.{sound_after, legal_sound}
-use Rattle.jh_history.proofs.DuePhaseLemmas.{noted_act, settle_act}
+use Rattle.jh_history.proofs.DuePhaseLemmas.{noted_act, settle_act, unless}
 use Rattle.jh_history.proofs.PlainStepLemmas.{after_call}
+use Rattle.jh_history.proofs.DueComesLemmas.{call_open}
+use Rattle.jh_history.specs.Commits.{is_commit}
 
 -- ---- an entry beside a call
 
@@ -102,12 +104,6 @@ entry_of_call image f o entry sound is due =
     let P : Option OpenCall → Type 0 = λ c. IsSound image (with_call f c) → due_at image (with_call f c) entry.cpu ≡ Some entry → IsEntryOf image (with_call f c) o entry in
     subst P (sym is) (entry_by_call image f o entry) sound due
 
--- the call is open, as it says
-pub sound_open : (image : Image) (f : Facts) (o : OpenCall) → IsSound image f → f.call ≡ Some o → IsOpen image (configs_of f.cells) f.cpu o
-sound_open image f o sound is =
-    let P : Option OpenCall → Type 0 = λ c. IsSoundCall image (configs_of f.cells) f.cpu c in
-    subst P is sound.call
-
 -- it leaves the call open, and counts at most
 counted_act : (cells : List Live) (coming : Option CellConfig) (o : OpenCall) (entry : Entry) (act : Act) → is_call act ≡ false
     → call_by cells coming (Some o) entry act ≡ Some (record { caller = o.caller; call = o.call; phase = counted entry.cell o.call o.phase })
@@ -144,15 +140,11 @@ Expects (ToNote id about answer) next = next ≡ Note id
 Expects (ToNoted id about answer waited) next = (how : Heard) × (next ≡ Noted id how)
 Expects (ToFinish answer) next = next ≡ Finish answer
 
-unless_of : (b : Bool) (made act : Act) → cond b None (Some made) ≡ Some act → act ≡ made
-unless_of true made act h = absurd (none-some act h)
-unless_of false made act h = sym (same_Some made act h)
-
 pub phase_expects : (image : Image) (f : Facts) (idle : Bool) (caller : ℕ) (call : Call) (phase : Phase) (act : Act) → phase_act image f idle caller call phase ≡ Some act → Expects phase act
-phase_expects image f idle caller call ToDecide act h = (decision image f caller call, unless_of (any_below (λ i. keeps_decide image caller i (f.cpu i)) 16) (Decide (decision image f caller call)) act h)
+phase_expects image f idle caller call ToDecide act h = (decision image f caller call, unless (any_below (λ i. keeps_decide image caller i (f.cpu i)) 16) (Decide (decision image f caller call)) act h)
 phase_expects image f idle caller call (ToSettle waited) act h = settle_act (settled_of f idle call waited) act h
 phase_expects image f idle caller call (ToCreate config) act h = sym (same_Some Commit act h)
-phase_expects image f idle caller call ToCommit act h = unless_of (any_below (λ i. keeps_commit image call i (f.cpu i)) 16) Commit act h
+phase_expects image f idle caller call ToCommit act h = unless (any_below (λ i. keeps_commit image call i (f.cpu i)) 16) Commit act h
 phase_expects image f idle caller call (ToNote id about answer) act h = sym (same_Some (Note id) act h)
 phase_expects image f idle caller call (ToNoted id about answer waited) act h = noted_act id (heard_of f idle id waited) act h
 phase_expects image f idle caller call (ToFinish answer) act h = sym (same_Some (Finish answer) act h)
@@ -240,7 +232,7 @@ phase_follows image f entry caller call ToDecide idle opens h more =
     let o : OpenCall = record { caller = caller; call = call; phase = ToDecide } in
     let refused : Option ℤ = decision image f caller call in
     let P : Act → Type 0 = λ act. GoesOnWith (call_by f.cells (coming_by image f call) (Some o) entry act) caller act in
-    let is : entry.act ≡ Decide refused = unless_of (any_below (λ i. keeps_decide image caller i (f.cpu i)) 16) (Decide refused) entry.act h in
+    let is : entry.act ≡ Decide refused = unless (any_below (λ i. keeps_decide image caller i (f.cpu i)) 16) (Decide refused) entry.act h in
     subst P (sym is) (record { caller = caller; call = call; phase = decided call (coming_by image f call) refused }, refl, refl, λ next e. decide_follows image f caller call refused next opens.caller.management refl e)
 phase_follows image f entry caller call (ToSettle waited) idle opens h more =
     let o : OpenCall = record { caller = caller; call = call; phase = ToSettle waited } in
@@ -254,7 +246,7 @@ phase_follows image f entry caller call (ToCreate config) idle opens h more =
 phase_follows image f entry caller call ToCommit idle opens h more =
     let o : OpenCall = record { caller = caller; call = call; phase = ToCommit } in
     let P : Act → Type 0 = λ act. GoesOnWith (call_by f.cells (coming_by image f call) (Some o) entry act) caller act in
-    let is : entry.act ≡ Commit = unless_of (any_below (λ i. keeps_commit image call i (f.cpu i)) 16) Commit entry.act h in
+    let is : entry.act ≡ Commit = unless (any_below (λ i. keeps_commit image call i (f.cpu i)) 16) Commit entry.act h in
     subst P (sym is) (record { caller = caller; call = call; phase = after_commit call ToCommit f.cells }, refl, refl, λ next e. commit_follows call (configs_of f.cells) f.cells next opens.phase e)
 phase_follows image f entry caller call (ToNote id about answer) idle opens h more =
     let o : OpenCall = record { caller = caller; call = call; phase = ToNote id about answer } in
@@ -338,7 +330,7 @@ pub phase_goes : (image : Image) (f : Facts) (entry : Entry) → IsSound image f
 phase_goes image f entry sound due phase more =
     let of = phase_of_due image f entry sound due phase in
     let o : OpenCall = of.o in
-    let next = phase_follows image f entry o.caller o.call o.phase (is_idle_but image f o.caller) (sound_open image f o sound of.opens) of.act more in
+    let next = phase_follows image f entry o.caller o.call o.phase (is_idle_but image f o.caller) (call_open image f o sound of.opens) of.act more in
     let coming : coming_of image f ≡ coming_by image f o.call = ap (option_and_then (λ (c : OpenCall). coming_by image f c.call)) of.opens in
     let behind_it : (after image f entry).call ≡ call_by f.cells (coming_by image f o.call) (Some o) entry entry.act =
     after_call image f entry
@@ -471,7 +463,7 @@ halted_past (ToFinish answer) cpu past h = h.asked
 pub past_other : (image : Image) (f : Facts) (o : OpenCall) (entry : Entry) → IsSound image f → f.call ≡ Some o → IsPast o.phase → due_at image f entry.cpu ≡ Some entry → entry.cpu ≢ o.caller → entry.cell ≢ image.system.root.id
 past_other image f o entry sound is past due other root =
     let next = next_from_due image f entry due in
-    let opens = sound_open image f o sound is in
+    let opens = call_open image f o sound is in
     let come : HasCome o.phase (f.cpu entry.cpu) = opens.roots entry.cpu next.board other (sym next.cell ∙ root) in
     ⊎_elim
     (λ made. other (sym made.0))
@@ -632,7 +624,7 @@ committing_kept image call f entry sound committing due more =
 committing_stops : (image : Image) (call : Call) (f : Facts) (entry : Entry) → IsSound image f → IsCommitting call f → due_at image f entry.cpu ≡ Some entry → is_named call entry.cell ≡ true → entry.act ≡ Stop
 committing_stops image call f entry sound committing due named =
     let o : OpenCall = record { caller = committing.0; call = call; phase = ToCommit } in
-    let opens = sound_open image f o sound committing.1 in
+    let opens = call_open image f o sound committing.1 in
     let next = next_from_due image f entry due in
     let unnamed = root_unnamed image.system (configs_of f.cells) call sound.cells opens.phase in
     let P : ℕ → Type 0 = λ k. (f.cpu k).owner ≡ image.system.root.id in

@@ -34,16 +34,19 @@ use Rattle.jh_shape.specs.Lives.{configs_of}
 use Rattle.jh_history.specs.Sound.{IsOfDevice, HasEndpoint, IsInPhase, IsSoundEndpoint, IsSound}
 use Rattle.jh_history.proofs.SpecsLemmas.{specs_pairs, held_numbered, other_id}
 use Rattle.jh_laws.specs.Vectors.{PutsRegister, IsAbout, Clears}
-use Rattle.jh_laws.proofs.CallLemmas.{Expects, phase_of_due, phase_expects, sound_open, not_same}
+use Rattle.jh_laws.proofs.CallLemmas.{Expects, phase_of_due, phase_expects, not_same}
 use Rattle.jh_history.specs.Due.{due_at, is_idle_but}
 use Rattle.jh_history.proofs.SoundLemmas.{opened_call}
-use Rattle.jh_laws.specs.Ways.{is_phase, is_commit}
+use Rattle.jh_laws.specs.Ways.{is_phase}
 use Rattle.jh_laws.proofs.HeldLemmas.{found_by_id}
 use Rattle.jh_laws.proofs.DevicesLemmas.{endpoint_held, endpoint_sound, cell_named}
 use Rattle.jh_laws.proofs.LinkedLemmas.{IsClearing, IsQuietAt, quiet_all, is_told, told_in, HaveLinks, AreTwoOfCell, cleared_all, joined_all}
 use Rattle.jh_laws.proofs.PendingLemmas.{one_endpoint, endpoint_found}
 use Rattle.jh_laws.proofs.RaiseLemmas.{Calls, IsDropped, HasBecome, IsNow, become_raised, stays_so}
 use Rattle.jh_laws.proofs.WindowLemmas.{spec_is}
+use Rattle.jh_history.proofs.DueComesLemmas.{call_open}
+use Rattle.jh_history.proofs.SoundEndpointsLemmas.{spec_cell}
+use Rattle.jh_history.specs.Commits.{is_commit}
 
 -- ---- devices of one live cell
 
@@ -163,7 +166,7 @@ pub commit_cases : (image : Image) (f : Facts) (entry : Entry) → IsSound image
 commit_cases image f entry sound due commits =
     let of = phase_of_due image f entry sound due (ap is_phase commits) in
     let o : OpenCall = of.o in
-    let opens = sound_open image f o sound of.opens in
+    let opens = call_open image f o sound of.opens in
     let E : Act → Type 0 = Expects o.phase in
     phase_case image f entry o.caller o.call o.phase sound of.opens commits opens.phase
     (subst E commits (phase_expects image f (is_idle_but image f o.caller) o.caller o.call o.phase entry.act of.act))
@@ -193,9 +196,6 @@ unclear_stays image f entry e commits none = stays_so image f entry e (λ v call
 -- the endpoint's configuration
 owner_of : (image : Image) (f : Facts) (e : Endpoint) → IsSound image f → Contains f.endpoints e → IsOfDevice image (configs_of f.cells) e.spec
 owner_of image f e sound held = All-contains (λ (o : Endpoint). IsOfDevice image (configs_of f.cells) o.spec) f.endpoints e sound.endpoints.own held
-
-spec_cell : (config : CellConfig) (spec : EndpointSpec) → Contains (specs_of config) spec → spec.cell ≡ config.id
-spec_cell config spec held = ap (λ (t : EndpointSpec). t.cell) (spec_is config spec held).is
 
 join_now : (image : Image) (f : Facts) (entry : Entry) (id n : ℕ) (e : Endpoint) → IsSound image f → entry.act ≡ Commit → endpoint_at id n f.endpoints ≡ Some e → IsJoin image f entry → IsNow image f entry id n e (endpoints_after image f entry)
 join_now image f entry id n e sound commits there h =

@@ -16,10 +16,10 @@ use Rattle.jh_history.specs.declared.call.Phase.{Phase}
 use Rattle.jh_history.specs.declared.call.Phase.TheVariants.{ToDecide, ToSettle, ToCreate, ToCommit, ToNote, ToNoted, ToFinish}
 use Rattle.jh_history.specs.declared.entry.Entry.{Entry}
 use Rattle.jh_history.specs.declared.entry.Act.{Act}
-use Rattle.jh_history.specs.declared.entry.Act.TheVariants.{Read, Write, Fetch, Await, Irq, Hvc, Begin, Stop, Decide, Settle, Commit, Note, Noted, Finish}
+use Rattle.jh_history.specs.declared.entry.Act.TheVariants.{Decide, Settle, Commit, Note, Noted, Finish}
 use Rattle.jh_history.specs.Facts.{Facts}
 use Rattle.jh_history.specs.Calls.{call_by, decided}
-use Rattle.jh_history.specs.Commits.{cells_by, committed_cells, is_other}
+use Rattle.jh_history.specs.Commits.{cells_by, committed_cells, is_other, is_commit}
 use Rattle.jh_history.specs.Configs.{config_read, read_at}
 use Rattle.jh_history.specs.History.{after, facts, coming_of, coming_by}
 use Rattle.jh_shape.specs.Lives.{configs_of, marked}
@@ -28,32 +28,16 @@ use Rattle.jh_history.specs.Admitted.{IsAdmitted}
 use Rattle.jh_history.proofs.FactsLemmas.{facts_push}
 use Rattle.jh_history.proofs.LegalLemmas.{due_split, IsLegal_begin, facts_append}
 use Rattle.jh_history.specs.Sound.{IsInPhase, IsOpen, IsSound}
-use Rattle.jh_laws.specs.Ways.{is_phase, is_commit, is_finish, call_begun, begun}
+use Rattle.jh_laws.specs.Ways.{is_phase, is_finish, call_begun, begun}
 use Rattle.jh_history.proofs.SoundLemmas.{sound_after, legal_sound}
-use Rattle.jh_history.proofs.PlainStepLemmas.{after_call, after_cells}
-use Rattle.jh_laws.proofs.CallLemmas.{Expects, phase_expects, phase_of_due, phase_goes, sound_open, call_counted, IsBeside, entry_of_call, along, stretch, begun_of, past_from, not_same, IsPast}
-
--- no other entry than a Commit changes which cells live
-kept_by : (call : Option OpenCall) (cells : List Live) (act : Act) → is_commit act ≡ false → cells_by call cells act ≡ cells
-kept_by call cells (Read width at got) h = refl
-kept_by call cells (Write width at value ok) h = refl
-kept_by call cells (Fetch at got) h = refl
-kept_by call cells (Await width at value ok) h = refl
-kept_by call cells (Irq device vector) h = refl
-kept_by call cells (Hvc code a b answer) h = refl
-kept_by call cells (Begin code a b) h = refl
-kept_by call cells Stop h = refl
-kept_by call cells (Decide refused) h = refl
-kept_by call cells (Settle how) h = refl
-kept_by call cells Commit h = absurd (both_ways true h refl)
-kept_by call cells (Note id) h = refl
-kept_by call cells (Noted id how) h = refl
-kept_by call cells (Finish answer) h = refl
+use Rattle.jh_history.proofs.PlainStepLemmas.{after_call, after_cells, uncommitted_cells}
+use Rattle.jh_laws.proofs.CallLemmas.{Expects, phase_expects, phase_of_due, phase_goes, call_counted, IsBeside, entry_of_call, along, stretch, begun_of, past_from, not_same, IsPast}
+use Rattle.jh_history.proofs.DueComesLemmas.{call_open}
 
 pub cells_kept : (image : Image) (before : List Entry) (entry : Entry) → is_commit entry.act ≡ false → (facts image (before ++ entry ∷ [])).cells ≡ (facts image before).cells
 cells_kept image before entry h =
     let f : Facts = facts image before in
-    ap (λ (g : Facts). g.cells) (facts_push image before entry) ∙ after_cells image f entry ∙ kept_by f.call f.cells entry.act h
+    ap (λ (g : Facts). g.cells) (facts_push image before entry) ∙ after_cells image f entry ∙ uncommitted_cells f.call f.cells entry.act h
 
 -- a Commit is one of the call that was begun
 pub record IsCommitOf (image : Image) (before : List Entry) (entry : Entry) (call : Call) : Type 0 where
@@ -69,7 +53,7 @@ commit_of image before rest entry first admitted legal act is =
     let due : due_at image f entry.cpu ≡ Some entry = due_split image before rest entry legal in
     let of = phase_of_due image f entry sound due (ap is_phase act) in
     let o : OpenCall = of.o in
-    let opens : IsOpen image (configs_of f.cells) f.cpu o = sound_open image f o sound of.opens in
+    let opens : IsOpen image (configs_of f.cells) f.cpu o = call_open image f o sound of.opens in
     let begins = begun_of image before o of.opens in
     let call : o.call ≡ call_begun first.act = begins.3 ∙ ap (λ (e : Entry). call_begun e.act) (same_Some begins.0 first (sym begins.1 ∙ is)) in
     let P : Call → Type 0 = λ k. IsInPhase image (configs_of f.cells) f.cpu entry.cpu k o.phase in

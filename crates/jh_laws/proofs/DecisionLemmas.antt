@@ -41,9 +41,10 @@ use Rattle.jh_laws.specs.Ways.{is_phase, is_decide, call_begun, begun}
 use Rattle.jh_laws.specs.Decisions.{IsLockedBy, NoneIsLocked, NoOtherIsLocked, LivesNot, IsIdDecision, IsDestroyDecision, IsUnreadDecision, IsRefusedOf, IsCreateDecision, IsDecision}
 use Rattle.jh_history.proofs.SoundCpusLemmas.{other_root}
 use Rattle.jh_history.proofs.SoundLemmas.{legal_sound}
-use Rattle.jh_laws.proofs.CallLemmas.{phase_expects, phase_of_due, sound_open, begun_of, not_same}
+use Rattle.jh_laws.proofs.CallLemmas.{phase_expects, phase_of_due, begun_of, not_same}
 use Rattle.jh_laws.proofs.HeldLemmas.{live_cell}
 use Rattle.jh_laws.proofs.HvcLemmas.{none_live}
+use Rattle.jh_history.proofs.DueComesLemmas.{call_open}
 
 -- ---- by the id
 
@@ -205,4 +206,4 @@ decides image before rest entry first refused admitted legal act is =
     let P : Option ℤ → Type 0 = IsDecision image f o.caller o.call in
     let Q : Call → Type 0 = λ k. IsDecision image f o.caller k refused in
     let R : ℕ → Type 0 = λ k. IsDecision image f k (call_begun first.act) refused in
-    subst R of.caller (subst Q call (subst P same (decision_of image f o.caller o.call (sound_open image f o sound of.opens).caller.management sound.cells)))
+    subst R of.caller (subst Q call (subst P same (decision_of image f o.caller o.call (call_open image f o sound of.opens).caller.management sound.cells)))

@@ -38,19 +38,20 @@ use Rattle.jh_history.specs.Pages.{named_cell}
 use Rattle.jh_history.specs.Wants.{goes_on, pending_op}
 use Rattle.jh_history.specs.Phases.{phase_act, keeps_decide, keeps_commit, decision, is_down, is_over, settled_by, settled_of, heard_by, heard_of, state_word, reply_word}
 use Rattle.jh_shape.specs.Lives.{configs_of}
-use Rattle.jh_history.specs.Due.{due_at, entry_of, entry_by, next_act, state_act, act_of, await_of, got_by, caller_act, is_idle_but}
+use Rattle.jh_history.specs.Due.{due_at, entry_of, next_act, state_act, act_of, await_of, got_by, caller_act, is_idle_but}
 use Rattle.jh_history.specs.Admitted.{IsAdmitted}
 use Rattle.jh_history.specs.Sound.{AreSoundCells, IsHalted, IsAsked, IsHalting, IsCaller, IsOpen, IsSound}
 use Rattle.jh_laws.specs.Ends.{IsAnswered, IsReadBy, IsGotBy}
 use Rattle.jh_laws.specs.Ready.{IsDueIn, NothingElse, HasHeard, RootHasStopped, IsPhaseDue, IsReadyCaller, IsReadyProgram, IsReadyAt}
 use Rattle.jh_history.proofs.SoundCpusLemmas.{calm_goes, goes_calm, goes_running, running_mode, root_unnamed}
-use Rattle.jh_history.proofs.SoundDecideLemmas.{board_few, halted_to_decide, found_live}
+use Rattle.jh_history.proofs.SoundDecideLemmas.{board_few, halted_to_decide}
 use Rattle.jh_history.proofs.SoundCommitLemmas.{halted_to_commit, named_board}
 use Rattle.jh_history.proofs.SoundDueLemmas.{IsOfProgram, state_parts}
-use Rattle.jh_laws.proofs.CallLemmas.{sound_open}
-use Rattle.jh_laws.proofs.HeldLemmas.{found_by_id}
+use Rattle.jh_laws.proofs.HeldLemmas.{found_by_id, live_found}
 use Rattle.jh_laws.proofs.PendingLemmas.{next_some_holds, next_is}
 use Rattle.jh_laws.proofs.EndsLemmas.{got_of_cell, one_value, width_some, ops_plain}
+use Rattle.jh_history.proofs.DueComesLemmas.{call_open}
+use Rattle.jh_history.proofs.DueLemmas.{is_some_entry}
 
 -- ---- what an operation comes to
 
@@ -92,15 +93,11 @@ due_op image f id (HvcOp code a b) sound plain due = refl
 
 -- ---- what is due, by the act
 
-some_entry : (cpu cell : ℕ) (o : Option Act) → is_some (option_map (entry_by cpu cell) o) ≡ is_some o
-some_entry cpu cell None = refl
-some_entry cpu cell (Some act) = refl
-
 due_on : (image : Image) (f : Facts) (cpu : ℕ) → is_on_board image cpu ≡ true → is_some (due_at image f cpu) ≡ is_some (next_act image f (f.cpu cpu) cpu)
 unfolding due_at
 due_on image f cpu on =
     let here : cond (is_on_board image cpu) (entry_of image f (f.cpu cpu) cpu) None ≡ entry_of image f (f.cpu cpu) cpu = rw on refl in
-    ap (λ (o : Option Entry). is_some o) here ∙ some_entry cpu (f.cpu cpu).owner (next_act image f (f.cpu cpu) cpu)
+    ap (λ (o : Option Entry). is_some o) here ∙ is_some_entry cpu (f.cpu cpu).owner (next_act image f (f.cpu cpu) cpu)
 
 due_off : (image : Image) (f : Facts) (cpu : ℕ) → is_on_board image cpu ≡ false → is_some (due_at image f cpu) ≡ false
 unfolding due_at
@@ -209,24 +206,46 @@ decide_due : (image : Image) (f : Facts) (o : OpenCall) → AreSoundCells image.
     → any_below (λ i. keeps_decide image o.caller i (f.cpu i)) 16 ≡ false → RootHasStopped image f o.caller
 decide_due image f o sound come none i on other root = (halted_to_decide image o.caller i f.cpu (board_few image (configs_of f.cells) sound.clean i on) none on other root (come i on other root)).asked
 
+-- a CPU that a Decide waits for: another one of root's, that runs and hasn't stopped
+pub record KeepsDecide (image : Image) (f : Facts) (caller i : ℕ) : Type 0 where
+  pub on_board : is_on_board image i ≡ true
+  pub other : i ≢ caller
+  pub of_root : (f.cpu i).owner ≡ image.system.root.id
+  pub runs : is_running (f.cpu i).mode ≡ true
+  pub goes_on : (f.cpu i).stopped ≡ false
+
+pub keeps_a_decide : (image : Image) (f : Facts) (caller : ℕ) → any_below (λ i. keeps_decide image caller i (f.cpu i)) 16 ≡ true → (i : ℕ) × KeepsDecide image f caller i
+keeps_a_decide image f caller some =
+    let found = below_of (λ i. keeps_decide image caller i (f.cpu i)) 16 some in
+    let i : ℕ = found.0 in
+    let cpu : Cpu = f.cpu i in
+    let root : ℕ = image.system.root.id in
+    let a = and_parts (is_on_board image i && not (eqb i caller) && eqb cpu.owner root && is_running cpu.mode) (not cpu.stopped) found.2 in
+    let b = and_parts (is_on_board image i && not (eqb i caller) && eqb cpu.owner root) (is_running cpu.mode) a.0 in
+    let c = and_parts (is_on_board image i && not (eqb i caller)) (eqb cpu.owner root) b.0 in
+    let d = and_parts (is_on_board image i) (not (eqb i caller)) c.0 in (
+      i,
+      record {
+        on_board = d.0;
+        other = λ e. both_ways (eqb i caller) (not-true (eqb i caller) d.1) (eq-eqb i caller e);
+        of_root = eqb-true cpu.owner root c.1;
+        runs = b.1;
+        goes_on = not-true cpu.stopped a.1;
+      },
+    )
+
 due_decide : (image : Image) (f : Facts) (o : OpenCall)
     → ((i : ℕ) → is_on_board image i ≡ true → i ≢ o.caller → (f.cpu i).owner ≡ image.system.root.id → IsHalting (f.cpu i))
     → RootHasStopped image f o.caller → any_below (λ i. keeps_decide image o.caller i (f.cpu i)) 16 ≡ false
 due_decide image f o come stopped =
     false_from_ne_true (any_below (λ i. keeps_decide image o.caller i (f.cpu i)) 16)
     (λ some.
-    let found = below_of (λ i. keeps_decide image o.caller i (f.cpu i)) 16 some in
+    let found = keeps_a_decide image f o.caller some in
     let i : ℕ = found.0 in
+    let k = found.1 in
     let cpu : Cpu = f.cpu i in
-    let root : ℕ = image.system.root.id in
-    let a = and_parts (is_on_board image i && not (eqb i o.caller) && eqb cpu.owner root && is_running cpu.mode) (not cpu.stopped) found.2 in
-    let b = and_parts (is_on_board image i && not (eqb i o.caller) && eqb cpu.owner root) (is_running cpu.mode) a.0 in
-    let c = and_parts (is_on_board image i && not (eqb i o.caller)) (eqb cpu.owner root) b.0 in
-    let d = and_parts (is_on_board image i) (not (eqb i o.caller)) c.0 in
-    let other : i ≢ o.caller = λ e. both_ways (eqb i o.caller) (not-true (eqb i o.caller) d.1) (eq-eqb i o.caller e) in
-    let is_root : cpu.owner ≡ root = eqb-true cpu.owner root c.1 in
-    let halted = stays_halted cpu (come i d.0 other is_root) (stopped i d.0 other is_root) in
-    both_ways cpu.stopped (not-true cpu.stopped a.1) (halted.stopped ∙ b.1))
+    let halted = stays_halted cpu (come i k.on_board k.other k.of_root) (stopped i k.on_board k.other k.of_root) in
+    both_ways cpu.stopped k.goes_on (halted.stopped ∙ k.runs))
 
 commit_due : (image : Image) (f : Facts) (caller : ℕ) (call : Call) → AreSoundCells image.system (configs_of f.cells) → IsSound image f → IsOpen image (configs_of f.cells) f.cpu (record { caller = caller; call = call; phase = ToCommit })
     → any_below (λ i. keeps_commit image call i (f.cpu i)) 16 ≡ false → (i : ℕ) → is_named call (f.cpu i).owner ≡ true → (f.cpu i).asked ≡ false
@@ -236,21 +255,36 @@ commit_due image f caller call cells sound opens none i named =
     let apart : (f.cpu i).owner ≢ image.system.root.id = λ e. both_ways (is_named call (f.cpu i).owner) (ap (is_named call) e ∙ unnamed) named in
     (halted_to_commit image call i f.cpu (board_few image (configs_of f.cells) cells.clean i on) none on named ((opens.cells i apart).0 named)).asked
 
-due_commit : (image : Image) (f : Facts) (caller : ℕ) (call : Call) → AreSoundCells image.system (configs_of f.cells) → IsOpen image (configs_of f.cells) f.cpu (record { caller = caller; call = call; phase = ToCommit })
-    → ((i : ℕ) → is_named call (f.cpu i).owner ≡ true → (f.cpu i).asked ≡ false) → any_below (λ i. keeps_commit image call i (f.cpu i)) 16 ≡ false
-due_commit image f caller call cells opens stopped =
-    false_from_ne_true (any_below (λ i. keeps_commit image call i (f.cpu i)) 16)
-    (λ some.
+-- a CPU that a Commit waits for: one of the call's cell, that runs and hasn't stopped
+pub record KeepsCommit (image : Image) (f : Facts) (call : Call) (i : ℕ) : Type 0 where
+  pub on_board : is_on_board image i ≡ true
+  pub named : is_named call (f.cpu i).owner ≡ true
+  pub runs : is_running (f.cpu i).mode ≡ true
+  pub goes_on : (f.cpu i).stopped ≡ false
+
+pub keeps_a_commit : (image : Image) (f : Facts) (call : Call) → any_below (λ i. keeps_commit image call i (f.cpu i)) 16 ≡ true → (i : ℕ) × KeepsCommit image f call i
+keeps_a_commit image f call some =
     let found = below_of (λ i. keeps_commit image call i (f.cpu i)) 16 some in
     let i : ℕ = found.0 in
     let cpu : Cpu = f.cpu i in
     let a = and_parts (is_on_board image i && is_named call cpu.owner && is_running cpu.mode) (not cpu.stopped) found.2 in
     let b = and_parts (is_on_board image i && is_named call cpu.owner) (is_running cpu.mode) a.0 in
     let c = and_parts (is_on_board image i) (is_named call cpu.owner) b.0 in
+    (i, record { on_board = c.0; named = c.1; runs = b.1; goes_on = not-true cpu.stopped a.1 })
+
+due_commit : (image : Image) (f : Facts) (caller : ℕ) (call : Call) → AreSoundCells image.system (configs_of f.cells) → IsOpen image (configs_of f.cells) f.cpu (record { caller = caller; call = call; phase = ToCommit })
+    → ((i : ℕ) → is_named call (f.cpu i).owner ≡ true → (f.cpu i).asked ≡ false) → any_below (λ i. keeps_commit image call i (f.cpu i)) 16 ≡ false
+due_commit image f caller call cells opens stopped =
+    false_from_ne_true (any_below (λ i. keeps_commit image call i (f.cpu i)) 16)
+    (λ some.
+    let found = keeps_a_commit image f call some in
+    let i : ℕ = found.0 in
+    let k = found.1 in
+    let cpu : Cpu = f.cpu i in
     let unnamed = root_unnamed image.system (configs_of f.cells) call cells opens.phase in
-    let apart : cpu.owner ≢ image.system.root.id = λ e. both_ways (is_named call cpu.owner) (ap (is_named call) e ∙ unnamed) c.1 in
-    let halted = stays_halted cpu ((opens.cells i apart).0 c.1) (stopped i c.1) in
-    both_ways cpu.stopped (not-true cpu.stopped a.1) (halted.stopped ∙ b.1))
+    let apart : cpu.owner ≢ image.system.root.id = λ e. both_ways (is_named call cpu.owner) (ap (is_named call) e ∙ unnamed) k.named in
+    let halted = stays_halted cpu ((opens.cells i apart).0 k.named) (stopped i k.named) in
+    both_ways cpu.stopped k.goes_on (halted.stopped ∙ k.runs))
 
 -- ---- answers of cells
 
@@ -395,18 +429,11 @@ tells_heard state reply over h =
     more)))
     h
 
--- the cell that is waited for
-pub live_of : (cells : List Live) (id : ℕ) (o : Option Live) (config : CellConfig) → find (has_id id) cells ≡ o → option_map (λ (l : Live). l.config) o ≡ Some config → Contains (configs_of cells) config × (config.id ≡ id)
-live_of cells id None config is h = absurd (none-some config h)
-live_of cells id (Some live) config is h =
-    let P : CellConfig → Type 0 = λ c. Contains (configs_of cells) c × (c.id ≡ id) in
-    subst P (same_Some live.config config h) (found_live cells id live is)
-
 pub named_of : (cells : List Live) (call : Call) (config : CellConfig) → named_cell cells call ≡ Some config → Contains (configs_of cells) config × (is_named call config.id ≡ true)
 named_of cells (Create at) config h = absurd (none-some config h)
-named_of cells (Start id) config h = let live = live_of cells id (find (has_id id) cells) config refl h in (live.0, eq-eqb id config.id (sym live.1))
-named_of cells (Loadable id) config h = let live = live_of cells id (find (has_id id) cells) config refl h in (live.0, eq-eqb id config.id (sym live.1))
-named_of cells (Destroy id) config h = let live = live_of cells id (find (has_id id) cells) config refl h in (live.0, eq-eqb id config.id (sym live.1))
+named_of cells (Start id) config h = let live = live_found cells id (find (has_id id) cells) config refl h in (live.0, eq-eqb id config.id (sym live.1))
+named_of cells (Loadable id) config h = let live = live_found cells id (find (has_id id) cells) config refl h in (live.0, eq-eqb id config.id (sym live.1))
+named_of cells (Destroy id) config h = let live = live_found cells id (find (has_id id) cells) config refl h in (live.0, eq-eqb id config.id (sym live.1))
 named_of cells (Info kind) config h = absurd (none-some config h)
 named_of cells (State id) config h = absurd (none-some config h)
 named_of cells (CpuInfo cpu kind) config h = absurd (none-some config h)
@@ -464,7 +491,7 @@ note_due image f o id about waited answer sound is h =
     let idle : Bool = is_idle_but image f o.caller in
     let found = some_then (heard_with f idle id waited) (live_in f.cells id) h in
     let c : CellConfig = found.0 in
-    let live = live_of f.cells id (find (has_id id) f.cells) c refl found.1 in
+    let live = live_found f.cells id (find (has_id id) f.cells) c refl found.1 in
     let P : ℕ → Type 0 = λ k. (is_down (state_word f k) ≡ true) ⊎ ((reply_word f k ≢ 0) ⊎ (is_over c.msg_reply_timeout waited idle ≡ true)) in
     (c, live.0, live.1, heard_from image f o c waited sound is (subst P (sym live.1) (heard_tells (state_word f id) (reply_word f id) (is_over c.msg_reply_timeout waited idle) found.2)))
 
@@ -520,7 +547,7 @@ ready_by image f cpu None admitted sound is h =
     ⊎_elim (λ asked. inl asked) (λ program. inr (inr program))
     (state_ready image f cpu admitted sound (λ o opens. absurd (none-some o (sym is ∙ opens))) (sym (ap (λ (a : Option Act). is_some a) (next_none image f cpu is)) ∙ h))
 ready_by image f cpu (Some o) admitted sound is h =
-    let opens = sound_open image f o sound is in
+    let opens = call_open image f o sound is in
     ⊎_elim
     (λ (own : eqb o.caller cpu ≡ true).
     let same : o.caller ≡ cpu = eqb-true o.caller cpu own in
@@ -547,7 +574,7 @@ state_next image f cpu (Some o) is none = next_some image f cpu o false is (ne_e
 -- a CPU that is asked made no call
 asked_none : (image : Image) (f : Facts) (cpu : ℕ) → IsSound image f → (f.cpu cpu).asked ≡ true → (o : OpenCall) → f.call ≡ Some o → o.caller ≢ cpu
 asked_none image f cpu sound asked o is own =
-    let caller = (sound_open image f o sound is).caller in
+    let caller = (call_open image f o sound is).caller in
     let P : ℕ → Type 0 = λ k. (f.cpu k).asked ≡ false in
     both_ways (f.cpu cpu).asked (subst P own caller.calm.asked) asked
 
@@ -560,7 +587,7 @@ due_from_ready image f cpu admitted sound ready =
     ⊎_elim
     (λ (caller : IsReadyCaller image f cpu).
     let o : OpenCall = caller.0 in
-    let opens = sound_open image f o sound caller.1 in
+    let opens = call_open image f o sound caller.1 in
     ap (λ (a : Option Act). is_some a) (own_next image f o cpu caller.1 caller.2 opens.caller) ∙ ready_phase image f o.caller o.call o.phase sound caller.1 opens caller.3)
     (λ (program : IsReadyProgram image f cpu). ap (λ (a : Option Act). is_some a) (state_next image f cpu f.call refl program.none) ∙ program_state image f cpu admitted sound program)
     rest)

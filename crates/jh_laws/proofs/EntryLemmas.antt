@@ -32,8 +32,9 @@ use Rattle.jh_laws.specs.States.{is_stop_act}
 use Rattle.jh_history.proofs.SoundCpusLemmas.{goes_calm, goes_running, running_mode}
 use Rattle.jh_history.proofs.SoundDueLemmas.{next_from_due}
 use Rattle.jh_history.proofs.SoundLemmas.{legal_sound}
-use Rattle.jh_laws.proofs.CallLemmas.{IsMadeBy, Stopping, Running as Runs, Calling, made_by, phase_of_due, sound_open}
+use Rattle.jh_laws.proofs.CallLemmas.{IsMadeBy, Stopping, Running as Runs, Calling, made_by, phase_of_due}
 use Rattle.jh_laws.proofs.HeldLemmas.{cell_live}
+use Rattle.jh_history.proofs.DueComesLemmas.{call_open}
 
 -- ---- the operation
 
@@ -112,7 +113,7 @@ runs_by image f entry sound due other (Stopping stops) = absurd (both_ways (is_s
 runs_by image f entry sound due other (Runs program) = (goes_calm (f.cpu entry.cpu) program.goes, running_mode (f.cpu entry.cpu) (goes_running (f.cpu entry.cpu) program.goes))
 runs_by image f entry sound due other (Calling phase) =
     let of = phase_of_due image f entry sound due phase in
-    let caller = (sound_open image f of.o sound of.opens).caller in
+    let caller = (call_open image f of.o sound of.opens).caller in
     let P : ℕ → Type 0 = λ k. IsCalm (f.cpu k) × ((f.cpu k).mode ≡ Running) in
     subst P of.caller (caller.calm, caller.running)
 

@@ -26,17 +26,18 @@ use Rattle.jh_history.specs.Due.{due_at, IsLegal}
 use Rattle.jh_history.specs.Admitted.{IsAdmitted}
 use Rattle.jh_history.proofs.FactsLemmas.{facts_push, cpu_after_holds}
 use Rattle.jh_history.specs.Sound.{IsSound}
-use Rattle.jh_laws.specs.Ways.{is_commit}
 use Rattle.jh_laws.specs.Moves.{ended}
 use Rattle.jh_laws.specs.Outcomes.{is_violation}
 use Rattle.jh_laws.specs.Ready.{IsReadyAt, IsReadyCaller, IsReadyProgram}
 use Rattle.jh_history.proofs.SoundLemmas.{sound_after}
-use Rattle.jh_laws.proofs.CallLemmas.{along, stretch, sound_open}
+use Rattle.jh_laws.proofs.CallLemmas.{along, stretch}
 use Rattle.jh_laws.proofs.StatesLemmas.{others_by, begins, own_ends, violation_own}
 use Rattle.jh_laws.proofs.PlacesHeldLemmas.{byte_behind, commit_or, physical_kept}
 use Rattle.jh_laws.proofs.WordLemmas.{specs_none}
 use Rattle.jh_laws.proofs.EntryLemmas.{runs_at}
 use Rattle.jh_laws.proofs.DueCpusLemmas.{ready_from_due}
+use Rattle.jh_history.proofs.DueComesLemmas.{call_open}
+use Rattle.jh_history.specs.Commits.{is_commit}
 
 -- ---- what it writes
 
@@ -77,7 +78,7 @@ not_ready image f cpu sound failed ready =
     (λ rest.
     ⊎_elim
     (λ (caller : IsReadyCaller image f cpu).
-    let made = (sound_open image f caller.0 sound caller.1).caller in
+    let made = (call_open image f caller.0 sound caller.1).caller in
     let P : ℕ → Type 0 = λ k. (f.cpu k).mode ≡ Running in
     failed_runs (f.cpu cpu) failed.0 (subst P caller.2 made.running))
     (λ (program : IsReadyProgram image f cpu). failed_runs (f.cpu cpu) failed.0 program.running)

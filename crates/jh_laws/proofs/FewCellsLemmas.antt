@@ -43,27 +43,27 @@ use Rattle.jh_history.specs.Endpoints.{specs_changing, with_words}
 use Rattle.jh_history.specs.Bytes.{byte_written, byte_after}
 use Rattle.jh_history.specs.Calls.{is_named, counted, telling, first_told, behind, decided, after_settle, after_commit, after_note, after_noted, phase_after, call_by}
 use Rattle.jh_num.specs.Numbers.{counted_up}
-use Rattle.jh_history.specs.Commits.{cells_by, committed_cells, is_other}
+use Rattle.jh_history.specs.Commits.{cells_by, committed_cells, is_other, is_commit}
 use Rattle.jh_history.specs.Configs.{bytes_at, read_whole, read_behind, read_from, read_at, config_read}
 use Rattle.jh_history.specs.Cpus.{acted, changed, change_of, settled, is_agreed, cpu_after}
 use Rattle.jh_history.specs.History.{start, after, facts, coming_by, coming_of}
 use Rattle.jh_history.specs.Pages.{is_left, failing, unless_good, asking, committing, named_cell, page_write_by, on_page}
 use Rattle.jh_shape.specs.Lives.{configs_of, marked}
+use Rattle.jh_shape.proofs.JoinedLemmas.{configs_marked}
 use Rattle.jh_history.specs.Due.{due_at, IsLegal, IsLegalFrom}
 use Rattle.jh_history.specs.Admitted.{IsAdmitted}
 use Rattle.jh_history.specs.Sound.{IsMadeOfBytes, IsSound}
-use Rattle.jh_laws.specs.Ways.{is_commit}
-use Rattle.jh_history.proofs.SoundCommitLemmas.{configs_joined, configs_marked, configs_others, is_other_config}
+use Rattle.jh_history.proofs.SoundCommitLemmas.{configs_joined, configs_others, is_other_config}
 use Rattle.jh_history.proofs.SoundCpusLemmas.{changed_owner}
 use Rattle.jh_history.proofs.SoundDecideLemmas.{board_few, found_live, settled_owner}
-use Rattle.jh_laws.proofs.HeldLemmas.{two_ids}
 use Rattle.jh_history.proofs.SoundStepLemmas.{begun_owner, finished_owner}
 use Rattle.jh_history.proofs.SoundLemmas.{sound_start, sound_after, legal_sound}
 use Rattle.jh_history.proofs.PlainStepLemmas.{after_call}
-use Rattle.jh_laws.proofs.CallLemmas.{sound_open}
 use Rattle.jh_laws.proofs.FewLemmas.{IsTyped, ArePreloadsBytes, MayWriteBytes, page_write_small_holds, write_small, words_small, opening_small, config_typed, read_bytes, picked, picked_few, index_small, length_map, get_map}
 use Rattle.jh_laws.proofs.RegisterLemmas.{HaveRegisters, registers_after, registers_open}
 use Rattle.jh_laws.proofs.RefusalLemmas.{FitsRefusal, refusal_fits}
+use Rattle.jh_history.proofs.DueComesLemmas.{call_open}
+use Rattle.jh_history.proofs.FewLemmas.{two_ids}
 
 abbrev pub AreTyped : List CellConfig → Type 0
 AreTyped configs = (config : CellConfig) → Contains configs config → IsTyped config
@@ -434,7 +434,7 @@ root_commit image f entry (Some o) is act sound has =
     after_call image f entry
     ∙ ap (λ (c : Option OpenCall). call_by f.cells (coming_of image f) c entry entry.act) is
     ∙ ap (call_by f.cells (coming_of image f) (Some o) entry) act in
-    let caller = (sound_open image (after image f entry) next sound opens).caller in
+    let caller = (call_open image (after image f entry) next sound opens).caller in
     (o.caller, caller.board, caller.owner)
 
 root_kept : (image : Image) (f : Facts) (entry : Entry) → is_commit entry.act ≡ false → HasCpu image f.cpu → HasCpu image (after image f entry).cpu

@@ -1,5 +1,6 @@
 -- What accesses by root reach, by what it is granted.
 use Rattle.std.proofs.Common.{◌≡◌, ℕ, ◌+◌, ◌-◌, ◌≤◌, Bool, cond, ap, ◌∙◌, arith}
+use Rattle.jh_cellcfg.proofs.AddressLemmas.{has_address_from}
 use Rattle.jh_script.specs.declared.image.Image.{Image}
 use Rattle.jh_history.specs.declared.place.Place.{Place}
 use Rattle.jh_history.specs.declared.place.Place.TheVariants.{Physical, Page}
@@ -7,7 +8,7 @@ use Rattle.jh_history.specs.declared.access.Access.{Access}
 use Rattle.jh_history.specs.Grants.{granted}
 use Rattle.jh_history.specs.Admitted.{IsAdmitted}
 use Rattle.jh_laws.specs.Grants.{IsGranted}
-use Rattle.jh_laws.proofs.RootLemmas.{has_address_from, root_region}
+use Rattle.jh_laws.proofs.RootLemmas.{root_region}
 
 -- root's places are its addresses
 pub granted_same : (image : Image) (access : Access) (at : ℕ) (place : Place) → IsAdmitted image → IsGranted image.system.root access at place → place ≡ Physical at

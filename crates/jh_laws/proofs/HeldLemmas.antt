@@ -1,9 +1,8 @@
 -- What live cells are granted on a sound board.
 use Rattle.std.proofs.Common.{◌≡◌, ◌≢◌, ℕ, suc, ◌+◌, ◌-◌, ◌<◌, ◌≤◌, List, [], Bool, true, false, cond, eqb, length, get_or, map, Option, Some, None, refl, sym, ap, subst, ◌∙◌, inl, inr, ⊎_elim, arith}
-use Rattle.std.specs.Prelude.{Contains, find, option_map, option_and_then, slice_get, nat_eq}
+use Rattle.std.specs.Prelude.{Contains, find, option_map, option_and_then, slice_get}
 use Rattle.std.specs.Option.{option_map_or}
-use Rattle.std.specs.Cmp.Lexicographic.{pointwise}
-use Rattle.std.proofs.lemmas.Bool.{both_ways, or_parts, and_parts, and_from, eqb-true, eq-eqb, ne_eqb, cases_lt, false_from_ne_true}
+use Rattle.std.proofs.lemmas.Bool.{both_ways, and_parts, and_from, eqb-true, eq-eqb, ne_eqb, cases_lt, false_from_ne_true}
 use Rattle.std.proofs.lemmas.Option.{none-some, same_Some, slice_get-get_or, get_or_from_slice_get}
 use Rattle.jh_num.specs.declared.address.TheConstants.{ADDRESS_END}
 use Rattle.jh_num.proofs.Lists.{IsOnly, IsFound_from_find, find_only, find_some, Contains_from_map}
@@ -12,8 +11,8 @@ use Rattle.jh_cellcfg.specs.declared.config.SystemConfig.{SystemConfig}
 use Rattle.jh_cellcfg.specs.declared.live.Live.{Live}
 use Rattle.jh_cellcfg.specs.declared.region.Region.{Region}
 use Rattle.jh_cellcfg.specs.Lives.{has_id}
-use Rattle.jh_cellcfg.specs.Cells.{name_of}
 use Rattle.jh_cellcfg.specs.Regions.{has_flags, has_address, virt_end, is_comm}
+use Rattle.jh_cellcfg.proofs.AddressLemmas.{has_address_first, has_address_last, has_address_from}
 use Rattle.jh_check.specs.Laws.{IsNumbered}
 use Rattle.jh_check.specs.Refusals.{AreTwo}
 use Rattle.jh_shape.specs.Laws.{IsTaken}
@@ -32,16 +31,12 @@ use Rattle.jh_shape.specs.Lives.{configs_of}
 use Rattle.jh_history.specs.Sound.{AreSoundCells}
 use Rattle.jh_laws.specs.Grants.{may, IsGranted}
 use Rattle.jh_laws.specs.Held.{IsRootOrLive, IsLeft, IsGrantedTo}
-use Rattle.jh_laws.proofs.RootLemmas.{has_address_first, has_address_last, has_address_from, gives_address, gives_pages, gives_right, gives_from}
 use Rattle.jh_history.proofs.SoundCpusLemmas.{other_root}
 use Rattle.jh_history.proofs.SoundDecideLemmas.{found_live}
+use Rattle.jh_history.proofs.FewLemmas.{two_ids}
+use Rattle.jh_history.proofs.GrantLemmas.{gives_has, gives_pages, gives_right, gives_from}
 
 -- ---- live cells by their ids
-
--- two cells at different places of the list differ
-pub two_ids : (earlier later : CellConfig) → AreTwo earlier later → earlier.id ≢ later.id
-two_ids earlier later two is =
-    both_ways (eqb earlier.id later.id) (or_parts (eqb earlier.id later.id) (pointwise nat_eq (name_of earlier) (name_of later)) two).0 (eq-eqb earlier.id later.id is)
 
 pub at_same : (xs : List CellConfig) (i : ℕ) (a b : CellConfig) → i < length xs → get_or xs i a ≡ a → get_or xs i b ≡ b → a ≡ b
 at_same xs i a b lt is_a is_b = sym is_a ∙ get_or_from_slice_get xs i (get_or xs i b) a (slice_get-get_or xs i b lt) ∙ is_b
@@ -89,7 +84,8 @@ live_cell image cells cell sound live =
     e ∙ found_by_id image cells cell sound held)
     live
 
-live_found : (cells : List Live) (id : ℕ) (o : Option Live) (cell : CellConfig) → find (has_id id) cells ≡ o → option_map (λ (l : Live). l.config) o ≡ Some cell → Contains (configs_of cells) cell × (cell.id ≡ id)
+-- the configuration of the cell that is found by an id
+pub live_found : (cells : List Live) (id : ℕ) (o : Option Live) (cell : CellConfig) → find (has_id id) cells ≡ o → option_map (λ (l : Live). l.config) o ≡ Some cell → Contains (configs_of cells) cell × (cell.id ≡ id)
 live_found cells id None cell is h = absurd (none-some cell h)
 live_found cells id (Some live) cell is h =
     let P : CellConfig → Type 0 = λ c. Contains (configs_of cells) c × (c.id ≡ id) in
@@ -121,7 +117,7 @@ only_region image cells cell access at sound live j k d lt within at_j at_k =
     let regions : List Region = cell.memory_regions in
     let same : j ≡ k = sound.clean.addresses number.0 cell number.1 j k (get_or regions j d) (get_or regions k d)
     (slice_get-get_or regions j d (omega arith)) (slice_get-get_or regions k d within) at
-    (gives_address access at (get_or regions j d) at_j) (gives_address access at (get_or regions k d) at_k) in
+    (gives_has access at (get_or regions j d) at_j) (gives_has access at (get_or regions k d) at_k) in
     omega arith
 
 -- a region that has an address ends within the addresses
@@ -158,7 +154,7 @@ place_by : (image : Image) (cells : List Live) (cell : CellConfig) (access : Acc
 place_by image cells cell access at place None sound live is e = absurd (none-some place e)
 place_by image cells cell access at place (Some r) sound live is e =
     let found = IsFound_from_find (gives access at) cell.memory_regions r is in
-    let has : has_address r at ≡ true = gives_address access at r found.passes in
+    let has : has_address r at ≡ true = gives_has access at r found.passes in
     let within : virt_end r ≤ ADDRESS_END = region_within image cells cell r at sound live found.held has in
     let last : at < virt_end r = has_address_last r at has in
     record {

@@ -5,7 +5,7 @@ mod MadeLemmas
 mod OutcomeLemmas
 mod ByteLemmas
 mod CpuLemmas
-mod ReadyLemmas
+pub mod ReadyLemmas
 mod RunLemmas
 mod CallLemmas
 mod HeldLemmas

@@ -1,12 +1,12 @@
 -- What the changes of links do to the endpoint of one device of one cell.
 use Rattle.std.proofs.Common.{◌≡◌, ◌≢◌, ℕ, suc, ◌<◌, List, [], ◌∷◌, Bool, true, false, cond, not, ◌&&◌, ◌||◌, eqb, length, get_or, Option, Some, None, refl, sym, ap, subst, ◌∙◌, inl, inr, ⊎_elim, arith}
-use Rattle.std.specs.Prelude.{◌⊎◌, Contains, AllPairs, find, filter, option_map}
+use Rattle.std.specs.Prelude.{◌⊎◌, Contains, AllPairs, filter, option_map}
 use Rattle.std.specs.List.{list_any}
 use Rattle.std.specs.Option.{option_map_or}
 use Rattle.std.proofs.lemmas.Bool.{both_ways, and_parts, and_from, and_left, and_right, cases_Bool, eqb-true, eq-eqb, ne_eqb, not-true, not_from_false, false_from_ne_true}
 use Rattle.std.proofs.lemmas.Option.{none-some, same_Some}
 use Rattle.std.proofs.lemmas.Grind.{common_steps}
-use Rattle.jh_num.proofs.Lists.{Contains_head, Contains_tail, Contains_cases, find_map, find_agree, find_None, find_nothing, IsFound_from_find, IsFound_from_filter, list_any_agree, list_any_nothing}
+use Rattle.jh_num.proofs.Lists.{Contains_head, Contains_tail, Contains_cases, find_map, find_agree, find_None, find_nothing, IsFound_from_find, IsFound_from_filter, list_any_agree, list_any_nothing, find_kept}
 use Rattle.jh_ivshmem.specs.declared.endpoint.Endpoint.{Endpoint}
 use Rattle.jh_ivshmem.specs.declared.spec.EndpointSpec.{EndpointSpec}
 use Rattle.jh_ivshmem.specs.Specs.{is_device, is_other, is_before}
@@ -69,19 +69,6 @@ none_told e value list id n there = untold_by e list id n (eqb e.state value) th
 abbrev pub Differs : ℕ → ℕ → Endpoint → Type 0
 Differs id n e = id ≡ e.spec.cell → n ≡ e.spec.device → ⊥
 
-pub find_filter : {X : Type 0} (p q : X → Bool) (xs : List X) → ((x : X) → p x ≡ true → q x ≡ true) → find p (filter q xs) ≡ find p xs
-find_filter p q [] h = refl
-find_filter p q (x ∷ xs) h = elim (cases_Bool (q x)) as (λ _. find p (filter q (x ∷ xs)) ≡ find p (x ∷ xs)) [
-  | inl stays ↦
-      ap (λ (b : Bool). find p (cond b (x ∷ filter q xs) (filter q xs))) stays
-      ∙ ap (λ o. cond (p x) (Some x) o) (find_filter p q xs h)
-  | inr goes ↦
-      let fails : p x ≡ false = false_from_ne_true (p x) (λ passes. both_ways (q x) goes (h x passes)) in
-      ap (λ (b : Bool). find p (cond b (x ∷ filter q xs) (filter q xs))) goes
-      ∙ find_filter p q xs h
-      ∙ ap (λ (b : Bool). cond b (Some x) (find p xs)) (sym fails)
-]
-
 not_device : (id n : ℕ) (e o : Endpoint) → Differs id n e → is_device id n o.spec ≡ true → is_device e.spec.cell e.spec.device o.spec ≡ false
 not_device id n e o differs named =
     let own = and_parts (eqb o.spec.cell id) (eqb o.spec.device n) named in
@@ -104,7 +91,7 @@ found_reset e o list id n differs there =
 
 found_left : (e o : Endpoint) (list : List Endpoint) (id n : ℕ) → Differs id n e → endpoint_at id n list ≡ Some o → endpoint_at id n (left_by e list) ≡ Some (cond (is_told e 0 o) (raised 0 o) o)
 found_left e o list id n differs there =
-    find_filter (λ (x : Endpoint). is_device id n x.spec) (λ (x : Endpoint). not (is_device e.spec.cell e.spec.device x.spec)) (told_of e 0 list) (λ x named. not_from_false (is_device e.spec.cell e.spec.device x.spec) (not_device id n e x differs named))
+    find_kept (λ (x : Endpoint). is_device id n x.spec) (λ (x : Endpoint). not (is_device e.spec.cell e.spec.device x.spec)) (told_of e 0 list) (λ x named. not_from_false (is_device e.spec.cell e.spec.device x.spec) (not_device id n e x differs named))
     ∙ found_told e o 0 list id n there
 
 -- what it is that a start or a destroy does to a device

@@ -49,12 +49,12 @@ use Rattle.jh_history.proofs.AloneLemmas.{acted_own, alone_start, alone_after}
 use Rattle.jh_history.proofs.LegalLemmas.{due_split, IsLegal_begin}
 use Rattle.std.specs.List.{AllByRecursion}
 use Rattle.std.proofs.lemmas.List.Elements.{recursion_from_All}
-use Rattle.jh_history.proofs.AdmittedLemmas.{program_of_all}
+use Rattle.jh_history.proofs.AdmittedLemmas.{program_of_all, few_operations}
 use Rattle.jh_laws.specs.RootAlone.{HasNoDevice}
 use Rattle.jh_laws.specs.Moves.{stepped, ended}
 use Rattle.jh_laws.specs.Outcomes.{is_violation}
 use Rattle.jh_laws.specs.Operations.{op_of, program_in}
-use Rattle.jh_laws.proofs.RootLemmas.{program_of_few, op_plain}
+use Rattle.jh_laws.proofs.RootLemmas.{op_plain}
 
 -- the image may be opened, root has no ivshmem device, and no program has a hypercall
 pub record IsSilent (image : Image) : Type 0 where
@@ -392,6 +392,6 @@ by_violation false state e = ap (λ (n : ℕ). record state { position = n }) e
 pub done_by_moved : (image : Image) (b : Bool) (state : Cpu) (cpu : ℕ) (op : Op) → IsSilent image → slice_get (program_in image image.system.root cpu) state.position ≡ Some op → done_by b state ≡ moved_by b state
 done_by_moved image b state cpu op admitted at =
     let within : state.position < length (program_in image image.system.root cpu) = slice_get_within (program_in image image.system.root cpu) state.position op at in
-    let few : length (program_in image image.system.root cpu) ≤ 4096 = program_of_few image (name_of image.system.root) cpu admitted.admitted in
+    let few : length (program_in image image.system.root cpu) ≤ 4096 = few_operations image (name_of image.system.root) cpu admitted.admitted in
     let one : min (state.position + 1) (2 ^ 32 - 1) ≡ state.position + 1 = omega arith in
     by_violation b state one

@@ -19,7 +19,7 @@ use Rattle.jh_history.specs.declared.entry.Act.TheVariants.{Decide, Settle, Comm
 use Rattle.jh_history.specs.Admitted.{IsAdmitted}
 use Rattle.jh_history.specs.Calls.{counted, telling, first_told, behind, call_by, is_call}
 use Rattle.jh_num.specs.Numbers.{counted_up}
-use Rattle.jh_history.specs.Commits.{committed_cells, cells_by}
+use Rattle.jh_history.specs.Commits.{committed_cells, cells_by, is_commit}
 use Rattle.jh_history.specs.Due.{due_at, is_idle_but, IsLegal}
 use Rattle.jh_history.specs.Facts.{Facts}
 use Rattle.jh_history.specs.History.{after, facts, coming_of}
@@ -28,8 +28,9 @@ use Rattle.jh_history.specs.Sound.{IsInPhase, IsSound}
 use Rattle.jh_history.proofs.FactsLemmas.{facts_push}
 use Rattle.jh_history.proofs.PlainStepLemmas.{after_call}
 use Rattle.jh_history.proofs.SoundLemmas.{sound_after}
-use Rattle.jh_laws.specs.Ways.{is_phase, is_finish, is_commit, call_begun, begun}
-use Rattle.jh_laws.proofs.CallLemmas.{Expects, IsBeside, along, begun_of, call_counted, entry_of_call, not_same, phase_expects, phase_of_due, sound_open, stretch}
+use Rattle.jh_laws.specs.Ways.{is_phase, is_finish, call_begun, begun}
+use Rattle.jh_laws.proofs.CallLemmas.{Expects, IsBeside, along, begun_of, call_counted, entry_of_call, not_same, phase_expects, phase_of_due, stretch}
+use Rattle.jh_history.proofs.DueComesLemmas.{call_open}
 
 -- the phase leads to the end with the answer
 abbrev Answers : ℤ → Phase → Type 0
@@ -116,7 +117,7 @@ answers_from image configs cpu cells coming entry caller at (ToFinish a) live e 
 answers_commit : (image : Image) (f : Facts) (entry : Entry) (o : OpenCall) (at : ℕ) (live : Live) → IsSound image f → f.call ≡ Some o → o.call ≡ Create at → Expects o.phase Commit → entry.act ≡ Commit
     → cells_by f.call f.cells Commit ≡ f.cells ++ live ∷ [] → WillAnswer (pos live.config.id) (after image f entry).call
 answers_commit image f entry o at live sound is create expects act made =
-    let opens = sound_open image f o sound is in
+    let opens = call_open image f o sound is in
     let holds = subst (λ (k : Call). IsInPhase image (configs_of f.cells) f.cpu o.caller k o.phase) create opens.phase in
     let here = subst (λ (k : Call). committed_cells k o.phase f.cells ≡ f.cells ++ live ∷ []) create (subst (λ (c : Option OpenCall). cells_by c f.cells Commit ≡ f.cells ++ live ∷ []) is made) in
     let will = answers_from image (configs_of f.cells) f.cpu f.cells (coming_of image f) entry o.caller at o.phase live expects holds here in

@@ -36,7 +36,7 @@ use Rattle.jh_history.specs.declared.call.OpenCall.{OpenCall}
 use Rattle.jh_history.specs.declared.call.Phase.{Phase}
 use Rattle.jh_history.specs.declared.call.Phase.TheVariants.{ToDecide, ToSettle, ToCreate, ToCommit, ToNote, ToNoted, ToFinish}
 use Rattle.jh_history.specs.Access.{with_slot_if}
-use Rattle.jh_history.specs.Commits.{cells_by}
+use Rattle.jh_history.specs.Commits.{cells_by, is_commit}
 use Rattle.jh_history.specs.Devices.{place_of_section, specs_of}
 use Rattle.jh_history.specs.Endpoints.{changing, changing_by, specs_changing, with_words}
 use Rattle.jh_history.specs.Facts.{Facts}
@@ -54,7 +54,6 @@ use Rattle.jh_history.proofs.SoundCommitLemmas.{configs_joined}
 use Rattle.jh_history.proofs.SoundDecideLemmas.{found_live}
 use Rattle.jh_laws.specs.Held.{IsHeld, AreLinkedSections, IsOwnOrLinked}
 use Rattle.jh_laws.specs.Vectors.{PutsRegister}
-use Rattle.jh_laws.specs.Ways.{is_commit}
 use Rattle.jh_laws.specs.Written.{WritesWordThere}
 use Rattle.jh_laws.proofs.ListedLemmas.{same_place}
 use Rattle.jh_num.proofs.MemoryLemmas.{listed}
@@ -66,6 +65,7 @@ use Rattle.jh_laws.proofs.WordLemmas.{IsByteAt, IsApart, slot_cases, slot_other,
 use Rattle.jh_laws.proofs.HeldLemmas.{at_same}
 use Rattle.jh_laws.proofs.StoredLemmas.{IsGivenTo, listed_at, byte_put, IsStored, IsWord, placed, places_given}
 use Rattle.jh_history.proofs.SoundLemmas.{legal_sound}
+use Rattle.jh_history.proofs.SoundEndpointsLemmas.{spec_cell}
 
 -- ---- places
 
@@ -394,9 +394,6 @@ changing_is image f entry spec sound held =
 abbrev pub IsOwnerOf : Image → Facts → Entry → CellConfig → ℕ → ℕ → Type 0
 IsOwnerOf image f entry holder number id =
     IsOwnOrLinked f.cells holder number id ⊎ IsOwnOrLinked (cells_after f entry) holder number id ⊎ (id ≡ image.system.root.id)
-
-spec_cell : (config : CellConfig) (spec : EndpointSpec) → Contains (specs_of config) spec → spec.cell ≡ config.id
-spec_cell config spec own = ap (λ (t : EndpointSpec). t.cell) (spec_is config spec own).is
 
 coming_owner : (image : Image) (f : Facts) (entry : Entry) (live : Live) (number : ℕ) (region : Region) (place : ℕ) (config : CellConfig) → IsHeld f.cells live number region place → IsClean image.system (configs_of f.cells ++ config ∷ [])
     → configs_of (cells_after f entry) ≡ configs_of f.cells ++ config ∷ [] → HasPlace config place → IsOwnerOf image f entry live.config number config.id

@@ -12,7 +12,6 @@ use Rattle.jh_cellcfg.specs.Cells.{is_passive}
 use Rattle.jh_check.specs.Refusals.{any_below}
 use Rattle.jh_check.proofs.RefusalLemmas.{below_of}
 use Rattle.jh_comm.specs.declared.words.TheConstants.{REPLY_REQUEST_APPROVED, REPLY_RECEIVED}
-use Rattle.jh_cpu.specs.declared.cpu.Cpu.{Cpu}
 use Rattle.jh_call.specs.declared.call.Call.{Call}
 use Rattle.jh_call.specs.declared.call.Call.TheVariants.{Create, Start, Loadable, Destroy, Info, State, CpuInfo, Unknown}
 use Rattle.jh_script.specs.declared.image.Image.{Image}
@@ -39,7 +38,7 @@ use Rattle.jh_history.specs.Admitted.{IsAdmitted}
 use Rattle.jh_history.specs.Sound.{IsHalted, IsAsked, IsHalting, IsAboutLive, IsTold, IsCaller, IsOpen, IsSound}
 use Rattle.jh_history.proofs.SoundCpusLemmas.{root_unnamed}
 use Rattle.jh_history.proofs.SoundLemmas.{legal_sound}
-use Rattle.jh_laws.proofs.DueCpusLemmas.{some_later}
+use Rattle.jh_laws.proofs.DueCpusLemmas.{some_later, keeps_a_decide, keeps_a_commit}
 
 -- nothing is due to a CPU
 not_made : (cpu cell : ℕ) (o : Option Act) → option_map (entry_by cpu cell) o ≡ None → o ≡ None
@@ -163,16 +162,10 @@ decide_waits : (image : Image) (f : Facts) (o : OpenCall) → ((cpu : ℕ) → d
     → ((i : ℕ) → is_on_board image i ≡ true → i ≢ o.caller → (f.cpu i).owner ≡ image.system.root.id → IsHalting (f.cpu i))
     → any_below (λ i. keeps_decide image o.caller i (f.cpu i)) 16 ≡ true → ⊥
 decide_waits image f o none come some =
-    let found = below_of (λ i. keeps_decide image o.caller i (f.cpu i)) 16 some in
+    let found = keeps_a_decide image f o.caller some in
     let i : ℕ = found.0 in
-    let cpu : Cpu = f.cpu i in
-    let root : ℕ = image.system.root.id in
-    let a = and_parts (is_on_board image i && not (eqb i o.caller) && eqb cpu.owner root && is_running cpu.mode) (not cpu.stopped) found.2 in
-    let b = and_parts (is_on_board image i && not (eqb i o.caller) && eqb cpu.owner root) (is_running cpu.mode) a.0 in
-    let c = and_parts (is_on_board image i && not (eqb i o.caller)) (eqb cpu.owner root) b.0 in
-    let d = and_parts (is_on_board image i) (not (eqb i o.caller)) c.0 in
-    let other : i ≢ o.caller = λ e. both_ways (eqb i o.caller) (not-true (eqb i o.caller) d.1) (eq-eqb i o.caller e) in
-    not_running image f o i d.0 other (none i) (come i d.0 other (eqb-true cpu.owner root c.1)) b.1 (not-true cpu.stopped a.1)
+    let k = found.1 in
+    not_running image f o i k.on_board k.other (none i) (come i k.on_board k.other k.of_root) k.runs k.goes_on
 
 commit_waits : (image : Image) (f : Facts) (caller : ℕ) (call : Call) → ((cpu : ℕ) → due_at image (with_call f (record { caller = caller; call = call; phase = ToCommit })) cpu ≡ None)
     → IsSound image (with_call f (record { caller = caller; call = call; phase = ToCommit }))
@@ -180,18 +173,15 @@ commit_waits : (image : Image) (f : Facts) (caller : ℕ) (call : Call) → ((cp
 commit_waits image f caller call none sound some =
     let o : OpenCall = record { caller = caller; call = call; phase = ToCommit } in
     let opens : IsOpen image (configs_of f.cells) f.cpu o = sound.call in
-    let found = below_of (λ i. keeps_commit image call i (f.cpu i)) 16 some in
+    let found = keeps_a_commit image f call some in
     let i : ℕ = found.0 in
-    let cpu : Cpu = f.cpu i in
+    let k = found.1 in
     let root : ℕ = image.system.root.id in
-    let a = and_parts (is_on_board image i && is_named call cpu.owner && is_running cpu.mode) (not cpu.stopped) found.2 in
-    let b = and_parts (is_on_board image i && is_named call cpu.owner) (is_running cpu.mode) a.0 in
-    let c = and_parts (is_on_board image i) (is_named call cpu.owner) b.0 in
     let unnamed = root_unnamed image.system (configs_of f.cells) call sound.cells opens.phase in
-    let apart : cpu.owner ≢ root = λ e. both_ways (is_named call cpu.owner) (ap (is_named call) e ∙ unnamed) c.1 in
-    let P : ℕ → Type 0 = λ k. (f.cpu k).owner ≡ root in
+    let apart : (f.cpu i).owner ≢ root = λ e. both_ways (is_named call (f.cpu i).owner) (ap (is_named call) e ∙ unnamed) k.named in
+    let P : ℕ → Type 0 = λ n. (f.cpu n).owner ≡ root in
     let other : i ≢ caller = λ e. apart (subst P (sym e) opens.caller.owner) in
-    not_running image f o i c.0 other (none i) ((opens.cells i apart).0 c.1) b.1 (not-true cpu.stopped a.1)
+    not_running image f o i k.on_board other (none i) ((opens.cells i apart).0 k.named) k.runs k.goes_on
 
 unless_none : (b : Bool) (act : Act) → cond b None (Some act) ≡ None → b ≡ true
 unless_none true act h = refl

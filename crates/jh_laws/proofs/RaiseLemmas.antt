@@ -27,9 +27,9 @@ use Rattle.jh_history.specs.Endpoints.{space_put, function_put, config_put, endp
 use Rattle.jh_history.specs.Facts.{Facts}
 use Rattle.jh_history.specs.Grants.{reach, devices_of}
 use Rattle.jh_history.specs.Sound.{IsSoundEndpoint, IsSound}
+use Rattle.jh_history.specs.Commits.{is_commit}
 use Rattle.jh_laws.specs.Ends.{IsAnsweredByRegister}
 use Rattle.jh_laws.specs.Vectors.{PutsRegister, Rings, Clears, NotifiesPeer, Drops}
-use Rattle.jh_laws.specs.Ways.{is_commit}
 use Rattle.jh_laws.proofs.DevicesLemmas.{endpoint_held, endpoint_sound, same_register}
 use Rattle.jh_laws.proofs.EndsLemmas.{IsSmallAct}
 use Rattle.jh_laws.proofs.LinkedLemmas.{found_changed, found_told, is_told, told_spec}

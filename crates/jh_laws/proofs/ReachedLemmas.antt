@@ -4,7 +4,7 @@ use Rattle.std.proofs.Common.{◌≡◌, ◌≢◌, ℕ, zero, suc, ◌+◌, ◌
 use Rattle.std.specs.Prelude.{◌⊎◌, Contains, find, min, position, slice_get, IsTrue}
 use Rattle.std.specs.List.{list_any}
 use Rattle.std.specs.Option.{option_map_or}
-use Rattle.std.proofs.lemmas.Bool.{both_ways, or_parts, or_cases, and_parts, and_from, not-true, eqb-true, eq-eqb, cases_lt, cases_Bool, false≢true, lt-ltb}
+use Rattle.std.proofs.lemmas.Bool.{both_ways, or_parts, or_cases, and_parts, and_from, not-true, eqb-true, eq-eqb, cases_lt, cases_Bool, lt-ltb}
 use Rattle.std.proofs.lemmas.Option.{same_Some, slice_get-get_or}
 use Rattle.jh_num.specs.declared.address.TheConstants.{ADDRESS_END}
 use Rattle.jh_num.proofs.Lists.{IsFound_from_find, find_None}
@@ -14,6 +14,7 @@ use Rattle.jh_cellcfg.specs.declared.config.SystemConfig.{SystemConfig}
 use Rattle.jh_cellcfg.specs.declared.live.Live.{Live}
 use Rattle.jh_cellcfg.specs.declared.region.Region.{Region}
 use Rattle.jh_cellcfg.specs.Regions.{has_size, has_address, is_page_mapped, virt_end, allows_width, allows_unaligned}
+use Rattle.jh_cellcfg.proofs.AddressLemmas.{has_address_from}
 use Rattle.jh_mmio.specs.declared.hitting.Hitting.TheVariants.{Ecam, Bar, Nothing as HitsNothing}
 use Rattle.jh_mmio.specs.declared.hitting.Window.{Window as TheWindow}
 use Rattle.jh_mmio.specs.Dispatch.{lies_between, is_at_closed, takes_all, has_right, lets_through, by_ecam_at, by_window, window_has}
@@ -28,7 +29,7 @@ use Rattle.jh_history.specs.declared.access.Access.TheVariants.{Read as ToRead, 
 use Rattle.jh_history.specs.declared.access.Reach.{Reach}
 use Rattle.jh_history.specs.declared.access.Reach.TheVariants.{Memory, Subpage, Config, Window, Nothing}
 use Rattle.jh_history.specs.Places.{further, places_in_row}
-use Rattle.jh_history.specs.Access.{place_in_cell, places_from, memory_or_nothing, reach_by, or_behind, is_reached}
+use Rattle.jh_history.specs.Access.{place_in_cell, places_from, memory_or_nothing, reach_by, or_behind}
 use Rattle.jh_history.specs.Behind.{ecam_start, ecam_end, by_device, asked_windows, window_found, answer_by, answer_to}
 use Rattle.jh_history.specs.Facts.{Facts}
 use Rattle.jh_history.specs.Grants.{is_kept, granted, behind_in, reach, devices_of}
@@ -42,15 +43,12 @@ use Rattle.jh_history.proofs.BehindLemmas.{takes_all_subpage, kept_row, answer_w
 use Rattle.jh_laws.specs.Grants.{may}
 use Rattle.jh_laws.specs.Held.{IsRootOrLive, IsGrantedTo, AreGrantedTo}
 use Rattle.jh_laws.specs.Ends.{HasAccess, LetsThrough, IsBehindMemory, IsAnsweredBy, IsInEcam, IsAnsweredByWindow, IsAnsweredByRegister, IsAnswered, GivesPlaces, AreItsPlaces}
-use Rattle.jh_laws.proofs.RootLemmas.{has_address_from}
 use Rattle.jh_laws.proofs.DevicesLemmas.{position_single, window_lies, window_none, found_passes}
 use Rattle.jh_laws.proofs.ListedLemmas.{places_from_listed, places_from_each, places_from_some}
 use Rattle.jh_laws.proofs.HeldLemmas.{live_cell, cell_live, number_of_holds, granted_to, to_granted_holds, regions_of_live, left_free, free_left}
+use Rattle.jh_history.proofs.ReadLemmas.{nothing_memory}
 
 -- ---- memory
-
-nothing_memory : (ps : List Place) → Nothing ≡ Memory ps → ⊥
-nothing_memory ps e = false≢true (ap is_reached e)
 
 -- where each byte is granted it reaches memory
 memory_granted : (image : Image) (f : Facts) (id : ℕ) (access : Access) (at width : ℕ) → AreSoundCells image.system (configs_of f.cells) → 0 < width → AreGrantedTo image f.cells id access at width

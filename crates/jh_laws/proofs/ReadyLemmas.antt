@@ -107,7 +107,7 @@ none_by : (image : Image) (entries : List Entry) (cpu : ℕ) (o : Option Entry) 
 none_by image entries cpu None is none = is
 none_by image entries cpu (Some entry) is none = absurd (none refl)
 
-some_none : (o : Option Entry) → o ≡ None → IsSome o → ⊥
+pub some_none : (o : Option Entry) → o ≡ None → IsSome o → ⊥
 some_none o e some = false≢true (ap (λ (p : Option Entry). is_some p) (sym e) ∙ some)
 
 pub quiet_not_ready : (image : Image) (entries : List Entry) → IsSilent image → IsLegal image entries → IsQuiet image entries → (cpu : ℕ) → IsReady image entries image.system.root cpu → ⊥

@@ -1,53 +1,29 @@
 -- What an admitted image gives of root: its regions, programs and preloads.
-use Rattle.std.proofs.Common.{inl, inr, ◌≡◌, ℕ, ◌/◌, ◌<◌, ◌≤◌, List, [], length, get_or, true, false, ◌&&◌, Option, Some, None, refl, ap, subst, ◌∙◌, eqb, arith}
+use Rattle.std.proofs.Common.{inl, inr, ◌≡◌, ℕ, ◌/◌, ◌<◌, ◌≤◌, List, [], length, get_or, true, false, Option, Some, None, refl, ap, subst, ◌∙◌, eqb, arith}
 use Rattle.std.specs.Prelude.{IsTrue, Contains, All, find, slice_get, nat_eq}
 use Rattle.std.specs.Cmp.Lexicographic.{pointwise}
 use Rattle.std.specs.Option.{option_map_or}
-use Rattle.std.proofs.lemmas.Bool.{and_parts, and_from, eqb-true, leb-true, ltb-true, le-leb, lt-ltb, false_from_ne_true, cases_lt, both_ways}
+use Rattle.std.proofs.lemmas.Bool.{and_parts, and_from, eqb-true, false_from_ne_true, cases_lt, both_ways}
 use Rattle.std.proofs.lemmas.Slice.Eq.{bytes_eq-Decides}
 use Rattle.std.proofs.lemmas.Option.{slice_get_within, get_or_from_slice_get}
 use Rattle.jh_num.specs.declared.address.TheConstants.{ADDRESS_END}
-use Rattle.jh_num.proofs.Lists.{IsOnly, All_from_find, find_only, find_nothing}
+use Rattle.jh_num.proofs.Lists.{IsOnly, find_only, find_nothing}
 use Rattle.jh_num.proofs.Booleans.{same_number}
 use Rattle.jh_cellcfg.specs.declared.region.Region.{Region}
-use Rattle.jh_cellcfg.specs.Regions.{has_flags, has_address, is_page_mapped, is_comm, virt_end}
+use Rattle.jh_cellcfg.specs.Regions.{has_address, is_comm, virt_end}
+use Rattle.jh_cellcfg.proofs.AddressLemmas.{has_address_first, has_address_last}
 use Rattle.jh_check.proofs.JoinLemmas.{clean_from_nothing}
 use Rattle.jh_check.proofs.GivenLemmas.{zero_names}
 use Rattle.jh_script.specs.declared.image.Image.{Image}
 use Rattle.jh_script.specs.declared.image.Program.{Program}
 use Rattle.jh_script.specs.declared.op.Op.{Op}
 use Rattle.jh_script.specs.Operations.{IsWellFormed}
-use Rattle.jh_history.specs.declared.access.Access.{Access}
-use Rattle.jh_history.specs.Access.{gives, right_of}
-use Rattle.jh_history.specs.Admitted.{IsAdmitted, IsSoundProgram}
+use Rattle.jh_history.specs.Admitted.{IsAdmitted}
 use Rattle.jh_history.specs.Lives.{is_program_of, program_of, is_on_board}
 use Rattle.jh_history.proofs.AdmittedLemmas.{sound_root, program_of_plain}
 
 abbrev pub regions : Image → List Region
 regions image = image.system.root.memory_regions
-
--- the address is one of the region's
-pub has_address_first : (r : Region) (at : ℕ) → has_address r at ≡ true → r.virt_start ≤ at
-has_address_first r at h = leb-true r.virt_start at (and_parts _ _ h).0
-
-pub has_address_last : (r : Region) (at : ℕ) → has_address r at ≡ true → at < virt_end r
-has_address_last r at h = ltb-true at (virt_end r) (and_parts _ _ h).1
-
-pub has_address_from : (r : Region) (at : ℕ) → r.virt_start ≤ at → at < virt_end r → has_address r at ≡ true
-has_address_from r at first last = and_from _ _ (le-leb r.virt_start at first) (lt-ltb at (virt_end r) last)
-
--- the parts of a region that gives an address
-pub gives_address : (access : Access) (at : ℕ) (r : Region) → gives access at r ≡ true → has_address r at ≡ true
-gives_address access at r h = (and_parts (has_address r at) (is_page_mapped r) (and_parts (has_address r at && is_page_mapped r) (has_flags (right_of access) r) h).0).0
-
-pub gives_pages : (access : Access) (at : ℕ) (r : Region) → gives access at r ≡ true → is_page_mapped r ≡ true
-gives_pages access at r h = (and_parts (has_address r at) (is_page_mapped r) (and_parts (has_address r at && is_page_mapped r) (has_flags (right_of access) r) h).0).1
-
-pub gives_right : (access : Access) (at : ℕ) (r : Region) → gives access at r ≡ true → has_flags (right_of access) r ≡ true
-gives_right access at r h = (and_parts (has_address r at && is_page_mapped r) (has_flags (right_of access) r) h).1
-
-pub gives_from : (access : Access) (at : ℕ) (r : Region) → has_address r at ≡ true → is_page_mapped r ≡ true → has_flags (right_of access) r ≡ true → gives access at r ≡ true
-gives_from access at r has pages right = and_from (has_address r at && is_page_mapped r) (has_flags (right_of access) r) (and_from (has_address r at) (is_page_mapped r) has pages) right
 
 -- a region of root that has an address: it ends within the addresses, lies at its own place, and is
 -- no communication region
@@ -74,15 +50,6 @@ few_cpus image admitted cpu on =
       | inl lt ↦ lt
       | inr le ↦ absurd (both_ways (is_on_board image cpu) (zero_names image.system.root.cpu_set cpu (bitmap.few (cpu / 8) (omega arith))) on)
     ]
-
--- a program is of so many operations at most, each within its limits
-few_ops : (image : Image) (name : List ℕ) (cpu : ℕ) (o : Option Program) → IsAdmitted image → find (is_program_of name cpu) image.programs ≡ o → length (option_map_or (λ (p : Program). p.ops) o []) ≤ 4096
-few_ops image name cpu None admitted e = omega arith
-few_ops image name cpu (Some p) admitted e = (All_from_find (is_program_of name cpu) IsSoundProgram image.programs p e admitted.programs).few
-
-pub program_of_few : (image : Image) (name : List ℕ) (cpu : ℕ) → IsAdmitted image → length (program_of image name cpu) ≤ 4096
-unfolding program_of
-program_of_few image name cpu admitted = few_ops image name cpu (find (is_program_of name cpu) image.programs) admitted refl
 
 at_op : (ops : List Op) (i : ℕ) (op : Op) → All IsWellFormed ops → slice_get ops i ≡ Some op → IsWellFormed op
 at_op ops i op all e =

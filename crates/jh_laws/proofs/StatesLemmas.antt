@@ -30,7 +30,7 @@ use Rattle.jh_history.specs.Facts.{Facts}
 use Rattle.jh_history.specs.Lives.{is_on_board, program_of, cell_in}
 use Rattle.jh_history.specs.Admitted.{IsAdmitted}
 use Rattle.jh_history.specs.Calls.{is_named, is_call}
-use Rattle.jh_history.specs.Commits.{cells_by, committed_cells}
+use Rattle.jh_history.specs.Commits.{cells_by, committed_cells, is_commit}
 use Rattle.jh_history.specs.Cpus.{acted, changed, change_if, begun as begun_cpu, settled, committed, finished, resumed_in, is_running}
 use Rattle.jh_history.specs.History.{facts}
 use Rattle.jh_shape.specs.Lives.{configs_of}
@@ -38,15 +38,16 @@ use Rattle.jh_history.specs.Due.{is_idle_but, IsLegal}
 use Rattle.jh_history.proofs.FactsLemmas.{facts_push, cpu_after_holds}
 use Rattle.jh_history.proofs.LegalLemmas.{due_split, IsLegal_begin}
 use Rattle.jh_history.specs.Sound.{IsCaller, IsInPhase}
-use Rattle.jh_laws.specs.Ways.{is_phase, is_commit, is_agreement, call_begun, begun}
+use Rattle.jh_laws.specs.Ways.{is_phase, is_agreement, call_begun, begun}
 use Rattle.jh_laws.specs.Moves.{stepped, ended}
 use Rattle.jh_laws.specs.Outcomes.{is_violation}
 use Rattle.jh_laws.specs.States.{changes_others, is_stop_act, HasBegun, HasAgreed, HasCommitted, HasFinished}
-use Rattle.jh_laws.proofs.RootLemmas.{program_of_few}
 use Rattle.jh_history.proofs.SoundCommitLemmas.{configs_joined}
 use Rattle.jh_history.proofs.SoundLemmas.{legal_sound}
 use Rattle.jh_history.proofs.PlainStepLemmas.{after_cells}
-use Rattle.jh_laws.proofs.CallLemmas.{Expects, phase_expects, phase_of_due, sound_open, begun_of, not_same, IsMadeBy, Stopping, Running as Runs, Calling, made_by, phase_call}
+use Rattle.jh_laws.proofs.CallLemmas.{Expects, phase_expects, phase_of_due, begun_of, not_same, IsMadeBy, Stopping, Running as Runs, Calling, made_by, phase_call}
+use Rattle.jh_history.proofs.DueComesLemmas.{call_open}
+use Rattle.jh_history.proofs.AdmittedLemmas.{few_operations}
 
 -- CPU i behind an entry
 pub behind_cpu : (image : Image) (before : List Entry) (entry : Entry) (i : ℕ) → (facts image (before ++ entry ∷ [])).cpu i ≡ acted image (facts image before).call entry.act entry.cpu i ((facts image before).cpu i)
@@ -58,7 +59,7 @@ behind_cpu image before entry i = ap (λ (f : Facts). f.cpu i) (facts_push image
 within_ops : (image : Image) (cpu : ℕ) (o : Option CellConfig) (i : ℕ) (op : Op) → IsAdmitted image → slice_get (option_map_or (λ (c : CellConfig). program_of image (name_of c) cpu) o []) i ≡ Some op → i < 4096
 within_ops image cpu None i op admitted h = absurd (none-some op h)
 within_ops image cpu (Some c) i op admitted h =
-    let few : length (program_of image (name_of c) cpu) ≤ 4096 = program_of_few image (name_of c) cpu admitted in
+    let few : length (program_of image (name_of c) cpu) ≤ 4096 = few_operations image (name_of c) cpu admitted in
     let within : i < length (program_of image (name_of c) cpu) = slice_get_within (program_of image (name_of c) cpu) i op h in
     omega (arith, few, within)
 
@@ -241,8 +242,8 @@ finish_cpus image before rest entry answer i admitted legal act =
     let sound = legal_sound image before admitted (IsLegal_begin image before (entry ∷ rest) legal) in
     let of = phase_of_due image f entry sound (due_split image before rest entry legal) (ap is_phase act) in
     let Q : ℕ → Type 0 = λ k. IsCaller image k of.o.call (f.cpu k) in
-    let made : IsCaller image entry.cpu of.o.call (f.cpu entry.cpu) = subst Q of.caller (sound_open image f of.o sound of.opens).caller in
-    let few : length (program_of image (name_of image.system.root) entry.cpu) ≤ 4096 = program_of_few image (name_of image.system.root) entry.cpu admitted in
+    let made : IsCaller image entry.cpu of.o.call (f.cpu entry.cpu) = subst Q of.caller (call_open image f of.o sound of.opens).caller in
+    let few : length (program_of image (name_of image.system.root) entry.cpu) ≤ 4096 = few_operations image (name_of image.system.root) entry.cpu admitted in
     let within = slice_get_within (program_of image (name_of image.system.root) entry.cpu) (f.cpu entry.cpu).position (HvcOp made.code made.a made.b) made.at in
     let R : ℕ → Type 0 = λ k. ((f.cpu k).position < 4096) × ((f.cpu k).stopped ≡ false) × ((f.cpu k).owner ≡ image.system.root.id) in
     let own : R entry.cpu = (omega (arith, few, within), made.calm.stopped, made.owner) in
@@ -273,7 +274,7 @@ phase_begun image before rest entry first admitted legal phase is =
     let sound = legal_sound image before admitted (IsLegal_begin image before (entry ∷ rest) legal) in
     let of = phase_of_due image f entry sound (due_split image before rest entry legal) phase in
     let o : OpenCall = of.o in
-    let opens = sound_open image f o sound of.opens in
+    let opens = call_open image f o sound of.opens in
     let begins_at = begun_of image before o of.opens in
     let call : o.call ≡ call_begun first.act = begins_at.3 ∙ ap (λ (e : Entry). call_begun e.act) (same_Some begins_at.0 first (sym begins_at.1 ∙ is)) in
     let whole : record { caller = o.caller; call = o.call; phase = o.phase } ≡ record { caller = entry.cpu; call = call_begun first.act; phase = o.phase } =

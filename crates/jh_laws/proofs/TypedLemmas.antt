@@ -8,6 +8,7 @@ use Rattle.std.proofs.lemmas.List.Elements.{All-contains}
 use Rattle.std.proofs.lemmas.Option.{none-some, same_Some}
 use Rattle.jh_num.specs.declared.error.TheConstants.{EPERM, ENOENT, EINVAL, ENOSYS}
 use Rattle.jh_num.specs.Memory.{little_endian}
+use Rattle.jh_num.proofs.MemoryLemmas.{zero_fits}
 use Rattle.jh_cellcfg.specs.declared.live.Live.{Live}
 use Rattle.jh_check.specs.Devices.{is_shmem}
 use Rattle.jh_cpu.specs.declared.cpu.Cpu.{Cpu}
@@ -55,7 +56,7 @@ use Rattle.jh_laws.specs.Grants.{place_behind}
 use Rattle.jh_laws.specs.Held.{IsGrantedTo}
 use Rattle.jh_laws.specs.Ends.{IsAnswered, IsAnsweredByWindow, IsReadBy, IsGotBy}
 use Rattle.jh_laws.specs.Typed.{OpensTyped, TellsTyped}
-use Rattle.jh_laws.proofs.CallLemmas.{IsMadeBy, Stopping, Running, Calling, made_by, phase_of_due, sound_open}
+use Rattle.jh_laws.proofs.CallLemmas.{IsMadeBy, Stopping, Running, Calling, made_by, phase_of_due}
 use Rattle.jh_laws.proofs.DevicesLemmas.{endpoint_held}
 use Rattle.jh_laws.proofs.EndsLemmas.{got_of_cell, ops_plain, width_some}
 use Rattle.jh_laws.proofs.FewCellsLemmas.{AreTyped, IsTypedPhase, IsTypedBoard, few_typed, legal_typed, typed_phase}
@@ -63,6 +64,7 @@ use Rattle.jh_laws.proofs.FewLemmas.{length_map}
 use Rattle.jh_laws.proofs.PendingLemmas.{endpoint_of_pending, next_is}
 use Rattle.jh_laws.proofs.RefusalLemmas.{FitsRefusal, refusal_fits}
 use Rattle.jh_laws.proofs.RegisterLemmas.{HasRegisters, register_small}
+use Rattle.jh_history.proofs.DueComesLemmas.{call_open}
 
 -- ---- the value of an access
 
@@ -72,10 +74,6 @@ one_more low b top h k = let more : (b + 1) * top ≤ 256 * top = mul-le-mul_rig
 spelled_fits : (width : ℕ) (byte : ℕ → ℕ) → ((k : ℕ) → byte k < 256) → little_endian width byte < 256 ^ width
 spelled_fits zero byte small = omega arith
 spelled_fits (suc n) byte small = rw (pow-succ' 256 n) (one_more (little_endian n byte) (byte n) (256 ^ n) (spelled_fits n byte small) (small n))
-
-power_positive : (n : ℕ) → 0 < 256 ^ n
-power_positive zero = omega arith
-power_positive (suc n) = rw (pow-succ' 256 n) (omega (arith, power_positive n))
 
 -- a place for each number below the width, of those that there are
 abbrev chosen : {P : ℕ → Place → Type 0} (width : ℕ) → ((k : ℕ) → k < width → (place : Place) × P k place) → (k : ℕ) → (k < width) ⊎ (width ≤ k) → Place
@@ -101,7 +99,7 @@ window_fits image f id access at width value window read = elim (cases_lt value 
   | inr large ↦
       let of_function : (n : ℕ) → value ≡ n % 2 ^ (8 * width) → ⊥ = λ n is. let small = cut_fits n width window.wide in absurd (omega (arith, large, is, small)) in
       let ones : value ≡ 256 ^ width - 1 = read.ones window (λ e has. of_function _ (read.function e window has)) in
-      absurd (omega (arith, large, ones, power_positive width))
+      absurd (omega (arith, large, ones, zero_fits width))
 ]
 
 -- by what answers it
@@ -260,7 +258,7 @@ made_told image f entry admitted sound typed due (Calling phase) =
     let of = phase_of_due image f entry sound due phase in
     let o = of.o in
     let act = phase_act_holds image f (is_idle_but image f o.caller) o.caller o.call o.phase entry.act of.act in
-    in_phase image f o.caller o.call o.phase entry.act act (sound_open image f o sound of.opens).phase typed.cells (typed_phase f.call o of.opens typed.call) (refusal_fits image f entry sound due)
+    in_phase image f o.caller o.call o.phase entry.act act (call_open image f o sound of.opens).phase typed.cells (typed_phase f.call o of.opens typed.call) (refusal_fits image f entry sound due)
 made_told image f entry admitted sound typed due (Running program) =
     let state : Cpu = f.cpu entry.cpu in
     let plain = ops_plain image entry.cpu (cell_in image f.cells state.owner) state.position program.op admitted program.at in

@@ -34,8 +34,8 @@ use Rattle.jh_history.specs.Sound.{IsSound}
 use Rattle.jh_history.proofs.FactsLemmas.{facts_push, facts_nil}
 use Rattle.jh_history.proofs.LegalLemmas.{due_split, IsLegal_begin}
 use Rattle.jh_history.proofs.SoundLemmas.{legal_sound}
+use Rattle.jh_history.specs.Commits.{is_commit}
 use Rattle.jh_laws.specs.Vectors.{IsPendingIn, Raises, Clears, Drops, written_part, IsKeptByOthers}
-use Rattle.jh_laws.specs.Ways.{is_commit}
 use Rattle.jh_laws.proofs.ClearLemmas.{IsClear, IsJoin, IsIdle, commit_cases, IsCleared, commit_now}
 use Rattle.jh_laws.proofs.EndsLemmas.{IsSmallAct, small_at}
 use Rattle.jh_laws.proofs.LinkedLemmas.{none_changed, none_told, IsQuietAt, quiet_all, joined_quiet_all}

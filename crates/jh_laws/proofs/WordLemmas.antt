@@ -25,7 +25,7 @@ use Rattle.jh_history.specs.Access.{with_slot}
 use Rattle.jh_history.specs.Endpoints.{changing_at, changing_by, specs_changing, with_words}
 use Rattle.jh_history.proofs.FactsLemmas.{same_function}
 use Rattle.jh_history.proofs.PlaceLemmas.{written_over}
-use Rattle.jh_laws.specs.Ways.{is_commit}
+use Rattle.jh_history.specs.Commits.{is_commit}
 use Rattle.jh_laws.proofs.ListedLemmas.{over_at, over_other}
 
 -- ---- one word

@@ -43,7 +43,6 @@ use Rattle.jh_laws.specs.Grants.{IsGranted}
 use Rattle.jh_laws.specs.Held.{IsRootOrLive, IsGrantedTo}
 use Rattle.jh_laws.specs.Written.{IsByteBy, Puts, IsByteOfPage, WritesWord, IsByteOfWord, WritesByte, NoneWrites}
 use Rattle.jh_laws.specs.Vectors.{PutsRegister}
-use Rattle.jh_laws.specs.Ways.{is_commit}
 use Rattle.jh_laws.proofs.ListedLemmas.{over_at, over_other}
 use Rattle.jh_laws.specs.Ends.{AreItsPlaces, GivesPlaces, IsAnsweredByRegister}
 use Rattle.jh_laws.proofs.HeldLemmas.{live_cell, number_of_holds}
@@ -53,6 +52,7 @@ use Rattle.jh_laws.proofs.WordLemmas.{IsByteAt, IsApart, state_word, value_fits,
 use Rattle.jh_history.proofs.GrantLemmas.{place_in_cell_further}
 use Rattle.jh_laws.proofs.PlacesHeldLemmas.{physical_kept, byte_behind}
 use Rattle.jh_history.proofs.SoundLemmas.{legal_sound}
+use Rattle.jh_history.specs.Commits.{is_commit}
 
 -- ---- no two addresses of a cell have one place
 

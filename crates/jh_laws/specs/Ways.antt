@@ -29,11 +29,6 @@ abbrev pub is_decide : Act → Bool
 is_decide (Decide refused) = true
 is_decide _ = false
 
--- the act is a Commit
-abbrev pub is_commit : Act → Bool
-is_commit Commit = true
-is_commit _ = false
-
 -- the act is the end of a call
 abbrev pub is_finish : Act → Bool
 is_finish (Finish answer) = true

@@ -14,9 +14,10 @@ ghost use Rattle.jh_history.specs.declared.entry.Act.TheVariants.{Begin, Stop, D
 ghost use Rattle.jh_history.specs.Due.{IsLegal, IsQuiet};
 ghost use Rattle.jh_history.specs.Admitted.{IsAdmitted};
 ghost use Rattle.jh_history.specs.Calls.{is_named, is_call};
+ghost use Rattle.jh_history.specs.Commits.{is_commit};
 ghost use Rattle.jh_laws.specs.Moments.{AdmittedJournal, AdmittedMoment, call_of, facts_before};
 ghost use Rattle.jh_laws.specs.Decisions.{IsDecision};
-ghost use Rattle.jh_laws.specs.Ways.{is_phase, is_decide, is_agreement, is_commit, is_finish, begun, call_begun, IsBegun, MayFollow};
+ghost use Rattle.jh_laws.specs.Ways.{is_phase, is_decide, is_agreement, is_finish, begun, call_begun, IsBegun, MayFollow};
 
 /// The call that is open is the last that was begun and not ended, and its CPU is the caller. None begins while
 /// another is open, and each of its phases is an entry of its caller.

@@ -7,12 +7,12 @@ ghost use Rattle.jh_script.specs.declared.image.Image.{Image as TheImage};
 ghost use Rattle.jh_history.specs.declared.entry.Entry.{Entry as TheEntry};
 ghost use Rattle.jh_history.specs.declared.entry.Act.TheVariants.{Decide, Commit};
 ghost use Rattle.jh_history.specs.History.{facts};
-ghost use Rattle.jh_history.specs.Commits.{is_other};
+ghost use Rattle.jh_history.specs.Commits.{is_commit, is_other};
 ghost use Rattle.jh_history.specs.Configs.{config_read, read_at};
 ghost use Rattle.jh_history.specs.Due.{IsLegal};
 ghost use Rattle.jh_history.specs.Admitted.{IsAdmitted};
 ghost use Rattle.jh_laws.specs.Moments.{AdmittedMoment, facts_before, facts_behind};
-ghost use Rattle.jh_laws.specs.Ways.{is_commit, begun, call_begun};
+ghost use Rattle.jh_laws.specs.Ways.{begun, call_begun};
 
 /// Root lives alone at opening. The Commit of a create adds its cell behind the others, not loadable; that of a
 /// destroy takes its cell out; that of a set loadable makes its cell loadable, and that of a start makes it not

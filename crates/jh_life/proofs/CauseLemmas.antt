@@ -3,7 +3,7 @@ use Rattle.std.proofs.Common.{◌≡◌, ℕ, zero, suc, ◌+◌, ◌<◌, ◌�
 use Rattle.std.specs.Prelude.{Option, ℤ, ◌↔◌, ◌⊎◌, nat_eq, if◌then◌else◌}
 use Rattle.std.specs.List.{list_any}
 use Rattle.std.specs.Cmp.Lexicographic.{pointwise, same_text, other_text}
-use Rattle.std.proofs.lemmas.Bool.{false≢true, cases_lt, cases_Bool, eq-eqb, eqb-true, ltb-true, lt-ltb, and_parts, and_from, or_cases, or_left, or_right, not-true, not_from_false}
+use Rattle.std.proofs.lemmas.Bool.{false≢true, cases_lt, cases_Bool, eq-eqb, eqb-true, ltb-true, lt-ltb, and_parts, and_from, or_cases, or_left, or_right, not-true, not_from_false, false_from_ne_true}
 use Rattle.std.proofs.lemmas.Option.{none-some, same_Some}
 use Rattle.jh_num.specs.declared.error.TheConstants.{EBUSY, EEXIST, EINVAL, ENOMEM, EPERM}
 use Rattle.jh_num.proofs.Lists.{IsFound_from_list_any, list_any_from_Contains}
@@ -13,7 +13,6 @@ use Rattle.jh_check.specs.declared.finding.Finding.{Finding}
 use Rattle.jh_check.specs.Findings.{findings}
 use Rattle.jh_check.specs.Refusals.{is_namesake, is_known, names_beyond, by_check, refusal_of}
 use Rattle.jh_check.specs.Verdicts.{names, is_overlap, is_invalid, is_busy, verdict_by, verdict_of}
-use Rattle.jh_check.proofs.BoolLemmas.{false_from_not}
 use Rattle.jh_check.proofs.RefusalLemmas.{beyond_named, named_beyond}
 use Rattle.jh_check.proofs.RuleLemmas.{broken_from_listed, listed_from_broken}
 use Rattle.jh_num.specs.Bits.{has_bit}
@@ -156,9 +155,9 @@ taken_words owned caller cpu f =
 
 words_taken : (owned caller cpu : ℕ) → (has_bit owned cpu ≡ false) ⊎ (cpu ≡ caller) → may_have owned caller cpu ≡ false
 words_taken owned caller cpu (inl unset) =
-    false_from_not (may_have owned caller cpu) (λ t. false≢true (sym unset ∙ (and_parts (has_bit owned cpu) (not (cpu == caller)) t).0))
+    false_from_ne_true (may_have owned caller cpu) (λ t. false≢true (sym unset ∙ (and_parts (has_bit owned cpu) (not (cpu == caller)) t).0))
 words_taken owned caller cpu (inr same) =
-    false_from_not (may_have owned caller cpu) (λ t. false≢true (sym (not-true (cpu == caller) (and_parts (has_bit owned cpu) (not (cpu == caller)) t).1) ∙ eq-eqb cpu caller same))
+    false_from_ne_true (may_have owned caller cpu) (λ t. false≢true (sym (not-true (cpu == caller) (and_parts (has_bit owned cpu) (not (cpu == caller)) t).1) ∙ eq-eqb cpu caller same))
 
 cpu_words : (seen : Seen) (create : Create) → test_of seen create TakenCpu ≡ true → NamesTakenCpu create
 cpu_words seen create t =
@@ -240,7 +239,7 @@ first_words seen create cause first = record {
 words_first : (seen : Seen) (create : Create) (cause : Cause) → IsFirst seen create cause → IsFirstOf (test_of seen create) cause
 words_first seen create cause first = record {
   passes = holds_to seen create cause first.holds;
-  none = λ other l. false_from_not (test_of seen create other) (λ t. first.none other l (holds_from seen create other t));
+  none = λ other l. false_from_ne_true (test_of seen create other) (λ t. first.none other l (holds_from seen create other t));
 }
 
 -- ---- what is told

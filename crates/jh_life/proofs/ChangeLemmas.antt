@@ -16,6 +16,7 @@ use Rattle.jh_cellcfg.specs.Lives.{has_id}
 use Rattle.jh_check.specs.Refusals.{AreTwo}
 use Rattle.jh_life.specs.Lives.{new_live, marks_of}
 use Rattle.jh_shape.specs.Lives.{configs_of, marked}
+use Rattle.jh_shape.proofs.JoinedLemmas.{config_marked}
 use Rattle.jh_life.specs.Changes.{CellChange, Created, Dropped, Marked, without, after, live_after, AreNew}
 
 -- ---- one cell with an id
@@ -88,16 +89,6 @@ lives_same (x ∷ xs) (y ∷ ys) e f =
     let rest = lives_same xs ys configs marks in
     λ i. same i ∷ rest i
 
-config_kept : (has on : Bool) (live : Live) → (cond has (record live { loadable = on }) live).config ≡ live.config
-config_kept true on live = refl
-config_kept false on live = refl
-
-pub marked_configs : (id : ℕ) (on : Bool) (xs : List Live) → configs_of (map (marked id on) xs) ≡ configs_of xs
-marked_configs id on [] = refl
-marked_configs id on (x ∷ xs) =
-    ap (λ (config : CellConfig). config ∷ configs_of (map (marked id on) xs)) (config_kept (has_id id x) on x)
-    ∙ ap (λ (rest : List CellConfig). x.config ∷ rest) (marked_configs id on xs)
-
 marked_none : (id : ℕ) (on : Bool) (xs : List Live) → ((k : ℕ) (d : Live) → k < length xs → has_id id (get_or xs k d) ≡ false) → marks_of (map (marked id on) xs) ≡ marks_of xs
 marked_none id on [] h = refl
 marked_none id on (x ∷ xs) h =
@@ -157,7 +148,7 @@ tell_dropped id gone (x ∷ xs) =
 
 -- a mark changes no id
 same_id : (id set : ℕ) (on : Bool) (live : Live) → has_id id (marked set on live) ≡ has_id id live
-same_id id set on live = ap (λ (config : CellConfig). config.id == id) (config_kept (has_id set live) on live)
+same_id id set on live = ap (λ (config : CellConfig). config.id == id) (config_marked (has_id set live) on live)
 
 same_ids : (id set : ℕ) (on : Bool) → ◌≡◌ {A = Live → Bool} (λ live. has_id id (marked set on live)) (has_id id)
 same_ids id set on = λ i live. same_id id set on live i

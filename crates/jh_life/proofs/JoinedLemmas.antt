@@ -4,54 +4,22 @@ use Rattle.std.specs.Prelude.{option_map}
 use Rattle.std.specs.List.{position_or_len}
 use Rattle.std.proofs.lemmas.Bool.Decides.{nat_tests}
 use Rattle.std.proofs.lemmas.List.{length_push, map_push, get_or-map}
+use Rattle.std.proofs.lemmas.List.Edits.{length-remove}
 use Rattle.std.proofs.lemmas.List.Sums.{sum_by_push, sum_by-remove}
 use Rattle.std.proofs.lemmas.List.Quantifiers.{all_pairs_push, all_pairs_remove}
 use Rattle.jh_num.proofs.Lists.{list_any_false, read_again}
 use Rattle.jh_cellcfg.specs.declared.config.CellConfig.{CellConfig}
-use Rattle.jh_cellcfg.specs.declared.live.Live.{Live}
 use Rattle.jh_check.specs.Refusals.{is_namesake, is_known, AreTwo}
 use Rattle.jh_life.specs.Lives.{marks_of}
-use Rattle.jh_shape.specs.Lives.{configs_of, with_marks}
+use Rattle.jh_shape.specs.Lives.{with_marks}
 use Rattle.jh_life.specs.SoundRecords.{AreSoundRecords}
 use Rattle.jh_shape.proofs.PageLemmas.{own_pages}
-
-abbrev live_of : CellConfig → Bool → Live
-live_of config mark = record { config = config; loadable = mark }
-
-pub list_joined : (configs : List CellConfig) (marks : List Bool) → length marks ≡ length configs → configs_of (with_marks configs marks) ≡ configs
-list_joined [] marks e = refl
-list_joined (c ∷ cs) [] e = absurd (omega arith)
-list_joined (c ∷ cs) (m ∷ ms) e = ap (λ (rest : List CellConfig). c ∷ rest) (list_joined cs ms (omega arith))
 
 pub marks_joined : (configs : List CellConfig) (marks : List Bool) → length marks ≡ length configs → marks_of (with_marks configs marks) ≡ marks
 marks_joined [] [] e = refl
 marks_joined [] (m ∷ ms) e = absurd (omega arith)
 marks_joined (c ∷ cs) [] e = absurd (omega arith)
 marks_joined (c ∷ cs) (m ∷ ms) e = ap (λ (rest : List Bool). m ∷ rest) (marks_joined cs ms (omega arith))
-
-pub length_joined : (configs : List CellConfig) (marks : List Bool) → length marks ≡ length configs → length (with_marks configs marks) ≡ length configs
-length_joined [] marks e = refl
-length_joined (c ∷ cs) [] e = absurd (omega arith)
-length_joined (c ∷ cs) (m ∷ ms) e = ap (λ n. suc n) (length_joined cs ms (omega arith))
-
--- one more at the end
-pub joined_push : (configs : List CellConfig) (marks : List Bool) (config : CellConfig) (mark : Bool) → length marks ≡ length configs → with_marks (configs ++ config ∷ []) (marks ++ mark ∷ []) ≡ with_marks configs marks ++ live_of config mark ∷ []
-joined_push [] [] config mark e = refl
-joined_push [] (m ∷ ms) config mark e = absurd (omega arith)
-joined_push (c ∷ cs) [] config mark e = absurd (omega arith)
-joined_push (c ∷ cs) (m ∷ ms) config mark e = ap (λ (rest : List Live). live_of c m ∷ rest) (joined_push cs ms config mark (omega arith))
-
--- one less
-pub joined_remove : (i : ℕ) (configs : List CellConfig) (marks : List Bool) → length marks ≡ length configs → i < length configs → with_marks (remove configs i) (remove marks i) ≡ remove (with_marks configs marks) i
-joined_remove i [] marks e l = absurd (omega arith)
-joined_remove i (c ∷ cs) [] e l = absurd (omega arith)
-joined_remove zero (c ∷ cs) (m ∷ ms) e l = refl
-joined_remove (suc i) (c ∷ cs) (m ∷ ms) e l = ap (λ (rest : List Live). live_of c m ∷ rest) (joined_remove i cs ms (omega arith) (omega arith))
-
-pub length_removed : {X : Type 0} (i : ℕ) (xs : List X) → i < length xs → suc (length (remove xs i)) ≡ length xs
-length_removed i [] l = absurd (omega arith)
-length_removed zero (x ∷ xs) l = refl
-length_removed (suc i) (x ∷ xs) l = ap (λ n. suc n) (length_removed i xs (omega arith))
 
 -- the records stand at each change
 pub stands_push : (root : CellConfig) (configs : List CellConfig) (marks : List Bool) (own : List ℕ) (taken : ℕ) (new : CellConfig) (more : ℕ) → AreSoundRecords root configs marks own taken → length configs < 15 → is_known (root ∷ configs) new ≡ false → more ≡ own_pages new → AreSoundRecords root (configs ++ new ∷ []) (marks ++ false ∷ []) (own ++ more ∷ []) (taken + more)
@@ -84,8 +52,8 @@ pub stands_remove : (root : CellConfig) (configs : List CellConfig) (marks : Lis
 stands_remove root configs marks own taken i e gone h l is =
     let even = h.even in
     let few = h.few in
-    let a = length_removed i configs l in
-    let b = length_removed i marks (omega arith) in
+    let a = length-remove configs i l in
+    let b = length-remove marks i (omega arith) in
     let among : sum_by own_pages (remove configs i) + gone ≡ taken = own_among root configs marks own taken i e gone h l is in
     record {
       even = omega arith;

@@ -8,8 +8,8 @@ use Rattle.jh_cellcfg.specs.declared.live.Live.{Live}
 use Rattle.jh_cellcfg.specs.Lives.{has_id}
 use Rattle.jh_life.specs.Lives.{new_live}
 use Rattle.jh_shape.specs.Lives.{configs_of, marked}
+use Rattle.jh_shape.proofs.JoinedLemmas.{configs_marked}
 use Rattle.jh_life.specs.Changes.{CellChange, Created, Dropped, Marked, without, after, is_left_alone, lasting}
-use Rattle.jh_life.proofs.ChangeLemmas.{marked_configs}
 
 none_dropped : (configs : List CellConfig) → filter (is_left_alone []) configs ≡ configs
 none_dropped [] = refl
@@ -53,4 +53,4 @@ listed (Created config ∷ changes) lives = listed changes (after lives (Created
 listed (Dropped id ∷ changes) lives =
     listed changes (without id lives) ∙ ap (λ (configs : List CellConfig). configs ++ lasting changes) (dropped id changes lives)
 listed (Marked id on ∷ changes) lives =
-    listed changes (map (marked id on) lives) ∙ ap (λ (configs : List CellConfig). filter (is_left_alone changes) configs ++ lasting changes) (marked_configs id on lives)
+    listed changes (map (marked id on) lives) ∙ ap (λ (configs : List CellConfig). filter (is_left_alone changes) configs ++ lasting changes) (configs_marked id on lives)

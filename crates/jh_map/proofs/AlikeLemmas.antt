@@ -7,9 +7,10 @@ use Rattle.std.proofs.lemmas.List.Elements.{All-contains}
 use Rattle.jh_num.proofs.Lists.{Contains_cases, Contains_head, Contains_tail}
 use Rattle.jh_cellcfg.specs.declared.region.Region.{Region}
 use Rattle.jh_cellcfg.specs.Regions.{is_comm, place_in, byte_in}
+use Rattle.jh_cellcfg.proofs.AddressLemmas.{has_address_first}
 use Rattle.jh_map.specs.declared.run.Run.{Run}
 use Rattle.jh_map.specs.Maps.{is_granted, leads_to, IsIn, IsRunOf, IsRunIn, EndsBefore, IsMap}
-use Rattle.jh_map.proofs.MapLemmas.{first_granted, granted_has, has_low}
+use Rattle.jh_map.proofs.MapLemmas.{first_granted, granted_has}
 
 -- two runs of one region that have an address in common have the same ends
 not_earlier : (closed : ℕ → Bool) (r : Region) (one other : Run) (at : ℕ) → IsRunOf closed r one → IsRunOf closed r other → IsIn one at → IsIn other at → one.start < other.start → ⊥
@@ -47,7 +48,7 @@ leads_on r start at low first = leads_on_by (is_comm r) r start at low first
 -- where the address leads, by the run that has it
 pub leads_behind : (closed : ℕ → Bool) (r : Region) (run : Run) (at : ℕ) → IsRunOf closed r run → IsIn run at → leads_to r at ≡ run.place + (at - run.start)
 leads_behind closed r run at of has =
-    let start = has_low r run.start (granted_has closed r run.start (first_granted closed r run of)) in
+    let start = has_address_first r run.start (granted_has closed r run.start (first_granted closed r run of)) in
     let first = has.first in
     leads_on r run.start at start first ∙ ap (λ p. p + (at - run.start)) (sym of.place)
 

@@ -3,27 +3,16 @@ use Rattle.std.proofs.Common.{◌≡◌, ℕ, ◌+◌, ◌-◌, ◌<◌, ◌≤�
 use Rattle.std.specs.Prelude.{AllPairs, Contains}
 use Rattle.std.specs.List.Sorted.{IsPermutation, IsNonDecreasingBy}
 use Rattle.std.proofs.lemmas.Bool.{and_parts, cases_lt}
-use Rattle.std.proofs.lemmas.Bool.Decides.{nat_tests}
 use Rattle.std.proofs.lemmas.List.{get_or-take, get_or_default, take_more, length-take-le}
 use Rattle.std.proofs.lemmas.List.Elements.{All-weaker, All-append, Contains-append_left, Contains-append_right, Contains-append_cases}
 use Rattle.std.proofs.lemmas.List.Sorted.{Contains-permutation, IsPermutation-sym}
 use Rattle.jh_num.proofs.Lists.{Contains_cases}
 use Rattle.jh_cellcfg.specs.declared.region.Region.{Region}
-use Rattle.jh_cellcfg.specs.Regions.{has_address, is_comm, place_in, virt_end}
-use Rattle.jh_check.specs.Clean.{SharesNoAddress}
+use Rattle.jh_cellcfg.specs.Regions.{has_address, is_comm, place_in, SharesNoAddress}
+use Rattle.jh_cellcfg.proofs.AddressLemmas.{has_address_first, has_address_last, has_address_from}
 use Rattle.jh_map.specs.declared.run.Run.{Run}
 use Rattle.jh_map.specs.Maps.{is_granted, IsRunOf, IsRunIn, IsInRun, EndsBefore, IsMap}
 use Rattle.jh_map.proofs.ListLemmas.{all_pairs_append, all_pairs_moved}
-
--- an address between the region's ends is its own
-pub has_low : (r : Region) (at : ℕ) → has_address r at ≡ true → r.virt_start ≤ at
-has_low r at h = grind (arith, nat_tests)
-
-pub has_high : (r : Region) (at : ℕ) → has_address r at ≡ true → at < virt_end r
-has_high r at h = grind (arith, nat_tests)
-
-pub has_from : (r : Region) (at : ℕ) → r.virt_start ≤ at → at < virt_end r → has_address r at ≡ true
-has_from r at low high = grind (arith, nat_tests)
 
 -- an address that is granted is the region's
 pub granted_has : (closed : ℕ → Bool) (r : Region) (at : ℕ) → is_granted closed r at ≡ true → has_address r at ≡ true
@@ -96,12 +85,12 @@ unfolding Precedes
 precedes closed r s le apart a b a_is b_is =
     let a_has = granted_has closed r a a_is in
     let b_has = granted_has closed s b b_is in
-    let a_high = has_high r a a_has in
-    let b_low = has_low s b b_has in
-    let b_high = has_high s b b_has in
+    let a_high = has_address_last r a a_has in
+    let b_low = has_address_first s b b_has in
+    let b_high = has_address_last s b b_has in
     ⊎_elim
     (λ (lt : a < b). lt)
-    (λ (ge : b ≤ a). absurd (apart s.virt_start (has_from r s.virt_start le (omega arith)) (has_from s s.virt_start (omega arith) (omega arith))))
+    (λ (ge : b ≤ a). absurd (apart s.virt_start (has_address_from r s.virt_start le (omega arith)) (has_address_from s s.virt_start (omega arith) (omega arith))))
     (cases_lt a b)
 
 flip_apart : (r s : Region) → SharesNoAddress r s → SharesNoAddress s r

@@ -11,10 +11,11 @@ use Rattle.jh_num.proofs.BytesLemmas.{within_range, not_empty_at, ends_before}
 use Rattle.jh_num.proofs.Lists.{IsFound_from_list_any, list_any_from_Contains, Contains_map, Contains_head}
 use Rattle.jh_cellcfg.specs.declared.region.Region.{Region}
 use Rattle.jh_cellcfg.specs.Regions.{has_address, has_place, is_comm, place_in, byte_in, virt_end, phys_end, IsInRange}
+use Rattle.jh_cellcfg.proofs.AddressLemmas.{has_address_first, has_address_last, has_address_from}
 use Rattle.jh_map.specs.declared.run.Run.{Run}
 use Rattle.jh_map.specs.Maps.{is_granted, IsRunOf, IsRunIn, IsInRun, EndsBefore, IsMap}
 use Rattle.jh_map.specs.Private.Places.{AreFree, run_to}
-use Rattle.jh_map.proofs.MapLemmas.{has_low, has_high, has_from, granted_has, alone}
+use Rattle.jh_map.proofs.MapLemmas.{granted_has, alone}
 
 -- one run has all that a region grants
 pub whole_map : (closed : ℕ → Bool) (r : Region) (run : Run) → IsRunOf closed r run → run.start ≡ r.virt_start → run.end ≡ virt_end r → IsMap closed (r ∷ []) (run ∷ [])
@@ -25,8 +26,8 @@ whole_map closed r run of start end = record {
       let P : Region → Type 0 = λ x. is_granted closed x at ≡ true in
       let Q : Region → Type 0 = λ x. IsRunOf closed x run in
       let has = granted_has closed r at (subst P (sym same) granted) in
-      let low = has_low r at has in
-      let high = has_high r at has in
+      let low = has_address_first r at has in
+      let high = has_address_last r at has in
       record { run = run; held = Contains_head run []; of = subst Q same of; has = record { first = omega arith; last = omega arith } };
   order = λ i j d lt jl. absurd (omega arith);
 }
@@ -149,15 +150,15 @@ left_as b false w e is = absurd (both_ways false refl e)
 
 granted_is : (closed : ℕ → Bool) (r : Region) (ranges : List Range) (at : ℕ) → AreLeft closed r ranges → has_address r at ≡ true → is_granted closed r at ≡ has_byte ranges (place_in r at)
 granted_is closed r ranges at left has =
-    let low = has_low r at has in
-    let high = has_high r at has in
+    let low = has_address_first r at has in
+    let high = has_address_last r at has in
     let own = place_from r (place_in r at) (omega arith) (omega arith) in
     granted_as (has_address r at) (is_comm r) (closed (place_in r at)) left.no_comm has ∙ sym (left_as (closed (place_in r at)) (has_place r (place_in r at)) (has_byte ranges (place_in r at)) own (left.bytes (place_in r at)))
 
 -- and isn't where it isn't
 not_granted : (closed : ℕ → Bool) (r : Region) (ranges : List Range) (at p : ℕ) → AreLeft closed r ranges → (r.virt_start ≤ at → place_in r at ≡ p) → has_byte ranges p ≡ false → is_granted closed r at ≡ false
 not_granted closed r ranges at p left leads none = ⊎_elim
-    (λ (has : has_address r at ≡ true). granted_is closed r ranges at left has ∙ ap (has_byte ranges) (leads (has_low r at has)) ∙ none)
+    (λ (has : has_address r at ≡ true). granted_is closed r ranges at left has ∙ ap (has_byte ranges) (leads (has_address_first r at has)) ∙ none)
     (λ (lacks : has_address r at ≡ false). and_left (has_address r at) (is_comm r || not (closed (place_in r at))) lacks)
     (cases_Bool (has_address r at))
 
@@ -174,7 +175,7 @@ run_of closed r ranges x left is low high =
       each = λ at has.
           let first = has.first in
           let last = has.last in
-          let own = has_from r at (omega arith) (omega arith) in
+          let own = has_address_from r at (omega arith) (omega arith) in
           granted_is closed r ranges at left own ∙ is.each (place_in r at) (omega arith) (omega arith);
       before = λ at e. before_run at e;
       behind = not_granted closed r ranges (run_to r x).end x.end left (λ le. omega arith) is.behind;
@@ -187,7 +188,7 @@ run_of closed r ranges x left is low high =
     before_run : (at : ℕ) → at + 1 ≡ (run_to r x).start → is_granted closed r at ≡ false
     before_run at e = ⊎_elim
         (λ (has : has_address r at ≡ true).
-        let at_low = has_low r at has in
+        let at_low = has_address_first r at has in
         granted_is closed r ranges at left has ∙ is.before (place_in r at) (omega arith))
         (λ (lacks : has_address r at ≡ false). and_left (has_address r at) (is_comm r || not (closed (place_in r at))) lacks)
         (cases_Bool (has_address r at))
@@ -196,7 +197,7 @@ run_of closed r ranges x left is low high =
 told_at : (closed : ℕ → Bool) (r : Region) (ranges : List Range) (at : ℕ) → AreLeft closed r ranges → All (λ (x : Range). (r.phys_start ≤ x.start) × (x.end ≤ phys_end r)) ranges → is_granted closed r at ≡ true → IsInRun closed (map (run_to r) ranges) r at
 told_at closed r ranges at left own granted =
     let has = granted_has closed r at granted in
-    let low = has_low r at has in
+    let low = has_address_first r at has in
     let found = IsFound_from_list_any (λ (x : Range). in_range x (place_in r at)) ranges (sym (granted_is closed r ranges at left has) ∙ granted) in
     let x : Range = found.0 in
     let held = found.1.held in

@@ -5,8 +5,7 @@ ghost use Rattle.jh_num.specs.Bytes.{has_byte, AreApart};
 ghost use Rattle.jh_num.specs.declared.address.TheConstants.{ADDRESS_END as address_end};
 ghost use Rattle.jh_num.specs.declared.range.Range.{Range as TheRange};
 ghost use Rattle.jh_cellcfg.specs.declared.region.Region.{Region as TheRegion};
-ghost use Rattle.jh_cellcfg.specs.Regions.{has_place, is_comm, phys_end, virt_end, IsInRange};
-ghost use Rattle.jh_check.specs.Clean.{SharesNoAddress};
+ghost use Rattle.jh_cellcfg.specs.Regions.{has_place, is_comm, phys_end, virt_end, IsInRange, SharesNoAddress};
 ghost use Rattle.jh_map.specs.Maps.{IsRunOf, IsMap};
 ghost use Rattle.jh_map.specs.Private.Places.{AreFree, run_to};
 

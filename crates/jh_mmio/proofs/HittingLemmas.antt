@@ -1,36 +1,20 @@
 -- What answers, by the region or the window that is found.
-use Rattle.std.proofs.Common.{◌≡◌, ℕ, ◌<◌, Bool, true, false, ◌&&◌, not, cond, ltb, List, Option, Some, None, length, get_or, refl, sym, ◌∙◌, ap, subst, arith, IsTrue}
+use Rattle.std.proofs.Common.{◌≡◌, ℕ, ◌<◌, Bool, true, false, ◌&&◌, not, cond, List, Option, Some, None, length, get_or, refl, sym, ◌∙◌, ap, subst, arith, IsTrue}
 use Rattle.std.specs.Prelude.{find, position, slice_get}
-use Rattle.std.specs.List.{position_or_len}
 use Rattle.std.specs.Option.{option_map_or}
-use Rattle.std.proofs.lemmas.Bool.{lt-ltb, le-ltb, and_parts, and_from, not-true, false_from_ne_true, both_ways}
+use Rattle.std.proofs.lemmas.Bool.{and_parts, and_from, not-true, false_from_ne_true, both_ways}
 use Rattle.std.proofs.lemmas.Option.{none-some, same_Some, slice_get-get_or}
-use Rattle.std.proofs.lemmas.List.Sums.{position_or_len_is}
-use Rattle.jh_num.proofs.Lists.{IsFound_from_find, find_None}
+use Rattle.jh_num.proofs.Lists.{IsFound_from_find, find_None, position_here, position_nowhere}
 use Rattle.jh_num.specs.declared.range.Range.{Range}
 use Rattle.jh_cellcfg.specs.declared.region.Region.{Region}
 use Rattle.jh_cellcfg.specs.Regions.{has_address, has_size, is_page_mapped, virt_end}
+use Rattle.jh_cellcfg.proofs.AddressLemmas.{has_address_from}
 use Rattle.jh_mmio.specs.declared.hitting.Window.{Window}
 use Rattle.jh_mmio.specs.declared.hitting.Hitting.TheVariants.{Subpage, Nothing}
 use Rattle.jh_mmio.specs.Index.{IsNumberAt, IsRegionAt}
 use Rattle.jh_mmio.specs.Dispatch.{lies_between, is_at_closed, takes_all, has_whole, unless_closed, has_right, lets_through, by_subpage, by_ecam, by_window, window_has, behind_regions, hitting}
 use Rattle.jh_num.specs.Numbers.{item_number}
 use Rattle.jh_mmio.proofs.AccessLemmas.{lies_parts}
-use Rattle.jh_mmio.proofs.IndexLemmas.{has_address_from}
-
--- the first that passes, where none before does
-pub position_here : {X : Type 0} (p : X → Bool) (xs : List X) (k : ℕ) (d : X) → k < length xs → ((j : ℕ) → j < k → p (get_or xs j d) ≡ false) → p (get_or xs k d) ≡ true → Some k ≡ position p xs
-position_here p xs k d lt before passes =
-    let first : position_or_len p xs ≡ k = position_or_len_is p xs k d (omega arith) before (λ h. passes) in
-    let test : ltb k (length xs) ≡ true = lt-ltb k (length xs) lt in
-    sym (ap (λ m. cond (ltb m (length xs)) (Some m) None) first ∙ ap (λ b. cond b (Some k) None) test)
-
--- and none, where none passes
-pub position_nowhere : {X : Type 0} (p : X → Bool) (xs : List X) (d : X) → ((j : ℕ) → j < length xs → p (get_or xs j d) ≡ false) → None ≡ position p xs
-position_nowhere p xs d none =
-    let first : position_or_len p xs ≡ length xs = position_or_len_is p xs (length xs) d (omega arith) none (λ h. absurd (omega arith)) in
-    let test : ltb (length xs) (length xs) ≡ false = le-ltb (length xs) (length xs) (omega arith) in
-    sym (ap (λ m. cond (ltb m (length xs)) (Some m) None) first ∙ ap (λ b. cond b (Some (length xs)) None) test)
 
 -- a region that has all bytes has the first
 pub takes_all_has : (closed : ℕ → Bool) (at n : ℕ) (r : Region) → 0 < n → takes_all closed at n r ≡ true → IsTrue (has_address r at)

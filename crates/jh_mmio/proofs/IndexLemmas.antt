@@ -1,5 +1,5 @@
 -- The search by halving finds the one region that has the address.
-use Rattle.std.proofs.Common.{◌≡◌, ℕ, ◌+◌, ◌-◌, ◌<◌, ◌≤◌, List, true, false, leb, Option, Some, None, refl, sym, ◌∙◌, ap, subst, inl, inr, arith, length, get_or}
+use Rattle.std.proofs.Common.{◌≡◌, ℕ, ◌-◌, ◌<◌, ◌≤◌, List, true, false, leb, Option, Some, None, refl, sym, ◌∙◌, ap, subst, inl, inr, arith, length, get_or}
 use Rattle.std.specs.Prelude.{slice_get, AllPairs, Contains, IsTrue, IsPermutation}
 use Rattle.std.specs.Option.{option_map_or}
 use Rattle.std.specs.List.Sorted.{IsPartitionPoint, IsNonDecreasingBy}
@@ -8,19 +8,11 @@ use Rattle.std.proofs.lemmas.Bool.Decides.{nat_tests}
 use Rattle.std.proofs.lemmas.Option.{slice_get_within, get_or_from_slice_get, slice_get-get_or}
 use Rattle.std.proofs.lemmas.List.Sorted.{Contains-permutation, All-permutation}
 use Rattle.jh_cellcfg.specs.declared.region.Region.{Region}
-use Rattle.jh_cellcfg.specs.Regions.{has_address}
-use Rattle.jh_mmio.specs.Index.{SharesNoAddress, IsNumberAt, AreNumbers, IsOrder, size_at, start_at}
+use Rattle.jh_cellcfg.specs.Regions.{has_address, SharesNoAddress}
+use Rattle.jh_cellcfg.proofs.AddressLemmas.{has_address_first, has_address_last, has_address_from}
+use Rattle.jh_mmio.specs.Index.{IsNumberAt, AreNumbers, IsOrder, size_at, start_at}
 
-address_low : (r : Region) (at : ℕ) → IsTrue (has_address r at) → r.virt_start ≤ at
-address_low r at h = grind (arith, nat_tests)
-
-address_high : (r : Region) (at : ℕ) → IsTrue (has_address r at) → at < r.virt_start + r.size
-address_high r at h = grind (arith, nat_tests)
-
-pub has_address_from : (r : Region) (at : ℕ) → r.virt_start ≤ at → at < r.virt_start + r.size → IsTrue (has_address r at)
-has_address_from r at low high = grind (arith, nat_tests)
-
-leb_at : (a b : ℕ) → leb a b ≡ true → a ≤ b
+pub leb_at : (a b : ℕ) → leb a b ≡ true → a ≤ b
 leb_at a b h = grind (arith, nat_tests)
 
 leb_not : (a b : ℕ) → leb a b ≡ false → a ≤ b → ⊥
@@ -53,8 +45,8 @@ one_number regions k c r s at apart k_is c_is in_r in_s = elim (cases_lt k c) [
 place_before : (regions : List Region) (order : List ℕ) (at n : ℕ) → IsOrder regions order → IsPartitionPoint (λ k. leb (start_at regions k) at ≡ true) (λ k. leb (start_at regions k) at ≡ false) order n
     → (k : ℕ) (r : Region) → slice_get regions k ≡ Some r → IsTrue (has_address r at) → (j : ℕ) × (j < n) × (j < length order) × (get_or order j 0 ≡ k)
 place_before regions order at n is point k r k_is has =
-    let low = address_low r at has in
-    let high = address_high r at has in
+    let low = has_address_first r at has in
+    let high = has_address_last r at has in
     let size : size_at regions k ≡ r.size = ap (λ (o : Option Region). option_map_or (λ (x : Region). x.size) o 0) k_is in
     let start : start_at regions k ≡ r.virt_start = ap (λ (o : Option Region). option_map_or (λ (x : Region). x.virt_start) o 0) k_is in
     let listed : Contains order k = is.whole k (omega arith) in
@@ -93,7 +85,7 @@ only_before regions order at n is apart point some within k r k_is has =
     let c_size : size_at regions c ≡ s.size = ap (λ (o : Option Region). option_map_or (λ (x : Region). x.size) o 0) c_is in
     let c_start : start_at regions c ≡ s.virt_start = ap (λ (o : Option Region). option_map_or (λ (x : Region). x.virt_start) o 0) c_is in
     let c_some : 0 < size_at regions c = is.some (n - 1) 0 last in
-    let high = address_high r at has in
+    let high = has_address_last r at has in
     one_number regions k c r s s.virt_start apart k_is c_is (has_address_from r s.virt_start (omega arith) (omega arith)) (has_address_from s s.virt_start (omega arith) (omega arith))
 
 pub IsNumberAt_none : (regions : List Region) (order : List ℕ) (at n : ℕ) → IsOrder regions order → IsPartitionPoint (λ k. leb (start_at regions k) at ≡ true) (λ k. leb (start_at regions k) at ≡ false) order n

@@ -6,21 +6,18 @@ use Rattle.std.specs.Option.{option_map_or}
 use Rattle.std.proofs.lemmas.Bool.{ltb-true, and_parts, false_from_ne_true, both_ways}
 use Rattle.std.proofs.lemmas.Option.{none-some, same_Some, slice_get-get_or, slice_get_within, get_or_from_slice_get}
 use Rattle.std.proofs.lemmas.List.Sums.{passes_at_first}
-use Rattle.jh_num.proofs.Lists.{list_any_from_Contains}
+use Rattle.jh_num.proofs.Lists.{list_any_from_Contains, position_here}
 use Rattle.jh_num.specs.declared.range.Range.{Range}
 use Rattle.jh_cellcfg.specs.declared.region.Region.{Region}
-use Rattle.jh_cellcfg.specs.Regions.{has_address, has_size, is_page_mapped, is_comm, place_in, virt_end}
+use Rattle.jh_cellcfg.specs.Regions.{has_address, has_size, is_page_mapped, is_comm, place_in, virt_end, SharesNoAddress}
+use Rattle.jh_cellcfg.proofs.AddressLemmas.{no_region}
 use Rattle.jh_mmio.specs.declared.hitting.Window.{Window}
 use Rattle.jh_mmio.specs.declared.hitting.Hitting.TheVariants.{Subpage, Ecam, Bar, Nothing}
-use Rattle.jh_mmio.specs.Index.{SharesNoAddress}
 use Rattle.jh_mmio.specs.Dispatch.{IsLetThrough, lies_between, is_at_closed, takes_all, lets_through, by_subpage, by_ecam, by_window, window_has, behind_regions, hitting}
 use Rattle.jh_num.specs.Numbers.{item_number}
 use Rattle.jh_mmio.proofs.AccessLemmas.{byte_of}
 use Rattle.jh_mmio.proofs.IndexLemmas.{one_number}
-use Rattle.jh_mmio.proofs.HittingLemmas.{position_here, takes_all_has}
-
-past : Region
-past = record { phys_start = 0; virt_start = 0; size = 0; flags = 0 }
+use Rattle.jh_mmio.proofs.HittingLemmas.{takes_all_has}
 
 hit_by : {X : Type 0} (p : X → Bool) (xs : List X) (k : ℕ) (d : X) (b : Bool) → ltb (position_or_len p xs) (length xs) ≡ b → cond b (Some (position_or_len p xs)) None ≡ Some k → (k < length xs) × (p (get_or xs k d) ≡ true)
 hit_by p xs k d true e h =
@@ -74,9 +71,9 @@ unfolding hitting
 it_answers regions closed ecam windows at n write told h =
     let a = answers_by regions ecam windows at n write (position (takes_all closed at n) regions) told h in
     let k : ℕ = a.number in
-    let hit = position_hit (takes_all closed at n) regions k past a.it in
-    let r : Region = get_or regions k past in
-    let is : slice_get regions k ≡ Some r = slice_get-get_or regions k past hit.0 in
+    let hit = position_hit (takes_all closed at n) regions k no_region a.it in
+    let r : Region = get_or regions k no_region in
+    let is : slice_get regions k ≡ Some r = slice_get-get_or regions k no_region hit.0 in
     (k, r, a.tells, is, hit.1, sym (ap (λ (o : Option Region). option_map_or (lets_through at n write) o false) is) ∙ a.lets)
 
 pub only_answers : (regions : List Region) (closed : ℕ → Bool) (ecam : Range) (windows : List Window) (at n : ℕ) (write : Bool) (told : ℕ) → AllPairs SharesNoAddress regions → 0 < n → hitting regions closed ecam windows at n write ≡ Subpage told

@@ -1,4 +1,4 @@
-mod IndexLemmas
+pub mod IndexLemmas
 pub mod AccessLemmas
 mod HittingLemmas
 mod LawLemmas

@@ -5,10 +5,6 @@ use Rattle.std.specs.Option.{option_map_or}
 use Rattle.jh_cellcfg.specs.declared.region.Region.{Region}
 use Rattle.jh_cellcfg.specs.Regions.{has_address}
 
--- no address is one of both regions
-abbrev pub SharesNoAddress : Region → Region → Type 0
-SharesNoAddress r s = (at : ℕ) → IsTrue (has_address r at) → IsTrue (has_address s at) → ⊥
-
 -- no region but the one found can have the address
 pub record IsRegionAt (regions : List Region) (at : ℕ) (found : Option Region) : Type 0 where
   pub own : IfSome found (Contains regions)

@@ -3,10 +3,9 @@
 ghost use Rattle.std.specs.Prelude.{◌≡◌, ℕ, ◌+◌, ◌<◌, ◌≤◌, List, AllPairs, Some, slice_get, IsTrue, Bool, true, false};
 ghost use Rattle.jh_num.specs.declared.range.Range.{Range as TheRange};
 ghost use Rattle.jh_cellcfg.specs.declared.region.Region.{Region as TheRegion};
-ghost use Rattle.jh_cellcfg.specs.Regions.{has_address, is_comm, place_in};
+ghost use Rattle.jh_cellcfg.specs.Regions.{has_address, is_comm, place_in, SharesNoAddress};
 ghost use Rattle.jh_mmio.specs.declared.hitting.Window.{Window as TheWindow};
 ghost use Rattle.jh_mmio.specs.declared.hitting.Hitting.TheVariants.{Subpage as TheSubpage, Nothing as NoAnswer};
-ghost use Rattle.jh_mmio.specs.Index.{SharesNoAddress};
 ghost use Rattle.jh_mmio.specs.Dispatch.{takes_all, lets_through, IsLetThrough, hitting};
 ghost use Rattle.jh_num.specs.Numbers.{item_number};
 

@@ -9,3 +9,4 @@ mod SearchLemmas
 pub mod MemoryLemmas
 pub mod Booleans
 pub mod Lists
+pub mod Results

@@ -1,12 +1,13 @@
 -- What an element of a list tells of `find`, `list_any`, `filter` and `map`, and what they tell of one.
 -- What std has of them stands in `std.proofs.lemmas.List.Elements` (`Contains-append_left`,
 -- `All-contains`, `filter_passes` ..) and `.Folds` (`find-append`, `list_any-append`, `list_any_more` ..).
-use Rattle.std.proofs.Common.{◌≡◌, ℕ, zero, suc, ◌+◌, ◌<◌, Bool, true, false, cond, not, ◌||◌, List, [], ◌∷◌, ◌++◌, length, get_or, drop, map, Option, Some, None, refl, sym, ap, subst, ◌∙◌, inl, inr, ◌⊎◌, ⊎_elim, arith}
-use Rattle.std.specs.Prelude.{slice_get, filter, option_map, is_none}
-use Rattle.std.specs.List.{find, list_any, list_all, Contains, All}
-use Rattle.std.proofs.lemmas.Bool.{cases_Bool, both_ways, or_left, or_right, or_cases, and_parts, and_from}
+use Rattle.std.proofs.Common.{◌≡◌, ℕ, ltb, zero, suc, ◌+◌, ◌<◌, Bool, true, false, cond, not, ◌||◌, List, [], ◌∷◌, ◌++◌, length, get_or, drop, map, Option, Some, None, refl, sym, ap, subst, ◌∙◌, inl, inr, ◌⊎◌, ⊎_elim, arith}
+use Rattle.std.specs.Prelude.{slice_get, filter, option_map, is_none, position}
+use Rattle.std.specs.List.{find, list_any, list_all, Contains, All, position_or_len}
+use Rattle.std.proofs.lemmas.Bool.{cases_Bool, both_ways, or_left, or_right, or_cases, and_parts, and_from, false_from_ne_true, lt-ltb, le-ltb}
 use Rattle.std.proofs.lemmas.Option.{none-some, same_Some, slice_get-get_or, slice_get_past, get_or_from_slice_get}
 use Rattle.std.proofs.lemmas.List.{drop_more, drop_all}
+use Rattle.std.proofs.lemmas.List.Sums.{position_or_len_is}
 use Rattle.std.proofs.lemmas.List.Elements.{All-contains}
 use Rattle.std.proofs.lemmas.List.Folds.{list_any_at, Any-from_list_any}
 
@@ -217,3 +218,30 @@ Contains_filter {X} p (y ∷ ys) x h passes =
 -- an element read by its own default
 pub read_again : {X : Type 0} (xs : List X) (i : ℕ) (d : X) → i < length xs → get_or xs i d ≡ get_or xs i (get_or xs i d)
 read_again xs i d lt = sym (get_or_from_slice_get xs i (get_or xs i d) (get_or xs i d) (slice_get-get_or xs i d lt))
+
+-- what is kept has all that the test passes
+pub find_kept : {X : Type 0} (p keep : X → Bool) (xs : List X) → ((x : X) → p x ≡ true → keep x ≡ true) → find p (filter keep xs) ≡ find p xs
+find_kept p keep [] h = refl
+find_kept p keep (x ∷ xs) h = elim (cases_Bool (keep x)) as (λ _. find p (filter keep (x ∷ xs)) ≡ find p (x ∷ xs)) [
+  | inl stays ↦
+      ap (λ (b : Bool). find p (cond b (x ∷ filter keep xs) (filter keep xs))) stays
+      ∙ ap (λ o. cond (p x) (Some x) o) (find_kept p keep xs h)
+  | inr goes ↦
+      let fails : p x ≡ false = false_from_ne_true (p x) (λ passes. both_ways (keep x) goes (h x passes)) in
+      ap (λ (b : Bool). find p (cond b (x ∷ filter keep xs) (filter keep xs))) goes
+      ∙ find_kept p keep xs h
+      ∙ ap (λ (b : Bool). cond b (Some x) (find p xs)) (sym fails)
+]
+
+-- the place of the first that passes, and none where none does
+pub position_here : {X : Type 0} (p : X → Bool) (xs : List X) (k : ℕ) (d : X) → k < length xs → ((j : ℕ) → j < k → p (get_or xs j d) ≡ false) → p (get_or xs k d) ≡ true → Some k ≡ position p xs
+position_here p xs k d lt before passes =
+    let first : position_or_len p xs ≡ k = position_or_len_is p xs k d (omega arith) before (λ h. passes) in
+    let test : ltb k (length xs) ≡ true = lt-ltb k (length xs) lt in
+    sym (ap (λ m. cond (ltb m (length xs)) (Some m) None) first ∙ ap (λ b. cond b (Some k) None) test)
+
+pub position_nowhere : {X : Type 0} (p : X → Bool) (xs : List X) (d : X) → ((j : ℕ) → j < length xs → p (get_or xs j d) ≡ false) → None ≡ position p xs
+position_nowhere p xs d none =
+    let first : position_or_len p xs ≡ length xs = position_or_len_is p xs (length xs) d (omega arith) none (λ h. absurd (omega arith)) in
+    let test : ltb (length xs) (length xs) ≡ false = le-ltb (length xs) (length xs) (omega arith) in
+    sym (ap (λ m. cond (ltb m (length xs)) (Some m) None) first ∙ ap (λ b. cond b (Some (length xs)) None) test)

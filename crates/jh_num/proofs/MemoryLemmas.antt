@@ -2,7 +2,7 @@
 use Rattle.std.proofs.Common.{◌≡◌, ℕ, zero, suc, ◌+◌, ◌-◌, ◌*◌, ◌^◌, ◌<◌, ◌≤◌, List, [], ◌∷◌, length, map, slice_index, refl, sym, ap, ◌∙◌, add-one, leb, ltb, arith}
 use Rattle.std.proofs.lemmas.Bool.{le-leb, lt-leb, lt-ltb, le-ltb, and_right}
 use Rattle.std.proofs.lemmas.Grind.{pow_more}
-use Rattle.std.proofs.Math.Nat.{pow-le-pow_right, pow-suc, mul_assoc}
+use Rattle.std.proofs.Math.Nat.{one-le-pow, pow-le-pow_right, pow-suc, mul_assoc}
 use Rattle.jh_num.specs.Memory.{spelled, little_endian, stored}
 
 -- a value of one byte more
@@ -63,3 +63,7 @@ stored_before byte at bytes place below = rw (lt-leb at place below) refl
 -- and above
 pub stored_behind : (byte : ℕ → ℕ) (at : ℕ) (bytes : List ℕ) (place : ℕ) → at + length bytes ≤ place → stored byte at bytes place ≡ byte place
 stored_behind byte at bytes place above = rw (and_right (leb at place) (ltb place (at + length bytes)) (le-ltb place (at + length bytes) above)) refl
+
+-- zero has room in any number of bytes
+pub zero_fits : (n : ℕ) → 0 < 256 ^ n
+zero_fits n = let le : 1 ≤ 256 ^ n = one-le-pow n 256 (omega arith) in omega arith

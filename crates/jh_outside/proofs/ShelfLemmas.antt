@@ -19,14 +19,11 @@ use Rattle.indexmap.specs.IndexSet.{insert_key}
 abbrev pub Names : Type 0
 Names = names.FinMap (slice_cmp nat_cmp) (List ℕ)
 
-same_text : (a b : List ℕ) → bytes_eq a b ≡ true → a ≡ b
-same_text a b e = (bytes_eq-Decides a b).0 e
-
 other_text : (a b : List ℕ) → bytes_eq a b ≡ false → a ≡ b → ⊥
 other_text a b e same = true≢false (sym ((bytes_eq-Decides a b).1 same) ∙ e)
 
 tied_text : (a b : List ℕ) → eq_by_cmp (slice_cmp nat_cmp) a b ≡ true → a ≡ b
-tied_text a b e = same_text a b (sym (is_eq-slice_cmp a b) ∙ e)
+tied_text a b e = (bytes_eq-Decides a b).0 (sym (is_eq-slice_cmp a b) ∙ e)
 
 chosen_twice : {A : Type 0} (s : Bool) (u v w : A) → cond s u w ≡ cond s u (cond s v w)
 chosen_twice true u v w = refl
@@ -51,7 +48,7 @@ module _ (m : Names) (a b : List ℕ) (x y : List ℕ) where
 
   -- what is put later under the same name stands
   insert-same : bytes_eq b a ≡ true → names.insert m a y ≡ names.insert (names.insert m a x) b y
-  insert-same e = twice ∙ ap (λ k. names.insert (names.insert m a x) k y) (sym (same_text b a e))
+  insert-same e = twice ∙ ap (λ k. names.insert (names.insert m a x) k y) (sym ((bytes_eq-Decides b a).0 e))
 
   -- two names may be put in either order
   insert-other : bytes_eq b a ≡ false → names.insert (names.insert m b y) a x ≡ names.insert (names.insert m a x) b y

@@ -5,6 +5,7 @@ use Rattle.std.specs.Prelude.{map, ◌↔◌, not}
 use Rattle.std.proofs.lemmas.Bool.{cases_eq}
 use Rattle.std.proofs.lemmas.Bool.Decides.{nat_tests}
 use Rattle.std.proofs.lemmas.List.Sums.{sum_by-cons}
+use Rattle.jh_num.proofs.Booleans.{count_few}
 use Rattle.jh_pool.specs.Pages.{IsPageIn, IsTakenPage}
 use Rattle.jh_pool.specs.SoundPool.{often, IsSoundPool}
 use Rattle.jh_pool.proofs.ListLemmas.{often_from_any, none_from_any}
@@ -137,10 +138,6 @@ not_had : (b : Bool) → 0 < cond (not b) 1 0 → b ≡ false
 not_had true h = absurd (omega arith)
 not_had false h = refl
 
-not_most : (b : Bool) → cond (not b) 1 0 ≤ 1
-not_most true = omega arith
-not_most false = omega arith
-
 not_some : (b : Bool) → b ≡ false → 0 < cond (not b) 1 0
 not_some true h = cc
 not_some false h = omega arith
@@ -149,5 +146,5 @@ not_some false h = omega arith
 pub taken_pages : (base n capacity : ℕ) (xs : List ℕ) → IsSoundPool base n xs capacity → sum_by (λ q. cond (not (list_any (λ x. eqb x q) xs)) 1 0) (pages_from base 0 n) ≡ n - length xs
 taken_pages base n capacity xs stands =
     had_pages base n capacity xs (λ q. cond (not (list_any (λ x. eqb x q) xs)) 1 0) stands
-    (λ page at. not_most (list_any (λ x. eqb x page) xs))
+    (λ page at. count_few (list_any (λ x. eqb x page) xs))
     (λ page at. ((λ some. record { in_range = at; taken = not_had (list_any (λ x. eqb x page) xs) some }), (λ is. not_some (list_any (λ x. eqb x page) xs) is.taken)))

@@ -1,5 +1,5 @@
 -- How items and plays end, by the laws of journals.
-use Rattle.std.proofs.Common.{◌≡◌, ℕ, ◌+◌, ◌≤◌, List, [], ◌++◌, Bool, true, false, Option, None, refl, sym, ◌∙◌, ap, subst, length, arith}
+use Rattle.std.proofs.Common.{◌≡◌, ℕ, ◌+◌, ◌≤◌, List, [], ◌++◌, Bool, true, false, refl, sym, ◌∙◌, ap, subst, length, arith}
 use Rattle.std.specs.Prelude.{◌↔◌, IsSome}
 use Rattle.std.proofs.lemmas.Bool.{false≢true}
 use Rattle.jh_script.specs.declared.image.Image.{Image}
@@ -14,6 +14,7 @@ use Rattle.jh_run.specs.declared.ended.Ended.TheVariants.{Quiet, Full}
 use Rattle.jh_run.specs.Ends.{is_full}
 use Rattle.jh_run.specs.Private.Ran.{Ran}
 use Rattle.jh_run.specs.Plays.{IsBoardOf, Follows, Plays, IsFullAtItem, IsFullAtCpu}
+use Rattle.jh_laws.proofs.ReadyLemmas.{some_none}
 
 -- the laws on items, as they are stated
 abbrev pub LeadLaw : Type 0
@@ -65,9 +66,6 @@ Plays_from lead cut image limit old new schedule cpus full ended is how all h =
     let P : List ℕ → Type 0 = λ zs. Ran old (schedule ++ rounds (limit + 1) zs) full new in
     Follows_from lead cut image limit old new (schedule ++ rounds (limit + 1) (cpus_of image)) full ended is how (subst P all h)
 
-none_due : (o : Option Entry) → o ≡ None → IsSome o → ⊥
-none_due o e some = false≢true (let P : Option Entry → Type 0 = λ x. IsSome x in subst P e some)
-
 -- how it ends, by the laws on plays
 abbrev pub QuietLaw : Image → ℕ → List ℕ → Type 0
 QuietLaw image limit schedule = (played image limit schedule).full ≡ false → IsQuiet image (played image limit schedule).entries
@@ -90,7 +88,7 @@ full_from image limit schedule board ended plays some most is =
     (subst Q plays.0 most (ap is_full is), subst P plays.0 some (ap is_full is))
 
 never_both : (image : Image) (limit : ℕ) (entries : List Entry) → IsQuiet image entries → IsFullAtCpu image limit entries → ⊥
-never_both image limit entries quiet at = none_due (due image entries at.1.0) (quiet at.1.0) at.1.1
+never_both image limit entries quiet at = some_none (due image entries at.1.0) (quiet at.1.0) at.1.1
 
 pub quiet_exactly : (image : Image) (limit : ℕ) (schedule : List ℕ) (board : BoardView) (ended : Ended) → Plays image limit schedule board ended → QuietLaw image limit schedule → DueLaw image limit schedule → LimitLaw image limit schedule
     → (ended ≡ Quiet) ↔ IsQuiet image board.entries

@@ -1,10 +1,8 @@
 -- The entries of a legal journal are ones that a text may hold.
-use Rattle.std.proofs.Common.{◌≡◌, ℕ, ◌^◌, ◌<◌, ◌≤◌, List, [], ◌∷◌, ◌++◌, length, slice_get, Option, Some, None, Bool, refl, sym, subst, append_assoc, arith}
-use Rattle.std.specs.Prelude.{All, find}
+use Rattle.std.proofs.Common.{◌≡◌, ℕ, ◌^◌, ◌<◌, ◌≤◌, List, [], ◌∷◌, ◌++◌, length, slice_get, Some, refl, sym, subst, append_assoc}
+use Rattle.std.specs.Prelude.{All}
 use Rattle.std.specs.List.{AllByRecursion}
-use Rattle.std.specs.Option.{option_map_or}
 use Rattle.std.proofs.lemmas.Option.{slice_get_within, get_or_from_slice_get}
-use Rattle.jh_num.proofs.Lists.{All_from_find}
 use Rattle.jh_cellcfg.specs.declared.config.CellConfig.{CellConfig}
 use Rattle.jh_cellcfg.specs.Cells.{name_of}
 use Rattle.jh_script.specs.declared.image.Image.{Image}
@@ -17,7 +15,7 @@ use Rattle.jh_history.specs.declared.entry.Act.{Act}
 use Rattle.jh_history.specs.declared.entry.Act.TheVariants.{Read, Write, Fetch, Await, Irq, Hvc, Begin, Stop, Decide, Settle, Commit, Note, Noted, Finish}
 use Rattle.jh_history.specs.Admitted.{IsAdmitted}
 use Rattle.jh_history.specs.Due.{IsLegal}
-use Rattle.jh_history.specs.Lives.{is_program_of, program_of}
+use Rattle.jh_history.specs.Lives.{program_of}
 use Rattle.jh_laws.specs.Held.{IsRootOrLive}
 use Rattle.jh_laws.specs.Moments.{AdmittedMoment, facts_before, state_before}
 use Rattle.jh_laws.specs.Operations.{op_of}
@@ -28,6 +26,7 @@ use Rattle.jh_text.specs.Faults.{IsFault, IsFirstBadLine, IsJournalText, IsTooLo
 use Rattle.jh_text.specs.Ranges.{IsReadable, IsReadableAct}
 use Rattle.jh_text.specs.Text.{journal_text}
 use Rattle.jh_run.specs.Typed.{IsTypedOp, HasTypedNumbers}
+use Rattle.jh_history.proofs.AdmittedLemmas.{program_of_all}
 
 -- the laws of journals that this stands on
 pub record JournalLaws : Type 0 where
@@ -42,15 +41,6 @@ pub record JournalLaws : Type 0 where
 got_all : {X : Type 0} (P : X → Type 0) (xs : List X) (i : ℕ) (x : X) → All P xs → slice_get xs i ≡ Some x → P x
 got_all P xs i x all e = subst P (get_or_from_slice_get xs i x x e) (all i x (slice_get_within xs i x e))
 
-found_ops : (Q : Op → Type 0) (programs : List Program) (test : Program → Bool) (o : Option Program) → find test programs ≡ o → All (λ (p : Program). All Q p.ops) programs
-    → All Q (option_map_or (λ (p : Program). p.ops) o [])
-found_ops Q programs test None e all = λ k d lt. absurd (omega (arith, lt))
-found_ops Q programs test (Some p) e all = All_from_find test (λ (q : Program). All Q q.ops) programs p e all
-
-program_ops : (Q : Op → Type 0) (image : Image) (name : List ℕ) (cpu : ℕ) → All (λ (p : Program). All Q p.ops) image.programs → All Q (program_of image name cpu)
-unfolding program_of
-program_ops Q image name cpu all = found_ops Q image.programs (is_program_of name cpu) (find (is_program_of name cpu) image.programs) refl all
-
 -- the operation that the entry makes is within its limits, and its numbers are below the ends of their types
 record IsFitOp (op : Op) : Type 0 where
   plain : IsWellFormed op
@@ -63,8 +53,8 @@ fit_op laws m op numbers is =
     let position = (state_before m m.entry.cpu).position in
     let plain : All (λ (p : Program). All IsWellFormed p.ops) m.image.programs = λ k d lt. (m.admitted.programs k d lt).plain in
     record {
-      plain = got_all IsWellFormed ops position op (program_ops IsWellFormed m.image (name_of own.0) m.entry.cpu plain) own.3;
-      typed = got_all IsTypedOp ops position op (program_ops IsTypedOp m.image (name_of own.0) m.entry.cpu numbers.ops) own.3;
+      plain = got_all IsWellFormed ops position op (program_of_all IsWellFormed m.image (name_of own.0) m.entry.cpu plain) own.3;
+      typed = got_all IsTypedOp ops position op (program_of_all IsTypedOp m.image (name_of own.0) m.entry.cpu numbers.ops) own.3;
     }
 
 -- ---- entries

@@ -1,7 +1,7 @@
 -- Ports that are spread over workers, one after another, and gathered again.
 use Rattle.std.proofs.Common.{◌≡◌, ℕ, ◌+◌, ◌<◌, List, [], ◌∷◌, ◌++◌, length, take, drop, All, Contains, map, refl, sym, subst, ap, ◌∙◌, inl, inr, ◌⊎◌, arith, append-nil, append_assoc, length-append}
 use Rattle.std.proofs.lemmas.List.{map-append, length_push, take-append-le, take_all}
-use Rattle.std.proofs.lemmas.List.Elements.{All-push, All-contains, Contains-append_left, Contains-append_right, Contains-push, Contains-push_cases, at_from_Contains}
+use Rattle.std.proofs.lemmas.List.Elements.{All-push, All-contains, Contains-append_left, Contains-append_right, Contains-push, Contains-push_cases}
 use mathlib.Core.List.{IsPrefix}
 use Rattle.jh_turn.specs.declared.turner.Turner.{Ghosts}
 use Rattle.jh_turn.specs.declared.shared.Shared.{Shared}
@@ -11,6 +11,7 @@ use Rattle.jh_history.specs.declared.entry.Entry.{Entry}
 use Rattle.jh_run.specs.Origins.{Origin}
 use Rattle.jh_run.specs.Drives.{SomeShows}
 use Rattle.jh_run.specs.declared.driving.DriveEnd.{DriveEnd}
+use Rattle.jh_history.proofs.SoundEndpointsLemmas.{nothing_in}
 
 -- numbers of a list, and of one element more
 pub push_kept : {X : Type 0} (f : X → ℕ) (xs : List X) (x : X) (n : ℕ) → Contains (map f xs) n → Contains (map f (xs ++ x ∷ [])) n
@@ -21,9 +22,6 @@ push_last f xs x = let P : List ℕ → Type 0 = λ ns. Contains ns (f x) in sub
 
 pub push_cases : {X : Type 0} (f : X → ℕ) (xs : List X) (x : X) (n : ℕ) → Contains (map f (xs ++ x ∷ [])) n → Contains (map f xs) n ⊎ (f x ≡ n)
 push_cases f xs x n h = let P : List ℕ → Type 0 = λ ns. Contains ns n in Contains-push_cases (map f xs) (f x) n (subst P (map-append f xs (x ∷ [])) h)
-
-pub nothing_in_nil : {X : Type 0} (x : X) → Contains [] x → ⊥
-nothing_in_nil x h = let at = at_from_Contains [] x h in let lt : at.0 < 0 = at.1 in omega arith
 
 -- what is in a beginning is in the whole
 pub begins_contains : {X : Type 0} (first all : List X) (x : X) → IsPrefix first all → Contains first x → Contains all x
@@ -128,7 +126,7 @@ module _ {T E A : Type 0} {G : Ghosts T E A} {X : Type 0} where
     pub count : length own ≡ length first + length joined
 
   pub gather-start : (shared : Shared T E A) (caller : X → ℕ) (first : List (Port T E A G)) → All (IsPortOf shared) first → Gathering shared caller first first []
-  gather-start shared caller first own = record { held = own; begins = ([], append-nil first); each = λ who h. absurd (nothing_in_nil who h); count = omega arith }
+  gather-start shared caller first own = record { held = own; begins = ([], append-nil first); each = λ who h. absurd (nothing_in who h); count = omega arith }
 
   gather_each : (caller : X → ℕ) (own : List (Port T E A G)) (joined : List X) (x : X) (q : Port T E A G) (who : ℕ) → port_caller q ≡ caller x → Contains (map caller joined) who ⊎ (caller x ≡ who)
       → ((n : ℕ) → Contains (map caller joined) n → Contains (map port_caller own) n) → Contains (map port_caller (own ++ q ∷ [])) who

@@ -6,7 +6,7 @@ use Rattle.std.specs.Fmt.{decimal}
 use Rattle.std.specs.Str.{bytes_eq}
 use Rattle.std.specs.Str.Parse.{AllDigits, digits_value}
 use Rattle.std.specs.List.{starts_with}
-use Rattle.std.proofs.lemmas.Bool.{lt-ltb, ltb-true, le-leb, leb-true, eqb-true, eq-eqb, ne_eqb, false≢true}
+use Rattle.std.proofs.lemmas.Bool.{lt-ltb, ltb-true, le-leb, leb-true, eqb-true, eq-eqb, ne_eqb, false≢true, and_parts}
 use Rattle.std.proofs.lemmas.Option.{none-some, same_Some}
 use Rattle.std.proofs.lemmas.Slice.Eq.{bytes_eq-Decides}
 use Rattle.std.proofs.lemmas.Fmt.{decimal_is_IsNumeral, decimal_digit, decimal-digits_value, first_decimal}
@@ -20,7 +20,7 @@ use Rattle.jh_script.specs.Numbers.{are_digits, value_of, decimal_of, hexadecima
 use Rattle.jh_script.specs.Words.{words, blanks}
 use Rattle.jh_script.specs.Operations.{none_of, one_of, two_of, three_of, op_of, is_well_formed, IsWellFormed, line_of, line_of_op, line_of_words}
 use Rattle.jh_script.specs.Grammar.{IsDecimal, IsNumber, IsCallOf0, IsCallOf1, IsCallOf2, IsCallOf3, are_ascii, IsSkipped, IsTooWide, Writes}
-use Rattle.jh_script.proofs.OperationLemmas.{both, plain, plain_from}
+use Rattle.jh_script.proofs.OperationLemmas.{plain, plain_from}
 
 -- ---- numbers
 
@@ -28,7 +28,7 @@ digits_to : (base : ℕ) (ds : List ℕ) → are_digits base ds ≡ true → All
 unfolding are_digits
 digits_to base [] h = tt
 digits_to base (d ∷ ds) h =
-    let parts = both (ltb (digit_value d) base) (are_digits base ds) h in
+    let parts = and_parts (ltb (digit_value d) base) (are_digits base ds) h in
     (ltb-true (digit_value d) base parts.0, digits_to base ds parts.1)
 
 digits_from : (base : ℕ) (ds : List ℕ) → AllDigits base ds → are_digits base ds ≡ true
@@ -48,7 +48,7 @@ value_to base ds n e = by (are_digits base ds && ltb (digits_value base ds) (2 ^
     by : (t : Bool) → (are_digits base ds && ltb (digits_value base ds) (2 ^ 64)) ≡ t → cond t (Some (digits_value base ds)) None ≡ Some n → HasValue base ds n
     by false h e = absurd (none-some _ e)
     by true h e =
-        let parts = both (are_digits base ds) (ltb (digits_value base ds) (2 ^ 64)) h in
+        let parts = and_parts (are_digits base ds) (ltb (digits_value base ds) (2 ^ 64)) h in
         let value : digits_value base ds ≡ n = same_Some _ _ e in
         let small : digits_value base ds < 2 ^ 64 = ltb-true (digits_value base ds) (2 ^ 64) parts.1 in
         record { all = digits_to base ds parts.0; value = value; small = omega arith }
@@ -111,7 +111,7 @@ hexadecimal_to digits n e = by (ltb 0 (length digits) && leb (length digits) 16)
     by : (t : Bool) → (ltb 0 (length digits) && leb (length digits) 16) ≡ t → cond t (value_of 16 digits) None ≡ Some n → (0 < length digits) × (length digits ≤ 16) × HasValue 16 digits n
     by false h e = absurd (none-some _ e)
     by true h e =
-        let parts = both (ltb 0 (length digits)) (leb (length digits) 16) h in
+        let parts = and_parts (ltb 0 (length digits)) (leb (length digits) 16) h in
         (ltb-true 0 (length digits) parts.0, leb-true (length digits) 16 parts.1, value_to 16 digits n e)
 
 hexadecimal_from : (digits : List ℕ) (n : ℕ) → 0 < length digits → length digits ≤ 16 → HasValue 16 digits n → hexadecimal_of digits ≡ Some n
@@ -121,11 +121,11 @@ hexadecimal_from digits n some few h = rw (lt-ltb 0 (length digits) some, le-leb
 marked : (word : List ℕ) → starts_with nat_eq word (codes "0x") ≡ true → word ≡ 48 ∷ 120 ∷ drop 2 word
 marked [] h = absurd (false≢true h)
 marked (a ∷ []) h =
-    let parts = both (eqb 48 a) false h in
+    let parts = and_parts (eqb 48 a) false h in
     absurd (false≢true parts.1)
 marked (a ∷ b ∷ rest) h =
-    let parts = both (eqb 48 a) (eqb 120 b && true) h in
-    let second = both (eqb 120 b) true parts.1 in
+    let parts = and_parts (eqb 48 a) (eqb 120 b && true) h in
+    let second = and_parts (eqb 120 b) true parts.1 in
     ap (λ x. x ∷ b ∷ rest) (sym (eqb-true 48 a parts.0)) ∙ ap (λ x. 48 ∷ x ∷ rest) (sym (eqb-true 120 b second.0))
 
 pub number_to : (word : List ℕ) (n : ℕ) → number_written word ≡ Some n → IsNumber word n
@@ -216,9 +216,6 @@ mapped : {A : Type 0} (f : A → Op) (o : Option A) (op : Op) (W : Op → Type 0
 mapped f None op W h e = absurd (none-some _ e)
 mapped f (Some n) op W h e = subst W (same_Some _ _ e) (h n refl)
 
-named : (name known : List ℕ) → bytes_eq name known ≡ true → name ≡ known
-named name known h = (bytes_eq-Decides name known).0 h
-
 choose : (t : Bool) (x y : Option Op) (op : Op) (W : Type 0) → (t ≡ true → x ≡ Some op → W) → (y ≡ Some op → W) → cond t x y ≡ Some op → W
 choose true x y op W here later e = here refl e
 choose false x y op W here later e = later e
@@ -230,17 +227,17 @@ op_to : (name : List ℕ) (behind : List (List ℕ)) (op : Op) → op_of name be
 unfolding op_of
 op_to name behind op e =
     choose (bytes_eq name (codes "read")) _ _ op (WrittenBy name behind op)
-    (λ is. mapped (λ (n : ℕ × ℕ). Read n.0 n.1) (two_of behind) op (WrittenBy name behind) (λ n f. subst (λ (x : List ℕ). IsCallOf2 x (name ∷ behind) n.0 n.1) (named name (codes "read") is) (two_to name behind n f)))
+    (λ is. mapped (λ (n : ℕ × ℕ). Read n.0 n.1) (two_of behind) op (WrittenBy name behind) (λ n f. subst (λ (x : List ℕ). IsCallOf2 x (name ∷ behind) n.0 n.1) ((bytes_eq-Decides name (codes "read")).0 is) (two_to name behind n f)))
     (choose (bytes_eq name (codes "write")) _ _ op (WrittenBy name behind op)
-    (λ is. mapped (λ (n : ℕ × ℕ × ℕ). Write n.0 n.1 n.2) (three_of behind) op (WrittenBy name behind) (λ n f. subst (λ (x : List ℕ). IsCallOf3 x (name ∷ behind) n.0 n.1 n.2) (named name (codes "write") is) (three_to name behind n f)))
+    (λ is. mapped (λ (n : ℕ × ℕ × ℕ). Write n.0 n.1 n.2) (three_of behind) op (WrittenBy name behind) (λ n f. subst (λ (x : List ℕ). IsCallOf3 x (name ∷ behind) n.0 n.1 n.2) ((bytes_eq-Decides name (codes "write")).0 is) (three_to name behind n f)))
     (choose (bytes_eq name (codes "fetch")) _ _ op (WrittenBy name behind op)
-    (λ is. mapped (λ (n : ℕ). Fetch n) (one_of behind) op (WrittenBy name behind) (λ n f. subst (λ (x : List ℕ). IsCallOf1 x (name ∷ behind) n) (named name (codes "fetch") is) (one_to name behind n f)))
+    (λ is. mapped (λ (n : ℕ). Fetch n) (one_of behind) op (WrittenBy name behind) (λ n f. subst (λ (x : List ℕ). IsCallOf1 x (name ∷ behind) n) ((bytes_eq-Decides name (codes "fetch")).0 is) (one_to name behind n f)))
     (choose (bytes_eq name (codes "await")) _ _ op (WrittenBy name behind op)
-    (λ is. mapped (λ (n : ℕ × ℕ × ℕ). Await n.0 n.1 n.2) (three_of behind) op (WrittenBy name behind) (λ n f. subst (λ (x : List ℕ). IsCallOf3 x (name ∷ behind) n.0 n.1 n.2) (named name (codes "await") is) (three_to name behind n f)))
+    (λ is. mapped (λ (n : ℕ × ℕ × ℕ). Await n.0 n.1 n.2) (three_of behind) op (WrittenBy name behind) (λ n f. subst (λ (x : List ℕ). IsCallOf3 x (name ∷ behind) n.0 n.1 n.2) ((bytes_eq-Decides name (codes "await")).0 is) (three_to name behind n f)))
     (choose (bytes_eq name (codes "irq")) _ _ op (WrittenBy name behind op)
-    (λ is. mapped (λ (n : Unit {0}). Irq) (none_of behind) op (WrittenBy name behind) (λ n f. subst (λ (x : List ℕ). IsCallOf0 x (name ∷ behind)) (named name (codes "irq") is) (none_to name behind n f)))
+    (λ is. mapped (λ (n : Unit {0}). Irq) (none_of behind) op (WrittenBy name behind) (λ n f. subst (λ (x : List ℕ). IsCallOf0 x (name ∷ behind)) ((bytes_eq-Decides name (codes "irq")).0 is) (none_to name behind n f)))
     (choose (bytes_eq name (codes "hvc")) _ _ op (WrittenBy name behind op)
-    (λ is. mapped (λ (n : ℕ × ℕ × ℕ). Hvc n.0 n.1 n.2) (three_of behind) op (WrittenBy name behind) (λ n f. subst (λ (x : List ℕ). IsCallOf3 x (name ∷ behind) n.0 n.1 n.2) (named name (codes "hvc") is) (three_to name behind n f)))
+    (λ is. mapped (λ (n : ℕ × ℕ × ℕ). Hvc n.0 n.1 n.2) (three_of behind) op (WrittenBy name behind) (λ n f. subst (λ (x : List ℕ). IsCallOf3 x (name ∷ behind) n.0 n.1 n.2) ((bytes_eq-Decides name (codes "hvc")).0 is) (three_to name behind n f)))
     (λ none. absurd (none-some _ none))))))) e
 
 three_from : (a b c : List ℕ) (x y z : ℕ) → IsNumber a x → IsNumber b y → IsNumber c z → three_of (a ∷ b ∷ c ∷ []) ≡ Some (x, y, z)

@@ -2,6 +2,7 @@
 use Rattle.std.proofs.Common.{◌≡◌, ℕ, ◌+◌, ◌-◌, ◌^◌, ◌<◌, ◌≤◌, min, Bool, true, false, cond, eqb, List, [], ◌∷◌, ◌++◌, length, map, Option, Some, None, Ok, Err, refl, sym, ap, ◌∙◌, subst, arith}
 use Rattle.std.specs.List.{AllByRecursion}
 use Rattle.std.proofs.lemmas.Bool.{eqb-true, eq-eqb, false≢true}
+use Rattle.std.proofs.lemmas.List.{append-nil}
 use Rattle.jh_script.specs.declared.op.Op.{Op}
 use Rattle.jh_script.specs.declared.line.Line.{Line}
 use Rattle.jh_script.specs.declared.line.Line.TheVariants.{Blank, Operation, Syntax, Width}
@@ -143,15 +144,11 @@ program_to text ops e =
     let h = told text None parts.0 in
     record { good = h.0; few = omega (arith, h.1, ap length parts.1); are = sym parts.1 }
 
-append_none : (xs : List Line) → xs ++ [] ≡ xs
-append_none [] = refl
-append_none (x ∷ xs) = ap (λ ys. x ∷ ys) (append_none xs)
-
 pub program_from : (text : List ℕ) (ops : List Op) → IsProgram text ops → program_of text ≡ Ok ops
 unfolding first_fault
 program_from text ops p =
     let few : length (ops_of (lines_of text)) ≤ most_ops = omega (arith, p.few, ap length p.are) in
-    answers text None (at_good (lines_of text) [] text (sym (append_none (lines_of text))) p.good few) ∙ ap Ok (sym p.are)
+    answers text None (at_good (lines_of text) [] text (sym (append-nil (lines_of text))) p.good few) ∙ ap Ok (sym p.are)
 
 bad_is : (text : List ℕ) (bad : Line) (number : ℕ) → BadAt 0 most_ops (lines_of text) bad number → IsFirstBad text bad number
 bad_is text bad number h = record {

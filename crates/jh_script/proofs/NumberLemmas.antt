@@ -5,6 +5,7 @@ use Rattle.std.specs.Str.Parse.{digits_value_after}
 use Rattle.std.proofs.lemmas.Bool.{lt-ltb, ltb-true, ltb-false, le-ltb}
 use Rattle.std.proofs.lemmas.List.{at_drop_more, at_drop_all}
 use Rattle.std.proofs.Math.Nat.{le-mul_of_pos_right}
+use Rattle.std.proofs.Math.Bool.{and-false}
 use Rattle.jh_script.specs.Private.Reading.{value_after, next_value}
 use Rattle.jh_script.specs.Numbers.{are_digits, value_of}
 
@@ -19,7 +20,7 @@ unfolding value_after
 value_after_all base n ds i h = at_drop_all (value_after base n) ds i h
 
 -- more digits make no smaller number
-value_ge : (base n : ℕ) (ds : List ℕ) → 0 < base → n ≤ digits_value_after base n ds
+pub value_ge : (base n : ℕ) (ds : List ℕ) → 0 < base → n ≤ digits_value_after base n ds
 value_ge base n [] some = omega arith
 value_ge base n (d ∷ ds) some =
     omega (arith, le-mul_of_pos_right {m = base} n some, value_ge base (n * base + digit_value d) ds some)
@@ -28,14 +29,10 @@ value_ge base n (d ∷ ds) some =
 abbrev whole : ℕ → ℕ → List ℕ → Option ℕ
 whole base n ds = cond (are_digits base ds && ltb (digits_value_after base n ds) (2 ^ 64)) (Some (digits_value_after base n ds)) None
 
-and_false : (b : Bool) → (b && false) ≡ false
-and_false true = refl
-and_false false = refl
-
 too_large : (base n : ℕ) (ds : List ℕ) → 0 < base → 2 ^ 64 ≤ n → whole base n ds ≡ None
 too_large base n ds some large =
     let past : 2 ^ 64 ≤ digits_value_after base n ds = omega (arith, value_ge base n ds some) in
-    rw (le-ltb (digits_value_after base n ds) (2 ^ 64) past, and_false (are_digits base ds)) refl
+    rw (le-ltb (digits_value_after base n ds) (2 ^ 64) past, and-false (are_digits base ds)) refl
 
 whole_more : (base n d : ℕ) (ds : List ℕ) → 0 < base → ((m : ℕ) → m < 2 ^ 64 → value_after base m ds ≡ whole base m ds)
     → (s t : Bool) → ltb (digit_value d) base ≡ s → ltb (n * base + digit_value d) (2 ^ 64) ≡ t → value_after base n (d ∷ ds) ≡ whole base n (d ∷ ds)

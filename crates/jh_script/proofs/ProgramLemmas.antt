@@ -1,6 +1,7 @@
 -- One more line of a program, and one more item of a schedule.
 use Rattle.std.proofs.Common.{◌≡◌, ℕ, ◌+◌, ◌-◌, ◌<◌, List, [], ◌∷◌, ◌++◌, length, Option, Some, None, Ok, Err, refl, sym, ap, ◌∙◌, arith, append_assoc, length-append}
 use Rattle.std.proofs.lemmas.Bool.{ne_eqb}
+use Rattle.std.proofs.lemmas.List.{append-nil}
 use Rattle.jh_script.specs.declared.op.Op.{Op}
 use Rattle.jh_script.specs.declared.line.Line.{Line}
 use Rattle.jh_script.specs.declared.line.Line.TheVariants.{Blank, Operation, Syntax, Width}
@@ -11,10 +12,6 @@ use Rattle.jh_script.specs.declared.fault.ScheduleFault.TheVariants as refusals
 use Rattle.jh_script.specs.Programs.{lines_of, line_number, first_fault, ops_of, unless, program_of}
 use Rattle.jh_script.specs.Schedules.{items_of, first_refusal, cpus_of, schedule_of}
 use Rattle.jh_script.specs.Limits.{most_ops, most_items}
-
-append_none : {A : Type 0} (xs : List A) → xs ++ [] ≡ xs
-append_none [] = refl
-append_none (x ∷ xs) = ap (λ ys. x ∷ ys) (append_none xs)
 
 -- ---- programs
 
@@ -45,7 +42,7 @@ pub program_done : (text : List ℕ) (n room : ℕ) (ops : List Op) (lines : Lis
 unfolding program_of first_fault ops_of
 program_done text n room ops lines h found e =
     ap (λ x. unless x (ops_of (lines_of text))) (h ∙ ap (first_fault n room) e)
-    ∙ ap Ok (found ∙ ap (λ x. ops ++ ops_of x) e ∙ append_none ops)
+    ∙ ap Ok (found ∙ ap (λ x. ops ++ ops_of x) e ∙ append-nil ops)
 
 pub blank_fault : (text : List ℕ) (n next room : ℕ) (lines more : List Line) → program_fault text ≡ first_fault n room lines → lines ≡ Blank ∷ more → next ≡ line_number n → program_fault text ≡ first_fault next room more
 unfolding first_fault
@@ -104,7 +101,7 @@ pub schedule_done : (cpus : ℕ) (text : List ℕ) (n : ℕ) (found : List ℕ) 
 unfolding schedule_of first_refusal cpus_of
 schedule_done cpus text n found items h all e =
     ap (λ x. unless x (cpus_of (items_of cpus text))) (h ∙ ap (first_refusal n) e)
-    ∙ ap Ok (all ∙ ap (λ x. found ++ cpus_of x) e ∙ append_none found)
+    ∙ ap Ok (all ∙ ap (λ x. found ++ cpus_of x) e ∙ append-nil found)
 
 pub cpu_fault : (cpus : ℕ) (text : List ℕ) (found pushed : List ℕ) (items more : List (Option ℕ)) (cpu : ℕ) → schedule_fault cpus text ≡ first_refusal (length found) items → items ≡ Some cpu ∷ more → length found < most_items → pushed ≡ found ++ cpu ∷ [] → schedule_fault cpus text ≡ first_refusal (length pushed) more
 cpu_fault cpus text found pushed items more cpu h e few push =

@@ -1,22 +1,22 @@
 -- A descriptor tells of its slot what each byte is granted.
-use Rattle.std.proofs.Common.{◌≡◌, ℕ, ◌+◌, ◌-◌, ◌*◌, ◌<◌, ◌≤◌, ◌==◌, ◌%◌, ◌^◌, Bool, true, false, not, ◌&&◌, ◌||◌, cond, nat_lt, nat_le, List, [], ◌∷◌, get_or, Some, None, AllPairs, Contains, IsTrue, ⊎_elim, refl, sym, ap, subst, ◌∙◌, arith}
+use Rattle.std.proofs.Common.{◌≡◌, ℕ, ◌+◌, ◌-◌, ◌*◌, ◌<◌, ◌≤◌, ◌==◌, ◌%◌, ◌^◌, Bool, true, false, not, ◌&&◌, ◌||◌, cond, nat_lt, nat_le, List, [], ◌∷◌, Some, None, Contains, IsTrue, ⊎_elim, refl, sym, ap, subst, ◌∙◌, arith}
 use Rattle.std.specs.Option.{is_none}
 use Rattle.std.specs.List.{list_any}
-use Rattle.std.proofs.lemmas.Bool.{and_parts, and_from, or_parts, or_cases, or_left, cases_Bool, cases_order, both_ways, not-true, not_from_false, ltb-true, leb-true, lt-ltb, le-leb, and_right, cond-true, cond-false, eqb-true, cases_eq, eq-eqb}
+use Rattle.std.proofs.lemmas.Bool.{and_parts, and_from, or_parts, or_cases, or_left, cases_Bool, both_ways, not-true, not_from_false, ltb-true, leb-true, lt-ltb, le-leb, and_right, cond-true, cond-false, eqb-true, cases_eq, eq-eqb}
 use Rattle.std.proofs.Math.Nat.{pow-le-pow_right}
 use Rattle.std.proofs.lemmas.Nat.{pow_pos}
-use Rattle.std.proofs.lemmas.List.{get_or_default}
 use Rattle.std.proofs.lemmas.List.Elements.{All-contains, All-contains_itself}
 use Rattle.std.proofs.lemmas.List.Folds.{list_any_at, Any-from_list_any}
 use Rattle.jh_cellcfg.specs.declared.region.Region.{Region}
 use Rattle.jh_cellcfg.specs.Regions.{virt_end, phys_end, has_address, has_place, place_in, is_comm, is_page_mapped, is_unshared, is_loadable, is_device, rights_of}
+use Rattle.jh_cellcfg.proofs.AddressLemmas.{same_region}
 use Rattle.jh_shape.specs.declared.want.Want.{Want}
 use Rattle.jh_shape.specs.declared.want.Want.TheVariants.{Nothing, Leaf}
 use Rattle.jh_shape.specs.Claims.{Claims, Holder}
 use Rattle.jh_shape.specs.Intervals.{touches, spans}
 use Rattle.jh_shape.specs.Shapes.{is_mapped, meets_in_part, are_cut, takes, is_closed, fits_blocks, may_be_block, is_leaf_by, leaf_region, is_met, is_met_by, is_kept_from, leaf_of, out_of}
 use Rattle.jh_num.specs.Levels.{slot_size}
-use Rattle.jh_shape.specs.Suits.{SharesNoAddress, IsFit, IsWhole, AreSoundClaims, IsSlot}
+use Rattle.jh_shape.specs.Suits.{IsFit, IsWhole, AreSoundClaims, IsSlot}
 use Rattle.jh_num.specs.declared.rights.Rights.{Rights}
 use Rattle.jh_shape.specs.Grants.{place_at, IsGranted, TellsGrants}
 use Rattle.jh_shape.proofs.WantLemmas.{LeafBy, found, leaf_parts}
@@ -154,21 +154,6 @@ kept_alike claims level start k region slot e h whole l =
   where
     falsely : (b : Bool) → (b && false) ≡ false
     falsely b = and_right b false refl
-
--- two regions with an address in common are one
-same_region : (xs : List Region) (x y : Region) (at : ℕ) → AllPairs SharesNoAddress xs → Contains xs x → Contains xs y → has_address x at ≡ true → has_address y at ≡ true → x ≡ y
-same_region xs x y at disjoint cx cy hx hy =
-    let i = cx.0 in
-    let j = cy.0 in
-    let ex : get_or xs i x ≡ x = cx.2 in
-    let ey : get_or xs j x ≡ y = get_or_default xs j x y cy.1 ∙ cy.2 in
-    ⊎_elim
-    (λ same. sym ex ∙ ap (λ n. get_or xs n x) same ∙ ey)
-    (λ differ. ⊎_elim
-    (λ less. absurd (disjoint i j x less cy.1 at (rw ex hx) (rw ey hy)))
-    (λ more. absurd (disjoint j i x more cx.1 at (rw ey hy) (rw ex hx)))
-    differ)
-    (cases_order i j)
 
 -- a communication region that spans a slot begins with it
 comm_begins : (claims : Claims) (level start : ℕ) (region : Region) → LeafBy claims level start region → IsFit region → level ≤ 3 → is_comm region ≡ true → region.virt_start ≡ start

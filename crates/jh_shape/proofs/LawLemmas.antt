@@ -16,6 +16,7 @@ use Rattle.jh_shape.specs.Laws.{IsMet, IsCut, IsBlock, Serves, IsServed, IsTaken
 use Rattle.jh_shape.specs.Pages.{count_below, tables_at, tables_of}
 use Rattle.jh_shape.specs.Shapes.{holder_of_live, is_mapped, meets_in_part, are_cut, takes, is_closed, is_aligned_alike, fits_blocks, may_be_block, is_leaf_by, is_leaf, is_met, is_met_by, is_table, leaf_region, is_kept_from, want_from, want_of}
 use Rattle.jh_num.specs.Levels.{slot_size}
+use Rattle.jh_num.proofs.Booleans.{within_both}
 
 -- a slot has an address
 pub size_some : (level : ℕ) → 0 < slot_size level
@@ -54,9 +55,6 @@ span_back first end at size some h =
 in_there : (first end n : ℕ) → (nat_le first n && nat_lt n end) ≡ true → (first ≤ n) × (n < end)
 in_there first end n h = let a = and_parts (nat_le first n) (nat_lt n end) h in (leb-true first n a.0, ltb-true n end a.1)
 
-in_back : (first end n : ℕ) → first ≤ n → n < end → (nat_le first n && nat_lt n end) ≡ true
-in_back first end n a b = and_from (nat_le first n) (nat_lt n end) (le-leb first n a) (lt-ltb n end b)
-
 -- a region that tables map
 mapped_from : (region : Region) (at : ℕ) → is_page_mapped region ≡ true → has_address region at ≡ true → is_mapped region ≡ true
 mapped_from region at pages has =
@@ -73,7 +71,7 @@ met_there claims level start h =
     let a = and_parts (is_mapped x) (touches x.virt_start (virt_end x) start (slot_size level)) f.1.passes in
     let m = and_parts (nat_lt 0 x.size) (is_page_mapped x) a.0 in
     let n = touch_there x.virt_start (virt_end x) start (slot_size level) a.1 (size_some level) in
-    record { region = x; held = f.1.held; pages = m.1; at = n.0; first = n.1; last = n.2; has = in_back x.virt_start (virt_end x) n.0 n.3 n.4 }
+    record { region = x; held = f.1.held; pages = m.1; at = n.0; first = n.1; last = n.2; has = within_both x.virt_start (virt_end x) n.0 n.3 n.4 }
 
 pub met_back : (claims : Claims) (level start : ℕ) → IsMet claims level start → is_met claims level start ≡ true
 met_back claims level start h =
@@ -119,7 +117,7 @@ cut_there holders place size some h =
       alone = a.0;
       some = n.0 - place;
       within = let l = n.1 in let r = n.2 in omega arith;
-      has = (let P : ℕ → Type 0 = λ q. has_place x q ≡ true in subst P same (in_back x.phys_start (phys_end x) n.0 n.3 n.4));
+      has = (let P : ℕ → Type 0 = λ q. has_place x q ≡ true in subst P same (within_both x.phys_start (phys_end x) n.0 n.3 n.4));
       other = o.0;
       also = o.1;
       lacks = o.2;
@@ -135,7 +133,7 @@ cut_back holders place size h =
     let open_end : spans first end place size ≡ false =
     false_from_ne_true (spans first end place size) (λ yes.
     let s = span_there first end place size h.other yes h.also in
-    both_ways (has_place x (place + h.other)) h.lacks (in_back first end (place + h.other) s.0 s.1)) in
+    both_ways (has_place x (place + h.other)) h.lacks (within_both first end (place + h.other) s.0 s.1)) in
     list_any_from_Contains (λ (holder : Holder). list_any (λ (region : Region). meets_in_part region place size) holder.regions) holders h.holder h.live
     (list_any_from_Contains (λ (region : Region). meets_in_part region place size) h.holder.regions x h.held
     (and_from (is_unshared x) (cut_test x place size) h.alone
@@ -184,7 +182,7 @@ leaf_by_there claims level start region held h =
     record {
       held = held;
       pages = m.1;
-      covers = λ k l. let r = span_there region.virt_start (virt_end region) start (slot_size level) k q.0 l in in_back region.virt_start (virt_end region) (start + k) r.0 r.1;
+      covers = λ k l. let r = span_there region.virt_start (virt_end region) start (slot_size level) k q.0 l in within_both region.virt_start (virt_end region) (start + k) r.0 r.1;
       block = λ other.
           ⊎_elim
           (λ last. absurd (other (eqb-true level 3 last)))

@@ -2,15 +2,11 @@
 use Rattle.std.specs.Prelude.{◌≡◌, ℕ, ◌%◌, ◌<◌, ◌≤◌, true, false, IsTrue, All, AllPairs}
 use Rattle.jh_num.specs.declared.address.TheConstants.{ADDRESS_END, PAGE_SIZE}
 use Rattle.jh_cellcfg.specs.declared.region.Region.{Region}
-use Rattle.jh_cellcfg.specs.Regions.{virt_end, phys_end, place_in, is_comm, has_address}
+use Rattle.jh_cellcfg.specs.Regions.{virt_end, phys_end, place_in, is_comm, has_address, SharesNoAddress}
 use Rattle.jh_num.specs.declared.level.TheConstants.{FIRST_LEVEL, LAST_LEVEL}
 use Rattle.jh_shape.specs.Claims.{Claims}
 use Rattle.jh_shape.specs.Shapes.{is_mapped, are_cut}
 use Rattle.jh_num.specs.Levels.{slot_size}
-
--- the virtual ranges of two regions that aren't empty have no address in common
-abbrev pub SharesNoAddress : Region → Region → Type 0
-SharesNoAddress one other = (at : ℕ) → IsTrue (has_address one at) → IsTrue (has_address other at) → ⊥
 
 -- a region that isn't empty ends within the addresses, and, unless it is a communication region, its
 -- places end there too; a communication region is one page, and the places of mapped memory are aligned

@@ -5,13 +5,14 @@ use Rattle.std.specs.List.{starts_with}
 use Rattle.std.proofs.lemmas.Bool.{ltb-false, eqb-true}
 use Rattle.std.proofs.lemmas.List.{drop-drop, take-append-drop, length-take}
 use Rattle.std.proofs.lemmas.Nat.{le_bytes_2}
+use Rattle.std.proofs.lemmas.Slice.Eq.{bytes_eq-Decides}
 use Rattle.jh_cellcfg.specs.declared.config.SystemConfig.{SystemConfig}
 use Rattle.jh_cellcfg.specs.declared.fault.ConfigFault.{ConfigFault}
 use Rattle.jh_cellcfg.specs.declared.fault.ConfigFault.TheVariants.{Short, Signature, Revision}
 use Rattle.jh_cellcfg.specs.Faults.{fault_if, u16_at, body_fault}
 use Rattle.jh_cellcfg.specs.Spelling.{u16_bytes}
 use Rattle.jh_cellcfg.proofs.Fields.{IsBytes, IsBytes_take, IsBytes_drop}
-use Rattle.jh_cellcfg.proofs.Found.{body_found, all_bytes, pointwise_same, rest_of, head_of, passed}
+use Rattle.jh_cellcfg.proofs.Found.{body_found, all_bytes, rest_of, head_of, passed}
 use Rattle.jh_syscfg.specs.Layout.{platform_bytes, system_spelling, IsSystem, IsSystemWithinLimits}
 use Rattle.jh_syscfg.specs.SystemFaults.{system_start_fault, system_fault}
 use Rattle.jh_syscfg.proofs.Platforms.{platform_field}
@@ -26,7 +27,7 @@ unfolding system_start_fault
 start_found bytes all long none =
     let signed = fault_if (not (starts_with nat_eq bytes (codes "JHSYST"))) Signature in
     let revised = fault_if (not (u16_at bytes 6 == 13)) (Revision (u16_at bytes 6)) in
-    let signature : take 6 bytes ≡ codes "JHSYST" = sym (pointwise_same (codes "JHSYST") (take 6 bytes) (held (starts_with nat_eq bytes (codes "JHSYST")) Signature (head_of signed (revised ∷ []) none))) in
+    let signature : take 6 bytes ≡ codes "JHSYST" = sym ((bytes_eq-Decides (codes "JHSYST") (take 6 bytes)).0 (held (starts_with nat_eq bytes (codes "JHSYST")) Signature (head_of signed (revised ∷ []) none))) in
     let last = head_of revised [] (rest_of signed (revised ∷ []) none) in
     let number : u16_at bytes 6 ≡ 13 = eqb-true (u16_at bytes 6) 13 (held (u16_at bytes 6 == 13) (Revision (u16_at bytes 6)) last) in
     let two = take 2 (drop 6 bytes) in

@@ -8,6 +8,7 @@ use Rattle.std.proofs.lemmas.Bool.{cases_lt, and_parts, ltb-true, lt-ltb, le-ltb
 use Rattle.std.proofs.Math.Nat.{mul-add-div_right, mul-add-mod_self_right, div-eq_of_lt, mod-eq_of_lt, le-mul_of_pos_right, pow-zero, pow-suc, mul_comm}
 use Rattle.jh_text.specs.Private.Reading.{is_lower}
 use Rattle.jh_text.proofs.Digits.{none_written, next_written, first_written, fewer_left, some_left}
+use Rattle.jh_script.proofs.NumberLemmas.{value_ge}
 
 -- a word of digits in lower case that doesn't begin with a 0 that isn't all of it
 abbrev pub is_plain : List ℕ → Bool
@@ -67,10 +68,6 @@ last_digit base n low more fits =
 
 lower_glyph : (c : ℕ) → digit_value c < 16 → is_lower c ≡ true → digit_glyph false (digit_value c) ≡ c
 lower_glyph c small lower = grind arith
-
-pub value_ge : (base n : ℕ) (ds : List ℕ) → 0 < base → n ≤ digits_value_after base n ds
-value_ge base n [] some = omega arith
-value_ge base n (c ∷ ds) some = omega (arith, le-mul_of_pos_right {m = base} n some, value_ge base (n * base + digit_value c) ds some)
 
 -- digits in lower case behind those of a number that is not 0
 digits_after : (base n : ℕ) (ds : List ℕ) → 2 ≤ base → base ≤ 16 → 0 < n → list_all (λ c. is_digit c base) ds ≡ true → list_all is_lower ds ≡ true

@@ -17,6 +17,7 @@ use Rattle.jh_text.specs.Ranges.{is_width}
 use Rattle.jh_text.specs.Text.{hexadecimal, got_text, ok_text, decision_text, settled_text, heard_text}
 use Rattle.jh_text.specs.Private.Reading.{mapped, begins, max_u64, number_until, hexadecimal_until, answer_of, negative, width_digit, width_of, got_of, ok_of, decision_of, settled_of, heard_of}
 use Rattle.jh_text.proofs.Numbers.{number_again}
+use Rattle.jh_history.proofs.AdmittedLemmas.{width_le}
 
 pub decimal_again : (end most n : ℕ) (rest : List ℕ) → digit_value end ≡ 36 → n < 2 ^ 64 → n ≤ most → number_until 10 end most (decimal n ++ end ∷ rest) ≡ Some (n, rest)
 decimal_again end most n rest none small fits = number_again 10 end most n rest (omega arith) (omega arith) none (omega arith) small fits
@@ -54,9 +55,6 @@ answer_is_not (pos n) rest c cs fits letter feed sign =
     let small : n < 2 ^ 63 = omega (arith, ints) in
     digits_are_not (decimal n) rest c cs (decimal_is_IsNumeral n (omega arith)).0.1 letter feed
 answer_is_not (negsuc n) rest c cs fits letter feed sign = rw (ne_eqb 45 c sign) refl
-
-pub width_le : (width : ℕ) → IsTrue (is_width width) → width ≤ 8
-width_le width h = grind arith
 
 width_cases : (width : ℕ) → IsTrue (is_width width) → (width ≡ 1) ⊎ (width ≡ 2) ⊎ (width ≡ 4) ⊎ (width ≡ 8)
 width_cases width h = grind arith

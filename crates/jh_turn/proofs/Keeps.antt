@@ -1,10 +1,12 @@
 -- The steps of a turn keep the lock's rule.
 use Rattle.std.proofs.Common.{◌≡◌, ◌≢◌, ℕ, ◌<◌, eqb, Bool, true, false, List, [], ◌∷◌, length, get_or, set, Contains, Option, Some, None, Box, Global, refl, ap, sym, subst, ◌∙◌, inl, inr, ⊎_elim, true≢false, arith, ne_eqb}
+use Rattle.std.proofs.lemmas.Bool.{false_from_ne_true}
 use mathlib.Core.Option as maybe
 use mathlib.Core.List.{IsPrefix}
 use lib.ListN.{get_elem?}
 use lib.Seq.{set-get_or}
 use prog.Atomic.{either}
+use Rattle.jh_num.proofs.Lists.{Contains_head}
 use Rattle.atomic_table.specs.Table.{State, step, keeps, takes, gives, stepped, put_back, Allows}
 use Rattle.atomic_table.proofs.Lists.{set_here, set_again}
 use Rattle.jh_turn.specs.declared.rule.Hand.{Hand}
@@ -14,7 +16,7 @@ use Rattle.jh_turn.specs.Hands.{hand, caller_of, seen_of}
 use Rattle.jh_turn.specs.Histories.{entries_of, Grows}
 use Rattle.jh_turn.specs.Rule.{free, Slot, Seated, view, HandFits, Fits, IsFree, IsHeld, Kept, claims, notes, releases}
 use Rattle.jh_turn.proofs.Prefixes.{prefix_self, prefix_trans, others_stay, grows_on}
-use Rattle.jh_turn.proofs.Seats.{inside, seats_stay, one_there, contains_one, contains_head, not_true}
+use Rattle.jh_turn.proofs.Seats.{inside, seats_stay, one_there, contains_one}
 
 -- what lies in the slot that was taken last
 abbrev pub first_slot : {T : Type 0} → List (ℕ × Slot T) → Slot T
@@ -41,7 +43,7 @@ module _ {T E O : Type 0} (whose : E → ℕ) (origin : T → O) (serves : O →
     -- what the rule says of the one hand of a seat
     pub hand_fits : (s : St) (r : Rule s) (id : ℕ) (v : V) (who : ℕ) (seen : List E) → get_elem? s.views id ≡ maybe.some v → v.hands ≡ hand who seen ∷ []
         → HandFits whose key.callers.items r.log r.owner id (hand who seen)
-    hand_fits s r id v who seen at is = (r.each_seat id v at).each_hand (hand who seen) (subst (λ hs. Contains hs (hand who seen)) (sym is) (contains_head (hand who seen) []))
+    hand_fits s r id v who seen at is = (r.each_seat id v at).each_hand (hand who seen) (subst (λ hs. Contains hs (hand who seen)) (sym is) (Contains_head (hand who seen) []))
 
     -- a seat with one hand fits where the hand does
     one_fits : (log : List E) (owner : ℕ → ℕ) (id : ℕ) (opened : Option T) (h : Hand E) (holding : Bool) → ((x : T) → opened ≡ Some x → x ≡ key.value.value)
@@ -197,7 +199,7 @@ module _ {T E O : Type 0} (whose : E → ℕ) (origin : T → O) (serves : O →
                   homes = λ i. put_back (h.homes i) (in_hand i);
                   all_entries = whole;
                   same_origin = same_origin ∙ ap origin ((r.each_seat id me.0 at).same opened from);
-                  none_holds = seats_stay (λ j (v : V). v.holding ≡ false) s.views id w refl (λ j v other e. not_true v.holding (λ held. other (h.one_holds j v e held ∙ here.0)));
+                  none_holds = seats_stay (λ j (v : V). v.holding ≡ false) s.views id w refl (λ j v other e. false_from_ne_true v.holding (λ held. other (h.one_holds j v e held ∙ here.0)));
                 };
               }) r.lock,
           refl,

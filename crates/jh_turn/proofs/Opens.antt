@@ -1,12 +1,12 @@
 -- The first seat gives the callers' hands away, one after another.
 use Rattle.std.proofs.Common.{◌≡◌, ◌≢◌, ℕ, suc, ◌<◌, false, List, [], ◌∷◌, length, get_or, slice_index, drop, map, Contains, AllPairs, Some, refl, ap, sym, ◌∙◌, arith}
+use Rattle.jh_num.proofs.Lists.{Contains_from_map}
 use Rattle.atomic_table.specs.Table.{Splits}
 use Rattle.jh_turn.specs.declared.rule.Hand.{Hand}
 use Rattle.jh_turn.specs.declared.rule.View.{View}
 use Rattle.jh_turn.specs.declared.rule.Opening.{Opening}
 use Rattle.jh_turn.specs.Hands.{hand}
 use Rattle.jh_turn.specs.Rule.{view, without_first, only_first, Kept}
-use Rattle.jh_turn.proofs.Seats.{contains_map}
 use Rattle.jh_turn.proofs.Seating.{split_keeps}
 
 module _ {E : Type 0} (seen : List E) where
@@ -20,7 +20,7 @@ module _ {E : Type 0} (seen : List E) where
   -- no other hand is the first caller's
   pub first_apart : (left : List ℕ) → 0 < length left → AllPairs (λ a b. a ≢ b) left → (g : Hand E) → Contains (hands_of (drop 1 left)) g → g.caller ≢ slice_index left 0
   first_apart [] l differ g c same = absurd (omega arith)
-  first_apart (x ∷ xs) l differ g c same = let m = contains_map (λ who. hand who seen) xs g c in let at = m.1 in let inside = at.1 in
+  first_apart (x ∷ xs) l differ g c same = let m = Contains_from_map (λ who. hand who seen) xs g c in let at = m.1 in let inside = at.1 in
       let other : x ≡ get_or xs at.0 m.0 → ⊥ = differ 0 (suc at.0) m.0 (omega arith) (omega arith) in
       other (sym same ∙ (sym (ap (λ (h : Hand E). h.caller) m.2) ∙ sym at.2))
 

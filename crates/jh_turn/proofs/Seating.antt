@@ -4,6 +4,7 @@ use Rattle.std.proofs.lemmas.List.Elements.{Contains-append_cases}
 use mathlib.Core.Option as maybe
 use mathlib.Core.List.{IsPrefix}
 use lib.ListN.{get_elem?}
+use Rattle.jh_num.proofs.Lists.{Contains_head, Contains_tail, Contains_from_map}
 use Rattle.atomic_table.specs.Table.{State, opening, Splits, Joins, Final, Seen}
 use Rattle.atomic_table.proofs.Lists.{set_else, at_longer}
 use Rattle.jh_turn.specs.declared.rule.Hand.{Hand}
@@ -14,7 +15,7 @@ use Rattle.jh_turn.specs.Hands.{hand}
 use Rattle.jh_turn.specs.Histories.{entries_of}
 use Rattle.jh_turn.specs.Rule.{free, Slot, without_first, only_first, together, spent_view, opening_view, HandFits, Fits, Kept}
 use Rattle.jh_turn.proofs.Prefixes.{prefix_self}
-use Rattle.jh_turn.proofs.Seats.{seats_stay, seats_and_one, only_seat, contains_one, contains_head, contains_more, contains_none, contains_map}
+use Rattle.jh_turn.proofs.Seats.{seats_stay, seats_and_one, only_seat, contains_one, contains_none}
 use Rattle.jh_turn.proofs.Keeps.{hand_fits, not_holder}
 
 module _ {T E O : Type 0} (whose : E → ℕ) (origin : T → O) (serves : O → ℕ → Type 0) (history : T → List E) (key : Opening T) where
@@ -38,7 +39,7 @@ module _ {T E O : Type 0} (whose : E → ℕ) (origin : T → O) (serves : O →
       let n : ℕ = length (set s.views id left) in
       let owner : ℕ → ℕ = λ c. cond (eqb c h.caller) n (r.owner c) in
       let old = r.each_seat id v at in
-      let given = old.each_hand h (subst (λ l. Contains l h) (sym is) (contains_head h hs)) in
+      let given = old.each_hand h (subst (λ l. Contains l h) (sym is) (Contains_head h hs)) in
       let stays = λ (c : ℕ) (other : c ≢ h.caller). ap (λ (b : Bool). cond b n (r.owner c)) (ne_eqb c h.caller other) in
       let moves : owner h.caller ≡ n = ap (λ (b : Bool). cond b n (r.owner h.caller)) (eq-eqb h.caller h.caller refl) in
       let keeps_hand = λ (j : ℕ) (g : Hand E) (fits : HandFits whose key.callers.items r.log r.owner j g) (other : g.caller ≢ h.caller). let f : HandFits whose key.callers.items r.log owner j g = record { named = fits.named; one_seat = stays g.caller other ∙ fits.one_seat; seen = fits.seen; own = fits.own } in f in
@@ -46,7 +47,7 @@ module _ {T E O : Type 0} (whose : E → ℕ) (origin : T → O) (serves : O →
       let left_fits : Fit r.log owner id left = record {
         same = old.same;
         each_hand = λ g c. let there : Contains hs g = subst (λ l. Contains l g) (ap (drop 1) is) c in
-            keeps_hand id g (old.each_hand g (subst (λ l. Contains l g) (sym is) (contains_more h hs g there))) (apart g there);
+            keeps_hand id g (old.each_hand g (subst (λ l. Contains l g) (sym is) (Contains_tail h hs g there))) (apart g there);
       } in
       let right_fits : Fit r.log owner n right = record {
         same = old.same;
@@ -147,7 +148,7 @@ module _ {T E O : Type 0} (whose : E → ℕ) (origin : T → O) (serves : O →
       let log : List E = history key.value.value in
       let fits : Fit log (λ _. 0) 0 (opening_view history key) = record {
         same = λ x e. cc e;
-        each_hand = λ g c. let m = contains_map (λ who. hand who log) key.callers.items g c in
+        each_hand = λ g c. let m = Contains_from_map (λ who. hand who log) key.callers.items g c in
             let mine : HandFits whose key.callers.items log (λ _. 0) 0 (hand m.0 log) = record { named = m.1; one_seat = refl; seen = prefix_self log; own = refl } in subst (HandFits whose key.callers.items log (λ _. 0) 0) m.2 mine;
       } in record {
         log = log;

@@ -1,5 +1,5 @@
 -- Lists of views and hands, read at a place.
-use Rattle.std.proofs.Common.{◌≡◌, ◌≢◌, ◌⊎◌, ℕ, zero, suc, ◌<◌, Bool, true, false, List, [], ◌∷◌, ◌++◌, length, get_or, set, map, Contains, refl, ap, sym, subst, ◌∙◌, inl, inr, ⊎_elim, arith}
+use Rattle.std.proofs.Common.{◌≡◌, ◌≢◌, ◌⊎◌, ℕ, zero, suc, ◌<◌, List, [], ◌∷◌, ◌++◌, length, get_or, set, Contains, refl, ap, sym, subst, ◌∙◌, inl, inr, ⊎_elim, arith}
 use mathlib.Core.Option.{some, some-injective, some-ne-none}
 use lib.ListN.{get_elem?}
 use Rattle.atomic_table.proofs.Lists.{at_set}
@@ -35,19 +35,8 @@ module _ {A : Type 0} where
   pub contains_one : (x y : A) → Contains (x ∷ []) y → y ≡ x
   contains_one x y c = one_place x y c.0 c.1 c.2
 
-  pub contains_head : (x : A) (xs : List A) → Contains (x ∷ xs) x
-  contains_head x xs = (0, omega arith, refl)
-
   pub contains_none : (y : A) → Contains [] y → ⊥
   contains_none y c = let l = c.1 in omega arith
-
-pub not_true : (b : Bool) → (b ≡ true → ⊥) → b ≡ false
-not_true true never = absurd (never refl)
-not_true false never = refl
-
-module _ {A : Type 0} where
-  pub contains_more : (x : A) (xs : List A) (y : A) → Contains xs y → Contains (x ∷ xs) y
-  contains_more x xs y c = let l = c.1 in (suc c.0, omega arith, c.2)
 
   -- the only place
   pub only_seat : (K : ℕ → A → Type 0) (a : A) → K 0 a → (j : ℕ) (b : A) → get_elem? (a ∷ []) j ≡ some b → K j b
@@ -59,13 +48,3 @@ module _ {A : Type 0} where
       → (j : ℕ) (v : A) → get_elem? (set vs me w ++ new ∷ []) j ≡ some v → K j v
   seats_and_one K vs me w new mine others last j v e = ⊎_elim (seats_stay K vs me w mine others j v)
       (λ (t : (j ≡ length (set vs me w)) × (new ≡ v)). subst (λ (x : ℕ × A). K x.0 x.1) (λ i. (sym t.0 i, t.1 i)) last) (at_end (set vs me w) new v j e)
-
--- an element of a mapped list is that of an element
-pub contains_map : {A B : Type 0} (f : A → B) (xs : List A) (y : B) → Contains (map f xs) y → (x : A) × Contains xs x × (f x ≡ y)
-contains_map f [] y c = let l = c.1 in absurd (omega arith)
-contains_map f (x ∷ xs) y c = mapped_at f x xs y c.0 c.1 c.2 (contains_map f xs y)
-  where
-    mapped_at : {A B : Type 0} (f : A → B) (x : A) (xs : List A) (y : B) (k : ℕ) → k < length (map f (x ∷ xs)) → get_or (map f (x ∷ xs)) k y ≡ y
-        → (Contains (map f xs) y → (z : A) × Contains xs z × (f z ≡ y)) → (z : A) × Contains (x ∷ xs) z × (f z ≡ y)
-    mapped_at f x xs y zero l e more = (x, contains_head x xs, e)
-    mapped_at f x xs y (suc k) l e more = let m = more (k, omega arith, e) in (m.0, contains_more x xs m.0 m.1, m.2)

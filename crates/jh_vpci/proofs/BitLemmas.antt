@@ -1,7 +1,7 @@
 -- The bits of the words that can be written, after a word was put and before.
 use Rattle.std.proofs.Common.{ℕ, zero, suc, ◌≡◌, ◌≢◌, ◌+◌, ◌-◌, ◌*◌, ◌/◌, ◌%◌, ◌^◌, ◌<◌, ◌≤◌, ◌⊎◌, Bool, true, false, ◌&&◌, ◌||◌, ◌==◌, nat_lt, if◌then◌else◌, inl, inr, arith, refl, sym, ◌∙◌, ap, subst}
 use Rattle.std.specs.Int.{bit_at}
-use Rattle.std.proofs.lemmas.Bool.{cases_eq, cases_lt}
+use Rattle.std.proofs.lemmas.Bool.{cases_eq, cases_lt, and_parts}
 use Rattle.std.proofs.lemmas.Bool.Decides.{nat_tests}
 use Rattle.std.proofs.lemmas.Nat.{pow_pos, shr-shr}
 use Rattle.std.proofs.lemmas.Nat.Bits.{bit_at_cat_low, bit_at_cat_high, bit_at-lt, bit_at-zero}
@@ -16,17 +16,12 @@ abbrev each_below : ℕ → (ℕ → Bool) → Bool
 each_below zero p = true
 each_below (suc n) p = p n && each_below n p
 
-both : (a b : Bool) → (a && b) ≡ true → (a ≡ true) × (b ≡ true)
-both true true h = (refl, refl)
-both true false h = cc
-both false b h = cc
-
 below_all : (n : ℕ) (p : ℕ → Bool) → each_below n p ≡ true → (k : ℕ) → k < n → p k ≡ true
 below_all zero p h k lt = absurd (let no : ⊥ = omega arith in no)
 below_all (suc n) p h k lt =
     elim (cases_eq k n) as (λ _. p k ≡ true) [
-      | inl same ↦ ap p same ∙ (both (p n) (each_below n p) h).0
-      | inr other ↦ below_all n p (both (p n) (each_below n p) h).1 k (let lower : k < n = omega arith in lower)
+      | inl same ↦ ap p same ∙ (and_parts (p n) (each_below n p) h).0
+      | inr other ↦ below_all n p (and_parts (p n) (each_below n p) h).1 k (let lower : k < n = omega arith in lower)
     ]
 
 -- 1 where the test holds
@@ -152,7 +147,7 @@ command_other : (a b c : Bool) (k : ℕ) → k < 32 → k ≢ 1 → k ≢ 2 → 
     → (bit_at 0x0406 k ≡ 0) × (bit_at (command_word a b c) k ≡ bit_at 0x00100000 k)
 command_other a b c k lt p q r =
     let whole = below_all 32 (command_test a b c) (command_all a b c) k lt in
-    let rest = both _ _ (fourth (k == 1) (k == 2) (k == 10)
+    let rest = and_parts _ _ (fourth (k == 1) (k == 2) (k == 10)
     ((bit_at 0x0406 k == 0) && (bit_at (command_word a b c) k == bit_at 0x00100000 k))
     whole (differs k 1 p) (differs k 2 q) (differs k 10 r)) in
     (equals (bit_at 0x0406 k) 0 rest.0, equals (bit_at (command_word a b c) k) (bit_at 0x00100000 k) rest.1)
@@ -223,7 +218,7 @@ second false d h p = h
 capability_other : (v a : Bool) (k : ℕ) → k < 32 → k ≢ 24
     → (bit_at 0x01000000 k ≡ 0) × (bit_at (capability_word v a) k ≡ bit_at (capability_word v false) k)
 capability_other v a k lt p =
-    let rest = both _ _ (second (k == 24)
+    let rest = and_parts _ _ (second (k == 24)
     ((bit_at 0x01000000 k == 0) && (bit_at (capability_word v a) k == bit_at (capability_word v false) k))
     (below_all 32 (capability_test v a) (capability_all v a) k lt) (differs k 24 p)) in (
       equals (bit_at 0x01000000 k) 0 rest.0,

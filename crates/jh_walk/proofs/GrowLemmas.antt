@@ -14,7 +14,7 @@ use Rattle.jh_walk.specs.Pages.{sum_below, by_next, count, is_page, times, Grows
 use Rattle.jh_walk.proofs.WalkLemmas.{below_end, past_end}
 use Rattle.jh_walk.proofs.LiftLemmas.{slot_counts, count_more, count_none}
 
-index_small : (x : ℕ) → x % 512 < 512
+pub index_small : (x : ℕ) → x % 512 < 512
 index_small x = omega arith
 
 next_by : (w w' : ℕ → ℕ) (n at next : ℕ) (hit : Hit) → (walk_of w n next at ≡ Some hit → walk_of w' n next at ≡ Some hit) → (if nat_lt next ADDRESS_END then walk_of w n next at else None) ≡ Some hit → (next < ADDRESS_END) ⊎ (ADDRESS_END ≤ next) → (if nat_lt next ADDRESS_END then walk_of w' n next at else None) ≡ Some hit

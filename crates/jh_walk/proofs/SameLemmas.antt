@@ -1,5 +1,5 @@
 -- Walks over words that are the same in all pages that are reached.
-use Rattle.std.proofs.Common.{◌≡◌, ℕ, ◌+◌, ◌-◌, ◌*◌, ◌/◌, ◌%◌, ◌<◌, ◌≤◌, ◌∙◌, sym, ap, nat_lt, if◌then◌else◌, List, [], ◌∷◌, Option, None, zero, suc, arith, refl}
+use Rattle.std.proofs.Common.{◌≡◌, ℕ, ◌+◌, ◌-◌, ◌*◌, ◌/◌, ◌<◌, ◌≤◌, ◌∙◌, sym, ap, nat_lt, if◌then◌else◌, List, [], ◌∷◌, Option, None, zero, suc, arith, refl}
 use Rattle.jh_num.specs.declared.address.TheConstants.{ADDRESS_END}
 use Rattle.jh_num.specs.declared.steps.Probe.{Probe}
 use Rattle.jh_desc.specs.declared.descriptor.Descriptor.{Descriptor}
@@ -13,9 +13,7 @@ use Rattle.jh_walk.specs.Walks.{walk_of, walk_on, probes_of, probes_on, slot_at}
 use Rattle.jh_walk.specs.Pages.{sum_below, by_next, count, is_page, times, SameTables}
 use Rattle.jh_walk.proofs.SumLemmas.{sum_same}
 use Rattle.jh_walk.proofs.LiftLemmas.{slot_counts, count_more, count_none, next_same, self_times, slot_is, slot_le}
-
-index_small : (x : ℕ) → x % 512 < 512
-index_small x = omega arith
+use Rattle.jh_walk.proofs.GrowLemmas.{index_small}
 
 -- the words of a page that the page leads to are the same too
 same_below : (w w' : ℕ → ℕ) (n t i next : ℕ) → SameTables w w' (suc n) t → i < 512 → read_of (w (t + 8 * i)) (LAST_LEVEL - n) ≡ Table next → SameTables w w' n next

@@ -1,9 +1,9 @@
 -- The first entry that isn't due ends the audit, where the rest has no fault.
 use Rattle.std.proofs.Common.{[], ◌∷◌, ◌++◌}
+use Rattle.jh_num.proofs.Results.{passed_up}
 use Rattle.jh_text.specs.Faults.{IsFault}
 use Rattle.jh_text.specs.Lines.{IsReadTo}
 use Rattle.jh_audit.proofs.JudgeLemmas.{is_illegal}
-use Rattle.jh_audit.proofs.RestLemmas.{passed_up}
 use Rattle.jh_audit.proofs.judge.judge_text.Goals as goal
 
 pub returns-in_err-read_rest-clause-err : goal.returns-in_err-read_rest-clause-err

@@ -1,11 +1,11 @@
 -- The region that has the whole access, unless one of its places is kept.
 use Rattle.std.proofs.Common.{◌≤◌, Bool, Some, None, cond, ap, sym, ◌∙◌}
 use Rattle.std.specs.List.{list_any}
+use Rattle.jh_cellcfg.proofs.AddressLemmas.{has_address_first}
 use Rattle.jh_mmio.specs.Dispatch.{unless_closed}
 use Rattle.jh_history.specs.declared.place.Place.{Place}
 use Rattle.jh_history.specs.declared.place.Place.TheVariants.{Physical}
 use Rattle.jh_history.specs.Grants.{is_kept}
-use Rattle.jh_history.proofs.GrantLemmas.{has_start}
 use Rattle.jh_history.proofs.BehindLemmas.{unless_kept}
 use Rattle.jh_board.proofs.granted.open_whole.Goals as goal
 
@@ -14,7 +14,7 @@ returns-then-keeps-clause-found c =
     let kept : Place → Bool = is_kept c.args.image.now c.args.cells.now.lives c.args.cell in
     let wanted = c.args.wanted.now in
     let region = c.in-Some.region in
-    let low : region.virt_start ≤ wanted.at = has_start region wanted.at c.in-Some.ensures.first in
+    let low : region.virt_start ≤ wanted.at = has_address_first region wanted.at c.in-Some.ensures.first in
     sym (c.whole.ensures.found (λ p. kept (Physical p)) ∙ ap (unless_closed (λ p. kept (Physical p)) wanted.at wanted.width) c.in-Some.is
     ∙ unless_kept c.args.image.now c.args.cells.now.lives c.args.cell wanted.at wanted.width region c.keeps.result low (c.keeps.ensures ∙ ap (list_any kept) c.places_in-places.ensures)
     ∙ ap (λ (b : Bool). cond b None (Some region)) c.if-keeps.true)
@@ -24,7 +24,7 @@ returns-else-keeps-clause-found c =
     let kept : Place → Bool = is_kept c.args.image.now c.args.cells.now.lives c.args.cell in
     let wanted = c.args.wanted.now in
     let region = c.in-Some.region in
-    let low : region.virt_start ≤ wanted.at = has_start region wanted.at c.in-Some.ensures.first in
+    let low : region.virt_start ≤ wanted.at = has_address_first region wanted.at c.in-Some.ensures.first in
     sym (c.whole.ensures.found (λ p. kept (Physical p)) ∙ ap (unless_closed (λ p. kept (Physical p)) wanted.at wanted.width) c.in-Some.is
     ∙ unless_kept c.args.image.now c.args.cells.now.lives c.args.cell wanted.at wanted.width region c.keeps.result low (c.keeps.ensures ∙ ap (list_any kept) c.places_in-places.ensures)
     ∙ ap (λ (b : Bool). cond b None (Some region)) c.if-keeps.false)

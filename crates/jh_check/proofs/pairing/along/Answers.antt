@@ -1,8 +1,9 @@
 use Rattle.std.proofs.Common.{◌≡◌, ◌<◌, [], ◌++◌, length, drop, sym, ap, ◌∙◌, arith}
+use Rattle.std.proofs.lemmas.List.{append-nil}
 use Rattle.jh_cellcfg.specs.declared.region.Region.{Region}
 use Rattle.jh_check.specs.Lists.{capped, found_from}
 use Rattle.jh_check.specs.Findings.{between, between_at}
-use Rattle.jh_check.proofs.ListLemmas.{append_nil, found_step}
+use Rattle.jh_check.proofs.ListLemmas.{found_step}
 use Rattle.jh_check.proofs.ReachLemmas.{found_skip, found_rest}
 use Rattle.jh_check.proofs.RisingLemmas.{beside_before, beside_behind}
 use Rattle.jh_check.proofs.pairing.along.Goals as goal
@@ -38,4 +39,4 @@ returns c =
     let rest : found_from found c.loop-r.r (drop c.loop-r.r regions) ≡ [] = found_rest found regions c.loop-r.r none (λ i within beyond.
     beside_behind c.args.rule c.args.a one c.args.stretch i none c.requires.within c.requires.stretch (omega arith))
     in
-    ap capped (sym (append_nil c.loop-r.found)) ∙ ap (λ xs. capped (c.loop-r.found ++ xs)) (sym rest) ∙ c.loop-r.invariant
+    ap capped (sym (append-nil c.loop-r.found)) ∙ ap (λ xs. capped (c.loop-r.found ++ xs)) (sym rest) ∙ c.loop-r.invariant

@@ -1,9 +1,10 @@
 use Rattle.std.proofs.Common.{◌≡◌, ◌^◌, ◌<◌, [], ◌++◌, length, get_or, drop, sym, ap, ◌∙◌, arith}
+use Rattle.std.proofs.lemmas.List.{append-nil}
 use Rattle.jh_cellcfg.specs.declared.region.Region.{Region}
 use Rattle.jh_check.specs.Sites.{spot_of}
 use Rattle.jh_check.specs.Lists.{capped, found_from}
 use Rattle.jh_check.specs.Findings.{beside, beside_at}
-use Rattle.jh_check.proofs.ListLemmas.{append_nil, found_step}
+use Rattle.jh_check.proofs.ListLemmas.{found_step}
 use Rattle.jh_check.proofs.ReachLemmas.{found_skip, found_rest, beside_outside}
 use Rattle.jh_check.proofs.search.beside.Goals as goal
 
@@ -50,4 +51,4 @@ returns c =
     let rest : found_from found c.loop-s.s (drop c.loop-s.s regions) ≡ [] = found_rest found regions c.loop-s.s none (λ i within beyond.
     beside_outside c.args.rule one c.args.b other c.args.window c.requires.hits i none within (omega arith) (λ is. absurd (let l = is.1 in omega arith)))
     in
-    ap capped (sym (append_nil c.loop-s.found)) ∙ ap (λ xs. capped (c.loop-s.found ++ xs)) (sym rest) ∙ c.loop-s.invariant
+    ap capped (sym (append-nil c.loop-s.found)) ∙ ap (λ xs. capped (c.loop-s.found ++ xs)) (sym rest) ∙ c.loop-s.invariant

@@ -1,10 +1,10 @@
-use Rattle.std.proofs.Common.{◌≡◌, ◌<◌, true, false, [], take, length, get_or, refl}
-use Rattle.jh_cellcfg.specs.declared.config.PciDevice.{PciDevice}
+use Rattle.std.proofs.Common.{◌≡◌, ◌<◌, true, false, take, length, get_or, refl}
 use Rattle.jh_check.specs.Cells.{cells_of}
 use Rattle.jh_check.specs.Devices.{device_breaks}
 use Rattle.jh_check.specs.declared.rule.Rule.TheVariants.{Shmem}
 use Rattle.jh_check.specs.Lists.{is_any}
 use Rattle.jh_check.specs.Findings.{device_at, in_devices_of, finding_of}
+use Rattle.jh_check.proofs.DeviceLemmas.{no_device}
 use Rattle.jh_check.proofs.ListLemmas.{any_step, any_hit, any_done, any_only}
 use Rattle.jh_check.proofs.verdict.any_device.Goals as goal
 
@@ -16,63 +16,27 @@ pub returns-then-device_breaks : goal.returns-then-device_breaks
 returns-then-device_breaks c =
     let found = device_at (take c.args.number (cells_of c.args.setup.now)) c.args.number c.args.cell.now in
     let items = c.args.cell.now.pci_devices in
-    let none : PciDevice = record {
-      kind = 0;
-      iommu = 0;
-      domain = 0;
-      bdf = 0;
-      bar_mask = [];
-      caps_start = 0;
-      num_caps = 0;
-      num_msi_vectors = 0;
-      msi_bits = 0;
-      num_msix_vectors = 0;
-      msix_region_size = 0;
-      msix_address = 0;
-      shmem_regions_start = 0;
-      shmem_dev_id = 0;
-      shmem_peers = 0;
-      shmem_protocol = 0;
-    } in
     let v = c.as_slice-devices.ensures.value in
     let t = c.loop-n-test.true in
     let h : c.loop-n.n < length items = rw v at t in
     let b = c.device_breaks.ensures in
     let i = c.if-device_breaks.true in
-    let o = any_only (device_breaks (take c.args.number (cells_of c.args.setup.now)) c.args.cell.now (take c.loop-n.n items) (get_or items c.loop-n.n none)) (finding_of Shmem c.args.number c.loop-n.n 0 0) in
-    let e : is_any (found c.loop-n.n (get_or items c.loop-n.n none)) ≡ true = cc in
-    any_hit found items c.loop-n.n none _ h e c.loop-n.invariant
+    let o = any_only (device_breaks (take c.args.number (cells_of c.args.setup.now)) c.args.cell.now (take c.loop-n.n items) (get_or items c.loop-n.n no_device)) (finding_of Shmem c.args.number c.loop-n.n 0 0) in
+    let e : is_any (found c.loop-n.n (get_or items c.loop-n.n no_device)) ≡ true = cc in
+    any_hit found items c.loop-n.n no_device _ h e c.loop-n.invariant
 
 pub loop-n-preserved : goal.loop-n-preserved
 loop-n-preserved c =
     let found = device_at (take c.args.number (cells_of c.args.setup.now)) c.args.number c.args.cell.now in
     let items = c.args.cell.now.pci_devices in
-    let none : PciDevice = record {
-      kind = 0;
-      iommu = 0;
-      domain = 0;
-      bdf = 0;
-      bar_mask = [];
-      caps_start = 0;
-      num_caps = 0;
-      num_msi_vectors = 0;
-      msi_bits = 0;
-      num_msix_vectors = 0;
-      msix_region_size = 0;
-      msix_address = 0;
-      shmem_regions_start = 0;
-      shmem_dev_id = 0;
-      shmem_peers = 0;
-      shmem_protocol = 0;
-    } in
     let v = c.as_slice-devices.ensures.value in
     let t = c.loop-n-test.true in
     let h : c.loop-n.n < length items = rw v at t in
     let b = c.device_breaks.ensures in
     let i = c.if-device_breaks.false in
-    let o = any_only (device_breaks (take c.args.number (cells_of c.args.setup.now)) c.args.cell.now (take c.loop-n.n items) (get_or items c.loop-n.n none)) (finding_of Shmem c.args.number c.loop-n.n 0 0) in
-    let e : is_any (found c.loop-n.n (get_or items c.loop-n.n none)) ≡ false = cc in
-    any_step found items c.loop-n.n none _ h e c.loop-n.invariant
+    let o = any_only (device_breaks (take c.args.number (cells_of c.args.setup.now)) c.args.cell.now (take c.loop-n.n items) (get_or items c.loop-n.n no_device)) (finding_of Shmem c.args.number c.loop-n.n 0 0) in
+    let e : is_any (found c.loop-n.n (get_or items c.loop-n.n no_device)) ≡ false = cc in
+    any_step found items c.loop-n.n no_device _ h e c.loop-n.invariant
 
 pub returns : goal.returns
 returns c = any_done (device_at (take c.args.number (cells_of c.args.setup.now)) c.args.number c.args.cell.now) (c.args.cell.now.pci_devices) c.loop-n.n _ (rw c.as_slice-devices.ensures.value at c.loop-n-test.false) c.loop-n.invariant

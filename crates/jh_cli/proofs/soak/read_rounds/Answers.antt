@@ -1,7 +1,8 @@
 -- What the word tells.
-use Rattle.std.proofs.Common.{◌≡◌, ℕ, List, Result, Ok, Err, sym, subst, ◌∙◌, arith}
+use Rattle.std.proofs.Common.{◌≡◌, ℕ, List, Result, Ok, sym, subst, ◌∙◌, arith}
 use Rattle.std.specs.Str.Parse.{ParsesUnsigned}
 use Rattle.std.proofs.lemmas.Fmt.{parse-decimal}
+use Rattle.jh_num.proofs.Results.{ok_one, ok_err}
 use Rattle.jh_cli.specs.Soak.{AreRounds, TellsRounds}
 use Rattle.jh_cli.proofs.RoundsLemmas.{rounds_told}
 use Rattle.jh_cli.proofs.soak.read_rounds.Goals as goal
@@ -12,18 +13,12 @@ read word rounds r are parses =
     let most = are.most in
     parse-decimal 32 rounds word r (omega arith) (omega arith) are.written parses
 
-is_not : {X E : Type 0} (r : Result X E) (x : X) (e : E) → r ≡ Ok x → r ≡ Err e → ⊥
-is_not r x e h k = cc
-
-is_one : {X E : Type 0} (r : Result X E) (x y : X) → r ≡ Ok x → r ≡ Ok y → x ≡ y
-is_one r x y h k = cc
-
 pub returns-in_default : goal.returns-in_default
-returns-in_default c rounds are = is_not c.parse.result rounds c.in_default.field-0 (read c.args.word.now rounds c.parse.result are c.parse.ensures.value.0) c.in_default.is
+returns-in_default c rounds are = ok_err c.parse.result rounds c.in_default.field-0 (read c.args.word.now rounds c.parse.result are c.parse.ensures.value.0) c.in_default.is
 
 pub returns : goal.returns
 returns c =
     let found : ℕ = c.in-Ok.rounds in
     let told = rounds_told c.args.word.now c.as_str.result.now found c.eq-plain.result c.eq-plain.ensures (c.as_str.ensures.value ∙ c.in_ok-written.ensures.ok)
-    (λ rounds are. is_one c.parse.result rounds found (read c.args.word.now rounds c.parse.result are c.parse.ensures.value.0) c.in-Ok.is) in
+    (λ rounds are. ok_one c.parse.result rounds found (read c.args.word.now rounds c.parse.result are c.parse.ensures.value.0) c.in-Ok.is) in
     subst (TellsRounds c.args.word.now) (sym c.rounds_if.ensures) told

@@ -1,12 +1,13 @@
 -- The preload's file can't be read, is too large, or has a fault.
 use Rattle.std.proofs.Common.{[], ◌∷◌, rules, arith}
 use Rattle.std.proofs.lemmas.Grind.{common_steps}
+use Rattle.jh_num.proofs.Results.{passed_up}
 use Rattle.jh_outside.specs.Trail.{Asks}
 use Rattle.jh_image.specs.declared.fault.ImageCause.TheVariants.{Preload as BadPreload}
 use Rattle.jh_image.specs.Order.{ask_for}
 use Rattle.jh_image.specs.Images.{with_system, so_far_of, a_preload}
 use Rattle.jh_image.specs.Causes.{HandsOutNothing, OnRefused, StopsReading}
-use Rattle.jh_image.proofs.StopLemmas.{on_refusal, on_refused, unread_stops, preload_stops, passed_up}
+use Rattle.jh_image.proofs.StopLemmas.{on_refusal, on_refused, unread_stops, preload_stops}
 use Rattle.jh_image.proofs.image.next_preload.Goals as goal
 
 pub returns-then-not-is_fit-clause-asked_until : goal.returns-then-not-is_fit-clause-asked_until

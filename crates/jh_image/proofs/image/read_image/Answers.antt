@@ -1,11 +1,12 @@
 -- Which files were read.
 use Rattle.std.proofs.Common.{[], ◌∷◌, map, sym, subst}
+use Rattle.jh_num.proofs.Results.{passed_up}
 use Rattle.jh_outside.specs.Trail.{Asks, AsksUntil}
 use Rattle.jh_image.specs.Images.{with_listing, ReadsTo}
 use Rattle.jh_image.specs.Causes.{OnRefused}
 use Rattle.jh_image.specs.Order.{ask_for, preload_name, program_name, AsksBoardUntil}
 use Rattle.jh_image.proofs.OrderLemmas.{at_the_board, at_the_system, to_the_system, at_a_preload, to_the_preloads, at_a_program, to_the_programs}
-use Rattle.jh_image.proofs.StopLemmas.{on_refused, board_read, passed_up}
+use Rattle.jh_image.proofs.StopLemmas.{on_refused, board_read}
 use Rattle.jh_image.proofs.image.read_image.Goals as goal
 
 pub read_ready-requires : goal.read_ready-requires

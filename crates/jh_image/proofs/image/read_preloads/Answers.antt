@@ -1,11 +1,12 @@
 -- The loop over the preloads' files.
 use Rattle.std.proofs.Common.{◌≡◌, ◌+◌, ◌<◌, length, get_or, refl, sym, subst, arith, ◌≤◌, map, [], ◌∷◌}
 use Rattle.std.proofs.lemmas.List.{take_all}
+use Rattle.jh_num.proofs.Results.{passed_up}
 use Rattle.jh_outside.specs.Trail.{Asks, no_ask, AsksAll, AsksUntil}
 use Rattle.jh_image.specs.Order.{ask_for, preload_name}
 use Rattle.jh_outside.specs.TrailLaws.{loop-more, loop-until}
 use Rattle.jh_image.specs.Causes.{OnRefused}
-use Rattle.jh_image.proofs.StopLemmas.{on_refused, passed_up}
+use Rattle.jh_image.proofs.StopLemmas.{on_refused}
 use Rattle.jh_image.proofs.LoadLemmas.{LoadedSoFar, loaded_start, loaded_next, loaded_more, loaded_all}
 use Rattle.jh_image.proofs.image.read_preloads.Goals as goal
 

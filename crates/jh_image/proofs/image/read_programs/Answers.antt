@@ -1,9 +1,10 @@
 -- The loop over the programs' files.
 use Rattle.std.proofs.Common.{◌≡◌, ◌+◌, ◌<◌, ◌≤◌, length, get_or, refl, sym, subst, arith, map, [], ◌∷◌}
 use Rattle.std.proofs.lemmas.List.{take_all}
+use Rattle.jh_num.proofs.Results.{passed_up}
 use Rattle.jh_image.specs.Images.{so_far_of}
 use Rattle.jh_image.specs.Causes.{IsProgramUnread, OnRefused, StopsReading}
-use Rattle.jh_image.proofs.StopLemmas.{on_refused, program_stops, passed_up}
+use Rattle.jh_image.proofs.StopLemmas.{on_refused, program_stops}
 use Rattle.jh_outside.specs.Trail.{Asks, no_ask, AsksAll, AsksUntil}
 use Rattle.jh_image.specs.Order.{ask_for, program_name}
 use Rattle.jh_outside.specs.TrailLaws.{loop-more, loop-until}

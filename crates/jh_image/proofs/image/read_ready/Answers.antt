@@ -1,6 +1,7 @@
 -- The system is admitted, or isn't.
+use Rattle.jh_num.proofs.Results.{passed_up}
 use Rattle.jh_image.specs.Causes.{IsUnsound, OnRefused, StopsReading}
-use Rattle.jh_image.proofs.StopLemmas.{on_refused, system_read, unsound_stops, passed_up}
+use Rattle.jh_image.proofs.StopLemmas.{on_refused, system_read, unsound_stops}
 use Rattle.jh_image.proofs.image.read_ready.Goals as goal
 
 pub returns-in_err-check_system-clause-err : goal.returns-in_err-check_system-clause-err

@@ -1,11 +1,12 @@
 -- The board can't be read, is too large, or has a fault.
 use Rattle.std.proofs.Common.{[], ◌∷◌}
+use Rattle.jh_num.proofs.Results.{passed_up}
 use Rattle.jh_outside.specs.Trail.{Ask, Asks}
 use Rattle.jh_image.specs.Order.{ask_for}
 use Rattle.jh_image.proofs.OrderLemmas.{board_asked}
 use Rattle.jh_image.specs.Images.{nothing, the_board, nothing_read}
 use Rattle.jh_image.specs.Causes.{HandsOutNothing, IsBoardRefusal, OnRefused, StopsReading}
-use Rattle.jh_image.proofs.StopLemmas.{on_refused, unread_stops, board_stops, passed_up}
+use Rattle.jh_image.proofs.StopLemmas.{on_refused, unread_stops, board_stops}
 use Rattle.jh_image.proofs.read.read_listing.Goals as goal
 
 pub returns-clause-asked_until : goal.returns-clause-asked_until

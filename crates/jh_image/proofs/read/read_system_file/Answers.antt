@@ -1,12 +1,13 @@
 -- The system's file can't be read, is too large, or has a fault.
 use Rattle.std.proofs.Common.{sym, subst, [], ◌∷◌, rules, arith}
 use Rattle.std.proofs.lemmas.Grind.{common_steps}
+use Rattle.jh_num.proofs.Results.{passed_up}
 use Rattle.jh_outside.specs.Trail.{Asks}
 use Rattle.jh_image.specs.declared.fault.ImageCause.TheVariants.{System}
 use Rattle.jh_image.specs.Order.{ask_for}
 use Rattle.jh_image.specs.Images.{IsNextFile, with_listing, the_system}
 use Rattle.jh_image.specs.Causes.{HandsOutNothing, IsRefusal, OnRefused, StopsReading}
-use Rattle.jh_image.proofs.StopLemmas.{on_refusal, on_refused, unread_stops, system_stops, passed_up}
+use Rattle.jh_image.proofs.StopLemmas.{on_refusal, on_refused, unread_stops, system_stops}
 use Rattle.jh_image.proofs.read.read_system_file.Goals as goal
 
 pub returns-clause-asked_until : goal.returns-clause-asked_until

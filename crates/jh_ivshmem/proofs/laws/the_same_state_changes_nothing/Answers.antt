@@ -1,9 +1,9 @@
-use Rattle.std.proofs.Common.{◌≡◌, ℕ, true, ◌==◌, List, Some, AllPairs, map, set, refl, sym, ◌∙◌, ap, subst, arith}
+use Rattle.std.proofs.Common.{◌≡◌, ℕ, true, List, Some, AllPairs, map, set, refl, sym, ◌∙◌, ap, subst}
 use Rattle.std.specs.List.{position_or_len}
-use Rattle.std.proofs.lemmas.Bool.Decides.{nat_tests}
 use Rattle.std.proofs.lemmas.List.{set-get_or}
 use Rattle.std.proofs.lemmas.List.Folds.{find_at}
 use Rattle.std.proofs.lemmas.Option.{get_or_from_slice_get, slice_get_within}
+use Rattle.jh_num.proofs.Booleans.{same_number}
 use Rattle.jh_ivshmem.specs.declared.endpoint.Endpoint.{Endpoint}
 use Rattle.jh_ivshmem.specs.Specs.{is_device, AreEndpointsApart}
 use Rattle.jh_ivshmem.specs.Changes.{changed}
@@ -11,9 +11,6 @@ use Rattle.jh_ivshmem.specs.Links.{written, told_of, endpoint_at}
 use Rattle.jh_ivshmem.specs.Seen.{Seen}
 use Rattle.jh_ivshmem.proofs.ApartLemmas.{set_device}
 use Rattle.jh_ivshmem.proofs.laws.the_same_state_changes_nothing.Goals as goal
-
-same_number : (n : ℕ) → (n == n) ≡ true
-same_number n = grind (arith, nat_tests)
 
 untold : (e : Endpoint) (list : List Endpoint) → told_of e e.state list ≡ list
 untold e list = rw (same_number e.state) refl

@@ -2,27 +2,21 @@
 use Rattle.std.proofs.Common.{◌≡◌, sym, ◌∙◌, ap, below_more, arith, length}
 use Rattle.std.proofs.lemmas.List.{get_or_default}
 use Rattle.jh_num.specs.Bytes.{has_byte}
-use Rattle.jh_cellcfg.specs.declared.region.Region.{Region}
+use Rattle.jh_num.proofs.Lists.{position_here, position_nowhere}
+use Rattle.jh_cellcfg.proofs.AddressLemmas.{no_region}
 use Rattle.jh_mmio.specs.Dispatch.{takes_all}
-use Rattle.jh_mmio.proofs.HittingLemmas.{position_here, position_nowhere}
 use Rattle.jh_mmio.proofs.cases.first_subpage.Goals as goal
 
-past : Region
-past = record { phys_start = 0; virt_start = 0; size = 0; flags = 0 }
-
 pub returns-then-takes_all : goal.returns-then-takes_all
-unfolding past
 returns-then-takes_all c =
-    position_here (takes_all (has_byte c.args.closed.now.ranges) c.args.at c.args.width) c.args.regions.now c.loop-number.number past c.loop-number-test.true (λ j lt. c.loop-number.invariant j lt past) (sym c.if-takes_all.ensures)
+    position_here (takes_all (has_byte c.args.closed.now.ranges) c.args.at c.args.width) c.args.regions.now c.loop-number.number no_region c.loop-number-test.true (λ j lt. c.loop-number.invariant j lt no_region) (sym c.if-takes_all.ensures)
 
 pub loop-number-preserved : goal.loop-number-preserved
-unfolding past
 loop-number-preserved c =
     below_more _ _ c.loop-number.invariant (λ d.
-    ap (takes_all (has_byte c.args.closed.now.ranges) c.args.at c.args.width) (get_or_default c.args.regions.now c.loop-number.number d past c.loop-number-test.true) ∙ sym c.if-takes_all.ensures)
+    ap (takes_all (has_byte c.args.closed.now.ranges) c.args.at c.args.width) (get_or_default c.args.regions.now c.loop-number.number d no_region c.loop-number-test.true) ∙ sym c.if-takes_all.ensures)
 
 pub returns : goal.returns
-unfolding past
 returns c =
     let all : c.loop-number.number ≡ length c.args.regions.now = omega arith in
-    position_nowhere (takes_all (has_byte c.args.closed.now.ranges) c.args.at c.args.width) c.args.regions.now past (λ j lt. c.loop-number.invariant j (omega arith) past)
+    position_nowhere (takes_all (has_byte c.args.closed.now.ranges) c.args.at c.args.width) c.args.regions.now no_region (λ j lt. c.loop-number.invariant j (omega arith) no_region)

@@ -3,7 +3,8 @@ use Rattle.std.proofs.Common.{◌≡◌, Some, None, ◌∙◌, sym, ap}
 use Rattle.jh_num.specs.Memory.{spelled}
 use Rattle.jh_board.specs.Pages.{bytes_from}
 use Rattle.jh_num.specs.Pages.{page_at, byte_of_page}
-use Rattle.jh_board.proofs.PieceLemmas.{zeros_spell_nothing, fits_zero}
+use Rattle.jh_num.proofs.MemoryLemmas.{zero_fits}
+use Rattle.jh_board.proofs.PieceLemmas.{zeros_spell_nothing}
 use Rattle.jh_board.proofs.comm_pages.CommPages.value.Goals as goal
 
 pub returns-in-Some-clause-spells : goal.returns-in-Some-clause-spells
@@ -17,4 +18,4 @@ returns-in-None-clause-spells c =
     sym (zeros_spell_nothing c.args.word.offset c.args.word.count) ∙ ap (λ p. spelled (bytes_from (byte_of_page p) c.args.word.offset c.args.word.count)) there
 
 pub returns-in-None-clause-fits : goal.returns-in-None-clause-fits
-returns-in-None-clause-fits c = fits_zero c.args.word.count
+returns-in-None-clause-fits c = zero_fits c.args.word.count

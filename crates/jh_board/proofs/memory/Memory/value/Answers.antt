@@ -3,8 +3,9 @@ use Rattle.std.proofs.Common.{ap, sym, ◌∙◌}
 use Rattle.jh_num.specs.Memory.{spelled}
 use Rattle.jh_history.specs.declared.place.Place.TheVariants.{Physical, Page}
 use Rattle.jh_board.specs.Pages.{MemoryView}
-use Rattle.jh_board.proofs.PieceLemmas.{row_of_memory, row_of_comm, fits_in_row}
+use Rattle.jh_board.proofs.PieceLemmas.{row_of_memory, fits_in_row}
 use Rattle.jh_board.proofs.memory.Memory.value.Goals as goal
+use Rattle.jh_board.proofs.RowLemmas.{row_of_comm}
 
 pub returns-in-Some-clause-value : goal.returns-in-Some-clause-value
 returns-in-Some-clause-value c =

@@ -3,7 +3,8 @@ use Rattle.std.proofs.Common.{◌≡◌, ◌/◌, ◌%◌, Some, None, ◌∙◌
 use Rattle.jh_num.specs.Memory.{spelled}
 use Rattle.jh_board.specs.Pages.{bytes_from}
 use Rattle.jh_num.specs.Pages.{page_at, byte_of_page}
-use Rattle.jh_board.proofs.PieceLemmas.{spelled_of_page, zeros_spell_nothing, fits_zero}
+use Rattle.jh_num.proofs.MemoryLemmas.{zero_fits}
+use Rattle.jh_board.proofs.PieceLemmas.{spelled_of_page, zeros_spell_nothing}
 use Rattle.jh_board.proofs.physical.Physical.value.Goals as goal
 
 pub returns-in-Some-clause-spells : goal.returns-in-Some-clause-spells
@@ -19,4 +20,4 @@ returns-in-None-clause-spells c =
     (sym (zeros_spell_nothing (c.args.piece.at % 4096) c.args.piece.count) ∙ ap (λ p. spelled (bytes_from (byte_of_page p) (c.args.piece.at % 4096) c.args.piece.count)) there)
 
 pub returns-in-None-clause-fits : goal.returns-in-None-clause-fits
-returns-in-None-clause-fits c = fits_zero c.args.piece.count
+returns-in-None-clause-fits c = zero_fits c.args.piece.count

@@ -4,8 +4,8 @@ use Rattle.jh_ivshmem.specs.Changes.{is_meant, after}
 use Rattle.jh_ivshmem.specs.Specs.{is_device}
 use Rattle.jh_ivshmem.specs.Keys.{key_of}
 use Rattle.jh_ivshmem.specs.Seen.{Seen}
-use Rattle.jh_ivshmem.proofs.NamedLemmas.{length_changed}
 use Rattle.jh_ivshmem.proofs.endpoints.Endpoints.change.Goals as goal
+use Rattle.jh_ivshmem.proofs.ApartLemmas.{changed_length}
 
 pub returns-in-Device-clause-spare : goal.returns-in-Device-clause-spare
 returns-in-Device-clause-spare c =
@@ -15,7 +15,7 @@ returns-in-Device-clause-spare c =
       c.change_one.ensures.room,
       c.change_one.ensures.key_room,
       ap length c.change_one.ensures.list,
-      length_changed (is_device c.in-Device.cell c.in-Device.device) (after c.args.change) c.self.inside.endpoints.items,
+      changed_length (is_device c.in-Device.cell c.in-Device.device) (after c.args.change) c.self.inside.endpoints.items,
       ap length c.self.invariant.keys,
       length-map c.self.inside.endpoints.items key_of,
       ap length c.change_one.ensures.kept.keys,
@@ -34,7 +34,7 @@ returns-in_default-clause-spare c =
       c.change_each.ensures.room,
       c.change_each.ensures.key_room,
       ap length c.change_each.ensures.list,
-      length_changed (is_meant c.args.whom) (after c.args.change) c.self.inside.endpoints.items,
+      changed_length (is_meant c.args.whom) (after c.args.change) c.self.inside.endpoints.items,
       ap length c.self.invariant.keys,
       length-map c.self.inside.endpoints.items key_of,
       ap length c.change_each.ensures.kept.keys,

@@ -1,6 +1,6 @@
-use Rattle.std.proofs.Common.{◌≡◌, ◌/◌, ◌%◌, ◌^◌, ◌&&◌, ◌==◌, Bool, true, false, not, ℕ, List, None, Some, if◌then◌else◌, refl, sym, ◌∙◌, ap, inl, inr, arith}
-use Rattle.std.proofs.lemmas.Bool.{cases_eq}
-use Rattle.std.proofs.lemmas.Bool.Decides.{nat_tests}
+use Rattle.std.proofs.Common.{◌≡◌, ◌/◌, ◌%◌, ◌^◌, ◌&&◌, ◌==◌, Bool, true, false, not, ℕ, List, None, Some, if◌then◌else◌, refl, sym, ◌∙◌, ap, inl, inr}
+use Rattle.std.proofs.lemmas.Bool.{cases_eq, ne_eqb}
+use Rattle.std.proofs.Math.Bool.{and-false}
 use Rattle.jh_ivshmem.specs.declared.endpoint.Endpoint.{Endpoint}
 use Rattle.jh_ivshmem.specs.declared.spec.Slot.{Slot}
 use Rattle.jh_ivshmem.specs.Specs.{is_device, is_concerned, slot_of}
@@ -41,22 +41,15 @@ state_slot : (e : Endpoint) (bar at value : ℕ) → ((bar == 0) && (at == 0x10)
 unfolding slot_written
 state_slot e bar at value is = rw is (either (e.state == value) (slot_of e.spec value))
 
-no_and : (b : Bool) → (b && false) ≡ false
-no_and true = refl
-no_and false = refl
-
 never : (b : Bool) → (b && false) ≡ true → ⊥
 never true h = cc
 never false h = cc
 
-differs : (a b : ℕ) → (a ≡ b → ⊥) → (a == b) ≡ false
-differs a b h = grind (arith, nat_tests)
-
 doorbell_is_no_state : (bar at : ℕ) → ((bar == 0) && (at == 0x0c)) ≡ true → ((bar == 0) && (at == 0x10)) ≡ false
 doorbell_is_no_state bar at is =
     elim (cases_eq at 0x0c) as (λ _. ((bar == 0) && (at == 0x10)) ≡ false) [
-      | inl here ↦ rw here (no_and (bar == 0))
-      | inr other ↦ absurd (let past = differs at 0x0c other in let h = rw past at is in never (bar == 0) h)
+      | inl here ↦ rw here (and-false (bar == 0))
+      | inr other ↦ absurd (let past = ne_eqb at 0x0c other in let h = rw past at is in never (bar == 0) h)
     ]
 
 pub returns-then-is_doorbell-clause-list : goal.returns-then-is_doorbell-clause-list

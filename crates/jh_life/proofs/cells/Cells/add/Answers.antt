@@ -2,8 +2,9 @@ use Rattle.std.proofs.Common.{◌≡◌, ℕ, ◌*◌, ◌≤◌, false, Bool, L
 use Rattle.jh_cellcfg.specs.declared.config.CellConfig.{CellConfig}
 use Rattle.jh_check.specs.Refusals.{is_known}
 use Rattle.jh_life.specs.Lives.{numbered_cells}
-use Rattle.jh_life.proofs.JoinedLemmas.{list_joined, length_joined, joined_push, stands_push}
+use Rattle.jh_life.proofs.JoinedLemmas.{stands_push}
 use Rattle.jh_shape.proofs.PageLemmas.{own_le}
+use Rattle.jh_shape.proofs.JoinedLemmas.{configs_joined, length_joined, joined_push}
 use Rattle.jh_life.proofs.cells.Cells.add.Goals as goal
 
 pub overflow_add-self : goal.overflow_add-self
@@ -23,7 +24,7 @@ invariant_of-self-2 c =
     let second : c.push_reserved-2.new.self.items ≡ marks ++ false ∷ [] = c.push_reserved-2.ensures.items ∙ ap (λ (l : List Bool). l ++ false ∷ []) c.in_ok-make_room-2.ensures.items in
     let third : c.push_reserved-3.new.self.items ≡ own ++ c.cell_pages-own.result ∷ [] = c.push_reserved-3.ensures.items ∙ ap (λ (l : List ℕ). l ++ c.cell_pages-own.result ∷ []) c.in_ok-make_room-3.ensures.items in
     let lives : length c.args.self.now.lives ≡ length configs = rw (← c.self.view_is) (length_joined configs marks c.self.invariant.even) in
-    let cells : numbered_cells c.args.self.now ≡ root ∷ configs = rw (← c.self.view_is) (ap (λ (l : List CellConfig). root ∷ l) (list_joined configs marks c.self.invariant.even)) in
+    let cells : numbered_cells c.args.self.now ≡ root ∷ configs = rw (← c.self.view_is) (ap (λ (l : List CellConfig). root ∷ l) (configs_joined configs marks c.self.invariant.even)) in
     let unknown : is_known (root ∷ configs) c.args.new ≡ false = subst (λ (l : List CellConfig). is_known l c.args.new ≡ false) cells c.requires.unknown in
     rw (first, second, third) (stands_push root configs marks own c.self.inside.taken c.args.new c.cell_pages-own.result c.self.invariant (omega arith) unknown c.cell_pages-own.ensures.value)
 

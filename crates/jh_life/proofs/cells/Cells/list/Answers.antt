@@ -1,11 +1,11 @@
 use Rattle.std.proofs.Common.{List, length, sym, ap, ◌∙◌}
+use Rattle.jh_shape.proofs.JoinedLemmas.{configs_joined, length_joined}
 use Rattle.jh_cellcfg.specs.declared.config.CellConfig.{CellConfig}
-use Rattle.jh_life.proofs.JoinedLemmas.{list_joined, length_joined}
 use Rattle.jh_life.proofs.cells.Cells.list.Goals as goal
 
 pub returns-clause-value : goal.returns-clause-value
 returns-clause-value c =
-    rw (← c.self.view_is) (c.as_slice.ensures.value ∙ sym (list_joined c.self.inside.configs.items c.self.inside.marks.items c.self.invariant.even))
+    rw (← c.self.view_is) (c.as_slice.ensures.value ∙ sym (configs_joined c.self.inside.configs.items c.self.inside.marks.items c.self.invariant.even))
 
 pub returns-clause-count : goal.returns-clause-count
 returns-clause-count c =

@@ -4,8 +4,8 @@ use Rattle.std.specs.Option.{option_copied}
 use Rattle.jh_cellcfg.specs.declared.config.CellConfig.{CellConfig}
 use Rattle.jh_cellcfg.specs.declared.region.Region.{Region}
 use Rattle.jh_shape.specs.Pages.{pages_of}
-use Rattle.jh_life.proofs.JoinedLemmas.{list_joined}
 use Rattle.jh_shape.proofs.PageLemmas.{own_pages}
+use Rattle.jh_shape.proofs.JoinedLemmas.{configs_joined}
 use Rattle.jh_life.proofs.cells.Cells.pages.Goals as goal
 
 pub pages_of-requires-clause-taken : goal.pages_of-requires-clause-taken
@@ -19,4 +19,4 @@ returns c =
     (c.pages_of.ensures
     ∙ ap (λ (regions : List Region). pages_of regions (c.as_slice-2.result.now ++ more)) c.as_slice.ensures.value
     ∙ ap (λ (cells : List CellConfig). pages_of c.self.inside.system.root.memory_regions (cells ++ more))
-    (c.as_slice-2.ensures.value ∙ sym (list_joined c.self.inside.configs.items c.self.inside.marks.items c.self.invariant.even)))
+    (c.as_slice-2.ensures.value ∙ sym (configs_joined c.self.inside.configs.items c.self.inside.marks.items c.self.invariant.even)))

@@ -1,6 +1,7 @@
 use Rattle.std.proofs.Common.{◌≡◌, ◌-◌, Bool, List, length, set, vec_len, rules, sym, ap, ◌∙◌, arith}
 use Rattle.std.proofs.lemmas.List.{length-set}
-use Rattle.jh_life.proofs.JoinedLemmas.{length_joined, list_joined, marks_joined}
+use Rattle.jh_shape.proofs.JoinedLemmas.{configs_joined, length_joined}
+use Rattle.jh_life.proofs.JoinedLemmas.{marks_joined}
 use Rattle.jh_life.proofs.cells.Cells.set_loadable.Goals as goal
 
 pub index_mut-requires : goal.index_mut-requires
@@ -14,7 +15,7 @@ returns-clause-list c =
     let configs = c.self.inside.configs.items in
     let marks = c.self.inside.marks.items in
     let even : length (set marks (c.args.number - 1) c.args.on) ≡ length configs = length-set marks (c.args.number - 1) c.args.on ∙ c.self.invariant.even in
-    rw (← c.self.view_is) (list_joined configs (set marks (c.args.number - 1) c.args.on) even ∙ sym (list_joined configs marks c.self.invariant.even))
+    rw (← c.self.view_is) (configs_joined configs (set marks (c.args.number - 1) c.args.on) even ∙ sym (configs_joined configs marks c.self.invariant.even))
 
 pub returns-clause-marks : goal.returns-clause-marks
 returns-clause-marks c =

@@ -9,8 +9,8 @@ use Rattle.jh_shape.specs.Pages.{pages_of}
 use Rattle.jh_life.specs.Seen.{Seen}
 use Rattle.jh_life.specs.Lives.{numbered_cells}
 use Rattle.jh_shape.specs.Lives.{configs_of}
+use Rattle.jh_shape.proofs.JoinedLemmas.{configs_joined, length_joined}
 use Rattle.jh_life.specs.Verdict.{may_have}
-use Rattle.jh_life.proofs.JoinedLemmas.{list_joined, length_joined}
 use Rattle.jh_life.proofs.VerdictLemmas.{refused_same, refused_kept, refused_left, same_cells, accepted_none, accepted_unknown, if_none_from, if_none_some, may_none}
 use Rattle.jh_life.proofs.cells.Cells.verdict.Goals as goal
 use Rattle.jh_life.proofs.cells.Cells.verdict.Goals.{After-refusal_without_cpus}
@@ -29,7 +29,7 @@ told_full c =
     let marks = c.self.inside.marks.items in
     let pages : ℕ = pages_with now new in
     let system : c.self.inside.system ≡ now.system = ap (λ (s : Seen). s.system) c.self.view_is in
-    let cells : live ≡ configs_of now.lives = c.as_slice-live.ensures.value ∙ sym (list_joined configs marks c.self.invariant.even) ∙ ap (λ (s : Seen). configs_of s.lives) c.self.view_is in
+    let cells : live ≡ configs_of now.lives = c.as_slice-live.ensures.value ∙ sym (configs_joined configs marks c.self.invariant.even) ∙ ap (λ (s : Seen). configs_of s.lives) c.self.view_is in
     let lives : length now.lives ≡ length configs = rw (← c.self.view_is) (length_joined configs marks c.self.invariant.even) in
     let len : length live ≡ length configs = ap (λ (l : List CellConfig). length l) c.as_slice-live.ensures.value in
     let full : length now.lives ≡ 15 = omega arith in
@@ -57,7 +57,7 @@ returns-in-Some-clause-value c =
     let live = c.as_slice-live.result.now in
     let free : ℕ → Bool = has_bit c.free_cpus-free.result in
     let system : c.self.inside.system ≡ now.system = ap (λ (s : Seen). s.system) c.self.view_is in
-    let cells : live ≡ configs_of now.lives = c.as_slice-live.ensures.value ∙ sym (list_joined c.self.inside.configs.items c.self.inside.marks.items c.self.invariant.even) ∙ ap (λ (s : Seen). configs_of s.lives) c.self.view_is in
+    let cells : live ≡ configs_of now.lives = c.as_slice-live.ensures.value ∙ sym (configs_joined c.self.inside.configs.items c.self.inside.marks.items c.self.invariant.even) ∙ ap (λ (s : Seen). configs_of s.lives) c.self.view_is in
     let kept : refusal_of c.self.inside.system live new free 0 0 ≡ refusal_of c.self.inside.system live new free (pages_with now new) c.args.pool =
     refused_kept c.self.inside.system live new free (pages_with now new) c.args.pool (sym c.in_ok-refusal.ensures ∙ c.in-Some.is) in
     rw c.if-locked.false
@@ -72,7 +72,7 @@ returns-in-None-clause-value c =
     let live = c.as_slice-live.result.now in
     let free : ℕ → Bool = has_bit c.free_cpus-free.result in
     let system : c.self.inside.system ≡ now.system = ap (λ (s : Seen). s.system) c.self.view_is in
-    let cells : live ≡ configs_of now.lives = c.as_slice-live.ensures.value ∙ sym (list_joined c.self.inside.configs.items c.self.inside.marks.items c.self.invariant.even) ∙ ap (λ (s : Seen). configs_of s.lives) c.self.view_is in
+    let cells : live ≡ configs_of now.lives = c.as_slice-live.ensures.value ∙ sym (configs_joined c.self.inside.configs.items c.self.inside.marks.items c.self.invariant.even) ∙ ap (λ (s : Seen). configs_of s.lives) c.self.view_is in
     let before : refusal_of c.self.inside.system live new free 0 0 ≡ None = sym c.in_ok-refusal.ensures ∙ c.in-None.is in
     let whole = refused_left c.self.inside.system live new free (pages_with now new) c.args.pool before in
     rw c.if-locked.false
@@ -88,7 +88,7 @@ returns-in-None-clause-unknown c =
     let live = c.as_slice-live.result.now in
     let free : ℕ → Bool = has_bit c.free_cpus-free.result in
     let system : c.self.inside.system ≡ now.system = ap (λ (s : Seen). s.system) c.self.view_is in
-    let cells : live ≡ configs_of now.lives = c.as_slice-live.ensures.value ∙ sym (list_joined c.self.inside.configs.items c.self.inside.marks.items c.self.invariant.even) ∙ ap (λ (s : Seen). configs_of s.lives) c.self.view_is in
+    let cells : live ≡ configs_of now.lives = c.as_slice-live.ensures.value ∙ sym (configs_joined c.self.inside.configs.items c.self.inside.marks.items c.self.invariant.even) ∙ ap (λ (s : Seen). configs_of s.lives) c.self.view_is in
     let before : refusal_of now.system (configs_of now.lives) new (may_have c.args.owned c.args.caller) 0 0 ≡ None =
     sym (same_cells c.self.inside.system now.system live (configs_of now.lives) new free (may_have c.args.owned c.args.caller) 0 0 system cells c.free_cpus-free.ensures)
     ∙ sym c.in_ok-refusal.ensures ∙ c.in-None.is in

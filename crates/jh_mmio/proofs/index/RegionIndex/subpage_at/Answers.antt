@@ -3,29 +3,25 @@ use Rattle.std.proofs.Common.{◌≡◌, List, Some, None, sym, subst, ◌∙◌
 use Rattle.std.specs.Prelude.{position}
 use Rattle.jh_num.specs.Bytes.{has_byte}
 use Rattle.jh_cellcfg.specs.declared.region.Region.{Region}
+use Rattle.jh_cellcfg.proofs.AddressLemmas.{no_region}
 use Rattle.jh_mmio.specs.Dispatch.{takes_all}
 use Rattle.jh_mmio.proofs.HittingLemmas.{subpage_found, subpage_other, subpage_none}
 use Rattle.jh_mmio.proofs.index.RegionIndex.subpage_at.Goals as goal
-
-past : Region
-past = record { phys_start = 0; virt_start = 0; size = 0; flags = 0 }
 
 pub returns-in-None : goal.returns-in-None
 returns-in-None c =
     let same = c.as_slice-regions.ensures.value ∙ c.self.view_is in
     let P : List Region → Type 0 = λ xs. None ≡ position (takes_all (has_byte c.args.closed.now.ranges) c.args.at c.args.width) xs in
-    subst P same (subpage_none c.as_slice-regions.result.now (has_byte c.args.closed.now.ranges) c.args.at c.args.width past c.requires.some c.in-None.ensures)
+    subst P same (subpage_none c.as_slice-regions.result.now (has_byte c.args.closed.now.ranges) c.args.at c.args.width no_region c.requires.some c.in-None.ensures)
 
 pub returns-then-takes_all : goal.returns-then-takes_all
-unfolding past
 returns-then-takes_all c =
     let same = c.as_slice-regions.ensures.value ∙ c.self.view_is in
     let P : List Region → Type 0 = λ xs. Some c.in-Some.number ≡ position (takes_all (has_byte c.args.closed.now.ranges) c.args.at c.args.width) xs in
-    subst P same (subpage_found c.as_slice-regions.result.now (has_byte c.args.closed.now.ranges) c.args.at c.args.width c.in-Some.number past c.requires.some c.in-Some.ensures (sym c.if-takes_all.ensures))
+    subst P same (subpage_found c.as_slice-regions.result.now (has_byte c.args.closed.now.ranges) c.args.at c.args.width c.in-Some.number no_region c.requires.some c.in-Some.ensures (sym c.if-takes_all.ensures))
 
 pub returns-else-takes_all : goal.returns-else-takes_all
-unfolding past
 returns-else-takes_all c =
     let same = c.as_slice-regions.ensures.value ∙ c.self.view_is in
     let P : List Region → Type 0 = λ xs. None ≡ position (takes_all (has_byte c.args.closed.now.ranges) c.args.at c.args.width) xs in
-    subst P same (subpage_other c.as_slice-regions.result.now (has_byte c.args.closed.now.ranges) c.args.at c.args.width c.in-Some.number past c.requires.some c.in-Some.ensures (sym c.if-takes_all.ensures))
+    subst P same (subpage_other c.as_slice-regions.result.now (has_byte c.args.closed.now.ranges) c.args.at c.args.width c.in-Some.number no_region c.requires.some c.in-Some.ensures (sym c.if-takes_all.ensures))
