@@ -96,31 +96,6 @@ fn drive_round<R: Wait, G: Gate>(
 }
 
 /// Takes turns at the ports, round by round, until nothing is due to any CPU (`None`), or a turn is
-/// refused. Each port has made so many turns before.
-pub fn drive_on<R: Wait, G: Gate>(
-    rt: &R,
-    shared: &Shared<Running>,
-    ports: &mut [Port<Running>],
-    gate: &G,
-    turns: u64,
-) -> Option<TurnFault>
-    requires some { 0 < length ports.old }
-    requires own { All (IsPortOf shared.now) ports.old }
-    ensures same { IsSameSet shared.now ports.old ports.new }
-    ensures shows { SomeShows (origin_of (opened_value shared.now)) (drive_end result) ports.new }
-{
-    let mut round = turns;
-    for _ in rt.forever() {
-        if let Some(end) = drive_round(rt, shared, ports, gate, round) {
-            return end.fault();
-        }
-        round = round.saturating_add(1);
-    }
-    // the rounds have no end of their own
-    unreachable!()
-}
-
-/// Takes turns at the ports, round by round, until nothing is due to any CPU (`None`), or a turn is
 /// refused. Before each turn the gate is passed, with the number of turns of that port before. It waits
 /// while other callers have the turn, and may wait for ever.
 pub fn drive<R: Wait, G: Gate>(
@@ -134,5 +109,13 @@ pub fn drive<R: Wait, G: Gate>(
     ensures same { IsSameSet shared.now ports.old ports.new }
     ensures shows { SomeShows (origin_of (opened_value shared.now)) (drive_end result) ports.new }
 {
-    drive_on(rt, shared, ports, gate, 0)
+    let mut round: u64 = 0;
+    for _ in rt.forever() {
+        if let Some(end) = drive_round(rt, shared, ports, gate, round) {
+            return end.fault();
+        }
+        round = round.saturating_add(1);
+    }
+    // the rounds have no end of their own
+    unreachable!()
 }

@@ -6,7 +6,7 @@ ghost use Rattle.jh_turn.specs.PortSets.{IsSameSet};
 ghost use Rattle.jh_run.specs.Drives.{SomeShows, drive_end};
 ghost use Rattle.jh_run.specs.Running.{origin_of};
 
-use crate::driving::drive_on;
+use crate::driving::drive;
 use crate::posts::{Home, Post, Posts};
 use crate::roaming::roam;
 use crate::running::Running;
@@ -77,6 +77,19 @@ fn work<'s, E, H: Home + Send + Sync, R: Threads + Wait + Sync, G: Gate + Sync>(
     roam(rt, shared, posts, gate, first);
 }
 
+/// A gate for turns of a port that has made others before.
+#[derive(Clone, Copy)]
+struct Later<'a, G> {
+    gate: &'a G,
+    before: u64,
+}
+
+impl<'a, G: Gate> Gate for Later<'a, G> {
+    fn pass(&self, cpu: u8, turn: u64) {
+        self.gate.pass(cpu, self.before.saturating_add(turn));
+    }
+}
+
 /// Takes turns at the post's port until one tells the end.
 fn see_end<H: Home, R: Wait, G: Gate>(
     rt: &R,
@@ -89,9 +102,12 @@ fn see_end<H: Home, R: Wait, G: Gate>(
     ensures caller { port_caller result.0 ≡ port_caller post.port }
     ensures shows { SomeShows (origin_of (opened_value shared.now)) (drive_end result.1) (result.0 ∷ []) }
 {
-    let turns = post.turns;
+    let later = Later {
+        gate,
+        before: post.turns,
+    };
     let mut port = post.port;
-    let refused = drive_on(rt, shared, slice::from_mut(&mut port), gate, turns);
+    let refused = drive(rt, shared, slice::from_mut(&mut port), &later);
     (port, refused)
 }
 

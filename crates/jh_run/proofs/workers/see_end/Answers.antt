@@ -9,6 +9,6 @@ use Rattle.jh_run.proofs.workers.see_end.Goals as goal
 
 pub returns-clause-shows : goal.returns-clause-shows
 returns-clause-shows g c =
-    let now = c.drive_on-refused.new.ports in
-    let one : length now ≡ 1 = sym (length-map now port_caller) ∙ (ap length c.drive_on-refused.ensures.same.callers ∙ ap (λ ports. length (map port_caller ports)) c.from_mut.ensures.value) in
-    some_shows-one (origin_of (opened_value c.args.shared.now)) (drive_end c.drive_on-refused.result) now c.args.post.port one c.drive_on-refused.ensures.shows
+    let now = c.drive-refused.new.ports in
+    let one : length now ≡ 1 = sym (length-map now port_caller) ∙ (ap length c.drive-refused.ensures.same.callers ∙ ap (λ ports. length (map port_caller ports)) c.from_mut.ensures.value) in
+    some_shows-one (origin_of (opened_value c.args.shared.now)) (drive_end c.drive-refused.result) now c.args.post.port one c.drive-refused.ensures.shows
