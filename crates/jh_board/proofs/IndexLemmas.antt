@@ -1,5 +1,5 @@
 -- Regions and programs by an index.
-use Rattle.std.proofs.Common.{◌≡◌, ◌≢◌, eqb, ℕ, ◌<◌, List, [], true, false, cond, Option, Some, None, refl, sym, ◌∙◌, ap, subst, get_or, length, arith}
+use Rattle.std.proofs.Common.{◌≡◌, ◌≢◌, eqb, ℕ, ◌<◌, List, [], true, false, cond, Option, Some, None, refl, sym, ◌∙◌, ap, subst, get_or, length, arith, Bool, drop}
 use Rattle.std.specs.Prelude.{slice_get, Contains, IfSome, IsTrue, All, find}
 use Rattle.std.specs.Option.{option_map_or}
 use Rattle.std.proofs.lemmas.Bool.{eq-eqb, ne_eqb}
@@ -19,11 +19,22 @@ use Rattle.jh_script.specs.Operations.{IsWellFormed}
 use Rattle.jh_cellcfg.specs.Regions.{has_address, IsInRange}
 use Rattle.jh_cellcfg.proofs.AddressLemmas.{has_some}
 use Rattle.std.proofs.lemmas.List.Elements.{All-contains}
+use Rattle.std.proofs.lemmas.List.{drop_more, drop_all}
 use Rattle.jh_history.specs.Admitted.{IsAdmitted}
 use Rattle.jh_history.proofs.AdmittedLemmas.{within}
 use Rattle.jh_history.proofs.GrantLemmas.{gives_has}
 use Rattle.jh_board.specs.declared.indexed.FoundProgram.{FoundProgram}
 use Rattle.jh_board.specs.Indexed.{ops_at, AreRootPrograms, AreFound}
+
+-- the first element that passes, where a search has come to it
+pub find_here : {X : Type 0} (p : X → Bool) (xs : List X) (k : ℕ) (x : X) → k < length xs → x ≡ get_or xs k x → p x ≡ true → find p (drop k xs) ≡ find p xs → find p xs ≡ slice_get xs k
+find_here p xs k x lt is passes rest =
+    let here : find p (drop k xs) ≡ Some x = ap (find p) (drop_more xs k x lt) ∙ rw (← is, passes) refl in
+    sym rest ∙ here ∙ ap Some is ∙ sym (slice_get-get_or xs k x lt)
+
+-- and none, where it has come to the end
+pub find_nowhere : {X : Type 0} (p : X → Bool) (xs : List X) → find p (drop (length xs) xs) ≡ find p xs → find p xs ≡ slice_get xs (length xs)
+find_nowhere p xs rest = sym rest ∙ ap (find p) (drop_all (length xs) xs (omega arith)) ∙ sym (slice_get_past xs (length xs) (omega arith))
 
 giving_by : (regions : List Region) (access : Access) (at : ℕ) (c : Region) (o : Option Region) → region_of regions access at ≡ o → IsRegionAt regions at (Some c) → cond (gives access at c) (Some c) None ≡ o
 giving_by regions access at c None e is = let no : gives access at c ≡ false = find_None (gives access at) regions c e is.own in rw no refl

@@ -3,6 +3,7 @@ mod BytesLemmas
 mod PieceLemmas
 mod MeansLemmas
 mod IndexLemmas
+mod BehindLemmas
 mod ClosedLemmas
 mod CellsLemmas
 mod GrantedLemmas

@@ -8,6 +8,7 @@ mod OneLemmas
 mod OrderLemmas
 mod OutcomeLemmas
 mod PlayedLemmas
+mod ResultLemmas
 mod RoundsLemmas
 mod RunLemmas
 mod StatusLemmas

@@ -1,7 +1,6 @@
 -- What files spell, and what they are refused for, is one.
 use Rattle.std.proofs.Common.{◌≡◌, ◌≢◌, ℕ, ◌+◌, Bool, true, false, List, [], ◌∷◌, ◌++◌, length, Option, None, Some, Result, Err, ◌↔◌, inl, inr, refl, sym, ◌∙◌, ap, subst}
 use Rattle.std.specs.Prelude.{fold, IsTrue, codes}
-use Rattle.jh_num.proofs.Results.{ok_one}
 use Rattle.jh_cellcfg.specs.declared.config.CellConfig.{CellConfig}
 use Rattle.jh_cellcfg.specs.declared.config.SystemConfig.{SystemConfig}
 use Rattle.jh_cellcfg.specs.Faults.{first_fault}
@@ -40,6 +39,7 @@ use Rattle.jh_cli.specs.Audit.{JournalRefusal, IsAudited, verdict_status, verdic
 use Rattle.jh_cli.specs.Complete.{AreNamesTold}
 use Rattle.jh_cli.proofs.GoodLemmas.{CellsAreFaultless, no_more, cell_sound, same_for_image}
 use Rattle.jh_cli.proofs.StopLemmas.{refused_said}
+use Rattle.jh_cli.proofs.ResultLemmas.{ok_one}
 
 -- ---- the laws of the layers below
 

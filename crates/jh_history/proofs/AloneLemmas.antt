@@ -1,13 +1,12 @@
 -- Root lives alone where no program has a hypercall: no entry that is due is a phase of a management call, so none
 -- makes another cell.
 use Rattle.std.proofs.Common.{◌≡◌, ℕ, zero, suc, List, [], ◌∷◌, ◌++◌, Bool, true, false, cond, eqb, Option, Some, None, refl, sym, ap, subst, ◌∙◌}
-use Rattle.std.specs.Prelude.{option_map, option_and_then, is_some, IfSome, slice_get}
+use Rattle.std.specs.Prelude.{option_map, option_and_then, IfSome, slice_get}
 use Rattle.std.specs.List.{fold, AllByRecursion}
 use Rattle.std.specs.Option.{option_map_or}
 use Rattle.std.proofs.lemmas.List.Elements.{recursion_from_All}
 use Rattle.jh_cellcfg.specs.Cells.{name_of}
 use Rattle.std.proofs.lemmas.Bool.{both_ways}
-use Rattle.jh_num.proofs.Booleans.{same_number}
 use Rattle.std.proofs.lemmas.Option.{none-some, same_Some}
 use Rattle.jh_cellcfg.specs.declared.config.CellConfig.{CellConfig}
 use Rattle.jh_cellcfg.specs.declared.live.Live.{Live}
@@ -15,11 +14,9 @@ use Rattle.jh_cpu.specs.declared.cpu.Cpu.{Cpu}
 use Rattle.jh_script.specs.declared.image.Image.{Image}
 use Rattle.jh_script.specs.declared.op.Op.{Op}
 use Rattle.jh_script.specs.declared.op.Op.TheVariants.{Read as ReadOp, Write as WriteOp, Fetch as FetchOp, Await as AwaitOp, Irq as IrqOp, Hvc as HvcOp}
-use Rattle.jh_history.specs.declared.place.Place.{Place}
 use Rattle.jh_history.specs.declared.access.Access.TheVariants.{Read as ToRead}
 use Rattle.jh_history.specs.declared.call.OpenCall.{OpenCall}
 use Rattle.jh_history.specs.declared.change.Change.{Change}
-use Rattle.jh_history.specs.declared.comm.PageWrite.{PageWrite}
 use Rattle.jh_history.specs.declared.entry.Entry.{Entry}
 use Rattle.jh_history.specs.declared.entry.Act.{Act}
 use Rattle.jh_history.specs.declared.entry.Act.TheVariants.{Read, Write, Fetch, Await, Irq, Hvc, Begin, Stop, Decide, Settle, Commit, Note, Noted, Finish}
@@ -28,12 +25,7 @@ use Rattle.jh_history.specs.Lives.{is_on_board, cell_in, program_of, ops_in, op_
 use Rattle.jh_history.specs.Cpus.{change_of, changed, acted}
 use Rattle.jh_history.specs.Calls.{call_by, is_call}
 use Rattle.jh_history.specs.Commits.{cells_by}
-use Rattle.jh_history.specs.Pages.{failing, unless_good, page_write_by, with_page_write}
-use Rattle.jh_history.specs.Bytes.{byte_written, byte_after}
 use Rattle.jh_ivshmem.specs.Links.{pending_of}
-use Rattle.jh_ivshmem.specs.declared.spec.EndpointSpec.{EndpointSpec}
-use Rattle.jh_history.specs.Devices.{specs_of}
-use Rattle.jh_history.specs.Endpoints.{changing_at, changing_by, specs_changing, with_words}
 use Rattle.jh_history.specs.History.{start, after, facts, coming_of}
 use Rattle.jh_history.specs.Wants.{pending_op, goes_on}
 use Rattle.jh_history.specs.Admitted.{HasNoCall, IsNoCall}
@@ -183,60 +175,6 @@ alone_after image f entry alone own = record {
       ap (λ (c : Cpu). c.owner) (acted_own image f.call entry.act entry.cpu i (f.cpu i) own.act)
       ∙ owner_if (eqb i entry.cpu) (change_of entry.act) (f.cpu i) ∙ alone.owners i;
 }
-
--- a violation of root writes into no page
-none_fails : (image : Image) (f : Facts) (entry : Entry) → entry.cell ≡ image.system.root.id → failing image f entry ≡ None
-none_fails image f entry is = rw (is, same_number) refl
-
-unless_fails : (good : Bool) → unless_good good None ≡ None
-unless_fails true = refl
-unless_fails false = refl
-
-no_page : (image : Image) (f : Facts) (entry : Entry) (act : Act) → entry.cell ≡ image.system.root.id → is_call act ≡ false → page_write_by image f entry act ≡ None
-no_page image f entry (Read width at got) is own = ap (unless_good (is_some got)) (none_fails image f entry is) ∙ unless_fails (is_some got)
-no_page image f entry (Write width at value ok) is own = ap (unless_good ok) (none_fails image f entry is) ∙ unless_fails ok
-no_page image f entry (Fetch at got) is own = ap (unless_good (is_some got)) (none_fails image f entry is) ∙ unless_fails (is_some got)
-no_page image f entry (Await width at value ok) is own = ap (unless_good ok) (none_fails image f entry is) ∙ unless_fails ok
-no_page image f entry (Irq device vector) is own = refl
-no_page image f entry (Hvc code a b answer) is own = refl
-no_page image f entry Stop is own = refl
-no_page image f entry (Begin code a b) is own = absurd (both_ways true own refl)
-no_page image f entry (Decide refused) is own = absurd (both_ways true own refl)
-no_page image f entry (Settle how) is own = absurd (both_ways true own refl)
-no_page image f entry Commit is own = absurd (both_ways true own refl)
-no_page image f entry (Note id) is own = absurd (both_ways true own refl)
-no_page image f entry (Noted id how) is own = absurd (both_ways true own refl)
-no_page image f entry (Finish answer) is own = absurd (both_ways true own refl)
-
--- nor does it change the devices of a cell as a Commit does
-unchanged : (cells : List Live) (o : OpenCall) (act : Act) → is_call act ≡ false → changing_at cells o act ≡ None
-unchanged cells o (Read width at got) own = refl
-unchanged cells o (Write width at value ok) own = refl
-unchanged cells o (Fetch at got) own = refl
-unchanged cells o (Await width at value ok) own = refl
-unchanged cells o (Irq device vector) own = refl
-unchanged cells o (Hvc code a b answer) own = refl
-unchanged cells o Stop own = refl
-unchanged cells o (Begin code a b) own = refl
-unchanged cells o (Decide refused) own = refl
-unchanged cells o (Settle how) own = refl
-unchanged cells o Commit own = absurd (both_ways true own refl)
-unchanged cells o (Note id) own = refl
-unchanged cells o (Noted id how) own = refl
-unchanged cells o (Finish answer) own = refl
-
-unchanged_by : (cells : List Live) (call : Option OpenCall) (act : Act) → is_call act ≡ false → changing_by cells call act ≡ None
-unchanged_by cells None act own = refl
-unchanged_by cells (Some o) act own = unchanged cells o act own
-
-pub specs_unchanged : (f : Facts) (act : Act) → is_call act ≡ false → specs_changing f act ≡ []
-specs_unchanged f act own = ap (λ (o : Option CellConfig). option_map_or specs_of o []) (unchanged_by f.cells f.call act own)
-
--- so the bytes are those that its write leaves
-pub byte_after_roots : (image : Image) (f : Facts) (entry : Entry) (q : Place) → IsByRoot image entry → byte_after image f entry q ≡ byte_written image f entry.cell entry.act q
-byte_after_roots image f entry q own =
-    ap (λ (write : Option PageWrite). with_page_write write (with_words (specs_changing f entry.act) (byte_written image f entry.cell entry.act)) q) (no_page image f entry entry.act own.cell own.act)
-    ∙ ap (λ (specs : List EndpointSpec). with_words specs (byte_written image f entry.cell entry.act) q) (specs_unchanged f entry.act own.act)
 
 alone_from : (image : Image) (f : Facts) (entries : List Entry) → HasNoCall image → IsAlone image f → IsLegalFrom image f entries → IsAlone image (fold (after image) f entries)
 alone_from image f [] silent alone legal = alone

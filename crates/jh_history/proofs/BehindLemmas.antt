@@ -9,7 +9,7 @@ use Rattle.jh_cellcfg.specs.declared.live.Live.{Live}
 use Rattle.jh_cellcfg.specs.declared.region.Region.{Region}
 use Rattle.jh_cellcfg.specs.Regions.{has_size, is_page_mapped, is_comm, place_in, virt_end}
 use Rattle.jh_mmio.specs.declared.hitting.Window.{Window}
-use Rattle.jh_mmio.specs.Dispatch.{lies_between, is_at_closed, takes_all, has_whole, has_right, unless_closed}
+use Rattle.jh_mmio.specs.Dispatch.{lies_between, is_at_closed, takes_all, has_whole, has_right}
 use Rattle.jh_script.specs.declared.image.Image.{Image}
 use Rattle.jh_history.specs.declared.place.Place.{Place}
 use Rattle.jh_history.specs.declared.place.Place.TheVariants.{Physical, Page}
@@ -76,11 +76,6 @@ kept_by kept id at n r false low pages =
 pub kept_row : (image : Image) (cells : List Live) (id at n : ℕ) (r : Region) → r.virt_start ≤ at
     → list_any (is_kept image cells id) (places_in_row (place_in_cell id r at) n) ≡ is_at_closed (λ p. is_kept image cells id (Physical p)) at n r
 kept_row image cells id at n r low = kept_by (is_kept image cells id) id at n r (is_comm r) low (λ k. refl)
-
--- so the region that has all of the access is that which takes it, unless the cell is kept from one
-pub unless_kept : (image : Image) (cells : List Live) (id at n : ℕ) (r : Region) (b : Bool) → r.virt_start ≤ at → b ≡ list_any (is_kept image cells id) (places_in_row (place_in_cell id r at) n)
-    → unless_closed (λ p. is_kept image cells id (Physical p)) at n (Some r) ≡ cond b None (Some r)
-unless_kept image cells id at n r b low is = ap (λ (c : Bool). cond c None (Some r)) (sym (kept_row image cells id at n r low) ∙ sym is)
 
 -- ---- what answers
 

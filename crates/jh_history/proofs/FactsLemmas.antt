@@ -7,8 +7,6 @@ use Rattle.jh_script.specs.declared.image.Image.{Image}
 use Rattle.jh_history.specs.declared.entry.Entry.{Entry}
 use Rattle.jh_history.specs.Facts.{Facts}
 use Rattle.jh_history.specs.History.{start, after, facts}
-use Rattle.jh_history.specs.Bytes.{byte_after}
-use Rattle.jh_history.specs.Cpus.{cpu_after}
 use Rattle.jh_history.specs.Due.{due_at, due, IsLegal, IsLegalFrom}
 
 -- functions that agree everywhere are one
@@ -22,15 +20,6 @@ facts_push image entries entry = fold-append (after image) (start image) entries
 pub facts_nil : (image : Image) → facts image [] ≡ start image
 unfolding facts
 facts_nil image = refl
-
--- what an entry does to each fact
-pub byte_after_holds : (image : Image) (f : Facts) (entry : Entry) → (after image f entry).byte ≡ byte_after image f entry
-unfolding after
-byte_after_holds image f entry = refl
-
-pub cpu_after_holds : (image : Image) (f : Facts) (entry : Entry) → (after image f entry).cpu ≡ cpu_after image f entry
-unfolding after
-cpu_after_holds image f entry = refl
 
 legal_more : (image : Image) (f : Facts) (entries : List Entry) (entry : Entry)
     → IsLegalFrom image f entries

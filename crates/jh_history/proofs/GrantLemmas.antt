@@ -70,12 +70,6 @@ place_in_cell_further id r at k le = by_comm id r at k (is_comm r) le
 pub gives_has : (access : Access) (at : ℕ) (r : Region) → gives access at r ≡ true → IsTrue (has_address r at)
 gives_has access at r h = (and_parts (has_address r at) (is_page_mapped r) (and_parts (has_address r at && is_page_mapped r) (has_flags (right_of access) r) h).0).0
 
-pub gives_pages : (access : Access) (at : ℕ) (r : Region) → gives access at r ≡ true → is_page_mapped r ≡ true
-gives_pages access at r h = (and_parts (has_address r at) (is_page_mapped r) (and_parts (has_address r at && is_page_mapped r) (has_flags (right_of access) r) h).0).1
-
-pub gives_right : (access : Access) (at : ℕ) (r : Region) → gives access at r ≡ true → has_flags (right_of access) r ≡ true
-gives_right access at r h = (and_parts (has_address r at && is_page_mapped r) (has_flags (right_of access) r) h).1
-
 pub gives_from : (access : Access) (at : ℕ) (r : Region) → has_address r at ≡ true → is_page_mapped r ≡ true → has_flags (right_of access) r ≡ true → gives access at r ≡ true
 gives_from access at r has pages right = and_from (has_address r at && is_page_mapped r) (has_flags (right_of access) r) (and_from (has_address r at) (is_page_mapped r) has pages) right
 

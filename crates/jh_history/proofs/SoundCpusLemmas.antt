@@ -63,9 +63,6 @@ mode_running Failed h = absurd (both_ways false refl h)
 pub running_mode : (cpu : Cpu) → is_running cpu.mode ≡ true → cpu.mode ≡ Running
 running_mode cpu h = mode_running cpu.mode h
 
-pub calm_goes : (cpu : Cpu) → IsCalm cpu → cpu.mode ≡ Running → goes_on cpu ≡ true
-calm_goes cpu calm running = rw (calm.asked, calm.stopped, running) refl
-
 -- one that is asked, halted or asked until it is halted doesn't
 pub halted_rests : (cpu : Cpu) → IsHalted cpu → goes_on cpu ≡ true → ⊥
 halted_rests cpu halted h = both_ways cpu.stopped (goes_calm cpu h).stopped (halted.stopped ∙ goes_running cpu h)

@@ -27,7 +27,6 @@ use Rattle.jh_shape.specs.Lives.{configs_of}
 use Rattle.jh_history.specs.History.{after, facts, coming_of, coming_by}
 use Rattle.jh_history.specs.Due.{due_at, is_idle_but, IsLegal}
 use Rattle.jh_history.specs.Admitted.{IsAdmitted}
-use Rattle.jh_history.proofs.LegalLemmas.{facts_append}
 use Rattle.jh_history.specs.Sound.{IsSound}
 use Rattle.jh_laws.specs.Ways.{is_phase, is_decide, call_begun, begun}
 use Rattle.jh_laws.specs.Exchanges.{how_many, made_by_named, made_by_cell, IsSettledBy, IsHeardBy}
@@ -38,6 +37,7 @@ use Rattle.jh_laws.proofs.CallLemmas.{Expects, phase_expects, expects_counted, p
 use Rattle.jh_laws.proofs.DueCpusLemmas.{named_of, settled_with, heard_with}
 use Rattle.jh_laws.proofs.ExchangeLemmas.{counted_over, waits_over, settle_counts, noted_counts, settled_as, heard_as}
 use Rattle.jh_laws.proofs.HeldLemmas.{live_found}
+use Rattle.jh_laws.proofs.FactsLemmas.{facts_append}
 
 -- ---- the phase that is waited in
 

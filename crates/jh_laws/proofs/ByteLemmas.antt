@@ -25,9 +25,8 @@ use Rattle.jh_history.specs.Endpoints.{with_words}
 use Rattle.jh_history.specs.History.{after, facts}
 use Rattle.jh_history.specs.Due.{IsLegal, IsLegalFrom}
 use Rattle.jh_history.specs.Admitted.{IsAdmitted, has_byte_at, IsOtherPreload}
-use Rattle.jh_history.proofs.AloneLemmas.{byte_after_roots}
-use Rattle.jh_history.proofs.FactsLemmas.{byte_after_holds, facts_push, facts_nil}
-use Rattle.jh_history.proofs.LegalLemmas.{IsLegal_begin, IsLegal_rest, facts_append}
+use Rattle.jh_history.proofs.FactsLemmas.{facts_push, facts_nil}
+use Rattle.jh_history.proofs.LegalLemmas.{IsLegal_begin}
 use Rattle.jh_laws.specs.Outcomes.{is_violation}
 use Rattle.jh_laws.specs.Writes.{Writes, WritesNot}
 use Rattle.jh_laws.specs.Written.{IsByteBy}
@@ -39,6 +38,9 @@ use Rattle.jh_laws.proofs.WordLemmas.{words_page}
 use Rattle.jh_laws.proofs.WrittenLemmas.{write_puts, write_kept}
 use Rattle.jh_laws.proofs.MadeLemmas.{IsSilent, by_root, IsNext, AllRoots, no_specs_of_root, next_made, roots_after, roots_at, made_at}
 use Rattle.jh_laws.proofs.OutcomeLemmas.{roots_sound}
+use Rattle.jh_laws.proofs.AloneLemmas.{byte_after_roots}
+use Rattle.jh_laws.proofs.FactsLemmas.{byte_after_holds, facts_append}
+use Rattle.jh_laws.proofs.LegalLemmas.{IsLegal_rest}
 
 -- root has no register, where no device has an endpoint
 no_register : (image : Image) (f : Facts) (at width n bar offset : ℕ) (e : Endpoint) → f.endpoints ≡ [] → IsAnsweredByRegister image f image.system.root.id ToWrite at width n bar offset e → ⊥

@@ -34,9 +34,10 @@ use Rattle.jh_history.specs.Phases.{phase_act, settled_of, heard_of, decision, k
 use Rattle.jh_shape.specs.Lives.{configs_of}
 use Rattle.jh_history.specs.Due.{due_at, due, is_idle_but, IsLegal, IsLegalFrom}
 use Rattle.jh_history.proofs.FactsLemmas.{facts_push}
-use Rattle.jh_history.proofs.LegalLemmas.{due_split, IsLegal_begin, IsLegal_rest}
+use Rattle.jh_history.proofs.LegalLemmas.{due_split, IsLegal_begin}
 use Rattle.jh_history.specs.Sound.{HasCome, IsAboutLive, IsCreate, IsNews, IsOpen, IsSound}
 use Rattle.jh_laws.specs.Ways.{is_phase, is_decide, is_finish, is_agreement, call_begun, begun_by, begun, IsBegun, IsNoteOr, IsTelling, IsBehindGo, IsBehindCommit, MayFollow}
+use Rattle.jh_laws.proofs.LegalLemmas.{IsLegal_rest}
 use Rattle.jh_history.proofs.SoundCpusLemmas.{come_rests, halting_rests, root_unnamed}
 use Rattle.jh_history.proofs.SoundDueLemmas.{IsNext, next_from_due, IsOutcomeOf, IsOfProgram, state_parts, IsOfCall, call_parts}
 use Rattle.jh_history.proofs.SoundDecideLemmas.{coming_from_decision}

@@ -15,10 +15,12 @@ use Rattle.jh_history.specs.Facts.{Facts}
 use Rattle.jh_history.specs.History.{start, after, facts}
 use Rattle.jh_history.specs.Due.{due_at, due, IsLegal, IsLegalFrom}
 use Rattle.jh_history.proofs.FactsLemmas.{facts_push}
-use Rattle.jh_history.proofs.LegalLemmas.{IsLegal_begin, IsLegal_rest, facts_append}
+use Rattle.jh_history.proofs.LegalLemmas.{IsLegal_begin}
 use Rattle.jh_laws.specs.Outcomes.{is_violation}
 use Rattle.jh_laws.specs.Operations.{op_of, op_by, operations_by, program_in}
 use Rattle.jh_laws.proofs.MadeLemmas.{IsSilent, IsNext, AllRoots, moved_by, own_after, other_after, roots_after, roots_at, roots_start, next_made, made_at, made_access, due_at_failed, done_by_moved}
+use Rattle.jh_laws.proofs.LegalLemmas.{IsLegal_rest}
+use Rattle.jh_laws.proofs.FactsLemmas.{facts_append}
 
 -- the entry's CPU after it, and the others
 own_moved : (image : Image) (f : Facts) (entry : Entry) → IsSilent image → IsNext image f entry → (after image f entry).cpu entry.cpu ≡ moved_by (is_violation entry.act) (f.cpu entry.cpu)

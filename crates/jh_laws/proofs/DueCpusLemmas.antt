@@ -12,6 +12,7 @@ use Rattle.jh_check.specs.Refusals.{any_below}
 use Rattle.jh_check.proofs.RefusalLemmas.{below_at, below_of}
 use Rattle.jh_comm.specs.declared.words.TheConstants.{REPLY_REQUEST_APPROVED, REPLY_RECEIVED}
 use Rattle.jh_cpu.specs.declared.cpu.Cpu.{Cpu}
+use Rattle.jh_cpu.specs.declared.cpu.Mode.TheVariants.{Running}
 use Rattle.jh_ivshmem.specs.Links.{pending_of}
 use Rattle.jh_call.specs.declared.call.Call.{Call}
 use Rattle.jh_call.specs.declared.call.Call.TheVariants.{Create, Start, Loadable, Destroy, Info, State, CpuInfo, Unknown}
@@ -40,10 +41,10 @@ use Rattle.jh_history.specs.Phases.{phase_act, keeps_decide, keeps_commit, decis
 use Rattle.jh_shape.specs.Lives.{configs_of}
 use Rattle.jh_history.specs.Due.{due_at, entry_of, next_act, state_act, act_of, await_of, got_by, caller_act, is_idle_but}
 use Rattle.jh_history.specs.Admitted.{IsAdmitted}
-use Rattle.jh_history.specs.Sound.{AreSoundCells, IsHalted, IsAsked, IsHalting, IsCaller, IsOpen, IsSound}
+use Rattle.jh_history.specs.Sound.{AreSoundCells, IsHalted, IsAsked, IsHalting, IsCaller, IsOpen, IsSound, IsCalm}
 use Rattle.jh_laws.specs.Ends.{IsAnswered, IsReadBy, IsGotBy}
 use Rattle.jh_laws.specs.Ready.{IsDueIn, NothingElse, HasHeard, RootHasStopped, IsPhaseDue, IsReadyCaller, IsReadyProgram, IsReadyAt}
-use Rattle.jh_history.proofs.SoundCpusLemmas.{calm_goes, goes_calm, goes_running, running_mode, root_unnamed}
+use Rattle.jh_history.proofs.SoundCpusLemmas.{goes_calm, goes_running, running_mode, root_unnamed}
 use Rattle.jh_history.proofs.SoundDecideLemmas.{board_few, halted_to_decide}
 use Rattle.jh_history.proofs.SoundCommitLemmas.{halted_to_commit, named_board}
 use Rattle.jh_history.proofs.SoundDueLemmas.{IsOfProgram, state_parts}
@@ -118,6 +119,10 @@ some_of (Some x) h = (x, refl)
 
 plain_at : (image : Image) (f : Facts) (cpu : ℕ) (op : Op) → IsAdmitted image → op_at image f (f.cpu cpu) cpu ≡ Some op → IsWellFormed op
 plain_at image f cpu op admitted at = ops_plain image cpu (cell_in image f.cells (f.cpu cpu).owner) (f.cpu cpu).position op admitted at
+
+-- a calm CPU that runs goes on with its program
+calm_goes : (cpu : Cpu) → IsCalm cpu → cpu.mode ≡ Running → goes_on cpu ≡ true
+calm_goes cpu calm running = rw (calm.asked, calm.stopped, running) refl
 
 -- what the state alone makes due
 state_ready : (image : Image) (f : Facts) (cpu : ℕ) → IsAdmitted image → IsSound image f → ((o : OpenCall) → f.call ≡ Some o → o.caller ≢ cpu) → is_some (state_act image f (f.cpu cpu) cpu) ≡ true

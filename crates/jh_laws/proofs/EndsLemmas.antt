@@ -5,7 +5,6 @@ use Rattle.std.specs.Option.{option_map_or}
 use Rattle.std.proofs.lemmas.Bool.{cond_both, eqb-true, false≢true}
 use Rattle.std.proofs.lemmas.Option.{none-some, same_Some}
 use Rattle.jh_num.specs.Memory.{spelled}
-use Rattle.jh_num.proofs.MemoryLemmas.{listed, spelled_listed}
 use Rattle.jh_cellcfg.specs.declared.config.CellConfig.{CellConfig}
 use Rattle.jh_cellcfg.specs.declared.live.Live.{Live}
 use Rattle.jh_cellcfg.specs.declared.region.Region.{Region}
@@ -50,6 +49,7 @@ use Rattle.jh_laws.proofs.HeldLemmas.{granted_to}
 use Rattle.jh_laws.specs.Ends.{IsAnsweredBy, IsAnsweredByWindow, IsAnsweredByRegister, HasFunction, IsAnswered, AreItsPlaces, GivesPlaces, offset_in, IsReadBy, IsGotBy, IsAwaitedBy, EndsAsGranted}
 use Rattle.jh_laws.proofs.DevicesLemmas.{function_is, function_has, told_function, told_ones, told_register, same_register}
 use Rattle.jh_laws.proofs.ReachedLemmas.{Way, OnMemory, OnRegion, OnWindow, OnRegister, OnNothing, way, places_of_memory, places_of_region, region_places, ByRegister}
+use Rattle.jh_laws.proofs.ListedLemmas.{listed, spelled_listed}
 
 -- ---- what a reading access gets
 

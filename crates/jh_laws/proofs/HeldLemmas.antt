@@ -1,17 +1,17 @@
 -- What live cells are granted on a sound board.
-use Rattle.std.proofs.Common.{◌≡◌, ◌≢◌, ℕ, suc, ◌+◌, ◌-◌, ◌<◌, ◌≤◌, List, [], Bool, true, false, cond, eqb, length, get_or, map, Option, Some, None, refl, sym, ap, subst, ◌∙◌, inl, inr, ⊎_elim, arith}
+use Rattle.std.proofs.Common.{◌≡◌, ◌≢◌, ℕ, suc, ◌+◌, ◌-◌, ◌<◌, ◌≤◌, List, [], Bool, true, false, cond, eqb, length, get_or, map, Option, Some, None, refl, sym, ap, subst, ◌∙◌, inl, inr, ⊎_elim, arith, ◌&&◌}
 use Rattle.std.specs.Prelude.{Contains, find, option_map, option_and_then, slice_get}
 use Rattle.std.specs.Option.{option_map_or}
 use Rattle.std.proofs.lemmas.Bool.{both_ways, and_parts, and_from, eqb-true, eq-eqb, ne_eqb, cases_lt, false_from_ne_true}
 use Rattle.std.proofs.lemmas.Option.{none-some, same_Some, slice_get-get_or, get_or_from_slice_get}
 use Rattle.jh_num.specs.declared.address.TheConstants.{ADDRESS_END}
-use Rattle.jh_num.proofs.Lists.{IsOnly, IsFound_from_find, find_only, find_some, Contains_from_map}
+use Rattle.jh_num.proofs.Lists.{IsFound_from_find, find_some, Contains_from_map}
 use Rattle.jh_cellcfg.specs.declared.config.CellConfig.{CellConfig}
 use Rattle.jh_cellcfg.specs.declared.config.SystemConfig.{SystemConfig}
 use Rattle.jh_cellcfg.specs.declared.live.Live.{Live}
 use Rattle.jh_cellcfg.specs.declared.region.Region.{Region}
 use Rattle.jh_cellcfg.specs.Lives.{has_id}
-use Rattle.jh_cellcfg.specs.Regions.{has_flags, has_address, virt_end, is_comm}
+use Rattle.jh_cellcfg.specs.Regions.{has_flags, has_address, virt_end, is_comm, is_page_mapped}
 use Rattle.jh_cellcfg.proofs.AddressLemmas.{has_address_first, has_address_last, has_address_from}
 use Rattle.jh_check.specs.Laws.{IsNumbered}
 use Rattle.jh_check.specs.Refusals.{AreTwo}
@@ -31,10 +31,11 @@ use Rattle.jh_shape.specs.Lives.{configs_of}
 use Rattle.jh_history.specs.Sound.{AreSoundCells}
 use Rattle.jh_laws.specs.Grants.{may, IsGranted}
 use Rattle.jh_laws.specs.Held.{IsRootOrLive, IsLeft, IsGrantedTo}
+use Rattle.jh_laws.proofs.FindLemmas.{IsOnly, find_only}
 use Rattle.jh_history.proofs.SoundCpusLemmas.{other_root}
 use Rattle.jh_history.proofs.SoundDecideLemmas.{found_live}
 use Rattle.jh_history.proofs.FewLemmas.{two_ids}
-use Rattle.jh_history.proofs.GrantLemmas.{gives_has, gives_pages, gives_right, gives_from}
+use Rattle.jh_history.proofs.GrantLemmas.{gives_has, gives_from}
 
 -- ---- live cells by their ids
 
@@ -134,6 +135,13 @@ may_right : (access : Access) (r : Region) → may access r ≡ has_flags (right
 may_right ToRead r = refl
 may_right ToWrite r = refl
 may_right ToFetch r = refl
+
+-- a region that gives an address gives whole pages, and has the right
+gives_pages : (access : Access) (at : ℕ) (r : Region) → gives access at r ≡ true → is_page_mapped r ≡ true
+gives_pages access at r h = (and_parts (has_address r at) (is_page_mapped r) (and_parts (has_address r at && is_page_mapped r) (has_flags (right_of access) r) h).0).1
+
+gives_right : (access : Access) (at : ℕ) (r : Region) → gives access at r ≡ true → has_flags (right_of access) r ≡ true
+gives_right access at r h = (and_parts (has_address r at && is_page_mapped r) (has_flags (right_of access) r) h).1
 
 -- what the cell's regions give an address
 pub given_place : (image : Image) (cells : List Live) (cell : CellConfig) (access : Access) (at : ℕ) (place : Place) → AreSoundCells image.system (configs_of cells) → IsRootOrLive image cells cell → IsGranted cell access at place

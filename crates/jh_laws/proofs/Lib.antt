@@ -1,11 +1,16 @@
+mod FindLemmas
+mod FactsLemmas
+mod LegalLemmas
 mod RootLemmas
 mod ListedLemmas
 mod GrantLemmas
 mod MadeLemmas
 mod OutcomeLemmas
+mod AloneLemmas
 mod ByteLemmas
 mod CpuLemmas
 pub mod ReadyLemmas
+mod ItemsLemmas
 mod RunLemmas
 mod CallLemmas
 mod HeldLemmas

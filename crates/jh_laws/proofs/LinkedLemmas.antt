@@ -6,7 +6,7 @@ use Rattle.std.specs.Option.{option_map_or}
 use Rattle.std.proofs.lemmas.Bool.{both_ways, and_parts, and_from, and_left, and_right, cases_Bool, eqb-true, eq-eqb, ne_eqb, not-true, not_from_false, false_from_ne_true}
 use Rattle.std.proofs.lemmas.Option.{none-some, same_Some}
 use Rattle.std.proofs.lemmas.Grind.{common_steps}
-use Rattle.jh_num.proofs.Lists.{Contains_head, Contains_tail, Contains_cases, find_map, find_agree, find_None, find_nothing, IsFound_from_find, IsFound_from_filter, list_any_agree, list_any_nothing, find_kept}
+use Rattle.jh_num.proofs.Lists.{Contains_head, Contains_tail, Contains_cases, find_map, find_None, find_nothing, IsFound_from_find, IsFound_from_filter, list_any_agree, list_any_nothing, find_kept}
 use Rattle.jh_ivshmem.specs.declared.endpoint.Endpoint.{Endpoint}
 use Rattle.jh_ivshmem.specs.declared.spec.EndpointSpec.{EndpointSpec}
 use Rattle.jh_ivshmem.specs.Specs.{is_device, is_other, is_before}
@@ -20,6 +20,7 @@ use Rattle.jh_ivshmem.proofs.NamedLemmas.{named_cell, named_device}
 use Rattle.jh_history.specs.declared.device_change.DeviceChange.{DeviceChange}
 use Rattle.jh_history.specs.declared.device_change.DeviceChange.TheVariants.{Join, Reset, Leave}
 use Rattle.jh_history.specs.Endpoints.{endpoint_changed, endpoints_changed}
+use Rattle.jh_laws.proofs.FindLemmas.{find_agree}
 
 -- ---- one change of those that are meant
 

@@ -1,15 +1,27 @@
 -- Places that are told by their index.
-use Rattle.std.proofs.Common.{inl, inr, ◌≡◌, ◌≢◌, ℕ, zero, suc, ◌+◌, ◌/◌, ◌%◌, ◌^◌, ◌<◌, List, [], ◌∷◌, Option, Some, None, refl, sym, ap, ◌∙◌, add-one, eqb, Bool, true, false, cond, arith}
+use Rattle.std.proofs.Common.{inl, inr, ◌≡◌, ◌≢◌, ℕ, zero, suc, ◌+◌, ◌/◌, ◌%◌, ◌^◌, ◌<◌, List, [], ◌∷◌, Option, Some, None, refl, sym, ap, ◌∙◌, add-one, eqb, Bool, true, false, cond, arith, ◌*◌, map}
 use Rattle.std.specs.Prelude.{option_map, option_and_then}
 use Rattle.std.proofs.lemmas.Bool.{eqb-true, and_parts, and_from, cases_Bool, false≢true}
 use Rattle.std.proofs.lemmas.Option.{none-some}
 use Rattle.std.proofs.Math.Nat.{pow-succ', div-one, div-div-eq-div-mul}
 use Rattle.jh_num.proofs.Booleans.{same_number}
-use Rattle.jh_num.proofs.MemoryLemmas.{listed}
+use Rattle.jh_num.proofs.MemoryLemmas.{little_endian_first}
+use Rattle.jh_num.specs.Memory.{spelled, little_endian}
 use Rattle.jh_history.specs.declared.place.Place.{Place}
 use Rattle.jh_history.specs.declared.place.Place.TheVariants.{Physical, Page}
 use Rattle.jh_history.specs.Places.{is_same, over}
 use Rattle.jh_history.specs.Access.{places_from}
+
+-- the first so many places
+abbrev pub listed : {P : Type 0} → (ℕ → P) → ℕ → List P
+listed place zero = []
+listed place (suc count) = place 0 ∷ listed (λ k. place (k + 1)) count
+
+-- what the bytes at the places spell
+pub spelled_listed : {P : Type 0} (byte : P → ℕ) (place : ℕ → P) (count : ℕ) → spelled (map byte (listed place count)) ≡ little_endian count (λ k. byte (place k))
+spelled_listed byte place zero = refl
+spelled_listed byte place (suc count) =
+    ap (λ (n : ℕ). byte (place 0) + 256 * n) (spelled_listed byte (λ k. place (k + 1)) count) ∙ sym (little_endian_first count (λ k. byte (place k)))
 
 -- where each address has its place, these are the places
 pub places_from_listed : (f : ℕ → Option Place) (place : ℕ → Place) (at count : ℕ) → ((k : ℕ) → k < count → f (at + k) ≡ Some (place k)) → places_from f at count ≡ Some (listed place count)

@@ -44,7 +44,6 @@ use Rattle.jh_history.specs.Due.{due_at, act_of, await_of, irq_of, got_by, entry
 use Rattle.jh_history.specs.Admitted.{IsAdmitted, IsNoCall, HasNoCall}
 use Rattle.jh_history.specs.Calls.{is_call}
 use Rattle.jh_history.proofs.DueLemmas.{due_at_absent, due_at_present}
-use Rattle.jh_history.proofs.FactsLemmas.{cpu_after_holds}
 use Rattle.jh_history.proofs.AloneLemmas.{acted_own, alone_start, alone_after}
 use Rattle.jh_history.proofs.LegalLemmas.{due_split, IsLegal_begin}
 use Rattle.std.specs.List.{AllByRecursion}
@@ -55,6 +54,7 @@ use Rattle.jh_laws.specs.Moves.{stepped, ended}
 use Rattle.jh_laws.specs.Outcomes.{is_violation}
 use Rattle.jh_laws.specs.Operations.{op_of, program_in}
 use Rattle.jh_laws.proofs.RootLemmas.{op_plain}
+use Rattle.jh_laws.proofs.FactsLemmas.{cpu_after_holds}
 
 -- the image may be opened, root has no ivshmem device, and no program has a hypercall
 pub record IsSilent (image : Image) : Type 0 where

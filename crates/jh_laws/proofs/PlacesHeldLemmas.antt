@@ -47,7 +47,7 @@ use Rattle.jh_history.specs.History.{cells_after, facts}
 use Rattle.jh_shape.specs.Lives.{configs_of}
 use Rattle.jh_history.specs.Due.{IsLegal}
 use Rattle.jh_history.specs.Admitted.{IsAdmitted}
-use Rattle.jh_history.proofs.FactsLemmas.{facts_push, byte_after_holds}
+use Rattle.jh_history.proofs.FactsLemmas.{facts_push}
 use Rattle.jh_history.proofs.LegalLemmas.{IsLegal_begin}
 use Rattle.jh_history.specs.Sound.{AreSoundCells, IsOfDevice, IsInPhase, IsSoundCall, IsSound}
 use Rattle.jh_history.proofs.SoundCommitLemmas.{configs_joined}
@@ -55,8 +55,7 @@ use Rattle.jh_history.proofs.SoundDecideLemmas.{found_live}
 use Rattle.jh_laws.specs.Held.{IsHeld, AreLinkedSections, IsOwnOrLinked}
 use Rattle.jh_laws.specs.Vectors.{PutsRegister}
 use Rattle.jh_laws.specs.Written.{WritesWordThere}
-use Rattle.jh_laws.proofs.ListedLemmas.{same_place}
-use Rattle.jh_num.proofs.MemoryLemmas.{listed}
+use Rattle.jh_laws.proofs.ListedLemmas.{same_place, listed}
 use Rattle.jh_laws.specs.Ends.{AreItsPlaces, IsAnsweredByRegister}
 use Rattle.jh_laws.proofs.WindowLemmas.{spec_is}
 use Rattle.jh_laws.proofs.DevicesLemmas.{endpoint_held}
@@ -64,6 +63,7 @@ use Rattle.jh_laws.proofs.EndsLemmas.{IsSmallAct, small_at}
 use Rattle.jh_laws.proofs.WordLemmas.{IsByteAt, IsApart, slot_cases, slot_other, value_fits, state_put, IsInWords, AreApart, words_kept, words_or, words_page, specs_none}
 use Rattle.jh_laws.proofs.HeldLemmas.{at_same}
 use Rattle.jh_laws.proofs.StoredLemmas.{IsGivenTo, listed_at, byte_put, IsStored, IsWord, placed, places_given}
+use Rattle.jh_laws.proofs.FactsLemmas.{byte_after_holds}
 use Rattle.jh_history.proofs.SoundLemmas.{legal_sound}
 use Rattle.jh_history.proofs.SoundEndpointsLemmas.{spec_cell}
 

@@ -8,7 +8,6 @@ use Rattle.std.proofs.lemmas.Bool.{both_ways, or_parts, or_cases, and_parts, and
 use Rattle.std.proofs.lemmas.Option.{same_Some, slice_get-get_or}
 use Rattle.jh_num.specs.declared.address.TheConstants.{ADDRESS_END}
 use Rattle.jh_num.proofs.Lists.{IsFound_from_find, find_None}
-use Rattle.jh_num.proofs.MemoryLemmas.{listed}
 use Rattle.jh_cellcfg.specs.declared.config.CellConfig.{CellConfig}
 use Rattle.jh_cellcfg.specs.declared.config.SystemConfig.{SystemConfig}
 use Rattle.jh_cellcfg.specs.declared.live.Live.{Live}
@@ -44,7 +43,7 @@ use Rattle.jh_laws.specs.Grants.{may}
 use Rattle.jh_laws.specs.Held.{IsRootOrLive, IsGrantedTo, AreGrantedTo}
 use Rattle.jh_laws.specs.Ends.{HasAccess, LetsThrough, IsBehindMemory, IsAnsweredBy, IsInEcam, IsAnsweredByWindow, IsAnsweredByRegister, IsAnswered, GivesPlaces, AreItsPlaces}
 use Rattle.jh_laws.proofs.DevicesLemmas.{position_single, window_lies, window_none, found_passes}
-use Rattle.jh_laws.proofs.ListedLemmas.{places_from_listed, places_from_each, places_from_some}
+use Rattle.jh_laws.proofs.ListedLemmas.{places_from_listed, places_from_each, places_from_some, listed}
 use Rattle.jh_laws.proofs.HeldLemmas.{live_cell, cell_live, number_of_holds, granted_to, to_granted_holds, regions_of_live, left_free, free_left}
 use Rattle.jh_history.proofs.ReadLemmas.{nothing_memory}
 

@@ -7,7 +7,7 @@ use Rattle.std.proofs.lemmas.Bool.{and_parts, and_from, eqb-true, false_from_ne_
 use Rattle.std.proofs.lemmas.Slice.Eq.{bytes_eq-Decides}
 use Rattle.std.proofs.lemmas.Option.{slice_get_within, get_or_from_slice_get}
 use Rattle.jh_num.specs.declared.address.TheConstants.{ADDRESS_END}
-use Rattle.jh_num.proofs.Lists.{IsOnly, find_only, find_nothing}
+use Rattle.jh_num.proofs.Lists.{find_nothing}
 use Rattle.jh_num.proofs.Booleans.{same_number}
 use Rattle.jh_cellcfg.specs.declared.region.Region.{Region}
 use Rattle.jh_cellcfg.specs.Regions.{has_address, is_comm, virt_end}
@@ -21,6 +21,7 @@ use Rattle.jh_script.specs.Operations.{IsWellFormed}
 use Rattle.jh_history.specs.Admitted.{IsAdmitted}
 use Rattle.jh_history.specs.Lives.{is_program_of, program_of, is_on_board}
 use Rattle.jh_history.proofs.AdmittedLemmas.{sound_root, program_of_plain}
+use Rattle.jh_laws.proofs.FindLemmas.{IsOnly, find_only}
 
 abbrev pub regions : Image → List Region
 regions image = image.system.root.memory_regions

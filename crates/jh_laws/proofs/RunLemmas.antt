@@ -15,9 +15,10 @@ use Rattle.jh_history.specs.Items.{Reached, with_due, items, played, below, roun
 use Rattle.jh_history.specs.Admitted.{IsAdmitted}
 use Rattle.jh_history.proofs.DueLemmas.{IsLegal_made}
 use Rattle.jh_history.proofs.FactsLemmas.{IsLegal_nil}
-use Rattle.jh_history.proofs.ItemsLemmas.{items_append, items_append_full, items_nil, items_one, items_quiet, rounds_append, Grows, items_grows, IsQuiet_from_cpus, reached}
+use Rattle.jh_history.proofs.ItemsLemmas.{reached}
 use Rattle.jh_laws.specs.Items.{ItemsLead, IsCutShort}
 use Rattle.jh_laws.proofs.RootLemmas.{few_cpus}
+use Rattle.jh_laws.proofs.ItemsLemmas.{items_append, items_append_full, items_nil, items_one, items_quiet, rounds_append, Grows, items_grows, IsQuiet_from_cpus}
 
 never_both : (es fs : List Entry) → reached es false ≡ reached fs true → ⊥
 never_both es fs e = false≢true (ap (λ (r : Reached). r.full) e)

@@ -3,7 +3,6 @@ use Rattle.std.proofs.Common.{◌≡◌, ℕ, zero, suc, ◌+◌, ◌-◌, ◌%�
 use Rattle.std.specs.Prelude.{◌⊎◌, Contains, option_and_then}
 use Rattle.std.proofs.lemmas.Bool.{cases_lt}
 use Rattle.jh_num.specs.declared.address.TheConstants.{ADDRESS_END}
-use Rattle.jh_num.proofs.MemoryLemmas.{listed}
 use Rattle.jh_cellcfg.specs.declared.config.CellConfig.{CellConfig}
 use Rattle.jh_cellcfg.specs.declared.live.Live.{Live}
 use Rattle.jh_cellcfg.specs.declared.region.Region.{Region}
@@ -31,6 +30,7 @@ use Rattle.jh_laws.specs.Ends.{IsAnsweredByRegister, IsAnswered, AreItsPlaces, G
 use Rattle.jh_laws.proofs.DevicesLemmas.{same_register}
 use Rattle.jh_laws.proofs.ReachedLemmas.{Way, OnMemory, OnRegion, OnWindow, OnRegister, OnNothing, way, places_of_memory, places_of_region, region_places}
 use Rattle.jh_laws.proofs.EndsLemmas.{granted_places, picked_place, window_places, register_places}
+use Rattle.jh_laws.proofs.ListedLemmas.{listed}
 
 -- ---- a list of places by their index
 

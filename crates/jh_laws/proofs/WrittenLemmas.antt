@@ -4,7 +4,6 @@ use Rattle.std.specs.Prelude.{Contains, slice_get, nat_lt, nat_le}
 use Rattle.std.proofs.lemmas.Bool.{both_ways, and_parts, and_from, eqb-true, false≢true, true≢false, lt-ltb, ltb-true, le-leb, false_from_ne_true}
 use Rattle.std.proofs.lemmas.Option.{none-some, same_Some, slice_get-get_or}
 use Rattle.jh_num.proofs.Booleans.{same_number}
-use Rattle.jh_num.proofs.MemoryLemmas.{listed}
 use Rattle.jh_cellcfg.specs.declared.config.CellConfig.{CellConfig}
 use Rattle.jh_cellcfg.specs.declared.live.Live.{Live}
 use Rattle.jh_cellcfg.specs.declared.region.Region.{Region}
@@ -43,7 +42,7 @@ use Rattle.jh_laws.specs.Grants.{IsGranted}
 use Rattle.jh_laws.specs.Held.{IsRootOrLive, IsGrantedTo}
 use Rattle.jh_laws.specs.Written.{IsByteBy, Puts, IsByteOfPage, WritesWord, IsByteOfWord, WritesByte, NoneWrites}
 use Rattle.jh_laws.specs.Vectors.{PutsRegister}
-use Rattle.jh_laws.proofs.ListedLemmas.{over_at, over_other}
+use Rattle.jh_laws.proofs.ListedLemmas.{over_at, over_other, listed}
 use Rattle.jh_laws.specs.Ends.{AreItsPlaces, GivesPlaces, IsAnsweredByRegister}
 use Rattle.jh_laws.proofs.HeldLemmas.{live_cell, number_of_holds}
 use Rattle.jh_laws.proofs.EndsLemmas.{IsSmallAct, small_at}

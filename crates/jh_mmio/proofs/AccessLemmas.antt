@@ -1,16 +1,23 @@
 -- The bytes of an access, and where they lie.
-use Rattle.std.proofs.Common.{◌≡◌, ℕ, ◌+◌, ◌-◌, ◌<◌, ◌≤◌, Bool, true, false, ◌&&◌, not, leb, ltb, List, length, sym, ◌∙◌, ap, subst, arith, IsTrue, ◌↔◌}
+use Rattle.std.proofs.Common.{◌≡◌, ℕ, ◌+◌, ◌-◌, ◌<◌, ◌≤◌, Bool, true, false, ◌&&◌, not, leb, ltb, List, length, sym, ◌∙◌, ap, subst, arith, IsTrue, ◌↔◌, [], ◌∷◌, ⊎_elim}
 use Rattle.std.specs.Prelude.{Contains}
-use Rattle.std.specs.List.{list_any, range_with_len}
+use Rattle.std.specs.List.{list_any, range_with_len, list_all}
 use Rattle.std.proofs.lemmas.Bool.{leb-true, ltb-true, lt-ltb, le-leb, and_parts, and_from}
 use Rattle.std.proofs.lemmas.List.FromFn.{get_or-range_with_len, length-range_with_len}
 use Rattle.jh_num.proofs.Booleans.{same_test}
-use Rattle.jh_num.proofs.Lists.{list_all_at, list_all_each, IsFound_from_list_any, list_any_from_Contains}
+use Rattle.jh_num.proofs.Lists.{list_all_each, IsFound_from_list_any, list_any_from_Contains, Contains_cases}
 use Rattle.jh_num.specs.declared.range.Range.{Range}
 use Rattle.jh_num.specs.Bytes.{has_byte}
 use Rattle.jh_cellcfg.specs.declared.region.Region.{Region}
 use Rattle.jh_cellcfg.specs.Regions.{is_comm, place_in}
 use Rattle.jh_mmio.specs.Dispatch.{is_between, lies_between, is_at_closed}
+
+-- where all elements pass, each does
+list_all_at : {X : Type 0} (p : X → Bool) (xs : List X) (x : X) → list_all p xs ≡ true → Contains xs x → p x ≡ true
+list_all_at p [] x h (k, below, is) = absurd (omega arith)
+list_all_at p (y ∷ ys) x h c =
+    let parts = and_parts (p y) (list_all p ys) h in
+    ⊎_elim (λ (same : y ≡ x). ap p (sym same) ∙ parts.0) (λ (later : Contains ys x). list_all_at p ys x parts.1 later) (Contains_cases y ys x c)
 
 -- the bytes are those from the first on, as many as the width
 pub byte_of : (at n a : ℕ) → at ≤ a → a < at + n → Contains (range_with_len at n) a

@@ -1,14 +1,12 @@
 -- What an element of a list tells of `find`, `list_any`, `filter` and `map`, and what they tell of one.
 -- What std has of them stands in `std.proofs.lemmas.List.Elements` (`Contains-append_left`,
 -- `All-contains`, `filter_passes` ..) and `.Folds` (`find-append`, `list_any-append`, `list_any_more` ..).
-use Rattle.std.proofs.Common.{◌≡◌, ℕ, ltb, zero, suc, ◌+◌, ◌<◌, Bool, true, false, cond, not, ◌||◌, List, [], ◌∷◌, ◌++◌, length, get_or, drop, map, Option, Some, None, refl, sym, ap, subst, ◌∙◌, inl, inr, ◌⊎◌, ⊎_elim, arith}
-use Rattle.std.specs.Prelude.{slice_get, filter, option_map, is_none, position}
-use Rattle.std.specs.List.{find, list_any, list_all, Contains, All, position_or_len}
-use Rattle.std.proofs.lemmas.Bool.{cases_Bool, both_ways, or_left, or_right, or_cases, and_parts, and_from, false_from_ne_true, lt-ltb, le-ltb}
-use Rattle.std.proofs.lemmas.Option.{none-some, same_Some, slice_get-get_or, slice_get_past, get_or_from_slice_get}
-use Rattle.std.proofs.lemmas.List.{drop_more, drop_all}
+use Rattle.std.proofs.Common.{◌≡◌, ℕ, ltb, zero, suc, ◌<◌, Bool, true, false, cond, ◌||◌, List, [], ◌∷◌, length, get_or, map, Option, Some, None, refl, sym, ap, subst, ◌∙◌, inl, inr, ◌⊎◌, ⊎_elim, arith}
+use Rattle.std.specs.Prelude.{filter, option_map, position}
+use Rattle.std.specs.List.{find, list_any, list_all, Contains, position_or_len}
+use Rattle.std.proofs.lemmas.Bool.{cases_Bool, both_ways, and_from, false_from_ne_true, lt-ltb, le-ltb}
+use Rattle.std.proofs.lemmas.Option.{none-some, same_Some, slice_get-get_or, get_or_from_slice_get}
 use Rattle.std.proofs.lemmas.List.Sums.{position_or_len_is}
-use Rattle.std.proofs.lemmas.List.Elements.{All-contains}
 use Rattle.std.proofs.lemmas.List.Folds.{list_any_at, Any-from_list_any}
 
 -- an element is the first, or one of the rest
@@ -37,10 +35,6 @@ found_by p y ys x false is rest e = let r = rest e in record { held = Contains_t
 pub IsFound_from_find : {X : Type 0} (p : X → Bool) (xs : List X) (x : X) → find p xs ≡ Some x → IsFound p xs x
 IsFound_from_find p [] x e = absurd (none-some x e)
 IsFound_from_find p (y ∷ ys) x e = found_by p y ys x (p y) refl (λ h. IsFound_from_find p ys x h) e
-
--- and has what all elements have
-pub All_from_find : {X : Type 0} (p : X → Bool) (Q : X → Type 0) (xs : List X) (x : X) → find p xs ≡ Some x → All Q xs → Q x
-All_from_find p Q xs x e all = All-contains Q xs x all (IsFound_from_find p xs x e).held
 
 -- where none is found, no element passes
 none_by : {X : Type 0} (p : X → Bool) (y : X) (ys : List X) (x : X) (b : Bool) → p y ≡ b → (find p ys ≡ None → Contains ys x → p x ≡ false) → cond b (Some y) (find p ys) ≡ None → Contains (y ∷ ys) x → p x ≡ false
@@ -71,41 +65,6 @@ find_unique p xs x h passes only =
     let found = IsFound_from_find p xs some.0 some.1 in
     some.1 ∙ ap Some (only some.0 found.held found.passes)
 
--- no two elements pass
-abbrev pub IsOnly : {X : Type 0} → (X → Bool) → List X → Type 0
-IsOnly {X} p xs = (j k : ℕ) (d : X) → j < k → k < length xs → p (get_or xs j d) ≡ true → p (get_or xs k d) ≡ true → ⊥
-
-only_later : {X : Type 0} (p : X → Bool) (y : X) (ys : List X) → IsOnly p (y ∷ ys) → IsOnly p ys
-only_later p y ys only j k d lt within at_j at_k = only (suc j) (suc k) d (omega arith) (omega arith) at_j at_k
-
--- the one element that passes is found
-pub find_only : {X : Type 0} (p : X → Bool) (xs : List X) (i : ℕ) (d : X) → i < length xs → p (get_or xs i d) ≡ true → IsOnly p xs → find p xs ≡ Some (get_or xs i d)
-find_only p [] i d lt passes only = absurd (omega arith)
-find_only p (y ∷ ys) zero d lt passes only = rw passes refl
-find_only p (y ∷ ys) (suc i) d lt passes only = elim (cases_Bool (p y)) [
-  | inl first ↦ absurd (only 0 (suc i) d (omega arith) lt first passes)
-  | inr other ↦ rw other (find_only p ys i d (omega arith) passes (only_later p y ys only))
-]
-
--- the first element that passes, where a search has come to it
-pub find_here : {X : Type 0} (p : X → Bool) (xs : List X) (k : ℕ) (x : X) → k < length xs → x ≡ get_or xs k x → p x ≡ true → find p (drop k xs) ≡ find p xs → find p xs ≡ slice_get xs k
-find_here p xs k x lt is passes rest =
-    let here : find p (drop k xs) ≡ Some x = ap (find p) (drop_more xs k x lt) ∙ rw (← is, passes) refl in
-    sym rest ∙ here ∙ ap Some is ∙ sym (slice_get-get_or xs k x lt)
-
--- and none, where it has come to the end
-pub find_nowhere : {X : Type 0} (p : X → Bool) (xs : List X) → find p (drop (length xs) xs) ≡ find p xs → find p xs ≡ slice_get xs (length xs)
-find_nowhere p xs rest = sym rest ∙ ap (find p) (drop_all (length xs) xs (omega arith)) ∙ sym (slice_get_past xs (length xs) (omega arith))
-
--- whatever passes without an element passes with it
-pub list_any_fewer : {X : Type 0} (p : X → Bool) (xs : List X) (c : X) (ys : List X) → list_any p (xs ++ ys) ≡ true → list_any p (xs ++ c ∷ ys) ≡ true
-list_any_fewer p [] c ys h = or_right (p c) (list_any p ys) h
-list_any_fewer p (x ∷ xs) c ys h =
-    ⊎_elim
-    (λ here. or_left (p x) (list_any p (xs ++ c ∷ ys)) here)
-    (λ later. or_right (p x) (list_any p (xs ++ c ∷ ys)) (list_any_fewer p xs c ys later))
-    (or_cases (p x) (list_any p (xs ++ ys)) h)
-
 -- an element of the list that passes
 pub IsFound_from_list_any : {X : Type 0} (p : X → Bool) (xs : List X) → list_any p xs ≡ true → (x : X) × IsFound p xs x
 IsFound_from_list_any p xs h = let f = Any-from_list_any p xs h in (f.1, record { held = (f.0, f.2, f.3); passes = f.4 })
@@ -122,44 +81,17 @@ pub list_any_nothing : {X : Type 0} (p : X → Bool) (xs : List X) → ((x : X) 
 list_any_nothing p [] h = refl
 list_any_nothing p (y ∷ ys) h = rw (h y (Contains_head y ys)) (list_any_nothing p ys (λ x k. h x (Contains_tail y ys x k)))
 
--- a test that fails at one element at least, or at none
-pub list_all_at : {X : Type 0} (p : X → Bool) (xs : List X) (x : X) → list_all p xs ≡ true → Contains xs x → p x ≡ true
-list_all_at p [] x h (k, below, is) = absurd (omega arith)
-list_all_at p (y ∷ ys) x h c =
-    let parts = and_parts (p y) (list_all p ys) h in
-    ⊎_elim (λ (same : y ≡ x). ap p (sym same) ∙ parts.0) (λ (later : Contains ys x). list_all_at p ys x parts.1 later) (Contains_cases y ys x c)
-
+-- a test that all elements pass
 pub list_all_each : {X : Type 0} (p : X → Bool) (xs : List X) → ((x : X) → Contains xs x → p x ≡ true) → list_all p xs ≡ true
 list_all_each p [] h = refl
 list_all_each p (y ∷ ys) h = and_from (p y) (list_all p ys) (h y (Contains_head y ys)) (list_all_each p ys (λ x k. h x (Contains_tail y ys x k)))
 
 -- two tests that agree on the elements
-pub find_agree : {X : Type 0} (p q : X → Bool) (xs : List X) → ((x : X) → Contains xs x → p x ≡ q x) → find p xs ≡ find q xs
-find_agree p q [] h = refl
-find_agree p q (y ∷ ys) h =
-    ap (λ b. cond b (Some y) (find p ys)) (h y (Contains_head y ys))
-    ∙ ap (λ o. cond (q y) (Some y) o) (find_agree p q ys (λ x k. h x (Contains_tail y ys x k)))
-
 pub list_any_agree : {X : Type 0} (p q : X → Bool) (xs : List X) → ((x : X) → Contains xs x → p x ≡ q x) → list_any p xs ≡ list_any q xs
 list_any_agree p q [] h = refl
 list_any_agree p q (y ∷ ys) h =
     ap (λ b. b || list_any p ys) (h y (Contains_head y ys))
     ∙ ap (λ b. q y || b) (list_any_agree p q ys (λ x k. h x (Contains_tail y ys x k)))
-
--- a test that passes wherever another does
-pub list_any_weaker : {X : Type 0} (p q : X → Bool) → ((x : X) → p x ≡ true → q x ≡ true) → (xs : List X) → list_any p xs ≡ true → list_any q xs ≡ true
-list_any_weaker p q h [] e = e
-list_any_weaker p q h (x ∷ xs) e =
-    ⊎_elim
-    (λ yes. or_left (q x) (list_any q xs) (h x yes))
-    (λ rest. or_right (q x) (list_any q xs) (list_any_weaker p q h xs rest))
-    (or_cases (p x) (list_any p xs) e)
-
--- `find` finds exactly where some element passes
-pub is_none_find : {X : Type 0} (p : X → Bool) (xs : List X) → is_none (find p xs) ≡ not (list_any p xs)
-is_none_find p [] = refl
-is_none_find p (x ∷ xs) =
-    elim (p x) as (λ b. is_none (cond b (Some x) (find p xs)) ≡ not (b || list_any p xs)) [ true ↦ refl | false ↦ is_none_find p xs ]
 
 -- a list whose elements are mapped
 pub list_any_map : {X Y : Type 0} (f : X → Y) (p : Y → Bool) (xs : List X) → list_any p (map f xs) ≡ list_any (λ x. p (f x)) xs

@@ -1,5 +1,5 @@
 -- Numbers that bytes spell, and bytes that are stored.
-use Rattle.std.proofs.Common.{◌≡◌, ℕ, zero, suc, ◌+◌, ◌-◌, ◌*◌, ◌^◌, ◌<◌, ◌≤◌, List, [], ◌∷◌, length, map, slice_index, refl, sym, ap, ◌∙◌, add-one, leb, ltb, arith}
+use Rattle.std.proofs.Common.{◌≡◌, ℕ, zero, suc, ◌+◌, ◌-◌, ◌*◌, ◌^◌, ◌<◌, ◌≤◌, List, [], ◌∷◌, length, slice_index, refl, sym, ap, ◌∙◌, add-one, leb, ltb, arith}
 use Rattle.std.proofs.lemmas.Bool.{le-leb, lt-leb, lt-ltb, le-ltb, and_right}
 use Rattle.std.proofs.lemmas.Grind.{pow_more}
 use Rattle.std.proofs.Math.Nat.{one-le-pow, pow-le-pow_right, pow-suc, mul_assoc}
@@ -13,11 +13,6 @@ byte_fits v b m small byte = rw (pow_more 256 m) (grind arith)
 pub word_fits : (v m : ℕ) → m ≤ 8 → v < 256 ^ m → v < 2 ^ 64
 word_fits v m few small = let le : 256 ^ m ≤ 256 ^ 8 = pow-le-pow_right (omega arith) few in omega arith
 
--- the first so many places
-abbrev pub listed : {P : Type 0} → (ℕ → P) → ℕ → List P
-listed place zero = []
-listed place (suc count) = place 0 ∷ listed (λ k. place (k + 1)) count
-
 -- the number by its first byte
 pub little_endian_first : (count : ℕ) (byte : ℕ → ℕ) → little_endian (suc count) byte ≡ byte 0 + 256 * little_endian count (λ k. byte (k + 1))
 little_endian_first zero byte = omega arith
@@ -27,12 +22,6 @@ little_endian_first (suc count) byte =
     let next : byte (count + 1) ≡ byte (suc count) = ap byte (add-one count) in
     let goal : little_endian (suc count) byte + byte (suc count) * 256 ^ suc count ≡ byte 0 + 256 * (little_endian count (λ k. byte (k + 1)) + byte (suc count) * 256 ^ count) = omega arith in
     rw next goal
-
--- what the bytes at the places spell
-pub spelled_listed : {P : Type 0} (byte : P → ℕ) (place : ℕ → P) (count : ℕ) → spelled (map byte (listed place count)) ≡ little_endian count (λ k. byte (place k))
-spelled_listed byte place zero = refl
-spelled_listed byte place (suc count) =
-    ap (λ (n : ℕ). byte (place 0) + 256 * n) (spelled_listed byte (λ k. place (k + 1)) count) ∙ sym (little_endian_first count (λ k. byte (place k)))
 
 -- two readings of the same bytes
 pub little_endian_same : (count : ℕ) (f g : ℕ → ℕ) → ((k : ℕ) → k < count → f k ≡ g k) → little_endian count f ≡ little_endian count g

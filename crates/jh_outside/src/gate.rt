@@ -2,8 +2,8 @@
 
 /// What a worker passes before each turn that it takes, outside any lock.
 pub trait Gate {
-    /// Returns when the worker may take its turn for the CPU. `turn` is the number of turns that this
-    /// worker has taken for that CPU before, from 0. The answer tells nothing.
+    /// Returns when the worker may take its turn for the CPU. `turn` is the number of turns that were
+    /// taken for that CPU before, from 0. The answer tells nothing.
     fn pass(&self, cpu: u8, turn: u64);
 }
 

@@ -6,7 +6,6 @@ mod MapsLemmas
 mod TurnLemmas
 mod PortLemmas
 mod WholeLemmas
-mod SpreadLemmas
 mod CallerLemmas
 mod SoakLemmas
 mod SoakClean

@@ -1,13 +1,12 @@
 -- The programs of the board of `soak` are within their limits, and of four CPUs.
-use Rattle.std.proofs.Common.{◌≡◌, ℕ, zero, suc, ◌+◌, ◌*◌, ◌^◌, ◌<◌, ◌≤◌, List, [], ◌∷◌, ◌++◌, length, refl, sym, ap, ◌∙◌, arith}
-use Rattle.std.specs.Prelude.{All, AllPairs, IsTrue, codes}
+use Rattle.std.proofs.Common.{◌≡◌, ℕ, zero, suc, ◌+◌, ◌*◌, ◌≤◌, [], ◌∷◌, ◌++◌, length, refl, arith}
+use Rattle.std.specs.Prelude.{All, AllPairs, codes}
 use Rattle.std.proofs.lemmas.List.{length-append}
 use Rattle.std.proofs.lemmas.List.Elements.{All-nil, All-cons, All-append, All-from_recursion}
 use Rattle.std.proofs.lemmas.List.Kept.{AllPairs-cons}
 use Rattle.std.proofs.lemmas.Bool.{false≢true}
 use Rattle.jh_script.specs.declared.op.Op.{Op}
-use Rattle.jh_script.specs.declared.op.Op.TheVariants.{Read, Write, Await, Hvc}
-use Rattle.jh_script.specs.declared.image.Program.{Program}
+use Rattle.jh_script.specs.declared.op.Op.TheVariants.{Read, Write}
 use Rattle.jh_script.specs.Operations.{IsWellFormed}
 use Rattle.jh_history.specs.Admitted.{IsSoundProgram, IsOtherProgram}
 use Rattle.jh_run.specs.Soak.{number_writes, number_reads, round_ops, rounds_ops, beside_ops, answer_ops, ops_a, ops_b, program, programs_of}

@@ -6,7 +6,6 @@ pub mod Origins
 pub mod Turns
 pub mod Running
 pub mod Drives
-pub mod Workers
 pub mod Summaries
 pub mod Soak
 pub mod Private

@@ -5,7 +5,6 @@ ghost use Rattle.jh_turn.specs.PortSets.{IsSameSet};
 ghost use Rattle.jh_run.specs.Drives.{Shows, SomeShows, drive_end, drive_end_after};
 ghost use Rattle.jh_run.specs.Running.{origin_of};
 
-use crate::bells::Bells;
 use crate::running::Running;
 use jh_board::{Turn, TurnFault};
 use jh_outside::Gate;
@@ -45,22 +44,6 @@ fn end_after(answer: Result<Turn, TurnFault>) -> Option<DriveEnd>
     }
 }
 
-/// Lets other threads go first where a turn at each of the ports made no entry. A thread that drives one port alone has
-/// nothing to do until the bell of its CPU rings.
-fn give_way(ports: &[Port<Running>], bells: &Bells) {
-    match ports {
-        [port] => bells.wait(port.caller()),
-        _ => thread::yield_now(),
-    }
-}
-
-/// Rings the bell of the CPU that has an entry due, where the turn found that it is another one.
-fn call_other(answer: &Result<Turn, TurnFault>, bells: &Bells) {
-    if let Ok(Turn::NotNow { due_to }) = answer {
-        bells.ring(*due_to);
-    }
-}
-
 /// Whether the turn made an entry.
 fn has_made(answer: &Result<Turn, TurnFault>) -> bool {
     matches!(answer, Ok(Turn::Made(_)))
@@ -73,7 +56,6 @@ fn drive_port<R: Wait, G: Gate>(
     shared: &Shared<Running>,
     port: &mut Port<Running>,
     gate: &G,
-    bells: &Bells,
     round: u64,
     idle: &mut bool,
 ) -> Option<DriveEnd>
@@ -85,7 +67,6 @@ fn drive_port<R: Wait, G: Gate>(
     gate.pass(port.caller(), round);
     let answer = shared.turn(rt, port);
     *idle &= !has_made(&answer);
-    call_other(&answer, bells);
     end_after(answer)
 }
 
@@ -95,7 +76,6 @@ fn drive_round<R: Wait, G: Gate>(
     shared: &Shared<Running>,
     ports: &mut [Port<Running>],
     gate: &G,
-    bells: &Bells,
     round: u64,
 ) -> Option<DriveEnd>
     requires { All (IsPortOf shared.now) ports.old }
@@ -104,13 +84,13 @@ fn drive_round<R: Wait, G: Gate>(
 {
     let mut idle = true;
     for i in 0..ports.len() {
-        let end = drive_port(rt, shared, &mut ports[i], gate, bells, round, &mut idle);
+        let end = drive_port(rt, shared, &mut ports[i], gate, round, &mut idle);
         if end.is_some() {
             return end;
         }
     }
     if idle {
-        give_way(ports, bells);
+        thread::yield_now();
     }
     None
 }
@@ -123,7 +103,6 @@ pub fn drive<R: Wait, G: Gate>(
     shared: &Shared<Running>,
     ports: &mut [Port<Running>],
     gate: &G,
-    bells: &Bells,
 ) -> Option<TurnFault>
     requires some { 0 < length ports.old }
     requires own { All (IsPortOf shared.now) ports.old }
@@ -132,8 +111,7 @@ pub fn drive<R: Wait, G: Gate>(
 {
     let mut round: u64 = 0;
     for _ in rt.forever() {
-        if let Some(end) = drive_round(rt, shared, ports, gate, bells, round) {
-            bells.ring_all();
+        if let Some(end) = drive_round(rt, shared, ports, gate, round) {
             return end.fault();
         }
         round = round.saturating_add(1);

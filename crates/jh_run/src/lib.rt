@@ -1,12 +1,13 @@
 //! Schedules on a board, and a worker for each of its CPUs.
 #![tactic(auto)]
 
-mod bells;
 mod crossing;
 mod driving;
 mod ended;
 mod laws;
 mod maps;
+mod posts;
+mod roaming;
 mod running;
 mod runs;
 mod schedule;

@@ -1,37 +1,24 @@
 //! A worker for each port, in a thread of its own where one can be had.
-ghost use Rattle.std.specs.Prelude.{◌≡◌, ℕ, ◌+◌, ◌<◌, ◌≤◌, ◌⊎◌, [], length, map, All, Contains, IfOk, IfErr, vec_len, vec_capacity};
+ghost use Rattle.std.specs.Prelude.{◌≡◌, ◌+◌, ◌<◌, ◌≤◌, ◌++◌, [], ◌∷◌, length, map, All, Some, IfOk, vec_capacity};
 ghost use mathlib.Core.List.{IsPrefix};
 ghost use Rattle.jh_turn.specs.Ports.{IsPortOf, port_caller, opened_value};
+ghost use Rattle.jh_turn.specs.PortSets.{IsSameSet};
 ghost use Rattle.jh_run.specs.Drives.{SomeShows, drive_end};
 ghost use Rattle.jh_run.specs.Running.{origin_of};
-ghost use Rattle.jh_run.specs.Workers.{AreBack};
 
-use crate::bells::Bells;
 use crate::driving::drive;
+use crate::posts::{Home, Post, Posts};
+use crate::roaming::roam;
 use crate::running::Running;
 use jh_board::TurnFault;
 use jh_num::NoMemory;
 use jh_outside::Gate;
 use jh_turn::{Port, Shared};
 use std::alloc::Global;
+use std::marker::Brand;
 use std::sync::Wait;
-use std::sync::atomic::{AtomicBool, Ordering};
-use std::thread::{Promise, PromisedHandle, Scope, Threads};
+use std::thread::{Scope, Threads};
 use std::{slice, thread};
-
-/// Tells of a worker's port that it is its caller's still.
-#[derive(Clone, Copy)]
-struct Given<'a> {
-    shared: &'a Shared<Running>,
-    caller: u8,
-}
-
-impl<'a> Promise<Port<Running>> for Given<'a> {
-    ghost use Rattle.std.specs.Prelude.{◌≡◌};
-    ghost use Rattle.jh_turn.specs.Ports.{IsPortOf, port_caller};
-
-    ghost kept_by = { λ given port. IsPortOf given.shared.now port × (port_caller port ≡ given.caller) };
-}
 
 /// All ports once they are driven no more, and for what a turn was refused, if one was.
 #[derive(Drop)]
@@ -40,145 +27,163 @@ pub struct Driven {
     pub refused: Option<TurnFault>,
 }
 
-/// Drives the port, unless it stays with the caller, and gives it back.
-fn work<R: Wait, G: Gate>(
+/// The callers of the ports.
+fn callers_of(alloc: Global, ports: &[Port<Running>]) -> Result<Vec<u8>, NoMemory>
+    ensures { IfOk result (λ callers. callers.items ≡ map port_caller ports.now) }
+{
+    let mut callers = Vec::new(alloc);
+    for port in ports {
+        callers.push(port.caller())?;
+    }
+    Ok(callers)
+}
+
+/// Leaves the post of each port.
+fn leave_all<H: Home, R: Wait>(
     rt: &R,
     shared: &Shared<Running>,
-    mut port: Port<Running>,
-    gate: &G,
-    bells: &Bells,
-    stays: &AtomicBool,
-) -> Port<Running>
-    requires { IsPortOf shared.now port }
-    ensures { IsPortOf shared.now result × (port_caller result ≡ port_caller port) }
-{
-    if !stays.load(Ordering::SeqCst) {
-        drive(rt, shared, slice::from_mut(&mut port), gate, bells);
-    }
-    port
-}
-
-/// Starts a thread that drives the port. Where it can't be started, the port comes back.
-fn start<'s, E, R: Threads + Wait + Sync, G: Gate + Sync>(
-    scope: &'s Scope<'s, E>,
-    rt: &'s R,
-    shared: &'s Shared<Running>,
-    port: Port<Running>,
-    gate: &'s G,
-    bells: &'s Bells,
-    stays: &'s AtomicBool,
-) -> Result<PromisedHandle<Port<Running>, Given<'s>>, Port<Running>>
-    requires { IsPortOf shared.now port }
-    ensures given { IfOk result (λ child. child.promise.shared.now ≡ shared.now) }
-    ensures caller { IfOk result (λ child. child.promise.caller ≡ port_caller port) }
-    ensures err { IfErr result (λ back. IsPortOf shared.now back × (port_caller back ≡ port_caller port)) }
-{
-    let caller = port.caller();
-    let begun = scope.spawn_with(
-        Given { shared, caller },
-        move || -> Port<Running>
-            requires { IsPortOf shared.now port }
-            ensures { IsPortOf shared.entry.now result × (port_caller result ≡ port_caller port) }
-        { work(rt, shared, port, gate, bells, stays) },
-    );
-    match begun {
-        Ok(child) => Ok(child),
-        Err(refused) => {
-            stays.store(true, Ordering::SeqCst);
-            Err((refused.value)())
-        }
-    }
-}
-
-/// Waits for the workers, and puts their ports behind the others.
-fn gather<'s, R: Threads>(
-    rt: &R,
-    shared: &Shared<Running>,
-    own: &mut Vec<Port<Running>>,
-    children: Vec<PromisedHandle<Port<Running>, Given<'s>>>,
-)
-    requires own { All (IsPortOf shared.now) own.old.items }
-    requires given { All (λ child. child.promise.shared.now ≡ shared.now) children.items }
-    requires room { length own.old.items + length children.items ≤ vec_capacity own.old }
-    ensures own { All (IsPortOf shared.now) own.new.items }
-    ensures kept { IsPrefix own.old.items own.new.items }
-    ensures each { (who : ℕ) → Contains (map (λ child. child.promise.caller) children.entry.items) who → Contains (map port_caller own.new.items) who }
-{
-    for child in children {
-        own.push_reserved(child.join(rt));
-    }
-}
-
-/// Drives these ports, and waits for the workers that drive the others.
-fn finish<'s, R: Threads + Wait, G: Gate>(
-    rt: &R,
-    shared: &Shared<Running>,
-    mut own: Vec<Port<Running>>,
-    gate: &G,
-    bells: &Bells,
-    children: Vec<PromisedHandle<Port<Running>, Given<'s>>>,
-) -> Driven
-    requires own { All (IsPortOf shared.now) own.items }
-    requires some { 0 < length own.items }
-    requires given { All (λ child. child.promise.shared.now ≡ shared.now) children.items }
-    requires room { length own.items + length children.items ≤ vec_capacity own }
-    ensures own { All (IsPortOf shared.now) result.ports.items }
-    ensures each { (who : ℕ) → Contains (map port_caller own.items) who ⊎ Contains (map (λ child. child.promise.caller) children.entry.items) who → Contains (map port_caller result.ports.items) who }
-    ensures shows { SomeShows (origin_of (opened_value shared.now)) (drive_end result.refused) result.ports.items }
-{
-    let refused = drive(rt, shared, own.as_mut_slice(), gate, bells);
-    gather(rt, shared, &mut own, children);
-    Driven {
-        ports: own,
-        refused,
-    }
-}
-
-/// Starts a thread for each port but the last, as far as threads can be started, drives all others here,
-/// and waits for the threads.
-fn spread<'s, E, R: Threads + Wait + Sync, G: Gate + Sync>(
-    scope: &'s Scope<'s, E>,
-    rt: &'s R,
-    shared: &'s Shared<Running>,
+    posts: &Posts<H>,
     ports: Vec<Port<Running>>,
-    gate: &'s G,
-    bells: &'s Bells,
-    stays: &'s [AtomicBool],
-    mut own: Vec<Port<Running>>,
-    mut children: Vec<PromisedHandle<Port<Running>, Given<'s>>>,
-) -> Driven
+)
+    requires home { H.shared ≡ Some shared.now }
     requires own { All (IsPortOf shared.now) ports.items }
-    requires fewer { length stays.now < length ports.items }
-    requires none { (own.items ≡ []) × (children.items ≡ []) }
-    requires room { (length ports.items ≤ vec_capacity own) × (length ports.items ≤ vec_capacity children) }
-    ensures back { AreBack shared.now ports.items result.ports.items }
-    ensures shows { SomeShows (origin_of (opened_value shared.now)) (drive_end result.refused) result.ports.items }
 {
     for port in ports {
-        match stays.get(own.len() + children.len()) {
-            Some(stays) => match start(scope, rt, shared, port, gate, bells, stays) {
-                Ok(child) => children.push_reserved(child),
-                Err(port) => own.push_reserved(port),
-            },
-            None => own.push_reserved(port),
-        }
+        posts.leave(rt, Post::new(shared, port));
     }
-    finish(rt, shared, own, gate, bells, children)
 }
 
-/// As many marks as `count`, none of them set.
-fn marks(alloc: Global, count: usize) -> Result<Vec<AtomicBool>, NoMemory>
-    ensures { IfOk result (λ marks. vec_len marks ≡ count) }
+/// Starts a worker for each caller but the first, as far as threads can be had, and is the first one's here.
+fn work<'s, E, H: Home + Send + Sync, R: Threads + Wait + Sync, G: Gate + Sync>(
+    scope: &'s Scope<'s, E>,
+    rt: &'s R,
+    shared: &'s Shared<Running>,
+    posts: &'s Posts<H>,
+    gate: &'s G,
+    first: u8,
+    others: &[u8],
+)
+    requires home { H.shared ≡ Some shared.now }
 {
-    let mut marks = Vec::new(alloc);
-    for _ in 0..count {
-        marks.push(AtomicBool::new(false))?;
+    for own in others {
+        let own = *own;
+        // without a thread, the post is driven by the workers that there are
+        let _ = scope.spawn(
+            move || -> ()
+                requires { H.shared ≡ Some shared.now }
+            { roam(rt, shared, posts, gate, own) },
+        );
     }
-    Ok(marks)
+    roam(rt, shared, posts, gate, first);
 }
 
-/// Starts a thread for each port but the last, as far as threads can be started, drives all others here, and waits for
-/// the threads.
+/// A gate for turns of a port that has made others before.
+#[derive(Clone, Copy)]
+struct Later<'a, G> {
+    gate: &'a G,
+    before: u64,
+}
+
+impl<'a, G: Gate> Gate for Later<'a, G> {
+    fn pass(&self, cpu: u8, turn: u64) {
+        self.gate.pass(cpu, self.before.saturating_add(turn));
+    }
+}
+
+/// Takes turns at the post's port until one tells the end.
+fn see_end<H: Home, R: Wait, G: Gate>(
+    rt: &R,
+    shared: &Shared<Running>,
+    post: Post<H>,
+    gate: &G,
+) -> (Port<Running>, Option<TurnFault>)
+    requires home { H.shared ≡ Some shared.now }
+    ensures own { IsPortOf shared.now result.0 }
+    ensures caller { port_caller result.0 ≡ port_caller post.port }
+    ensures shows { SomeShows (origin_of (opened_value shared.now)) (drive_end result.1) (result.0 ∷ []) }
+{
+    let later = Later {
+        gate,
+        before: post.turns,
+    };
+    let mut port = post.port;
+    let refused = drive(rt, shared, slice::from_mut(&mut port), &later);
+    (port, refused)
+}
+
+/// Takes the callers' ports back, and puts them behind the others.
+fn gather<H: Home, R: Wait>(
+    rt: &R,
+    shared: &Shared<Running>,
+    posts: &Posts<H>,
+    callers: &[u8],
+    ports: &mut Vec<Port<Running>>,
+)
+    requires home { H.shared ≡ Some shared.now }
+    requires own { All (IsPortOf shared.now) ports.old.items }
+    requires room { length ports.old.items + length callers.now ≤ vec_capacity ports.old }
+    ensures own { All (IsPortOf shared.now) ports.new.items }
+    ensures kept { IsPrefix ports.old.items ports.new.items }
+    ensures callers { map port_caller ports.new.items ≡ map port_caller ports.old.items ++ callers.now }
+{
+    for caller in callers {
+        let post = posts.take_back(rt, *caller);
+        ports.push_reserved(post.port);
+    }
+}
+
+/// A worker for each caller, at the posts, until the run has ended.
+fn run_workers<'x, H: Home + Send + Sync, R: Threads + Wait + Sync, G: Gate + Sync>(
+    rt: &'x R,
+    shared: &'x Shared<Running>,
+    posts: &'x Posts<H>,
+    gate: &'x G,
+    first: u8,
+    others: &'x [u8],
+)
+    requires home { H.shared ≡ Some shared.now }
+{
+    thread::scope(
+        thread::scope_env(),
+        rt,
+        |scope| -> ()
+            requires { H.shared ≡ Some shared.now }
+        { work(scope, rt, shared, posts, gate, first, others) },
+    );
+}
+
+/// The same as `drive_all`, where `H` has the board.
+fn drive_at<H: Home + Send + Sync, R: Threads + Wait + Sync, G: Gate + Sync>(
+    rt: &R,
+    alloc: Global,
+    shared: &Shared<Running>,
+    ports: Vec<Port<Running>>,
+    gate: &G,
+) -> Result<Driven, NoMemory>
+    requires home { H.shared ≡ Some shared.now }
+    requires own { All (IsPortOf shared.now) ports.items }
+    requires some { 0 < length ports.items }
+    ensures same { IfOk result (λ driven. IsSameSet shared.now ports.items driven.ports.items) }
+    ensures shows { IfOk result (λ driven. SomeShows (origin_of (opened_value shared.now)) (drive_end driven.refused) driven.ports.items) }
+{
+    let callers = callers_of(alloc, ports.as_slice())?;
+    let mut back = Vec::with_capacity(alloc, ports.len())?;
+    let posts: Posts<H> = Posts::new(alloc)?;
+    leave_all(rt, shared, &posts, ports);
+    let first = callers.as_slice()[0];
+    let others = &callers.as_slice()[1..];
+    run_workers(rt, shared, &posts, gate, first, others);
+    let (port, refused) = see_end(rt, shared, posts.take_back(rt, first), gate);
+    back.push_reserved(port);
+    gather(rt, shared, &posts, others, &mut back);
+    Ok(Driven {
+        ports: back,
+        refused,
+    })
+}
+
+/// Drives the ports by as many workers, each in a thread of its own where one can be had, until nothing is due to any CPU or a turn
+/// is refused. It waits for the workers.
 pub fn drive_all<R: Threads + Wait + Sync, G: Gate + Sync>(
     rt: &R,
     alloc: Global,
@@ -188,23 +193,8 @@ pub fn drive_all<R: Threads + Wait + Sync, G: Gate + Sync>(
 ) -> Result<Driven, NoMemory>
     requires own { All (IsPortOf shared.now) ports.items }
     requires some { 0 < length ports.items }
-    ensures back { IfOk result (λ driven. AreBack shared.now ports.items driven.ports.items) }
+    ensures same { IfOk result (λ driven. IsSameSet shared.now ports.items driven.ports.items) }
     ensures shows { IfOk result (λ driven. SomeShows (origin_of (opened_value shared.now)) (drive_end driven.refused) driven.ports.items) }
 {
-    let own = Vec::with_capacity(alloc, ports.len())?;
-    let stays = marks(alloc, ports.len().saturating_sub(1))?;
-    let stays = stays.as_slice();
-    let bells = &Bells::new(alloc)?;
-    thread::scope(
-        thread::scope_env(),
-        rt,
-        |scope| -> Result<Driven, NoMemory>
-            requires { All (IsPortOf shared.now) ports.items × (length stays.now < length ports.items) × (own.items ≡ []) × (length ports.items ≤ vec_capacity own) }
-            ensures back { IfOk result (λ driven. AreBack shared.entry.now ports.items driven.ports.items) }
-            ensures shows { IfOk result (λ driven. SomeShows (origin_of (opened_value shared.entry.now)) (drive_end driven.refused) driven.ports.items) }
-        {
-            let children = Vec::with_capacity(alloc, ports.len())?;
-            Ok(spread(scope, rt, shared, ports, gate, bells, stays, own, children))
-        },
-    )
+    drive_at::<Brand, R, G>(rt, alloc, shared, ports, gate)
 }

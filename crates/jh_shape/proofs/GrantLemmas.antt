@@ -19,9 +19,8 @@ use Rattle.jh_num.specs.Levels.{slot_size}
 use Rattle.jh_shape.specs.Suits.{IsFit, IsWhole, AreSoundClaims, IsSlot}
 use Rattle.jh_num.specs.declared.rights.Rights.{Rights}
 use Rattle.jh_shape.specs.Grants.{place_at, IsGranted, TellsGrants}
-use Rattle.jh_shape.proofs.WantLemmas.{LeafBy, found, leaf_parts}
+use Rattle.jh_shape.proofs.WantLemmas.{LeafBy, found, leaf_parts, is_none_find}
 use Rattle.jh_num.proofs.Booleans.{same_test}
-use Rattle.jh_num.proofs.Lists.{is_none_find}
 
 -- the place of a later slot
 place_later : (region : Region) (start at : ℕ) → region.virt_start ≤ start → place_in region (start + at) ≡ place_in region start + at

@@ -17,8 +17,25 @@ use Rattle.jh_shape.specs.Shapes.{is_mapped, meets_in_part, are_cut, fits_blocks
 use Rattle.jh_num.specs.Levels.{slot_size}
 use Rattle.jh_shape.specs.Pages.{count_below, tables_at, tables_from, tables_of, holder_of, root_claims, cell_claims, pages_of}
 use Rattle.jh_num.proofs.Booleans.{same_test}
-use Rattle.jh_num.proofs.Lists.{list_any_weaker, list_any_fewer}
 use Rattle.jh_shape.proofs.HoldersLemmas.{are_cut_append}
+
+-- a test that passes wherever another does
+list_any_weaker : {X : Type 0} (p q : X → Bool) → ((x : X) → p x ≡ true → q x ≡ true) → (xs : List X) → list_any p xs ≡ true → list_any q xs ≡ true
+list_any_weaker p q h [] e = e
+list_any_weaker p q h (x ∷ xs) e =
+    ⊎_elim
+    (λ yes. or_left (q x) (list_any q xs) (h x yes))
+    (λ rest. or_right (q x) (list_any q xs) (list_any_weaker p q h xs rest))
+    (or_cases (p x) (list_any p xs) e)
+
+-- whatever passes without an element passes with it
+list_any_fewer : {X : Type 0} (p : X → Bool) (xs : List X) (c : X) (ys : List X) → list_any p (xs ++ ys) ≡ true → list_any p (xs ++ c ∷ ys) ≡ true
+list_any_fewer p [] c ys h = or_right (p c) (list_any p ys) h
+list_any_fewer p (x ∷ xs) c ys h =
+    ⊎_elim
+    (λ here. or_left (p x) (list_any p (xs ++ c ∷ ys)) here)
+    (λ later. or_right (p x) (list_any p (xs ++ c ∷ ys)) (list_any_fewer p xs c ys later))
+    (or_cases (p x) (list_any p (xs ++ ys)) h)
 
 -- the same cell, whose second holders cut whatever the first cut
 pub record CutsMore (few many : Claims) : Type 0 where

@@ -1,6 +1,7 @@
 -- What makes a leaf, taken apart.
-use Rattle.std.proofs.Common.{◌≡◌, ℕ, ◌+◌, ◌-◌, ◌*◌, ◌<◌, ◌≤◌, ◌==◌, Bool, true, false, ◌&&◌, ◌||◌, nat_lt, nat_le, List, [], ◌∷◌, Some, All, ⊎_elim, sym, subst, ◌∙◌, arith}
-use Rattle.std.specs.List.{find}
+use Rattle.std.proofs.Common.{◌≡◌, ℕ, ◌+◌, ◌-◌, ◌*◌, ◌<◌, ◌≤◌, ◌==◌, Bool, true, false, ◌&&◌, ◌||◌, nat_lt, nat_le, List, [], ◌∷◌, Some, All, ⊎_elim, sym, subst, ◌∙◌, arith, cond, not, refl}
+use Rattle.std.specs.List.{find, list_any}
+use Rattle.std.specs.Prelude.{is_none}
 use Rattle.std.proofs.lemmas.Bool.{and_parts, ltb-true, leb-true, cases_Bool, cond-true, cond-false}
 use Rattle.std.proofs.lemmas.Nat.{pow_pos}
 use Rattle.std.proofs.lemmas.List.Elements.{All-head, All-tail}
@@ -24,6 +25,12 @@ found p Q (y ∷ ys) x e a =
     (rw (← same) yes, subst Q same (All-head Q y ys a)))
     (λ no. found p Q ys x (sym (cond-false (p y) (Some y) (find p ys) no) ∙ e) (All-tail Q y ys a))
     (cases_Bool (p y))
+
+-- `find` finds exactly where some element passes
+pub is_none_find : {X : Type 0} (p : X → Bool) (xs : List X) → is_none (find p xs) ≡ not (list_any p xs)
+is_none_find p [] = refl
+is_none_find p (x ∷ xs) =
+    elim (p x) as (λ b. is_none (cond b (Some x) (find p xs)) ≡ not (b || list_any p xs)) [ true ↦ refl | false ↦ is_none_find p xs ]
 
 -- the parts of a leaf
 pub record LeafBy (claims : Claims) (level start : ℕ) (region : Region) : Type 0 where

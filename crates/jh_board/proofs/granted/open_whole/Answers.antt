@@ -6,7 +6,7 @@ use Rattle.jh_mmio.specs.Dispatch.{unless_closed}
 use Rattle.jh_history.specs.declared.place.Place.{Place}
 use Rattle.jh_history.specs.declared.place.Place.TheVariants.{Physical}
 use Rattle.jh_history.specs.Grants.{is_kept}
-use Rattle.jh_history.proofs.BehindLemmas.{unless_kept}
+use Rattle.jh_board.proofs.BehindLemmas.{unless_kept}
 use Rattle.jh_board.proofs.granted.open_whole.Goals as goal
 
 pub returns-then-keeps-clause-found : goal.returns-then-keeps-clause-found

@@ -2,7 +2,7 @@
 use Rattle.std.proofs.Common.{◌≡◌, ℕ, length, drop, sym, subst, arith}
 use Rattle.std.specs.Prelude.{find}
 use Rattle.jh_history.specs.Lives.{is_program_of}
-use Rattle.jh_num.proofs.Lists.{find_here, find_nowhere}
+use Rattle.jh_board.proofs.IndexLemmas.{find_here, find_nowhere}
 use Rattle.jh_board.proofs.indexed.index_of_program.Goals as goal
 
 pub returns-then-is_program_of : goal.returns-then-is_program_of

@@ -1,13 +1,14 @@
--- The workers so far have given their ports back.
-use Rattle.std.proofs.Common.{◌≡◌, ◌++◌, vec_capacity}
-use Rattle.jh_run.proofs.SpreadLemmas.{Gathering}
+-- The ports of the callers so far stand behind the first ones.
+use Rattle.std.proofs.Common.{◌≡◌, ◌+◌, ◌++◌, All, length, map, take, vec_capacity}
+use mathlib.Core.List.{IsPrefix}
+use Rattle.jh_turn.specs.Ports.{IsPortOf, port_caller}
 use Rattle.jh_run.proofs.workers.gather.Given as goal
 
-abbrev pub invariant-loop-child : goal.invariant-loop-child
-invariant-loop-child g l = record {
-  next : (goal.iterator-loop-child g).can_next l.child-iterator;
-  finite : (goal.iterator-loop-child g).is_finite l.child-iterator;
-  gathered : Gathering l.shared (λ child. child.promise.caller) l.initial.own.items l.own.items l.yielded;
-  left : l.fn.children.items ≡ l.yielded ++ l.child-iterator.rest.items;
-  room : vec_capacity l.own ≡ vec_capacity l.initial.own;
+abbrev pub invariant-loop-caller : goal.invariant-loop-caller
+invariant-loop-caller g l = record {
+  own : All (IsPortOf l.shared) l.ports.items;
+  kept : IsPrefix l.initial.ports.items l.ports.items;
+  callers : map port_caller l.ports.items ≡ map port_caller l.initial.ports.items ++ take l.caller-index l.callers;
+  count : length l.ports.items ≡ length l.initial.ports.items + l.caller-index;
+  room : vec_capacity l.ports ≡ vec_capacity l.initial.ports;
 }

@@ -1,0 +1,53 @@
+//! A worker, which is at one post after another.
+ghost use Rattle.std.specs.Prelude.{◌≡◌, Some};
+
+use crate::posts::{Home, Post, Posts};
+use crate::running::Running;
+use jh_board::{Turn, TurnFault};
+use jh_outside::Gate;
+use jh_turn::Shared;
+use std::sync::Wait;
+
+/// The post for the turn behind one that answered this: the same one while its CPU has entries due, and else that of
+/// the CPU that has. Where a worker is at that one, this one rests.
+fn next_post<H: Home, R: Wait>(
+    rt: &R,
+    posts: &Posts<H>,
+    post: Post<H>,
+    own: u8,
+    answer: Result<Turn, TurnFault>,
+) -> Post<H> {
+    match answer {
+        Ok(Turn::Made(_) | Turn::Edited { .. }) => post,
+        Ok(Turn::NotNow { due_to }) => match posts.trade(rt, post, due_to) {
+            Ok(other) => other,
+            Err(post) => posts.rest(rt, post, own),
+        },
+        Ok(Turn::Done) | Err(_) => {
+            posts.end();
+            post
+        }
+    }
+}
+
+/// Takes turns, each behind the gate, until a worker finds that nothing is due to any CPU, or that a turn is refused: first at the own
+/// post, and then at that of the CPU that has an entry due.
+pub fn roam<H: Home, R: Wait, G: Gate>(
+    rt: &R,
+    shared: &Shared<Running>,
+    posts: &Posts<H>,
+    gate: &G,
+    own: u8,
+)
+    requires home { H.shared ≡ Some shared.now }
+{
+    let mut post = posts.take(rt, own);
+    for _ in rt.forever() {
+        if posts.have_ended() {
+            break;
+        }
+        let answer = post.turn(rt, shared, gate);
+        post = next_post(rt, posts, post, own, answer);
+    }
+    posts.leave(rt, post);
+}
