@@ -9,14 +9,14 @@ use Rattle.std.proofs.lemmas.List.{length-map, map-append, get_or-map}
 use Rattle.std.proofs.lemmas.List.Folds.{find_at}
 use Rattle.std.proofs.lemmas.List.Sums.{sum_by-append, sum_by-remove}
 use Rattle.std.proofs.lemmas.List.Elements.{All-contains, All-from_recursion, recursion_from_All}
-use Rattle.jh_num.proofs.Lists.{IsFound_from_find, find_None, Contains_head, Contains_tail}
+use Rattle.jh_num.proofs.Public.{IsFound_from_find, find_None, Contains_head, Contains_tail}
 use Rattle.jh_cellcfg.specs.declared.config.CellConfig.{CellConfig}
 use Rattle.jh_cellcfg.specs.declared.region.Region.{Region}
 use Rattle.jh_cellcfg.specs.declared.live.Live.{Live}
 use Rattle.jh_cellcfg.specs.Lives.{has_id}
 use Rattle.jh_cellcfg.specs.Regions.{IsInRange}
 use Rattle.jh_shape.specs.Pages.{tables_of, pages_of, root_claims, cell_claims}
-use Rattle.jh_shape.proofs.PageLemmas.{tables_le}
+use Rattle.jh_shape.proofs.Public.{tables_le}
 use Rattle.jh_life.specs.Lives.{has_config_id, new_live}
 use Rattle.jh_shape.specs.Lives.{configs_of, marked}
 use Rattle.jh_history.specs.Commits.{is_other}

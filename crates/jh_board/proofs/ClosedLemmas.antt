@@ -13,7 +13,7 @@ use Rattle.std.proofs.lemmas.List.Sums.{sum_by_more, sum_by-take-le}
 use Rattle.std.proofs.lemmas.Map.Made.{length-le_from_is_member}
 use Rattle.jh_num.specs.declared.range.Range.{Range}
 use Rattle.jh_num.specs.Bytes.{in_range, has_byte, AreApart, AreApartFrom}
-use Rattle.jh_num.proofs.Lists.{list_any_map}
+use Rattle.jh_num.proofs.Public.{list_any_map, above_range, within_range, absent_below}
 use Rattle.jh_cellcfg.specs.declared.config.CellConfig.{CellConfig}
 use Rattle.jh_cellcfg.specs.declared.region.Region.{Region}
 use Rattle.jh_cellcfg.specs.declared.live.Live.{Live}
@@ -23,7 +23,6 @@ use Rattle.jh_shape.specs.Shapes.{takes, holder_of_live}
 use Rattle.jh_life.specs.Lives.{is_loadable_at}
 use Rattle.jh_shape.specs.Lives.{configs_of}
 use Rattle.jh_board.specs.Closed.{is_taken, is_closed_by, all_regions, count_regions}
-use Rattle.jh_num.proofs.BytesLemmas.{above_range, within_range, absent_below}
 
 abbrev end_of : Range → ℕ
 end_of range = range.end

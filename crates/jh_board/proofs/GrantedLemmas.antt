@@ -7,7 +7,7 @@ use Rattle.std.specs.Option.{option_map_or}
 use Rattle.std.proofs.lemmas.Bool.Decides.{nat_tests}
 use Rattle.std.proofs.lemmas.List.Folds.{list_any-append}
 use Rattle.jh_num.specs.declared.address.TheConstants.{ADDRESS_END}
-use Rattle.jh_num.proofs.Booleans.{within_both}
+use Rattle.jh_num.proofs.Public.{within_both}
 use Rattle.jh_cellcfg.specs.declared.config.CellConfig.{CellConfig}
 use Rattle.jh_cellcfg.specs.declared.live.Live.{Live}
 use Rattle.jh_script.specs.declared.image.Image.{Image}
@@ -20,7 +20,7 @@ use Rattle.jh_history.specs.Places.{places_in_row}
 use Rattle.jh_history.specs.Access.{places_from, place_of, memory_or_nothing, reach_by}
 use Rattle.jh_history.specs.Grants.{is_kept, unless, granted_in}
 use Rattle.jh_history.specs.Lives.{live_in, regions_in}
-use Rattle.jh_history.proofs.GrantedLemmas.{unless_kept}
+use Rattle.jh_history.proofs.Public.{unless_kept}
 use Rattle.jh_board.specs.Closed.{is_closed_by, live_regions}
 
 -- ---- which places root is kept from

@@ -4,7 +4,7 @@ use Rattle.std.specs.Prelude.{slice_get, Contains, IfSome, IsTrue, All, find}
 use Rattle.std.specs.Option.{option_map_or}
 use Rattle.std.proofs.lemmas.Bool.{eq-eqb, ne_eqb}
 use Rattle.std.proofs.lemmas.Option.{none-some, same_Some, slice_get_past, slice_get_within, slice_get-get_or, get_or_from_slice_get}
-use Rattle.jh_num.proofs.Lists.{IsFound_from_find, find_None}
+use Rattle.jh_num.proofs.Public.{IsFound_from_find, find_None}
 use Rattle.jh_cellcfg.specs.Cells.{name_of}
 use Rattle.jh_cellcfg.specs.declared.region.Region.{Region}
 use Rattle.jh_mmio.specs.Index.{IsRegionAt}
@@ -17,12 +17,11 @@ use Rattle.jh_cellcfg.specs.declared.config.CellConfig.{CellConfig}
 use Rattle.jh_cellcfg.specs.declared.live.Live.{Live}
 use Rattle.jh_script.specs.Operations.{IsWellFormed}
 use Rattle.jh_cellcfg.specs.Regions.{has_address, IsInRange}
-use Rattle.jh_cellcfg.proofs.AddressLemmas.{has_some}
+use Rattle.jh_cellcfg.proofs.Public.{has_some}
 use Rattle.std.proofs.lemmas.List.Elements.{All-contains}
 use Rattle.std.proofs.lemmas.List.{drop_more, drop_all}
 use Rattle.jh_history.specs.Admitted.{IsAdmitted}
-use Rattle.jh_history.proofs.AdmittedLemmas.{within}
-use Rattle.jh_history.proofs.GrantLemmas.{gives_has}
+use Rattle.jh_history.proofs.Public.{within, gives_has}
 use Rattle.jh_board.specs.declared.indexed.FoundProgram.{FoundProgram}
 use Rattle.jh_board.specs.Indexed.{ops_at, AreRootPrograms, AreFound}
 

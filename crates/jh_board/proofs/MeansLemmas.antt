@@ -10,7 +10,7 @@ use Rattle.jh_cpu.specs.declared.cpu.Cpu.{Cpu}
 use Rattle.jh_history.specs.DueFacts.{NamesCpu}
 use Rattle.jh_history.specs.History.{facts, start}
 use Rattle.jh_history.specs.Bytes.{preloaded, loaded_byte}
-use Rattle.jh_history.proofs.FactsLemmas.{facts_nil}
+use Rattle.jh_history.proofs.Public.{facts_nil}
 use Rattle.jh_history.specs.declared.place.Place.{Place}
 use Rattle.jh_history.specs.declared.place.Place.TheVariants.{Physical, Page}
 use Rattle.jh_board.specs.declared.held.Held.{Held}

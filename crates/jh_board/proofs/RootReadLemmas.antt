@@ -14,9 +14,7 @@ use Rattle.jh_history.specs.Admitted.{IsAdmitted}
 use Rattle.jh_history.specs.Facts.{Facts}
 use Rattle.jh_history.specs.Grants.{granted_in, granted, is_kept}
 use Rattle.jh_history.specs.Lives.{regions_in}
-use Rattle.jh_history.proofs.AdmittedLemmas.{within}
-use Rattle.jh_history.proofs.FactsLemmas.{same_function}
-use Rattle.jh_history.proofs.ReadLemmas.{read_one, granted_beyond}
+use Rattle.jh_history.proofs.Public.{within, same_function, read_one, granted_beyond}
 use Rattle.jh_board.specs.declared.held.Held.{Held}
 use Rattle.jh_board.specs.Pages.{byte_of}
 use Rattle.jh_board.specs.Means.{Means}

@@ -5,7 +5,7 @@ use Rattle.std.specs.Option.{option_map_or}
 use Rattle.std.proofs.lemmas.Bool.{and_parts, and_from, and_left, eq-eqb, ne_eqb, cases_Bool, both_ways, false_from_ne_true, leb-true, ltb-true, le-leb, lt-ltb}
 use Rattle.std.proofs.lemmas.Option.{slice_get-get_or}
 use Rattle.std.proofs.lemmas.List.Elements.{All-contains}
-use Rattle.jh_num.proofs.Lists.{IsFound, IsFound_from_find, find_None, find_nothing, find_unique}
+use Rattle.jh_num.proofs.Public.{IsFound, IsFound_from_find, find_None, find_nothing, find_unique}
 use Rattle.jh_num.specs.declared.no_memory.NoMemory.{NoMemory}
 use Rattle.jh_num.specs.declared.range.Range.{Range}
 use Rattle.jh_num.specs.Bytes.{has_byte}
@@ -13,12 +13,12 @@ use Rattle.jh_cellcfg.specs.declared.config.CellConfig.{CellConfig}
 use Rattle.jh_cellcfg.specs.declared.live.Live.{Live}
 use Rattle.jh_cellcfg.specs.declared.region.Region.{Region}
 use Rattle.jh_cellcfg.specs.Regions.{has_address, has_flags, is_comm, is_page_mapped, place_in, byte_in, rights_of, SharesNoAddress}
-use Rattle.jh_cellcfg.proofs.AddressLemmas.{same_region}
+use Rattle.jh_cellcfg.proofs.Public.{same_region}
 use Rattle.jh_check.specs.Clean.{IsClean}
 use Rattle.jh_check.specs.Laws.{IsNumbered}
 use Rattle.jh_map.specs.declared.run.Run.{Run}
 use Rattle.jh_map.specs.Maps.{is_granted, leads_to, IsIn, IsRunOf, IsRunIn, IsMap}
-use Rattle.jh_map.proofs.MapLemmas.{granted_has}
+use Rattle.jh_map.proofs.Public.{granted_has}
 use Rattle.jh_script.specs.declared.image.Image.{Image}
 use Rattle.jh_history.specs.declared.access.Access.{Access}
 use Rattle.jh_history.specs.declared.access.Access.TheVariants.{Read, Write, Fetch}
@@ -28,8 +28,7 @@ use Rattle.jh_history.specs.Access.{right_of, gives, place_in_cell, region_of, p
 use Rattle.jh_history.specs.Grants.{unless, granted_by}
 use Rattle.jh_history.specs.Lives.{cell_in, regions_in}
 use Rattle.jh_shape.specs.Lives.{configs_of}
-use Rattle.jh_history.proofs.GrantedLemmas.{numbered_cell}
-use Rattle.jh_history.proofs.GrantLemmas.{gives_from}
+use Rattle.jh_history.proofs.Public.{numbered_cell, gives_from}
 use Rattle.jh_board.specs.Closed.{AreInRange, is_closed_by}
 use Rattle.jh_board.specs.Maps.{is_kept_at, is_right, is_told, place_told, told_grant}
 

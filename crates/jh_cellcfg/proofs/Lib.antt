@@ -1,9 +1,10 @@
 mod Lists
 mod Headers
-pub mod Splits
-pub mod Faultless
-pub mod Fields
-pub mod Found
+mod Splits
+mod Faultless
+mod Fields
+mod Found
 mod Told
 mod Writing
-pub mod AddressLemmas
+mod AddressLemmas
+pub mod Public

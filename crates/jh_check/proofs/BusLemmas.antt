@@ -9,7 +9,7 @@ use Rattle.jh_cellcfg.specs.declared.config.PciDevice.{PciDevice}
 use Rattle.jh_cellcfg.specs.declared.config.CellConfig.{CellConfig}
 use Rattle.jh_check.specs.Devices.{is_shmem, are_linked, are_same_memory, sections_of, agrees_with, agrees_with_all, is_twice}
 use Rattle.jh_check.specs.Private.Bus.{HasBdfs, AreMarkedBy}
-use Rattle.jh_num.proofs.Lists.{list_all_each, list_any_nothing}
+use Rattle.jh_num.proofs.Public.{list_all_each, list_any_nothing}
 
 unlinked : (marks : List ℕ) (device other : PciDevice) → get_or marks device.bdf 0 ≡ 0 → 0 < get_or marks other.bdf 0 → are_linked device other ≡ false
 unlinked marks device other unmarked marked =

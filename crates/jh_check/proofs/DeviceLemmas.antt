@@ -17,7 +17,7 @@ use Rattle.jh_check.specs.Devices.{is_shmem, are_linked, section_count, sections
 use Rattle.jh_check.specs.Broken.{StandsAmong}
 use Rattle.jh_check.specs.Clean.{IsDevice, IsShmem, AreLinked, IsSection, IsStateTable, IsSectionRegion, IsGoodDevice, DevicesAreGood, DevicesAreSingle, AgreesWith, LinksAgree, IsSoundBitmap, CpusAreFew}
 use Rattle.jh_check.proofs.CleanLemmas.{get_take, take_get, any_at, any_of, and_rest}
-use Rattle.jh_cellcfg.proofs.AddressLemmas.{no_region}
+use Rattle.jh_cellcfg.proofs.Public.{no_region}
 
 -- a device whose fields are all 0, for places past a list's end
 abbrev pub no_device : PciDevice

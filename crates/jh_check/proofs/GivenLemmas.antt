@@ -7,13 +7,13 @@ use Rattle.std.proofs.lemmas.Nat.Bits.{and_pow, bit_at-trailing_zeros}
 use Rattle.std.proofs.lemmas.Nat.{pow_pos}
 use Rattle.std.proofs.lemmas.Option.{slice_get-get_or}
 use Rattle.jh_num.specs.declared.address.TheConstants.{PAGE_SIZE}
-use Rattle.jh_num.proofs.Booleans.{same_test}
+use Rattle.jh_num.proofs.Public.{same_test}
 use Rattle.jh_cellcfg.specs.declared.region.Region.{Region}
 use Rattle.jh_cellcfg.specs.declared.config.CellConfig.{CellConfig}
 use Rattle.jh_cellcfg.specs.declared.config.SystemConfig.{SystemConfig}
 use Rattle.jh_cellcfg.specs.Cells.{is_cpu_set}
 use Rattle.jh_cellcfg.specs.Regions.{has_flags, has_address, has_place, place_in, virt_end, phys_end, is_page_mapped, is_comm}
-use Rattle.jh_cellcfg.proofs.AddressLemmas.{has_some}
+use Rattle.jh_cellcfg.proofs.Public.{has_some}
 use Rattle.jh_check.specs.Regions.{both_shared}
 use Rattle.jh_check.specs.Laws.{IsItem, CellsAreApart}
 use Rattle.jh_check.specs.Clean.{IsClean, IsSoundRegion, IsSoundRoot, PagesAreWhole, IsSoundBitmap, IsSoundCpuSet, AreLinked, EndpointsMayJoin, LinksHaveNumbers}

@@ -1,4 +1,4 @@
-pub mod ListLemmas
+mod ListLemmas
 mod BreakLemmas
 mod SectionLemmas
 mod SpanLemmas
@@ -15,11 +15,12 @@ mod Tested
 mod FoundLemmas
 mod CleanLemmas
 mod DeviceLemmas
-pub mod JoinLemmas
-pub mod RuleLemmas
+mod JoinLemmas
+mod RuleLemmas
 mod OrderLemmas
-pub mod GivenLemmas
-pub mod RefusalLemmas
-pub mod CappedLemmas
+mod GivenLemmas
+mod RefusalLemmas
+mod CappedLemmas
 mod IdleLemmas
-pub mod MaskLemmas
+mod MaskLemmas
+pub mod Public

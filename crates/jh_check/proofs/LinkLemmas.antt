@@ -7,7 +7,7 @@ use Rattle.jh_cellcfg.specs.declared.config.CellConfig.{CellConfig}
 use Rattle.jh_check.specs.Devices.{are_linked, section_count, is_section, are_sections_of, are_same_section}
 use Rattle.jh_check.specs.Private.Links.{ArePartners}
 use Rattle.jh_check.proofs.CleanLemmas.{at_section}
-use Rattle.jh_num.proofs.Lists.{list_any_from_Contains}
+use Rattle.jh_num.proofs.Public.{list_any_from_Contains}
 
 -- the regions at one offset of two linked devices are the same section
 same_section : (one other : CellConfig) (d e : PciDevice) (k : ℕ) → Contains one.pci_devices d → Contains other.pci_devices e → are_linked d e ≡ true → k < section_count d → k < section_count e → are_same_section one (d.shmem_regions_start + k) other (e.shmem_regions_start + k) ≡ true

@@ -9,7 +9,7 @@ use Rattle.jh_cellcfg.specs.declared.config.CellConfig.{CellConfig}
 use Rattle.jh_check.specs.declared.seats.Seat.{Seat}
 use Rattle.jh_check.specs.Devices.{is_shmem, are_linked, are_same_memory, sections_of, agrees_with, agrees_with_all}
 use Rattle.jh_check.specs.Private.Seats.{seat_of, HasSeats, AgreesAt}
-use Rattle.jh_num.proofs.Lists.{list_all_each}
+use Rattle.jh_num.proofs.Public.{list_all_each}
 
 -- ---- side by side
 

@@ -3,7 +3,7 @@ use Rattle.std.proofs.Common.{◌≡◌, ◌≢◌, ℕ, ◌<◌, ◌≤◌, Boo
 use Rattle.std.specs.Prelude.{map, nat_lt}
 use Rattle.std.proofs.lemmas.List.{take_all}
 use Rattle.std.proofs.lemmas.Bool.{cases_Bool}
-use Rattle.jh_num.proofs.Results.{ok_err}
+use Rattle.jh_num.proofs.Public.{ok_err, ok_one}
 use Rattle.jh_outside.specs.Count.{Rose}
 use Rattle.jh_outside.specs.Reads.{KnownFile, HandsOut}
 use Rattle.jh_outside.specs.Writes.{Appended}
@@ -36,7 +36,7 @@ use Rattle.jh_image.specs.declared.fault.ImageCause.TheVariants.{ReadFault as Ca
 use Rattle.jh_image.specs.Causes.{StopsReading}
 use Rattle.jh_image.specs.Images.{IsImage}
 use Rattle.jh_image.specs.Laws.{AreTold}
-use Rattle.jh_image.proofs.CauseLemmas.{SpellingsAreFaultless}
+use Rattle.jh_image.proofs.Public.{SpellingsAreFaultless}
 use Rattle.jh_run.specs.Maps.{Maps}
 use Rattle.jh_run.specs.Soak.{soak_board}
 use Rattle.jh_cli.specs.declared.status.Status.{Status}
@@ -59,7 +59,6 @@ use Rattle.jh_cli.specs.Stopped.{IsCounted}
 use Rattle.jh_cli.specs.Complete.{IsBoardTold, FileSpells, HoldCells, AreGoodToCheck, IsGoodToPack, AreGoodToPlay, AreGoodToRun, AreGoodToAudit, AreGood, MayEndWith}
 use Rattle.jh_cli.proofs.StatusLemmas.{run_ends}
 use Rattle.jh_cli.proofs.ToldLemmas.{all_told, each_is_told, is_image, stops}
-use Rattle.jh_cli.proofs.ResultLemmas.{ok_one}
 
 -- ---- the laws of the layers below
 

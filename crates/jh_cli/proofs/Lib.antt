@@ -8,7 +8,6 @@ mod OneLemmas
 mod OrderLemmas
 mod OutcomeLemmas
 mod PlayedLemmas
-mod ResultLemmas
 mod RoundsLemmas
 mod RunLemmas
 mod StatusLemmas

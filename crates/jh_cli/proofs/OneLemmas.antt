@@ -27,7 +27,7 @@ use Rattle.jh_text.specs.FaultText.{fault_text as journal_fault_text}
 use Rattle.jh_audit.specs.declared.verdict.Verdict.{Verdict}
 use Rattle.jh_audit.specs.declared.verdict.Verdict.TheVariants.{Legal, Illegal}
 use Rattle.jh_audit.specs.Judges.{Judges, IsFirstIllegal}
-use Rattle.jh_image.proofs.OneLemmas.{OneSpelling, hands_one}
+use Rattle.jh_image.proofs.Public.{OneSpelling, hands_one}
 use Rattle.jh_cli.specs.declared.status.Status.TheVariants.{ReadFault}
 use Rattle.jh_cli.specs.Limits.{most_of_a_file, most_of_a_journal}
 use Rattle.jh_image.specs.Files.{Contents}
@@ -39,7 +39,7 @@ use Rattle.jh_cli.specs.Audit.{JournalRefusal, IsAudited, verdict_status, verdic
 use Rattle.jh_cli.specs.Complete.{AreNamesTold}
 use Rattle.jh_cli.proofs.GoodLemmas.{CellsAreFaultless, no_more, cell_sound, same_for_image}
 use Rattle.jh_cli.proofs.StopLemmas.{refused_said}
-use Rattle.jh_cli.proofs.ResultLemmas.{ok_one}
+use Rattle.jh_num.proofs.Public.{ok_one}
 
 -- ---- the laws of the layers below
 

@@ -9,8 +9,7 @@ use Rattle.jh_image.specs.declared.fault.ImageCause.{ImageCause}
 use Rattle.jh_image.specs.declared.fault.ImageCause.TheVariants.{ReadFault as CantBeRead}
 use Rattle.jh_image.specs.Causes.{StopsReading}
 use Rattle.jh_image.specs.Laws.{AreTold}
-use Rattle.jh_image.proofs.OneLemmas.{OneSpelling}
-use Rattle.jh_image.proofs.CauseLemmas.{SpellingsAreFaultless}
+use Rattle.jh_image.proofs.Public.{OneSpelling, SpellingsAreFaultless}
 use Rattle.jh_run.specs.Maps.{IsMapsText, Maps}
 use Rattle.jh_text.specs.Faults.{max_entries}
 use Rattle.jh_cli.specs.declared.status.Status.TheVariants.{Good, ReadFault}

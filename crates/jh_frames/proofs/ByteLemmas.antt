@@ -3,7 +3,7 @@ use Rattle.std.proofs.Common.{◌≡◌, ℕ, suc, ◌+◌, ◌-◌, ◌*◌, �
 use Rattle.std.proofs.lemmas.Bool.{le-leb, lt-ltb, cases_lt}
 use Rattle.std.proofs.lemmas.List.{length-take, length-drop, get_or-take, get_or-drop, drop_all}
 use Rattle.jh_num.specs.Memory.{spelled, stored}
-use Rattle.jh_num.proofs.MemoryLemmas.{word_fits, byte_fits, stored_before, stored_behind}
+use Rattle.jh_num.proofs.Public.{word_fits, byte_fits, stored_before, stored_behind}
 
 pub next_fits : (v b m : ℕ) → m < 8 → v < 256 ^ m → b < 256 → v * 256 + b < 2 ^ 64
 next_fits v b m few small byte =

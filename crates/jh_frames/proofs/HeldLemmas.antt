@@ -6,7 +6,7 @@ use Rattle.std.proofs.lemmas.Bool.{cases_eq, cases_lt, ne_eqb, false≢true}
 use Rattle.std.proofs.lemmas.List.Sums.{sum_by-cons}
 use Rattle.jh_frames.specs.Memory.{FramesView, is_own, holds, missing, missing_from, pages_in}
 use Rattle.jh_num.specs.Pages.{page_at}
-use Rattle.jh_num.proofs.Booleans.{count_few}
+use Rattle.jh_num.proofs.Public.{count_few}
 use Rattle.jh_frames.specs.Kept.{IsWhole}
 use Rattle.jh_frames.proofs.MemoryLemmas.{own_page}
 

@@ -4,4 +4,4 @@ mod WordLemmas
 mod MemoryLemmas
 mod HeldLemmas
 mod LentLemmas
-pub mod RoomLemmas
+mod RoomLemmas

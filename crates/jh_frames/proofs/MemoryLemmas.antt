@@ -3,7 +3,7 @@ use Rattle.std.proofs.Common.{◌≡◌, ℕ, ◌+◌, ◌-◌, ◌/◌, ◌%◌
 use Rattle.std.specs.List.{range_with_len}
 use Rattle.std.proofs.lemmas.Bool.{and_parts, and_from, le-leb, lt-ltb, leb-true, ltb-true}
 use Rattle.jh_num.specs.Memory.{spelled}
-use Rattle.jh_num.proofs.Booleans.{same_test}
+use Rattle.jh_num.proofs.Public.{same_test}
 use Rattle.jh_frames.specs.Memory.{OwnView, FramesView, IsOwn, is_own, own_byte, byte_at}
 use Rattle.jh_num.specs.Pages.{page_at, byte_of_page, paged_byte}
 use Rattle.jh_frames.specs.Kept.{IsWhole}

@@ -12,8 +12,7 @@ use Rattle.jh_script.specs.declared.op.Op.{Op}
 use Rattle.jh_script.specs.Operations.{IsWellFormed, is_width}
 use Rattle.jh_history.specs.Lives.{program_of, is_program_of}
 use Rattle.jh_check.specs.Clean.{IsSoundRoot}
-use Rattle.jh_check.proofs.GivenLemmas.{sound_root_holds}
-use Rattle.jh_check.proofs.JoinLemmas.{clean_from_nothing}
+use Rattle.jh_check.proofs.Public.{sound_root_holds, clean_from_nothing}
 use Rattle.jh_history.specs.Admitted.{IsAdmitted, IsSoundProgram}
 
 -- root's regions are sound, and the hypervisor's memory

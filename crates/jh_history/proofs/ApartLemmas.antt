@@ -5,7 +5,7 @@ use Rattle.std.proofs.lemmas.Bool.{cases_lt, le-leb}
 use Rattle.std.proofs.lemmas.List.{take_all, get_or-drop, get_or_read}
 use Rattle.std.proofs.lemmas.Bool.Decides.{nat_tests}
 use Rattle.jh_history.specs.Private.Apart.{is_among, HasNoneOf}
-use Rattle.jh_mmio.proofs.IndexLemmas.{leb_at}
+use Rattle.jh_mmio.proofs.Public.{leb_at}
 
 is_among_from : (start len k : ℕ) → start ≤ k → k < start + len → IsTrue (is_among start len k)
 is_among_from start len k low high = grind (arith, nat_tests)

@@ -9,8 +9,7 @@ use Rattle.jh_cellcfg.specs.declared.region.Region.{Region}
 use Rattle.jh_check.specs.Clean.{IsClean}
 use Rattle.jh_check.specs.Laws.{IsNumbered}
 use Rattle.jh_check.specs.Refusals.{is_known, IsAccepted}
-use Rattle.jh_check.proofs.JoinLemmas.{joins_clean}
-use Rattle.jh_check.proofs.RefusalLemmas.{accepted_from}
+use Rattle.jh_check.proofs.Public.{joins_clean, accepted_from, item_at}
 use Rattle.jh_shape.specs.Pages.{pages_of}
 use Rattle.jh_script.specs.declared.image.Image.{Image}
 use Rattle.jh_history.specs.declared.call.OpenCall.{OpenCall}
@@ -26,7 +25,6 @@ use Rattle.jh_history.specs.Sound.{MayCome, IsSoundCall, IsInPhase, IsOpen, IsSo
 use Rattle.jh_history.specs.DueFacts.{MayLive}
 use Rattle.jh_history.proofs.SoundDecideLemmas.{coming_from_decision}
 use Rattle.jh_history.proofs.DueDecideLemmas.{read_from_comes}
-use Rattle.jh_check.proofs.GivenLemmas.{item_at}
 
 -- ---- a cell in which nothing is found
 

@@ -4,11 +4,11 @@ use Rattle.std.specs.Prelude.{IfSome, All, Contains, find, option_map, option_an
 use Rattle.std.proofs.lemmas.Bool.{both_ways, cond_both}
 use Rattle.std.proofs.lemmas.Option.{none-some, same_Some}
 use Rattle.std.proofs.lemmas.List.Elements.{All-contains, Contains-push}
-use Rattle.jh_num.proofs.Lists.{IsFound_from_find, Contains_map, Contains_tail}
+use Rattle.jh_num.proofs.Public.{IsFound_from_find, Contains_map, Contains_tail}
 use Rattle.jh_cellcfg.specs.declared.config.CellConfig.{CellConfig}
 use Rattle.jh_cellcfg.specs.declared.live.Live.{Live}
 use Rattle.jh_cellcfg.specs.Lives.{has_id}
-use Rattle.jh_check.proofs.JoinLemmas.{clean_from_nothing}
+use Rattle.jh_check.proofs.Public.{clean_from_nothing}
 use Rattle.jh_cpu.specs.declared.cpu.Cpu.{Cpu}
 use Rattle.jh_call.specs.declared.call.Call.{Call}
 use Rattle.jh_call.specs.declared.call.Call.TheVariants.{Create, Start, Loadable, Destroy, Info, State, CpuInfo, Unknown}

@@ -7,13 +7,13 @@ use Rattle.std.proofs.lemmas.Bool.{both_ways, and_parts, and_from, false_from_ne
 use Rattle.std.proofs.lemmas.Option.{none-some, same_Some, slice_get-get_or}
 use Rattle.std.proofs.lemmas.List.Elements.{All-from_recursion}
 use Rattle.jh_num.specs.declared.address.TheConstants.{ADDRESS_END, PAGE_SIZE}
-use Rattle.jh_num.proofs.Lists.{IsFound_from_find}
+use Rattle.jh_num.proofs.Public.{IsFound_from_find}
 use Rattle.jh_cellcfg.specs.declared.config.CellConfig.{CellConfig}
 use Rattle.jh_cellcfg.specs.declared.live.Live.{Live}
 use Rattle.jh_cellcfg.specs.declared.region.Region.{Region}
 use Rattle.jh_cellcfg.specs.Lives.{has_id}
 use Rattle.jh_cellcfg.specs.Regions.{has_address, is_page_mapped, is_comm, byte_in, place_in}
-use Rattle.jh_cellcfg.proofs.AddressLemmas.{has_some}
+use Rattle.jh_cellcfg.proofs.Public.{has_some}
 use Rattle.jh_check.specs.Clean.{IsClean}
 use Rattle.jh_ivshmem.specs.declared.endpoint.Endpoint.{Endpoint}
 use Rattle.jh_mmio.specs.declared.hitting.Window.{Window as TheWindow}

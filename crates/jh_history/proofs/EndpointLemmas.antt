@@ -4,7 +4,7 @@ use Rattle.std.specs.Option.{option_map_or}
 use Rattle.std.proofs.lemmas.Option.{none-some}
 use Rattle.std.proofs.lemmas.List.{length-set}
 use Rattle.std.proofs.lemmas.List.Elements.{All-cons, All-head, All-tail, All-filter, All-contains}
-use Rattle.jh_num.proofs.Lists.{Contains_head, Contains_tail}
+use Rattle.jh_num.proofs.Public.{Contains_head, Contains_tail}
 use Rattle.jh_vpci.specs.Space.{Space, has_vectors}
 use Rattle.jh_vpci.specs.Windows.{AreWindows}
 use Rattle.jh_vpci.specs.Words.{word_of, word_at}
@@ -16,8 +16,7 @@ use Rattle.jh_ivshmem.specs.Endpoint.{raised, taken, cleared, fresh, is_open}
 use Rattle.jh_ivshmem.specs.Registers.{register_written, is_in_table}
 use Rattle.jh_ivshmem.specs.Changes.{changed}
 use Rattle.jh_ivshmem.specs.Links.{endpoint_at, joined, rung, others_raised, told_of, state_written, written, reset_of, left_by, taken_of}
-use Rattle.jh_ivshmem.proofs.NamedLemmas.{named_cell, named_device}
-use Rattle.jh_ivshmem.proofs.ChangeLemmas.{cleared_spec}
+use Rattle.jh_ivshmem.proofs.Public.{named_cell, named_device, cleared_spec}
 use Rattle.jh_history.specs.declared.device_change.DeviceChange.TheVariants.{Join, Reset, Leave}
 use Rattle.jh_history.specs.Endpoints.{endpoint_changed, endpoints_changed}
 use Rattle.jh_history.specs.Sound.{IsSoundEndpoint}

@@ -4,13 +4,13 @@ use Rattle.std.specs.Prelude.{find, option_map, IsTrue}
 use Rattle.std.proofs.lemmas.Bool.{cases_lt, lt-leb, le-leb, lt-ltb, le-ltb, eqb-true, and_parts, and_right, and_from}
 use Rattle.jh_cellcfg.specs.declared.region.Region.{Region}
 use Rattle.jh_cellcfg.specs.Regions.{has_address, is_page_mapped, is_comm, has_flags, place_in, byte_in}
-use Rattle.jh_cellcfg.proofs.AddressLemmas.{has_address_first}
+use Rattle.jh_cellcfg.proofs.Public.{has_address_first}
 use Rattle.jh_history.specs.declared.place.Place.TheVariants.{Physical, Page}
 use Rattle.jh_history.specs.declared.access.Access.{Access}
 use Rattle.jh_history.specs.Places.{further, places_in_row}
 use Rattle.jh_history.specs.Access.{gives, right_of, place_in_cell, region_of, place_of, places_from}
 use Rattle.jh_history.proofs.FactsLemmas.{same_function}
-use Rattle.jh_num.proofs.Lists.{IsFound_from_find}
+use Rattle.jh_num.proofs.Public.{IsFound_from_find}
 use Rattle.jh_history.proofs.AccessLemmas.{places_from_row, places_from_none}
 
 -- what ends at a page's border has all of the page or nothing

@@ -1,44 +1,45 @@
-pub mod PlaceLemmas
-pub mod AccessLemmas
-pub mod BehindLemmas
+mod PlaceLemmas
+mod AccessLemmas
+mod BehindLemmas
 mod DeviceFindLemmas
-pub mod GrantLemmas
-pub mod FactsLemmas
-pub mod DueLemmas
-pub mod AdmittedLemmas
+mod GrantLemmas
+mod FactsLemmas
+mod DueLemmas
+mod AdmittedLemmas
 mod PlainLemmas
-pub mod ValueLemmas
+mod ValueLemmas
 mod KeptLemmas
-pub mod ItemsLemmas
+mod ItemsLemmas
 mod ApartLemmas
-pub mod LegalLemmas
-pub mod AloneLemmas
+mod LegalLemmas
+mod AloneLemmas
 mod LiveLemmas
-pub mod SpecsLemmas
+mod SpecsLemmas
 mod SoundCellsLemmas
-pub mod SoundCpusLemmas
-pub mod SoundDueLemmas
-pub mod SoundStepLemmas
-pub mod SoundDecideLemmas
-pub mod SoundCommitLemmas
+mod SoundCpusLemmas
+mod SoundDueLemmas
+mod SoundStepLemmas
+mod SoundDecideLemmas
+mod SoundCommitLemmas
 mod EndpointLemmas
-pub mod LinkLemmas
-pub mod SoundEndpointsLemmas
-pub mod SoundLemmas
-pub mod DuePhaseLemmas
+mod LinkLemmas
+mod SoundEndpointsLemmas
+mod SoundLemmas
+mod DuePhaseLemmas
 mod DueDecideLemmas
-pub mod DueComesLemmas
+mod DueComesLemmas
 mod DuePageLemmas
 mod DueReachLemmas
 mod DueFewLemmas
-pub mod DueDevicesLemmas
-pub mod GrantedLemmas
+mod DueDevicesLemmas
+mod GrantedLemmas
 mod LoopLemmas
 mod PageWriteLemmas
-pub mod PlainStepLemmas
+mod PlainStepLemmas
 mod DeviceLoopLemmas
 mod FollowLemmas
-pub mod FewLemmas
-pub mod ReadLemmas
+mod FewLemmas
+mod ReadLemmas
 mod PlainReadLemmas
-pub mod ReachLemmas
+mod ReachLemmas
+pub mod Public

@@ -3,10 +3,10 @@ use Rattle.std.proofs.Common.{◌≡◌, ℕ, suc, ◌<◌, ◌&&◌, nat_lt, Bo
 use Rattle.std.proofs.lemmas.Bool.{cases_lt, both_ways, and_parts, and_from, or_cases, or_left, or_right, ltb-true, lt-ltb, eqb-true, eq-eqb, not-true, not_from_false}
 use Rattle.std.proofs.lemmas.List.Elements.{All-cons, All-head, All-tail, All-contains, Contains-get_or}
 use Rattle.std.proofs.lemmas.List.Kept.{AllPairs-cons, AllPairs-filter}
-use Rattle.jh_num.proofs.Lists.{Contains_head, Contains_tail, Contains_cases, IsFound_from_filter, Contains_filter}
+use Rattle.jh_num.proofs.Public.{Contains_head, Contains_tail, Contains_cases, IsFound_from_filter, Contains_filter}
 use Rattle.jh_ivshmem.specs.declared.spec.EndpointSpec.{EndpointSpec}
 use Rattle.jh_ivshmem.specs.Specs.{AreEndpointsApart, ComesBefore, is_device, is_before}
-use Rattle.jh_ivshmem.proofs.OrderLemmas.{apart_turned}
+use Rattle.jh_ivshmem.proofs.Public.{apart_turned}
 use Rattle.jh_history.proofs.EndpointLemmas.{placed, without}
 
 -- ---- apart and in order

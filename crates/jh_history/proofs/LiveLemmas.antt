@@ -3,13 +3,13 @@ use Rattle.std.proofs.Common.{◌≡◌, ℕ, zero, suc, ◌+◌, ◌-◌, ◌<�
 use Rattle.std.specs.Prelude.{find, map, filter, option_map}
 use Rattle.std.proofs.lemmas.List.{drop_more, drop_all}
 use Rattle.std.proofs.lemmas.List.Edits.{length-remove}
-use Rattle.jh_num.proofs.Lists.{find_map}
+use Rattle.jh_num.proofs.Public.{find_map}
 use Rattle.jh_cellcfg.specs.declared.config.CellConfig.{CellConfig}
 use Rattle.jh_cellcfg.specs.declared.live.Live.{Live}
 use Rattle.jh_cellcfg.specs.Lives.{has_id, id_of}
 use Rattle.jh_history.specs.Lives.{live_in}
 use Rattle.jh_shape.specs.Lives.{configs_of, with_marks, marked}
-use Rattle.jh_shape.proofs.JoinedLemmas.{length_joined, joined_remove, live_of}
+use Rattle.jh_shape.proofs.Public.{length_joined, joined_remove, live_of}
 use Rattle.jh_history.specs.Calls.{is_told, is_told_by, first_told, behind}
 use Rattle.jh_history.specs.Commits.{is_other}
 

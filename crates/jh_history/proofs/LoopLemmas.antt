@@ -5,7 +5,7 @@ use Rattle.std.proofs.Math.Bool.{or_assoc, or-false}
 use Rattle.std.proofs.lemmas.Bool.{or_left, or_right}
 use Rattle.std.proofs.lemmas.List.{take_all}
 use Rattle.std.proofs.lemmas.List.Folds.{list_any_more, list_any_at}
-use Rattle.jh_num.proofs.Lists.{list_any_map, read_again}
+use Rattle.jh_num.proofs.Public.{list_any_map, read_again}
 use Rattle.jh_cellcfg.specs.declared.config.CellConfig.{CellConfig}
 use Rattle.jh_cellcfg.specs.declared.live.Live.{Live}
 use Rattle.jh_cellcfg.specs.declared.region.Region.{Region}
@@ -14,7 +14,7 @@ use Rattle.jh_shape.specs.Shapes.{takes, is_closed, holder_of_live}
 use Rattle.jh_history.specs.declared.place.Place.{Place}
 use Rattle.jh_history.specs.Places.{further, places_in_row}
 use Rattle.jh_shape.specs.Lives.{configs_of, with_marks}
-use Rattle.jh_shape.proofs.JoinedLemmas.{live_of}
+use Rattle.jh_shape.proofs.Public.{live_of}
 use Rattle.jh_history.proofs.PlaceLemmas.{further_none, further_next}
 
 pub any_found : {X : Type 0} (p : X → Bool) (xs : List X) (i : ℕ) (x : X) → i < length xs → x ≡ get_or xs i x → p x ≡ true → list_any p xs ≡ true

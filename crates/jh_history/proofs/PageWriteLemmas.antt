@@ -5,7 +5,7 @@ use Rattle.std.specs.Int.{to_le_bytes, w32}
 use Rattle.std.proofs.lemmas.Bool.{cases_lt, lt-ltb, le-ltb, ne_eqb}
 use Rattle.std.proofs.lemmas.List.{length-take-le, get_or-take}
 use Rattle.std.proofs.lemmas.Option.{get_or_from_slice_get, slice_get-get_or}
-use Rattle.jh_num.proofs.MemoryLemmas.{stored_there, stored_before, stored_behind}
+use Rattle.jh_num.proofs.Public.{stored_there, stored_before, stored_behind}
 use Rattle.jh_num.specs.Memory.{stored}
 use Rattle.jh_comm.specs.Page.{with_state, sent, fresh_page}
 use Rattle.jh_script.specs.declared.image.Image.{Image}

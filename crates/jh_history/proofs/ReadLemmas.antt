@@ -12,13 +12,13 @@ use Rattle.jh_history.specs.Configs.{bytes_at, read_at, read_cell}
 use Rattle.jh_history.specs.ReadView.{bytes_by, read_by}
 use Rattle.jh_cellcfg.specs.declared.region.Region.{Region}
 use Rattle.jh_cellcfg.specs.Regions.{IsInRange}
-use Rattle.jh_cellcfg.proofs.AddressLemmas.{has_address_last, has_some}
+use Rattle.jh_cellcfg.proofs.Public.{has_address_last, has_some}
 use Rattle.std.proofs.lemmas.Bool.{cases_lt, both_ways}
 use Rattle.jh_history.specs.declared.access.Reach.{Reach}
 use Rattle.jh_history.specs.declared.access.Reach.TheVariants.{Memory, Nothing}
 use Rattle.std.proofs.lemmas.Option.{none-some, same_Some}
 use Rattle.std.proofs.lemmas.List.{append_assoc}
-use Rattle.jh_num.proofs.Lists.{IsFound_from_find}
+use Rattle.jh_num.proofs.Public.{IsFound_from_find}
 use Rattle.jh_history.proofs.AccessLemmas.{reach_by_within, reach_by_beyond}
 use Rattle.jh_history.proofs.GrantLemmas.{region_of_has}
 use Rattle.jh_history.proofs.FactsLemmas.{same_function}

@@ -4,15 +4,15 @@ use Rattle.std.specs.Prelude.{AllPairs, filter}
 use Rattle.std.proofs.lemmas.List.Elements.{Contains-get_or, All-filter}
 use Rattle.std.proofs.lemmas.List.Kept.{AllPairs-cons, AllPairs-filter}
 use Rattle.std.proofs.lemmas.List.Quantifiers.{all_pairs_push}
-use Rattle.jh_num.proofs.Lists.{list_any_false}
+use Rattle.jh_num.proofs.Public.{list_any_false}
 use Rattle.jh_cellcfg.specs.declared.config.CellConfig.{CellConfig}
 use Rattle.jh_cellcfg.specs.declared.config.SystemConfig.{SystemConfig}
 use Rattle.jh_cellcfg.specs.declared.region.Region.{Region}
 use Rattle.jh_check.specs.Clean.{IsClean}
 use Rattle.jh_check.specs.Refusals.{is_namesake, is_known, AreTwo}
-use Rattle.jh_check.proofs.JoinLemmas.{clean_from_nothing, fewer_clean}
+use Rattle.jh_check.proofs.Public.{clean_from_nothing, fewer_clean}
 use Rattle.jh_shape.specs.Pages.{pages_of}
-use Rattle.jh_shape.proofs.OrderLemmas.{pages_of_fewer}
+use Rattle.jh_shape.proofs.Public.{pages_of_fewer}
 use Rattle.jh_history.specs.Admitted.{IsAdmittedSystem, pool_pages}
 use Rattle.jh_history.specs.Sound.{AreSoundCells}
 

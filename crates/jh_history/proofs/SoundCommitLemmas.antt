@@ -3,13 +3,13 @@ use Rattle.std.proofs.Common.{◌≡◌, ◌≢◌, ℕ, ◌<◌, List, [], ◌�
 use Rattle.std.specs.Prelude.{Contains, find, filter, option_map}
 use Rattle.std.proofs.lemmas.Bool.{both_ways, and_parts, cond_both, eqb-true, eq-eqb, ne_eqb, not-true}
 use Rattle.std.proofs.lemmas.List.Elements.{Contains-append_left, Contains-push, Contains-push_cases}
-use Rattle.jh_num.proofs.Lists.{IsFound_from_find, IsFound_from_filter, Contains_filter, Contains_map, Contains_head, Contains_tail}
+use Rattle.jh_num.proofs.Public.{IsFound_from_find, IsFound_from_filter, Contains_filter, Contains_map, Contains_head, Contains_tail}
 use Rattle.jh_cellcfg.specs.declared.config.CellConfig.{CellConfig}
 use Rattle.jh_cellcfg.specs.declared.live.Live.{Live}
 use Rattle.jh_cellcfg.specs.Lives.{id_of, has_id}
 use Rattle.jh_cellcfg.specs.Cells.{is_cpu_set, is_passive}
 use Rattle.jh_check.specs.Refusals.{any_below, is_known}
-use Rattle.jh_check.proofs.RefusalLemmas.{below_at}
+use Rattle.jh_check.proofs.Public.{below_at}
 use Rattle.jh_cpu.specs.declared.cpu.Cpu.{Cpu}
 use Rattle.jh_cpu.specs.Changes.{lent, returned, parked, restarted}
 use Rattle.jh_call.specs.declared.call.Call.{Call}

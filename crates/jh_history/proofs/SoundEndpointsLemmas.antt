@@ -3,7 +3,7 @@ use Rattle.std.proofs.Common.{◌≡◌, ◌≢◌, ℕ, ◌<◌, ◌%◌, ◌^�
 use Rattle.std.specs.Option.{option_map_or}
 use Rattle.std.proofs.lemmas.Bool.{both_ways, and_parts, and_left, ne_eqb, eqb-true, eq-eqb, not-true, not_from_false, or_parts}
 use Rattle.std.proofs.lemmas.List.Elements.{All-nil, All-contains, Contains-get_or, Contains-append_left, Contains-push, Contains-push_cases}
-use Rattle.jh_num.proofs.Lists.{Contains_head, Contains_tail, Contains_cases, Contains_map, Contains_from_map, Contains_filter, IsFound_from_find, IsFound_from_filter, find_some, find_None}
+use Rattle.jh_num.proofs.Public.{Contains_head, Contains_tail, Contains_cases, Contains_map, Contains_from_map, Contains_filter, IsFound_from_find, IsFound_from_filter, find_some, find_None}
 use Rattle.jh_cellcfg.specs.declared.config.CellConfig.{CellConfig}
 use Rattle.jh_cellcfg.specs.declared.live.Live.{Live}
 use Rattle.jh_cellcfg.specs.Lives.{has_id}
@@ -15,8 +15,7 @@ use Rattle.jh_ivshmem.specs.declared.endpoint.Endpoint.{Endpoint}
 use Rattle.jh_ivshmem.specs.declared.spec.EndpointSpec.{EndpointSpec}
 use Rattle.jh_ivshmem.specs.Specs.{AreEndpointsApart, is_device}
 use Rattle.jh_ivshmem.specs.Links.{endpoint_at, written}
-use Rattle.jh_ivshmem.proofs.ApartLemmas.{device_turned}
-use Rattle.jh_ivshmem.proofs.BesidesLemmas.{own_device}
+use Rattle.jh_ivshmem.proofs.Public.{device_turned, own_device}
 use Rattle.jh_script.specs.declared.image.Image.{Image}
 use Rattle.jh_history.specs.declared.access.Reach.{Reach}
 use Rattle.jh_history.specs.declared.access.Reach.TheVariants.{Memory, Subpage, Config, Window, Nothing}
@@ -36,7 +35,7 @@ use Rattle.jh_history.specs.Endpoints.{endpoints_put, function_put, space_put, e
 use Rattle.jh_history.specs.Grants.{reach, devices_of}
 use Rattle.jh_history.specs.Commits.{committed_cells, cells_by, is_other}
 use Rattle.jh_shape.specs.Lives.{configs_of, marked}
-use Rattle.jh_shape.proofs.JoinedLemmas.{configs_marked}
+use Rattle.jh_shape.proofs.Public.{configs_marked}
 use Rattle.jh_history.specs.History.{cells_after}
 use Rattle.jh_history.specs.Sound.{AreSoundCells, IsInPhase, IsSoundCall, IsOfDevice, HasEndpoint, IsSoundEndpoint, AreEndpoints, IsSound}
 use Rattle.jh_history.proofs.SoundCpusLemmas.{other_root}

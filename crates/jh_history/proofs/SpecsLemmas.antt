@@ -7,7 +7,7 @@ use Rattle.std.proofs.lemmas.Bool.{both_ways, and_parts, and_left, and_right, or
 use Rattle.std.proofs.lemmas.Option.{same_Some, slice_get-get_or}
 use Rattle.std.proofs.lemmas.List.Elements.{All-contains_itself, Contains-push, Contains-append_left}
 use Rattle.std.proofs.lemmas.List.Kept.{AllPairs-cons}
-use Rattle.jh_num.proofs.Lists.{Contains_cases, list_any_false}
+use Rattle.jh_num.proofs.Public.{Contains_cases, list_any_false}
 use Rattle.jh_cellcfg.specs.declared.config.CellConfig.{CellConfig}
 use Rattle.jh_cellcfg.specs.declared.config.PciDevice.{PciDevice}
 use Rattle.jh_cellcfg.specs.declared.config.SystemConfig.{SystemConfig}
@@ -17,7 +17,7 @@ use Rattle.jh_check.specs.Devices.{is_shmem}
 use Rattle.jh_check.specs.Clean.{IsClean, IsDevice, IsShmem, AreLinked, IsSection, IsGoodDevice}
 use Rattle.jh_check.specs.Laws.{IsNumbered, IsItem}
 use Rattle.jh_check.specs.Refusals.{is_namesake, is_known}
-use Rattle.jh_check.proofs.GivenLemmas.{may_join, numbers_differ}
+use Rattle.jh_check.proofs.Public.{may_join, numbers_differ}
 use Rattle.jh_ivshmem.specs.declared.spec.EndpointSpec.{EndpointSpec}
 use Rattle.jh_ivshmem.specs.Specs.{IsInItsLimits, AreEndpointsApart}
 use Rattle.jh_history.specs.Devices.{is_endpoint, section_at, place_of_section, spec_of, specs_from, specs_of}

@@ -3,7 +3,7 @@ use Rattle.std.proofs.Common.{◌≡◌, ℕ, zero, suc, length, refl, subst, �
 use Rattle.std.proofs.Math.Nat.{pow-le-pow_right}
 use Rattle.std.proofs.lemmas.List.{append-nil, map-append, length-append}
 use Rattle.jh_num.specs.Memory.{spelled}
-use Rattle.jh_num.proofs.MemoryLemmas.{byte_fits, word_fits}
+use Rattle.jh_num.proofs.Public.{byte_fits, word_fits}
 use Rattle.jh_history.specs.declared.place.Place.{Place}
 use Rattle.jh_history.specs.declared.place.Row.{Row}
 use Rattle.jh_history.specs.Places.{further, places_in_row, places_of_row}

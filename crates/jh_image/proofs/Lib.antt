@@ -2,6 +2,7 @@ mod SeatLemmas
 mod StopLemmas
 mod LoadLemmas
 mod OrderLemmas
-pub mod OneLemmas
+mod OneLemmas
 mod ReadLemmas
-pub mod CauseLemmas
+mod CauseLemmas
+pub mod Public

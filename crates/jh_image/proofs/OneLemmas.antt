@@ -1,6 +1,7 @@
 -- Where files tell what they hold, each of them is read in one way.
-use Rattle.std.proofs.Common.{◌≡◌, ◌≢◌, ℕ, ◌+◌, List, Some, None, Result, Ok, refl, sym, ap, subst, ◌∙◌}
+use Rattle.std.proofs.Common.{◌≡◌, ◌≢◌, ℕ, ◌+◌, List, Some, None, Ok, refl, sym, ap, subst, ◌∙◌}
 use Rattle.serde_json.specs.Data.{Data}
+use Rattle.jh_num.proofs.Public.{ok_one}
 use Rattle.jh_outside.specs.Reads.{KnownFile, HandsOut}
 use Rattle.jh_cellcfg.specs.declared.config.SystemConfig.{SystemConfig}
 use Rattle.jh_syscfg.specs.Layout.{IsSystem, IsSystemWithinLimits, system_spelling}
@@ -8,7 +9,6 @@ use Rattle.jh_script.specs.declared.image.Preload.{Preload}
 use Rattle.jh_script.specs.declared.image.Program.{Program}
 use Rattle.jh_script.specs.Programs.{program_of}
 use Rattle.jh_image.specs.declared.board.Listing.{Listing}
-use Rattle.jh_spec.specs.declared.fault.JsonFault.{JsonFault}
 use Rattle.jh_image.specs.declared.board.PreloadFile.{PreloadFile}
 use Rattle.jh_image.specs.declared.board.ProgramFile.{ProgramFile}
 use Rattle.jh_spec.specs.Json.{IsText}
@@ -37,9 +37,6 @@ text_one bytes one other h k = let same : Some one ≡ Some other = sym h.value 
 
 pub listing_told : (bytes : List ℕ) (listing : Listing) → IsListingAnswer bytes (Ok listing) → (d : Data) → IsText bytes d → board_told d ≡ Ok listing
 listing_told bytes listing h d text = ap board_told (text_one bytes d h.0 text h.1) ∙ h.2
-
-ok_one : (told : Result Listing JsonFault) (one other : Listing) → told ≡ Ok one → told ≡ Ok other → one ≡ other
-ok_one told one other h k = cc
 
 tells_one : (bytes : List ℕ) (one other : Listing) → IsListingAnswer bytes (Ok one) → IsListingAnswer bytes (Ok other) → one ≡ other
 tells_one bytes one other h k = ok_one (board_told k.0) one other (listing_told bytes one h k.0 k.1) k.2

@@ -2,7 +2,7 @@
 use Rattle.std.proofs.Common.{◌≡◌, ℕ, ◌+◌, ◌-◌, ◌<◌, ◌≤◌, length-drop, List, ◌&&◌, not, true, length, get_or, take, drop, map, sym, ap, ◌∙◌, arith}
 use Rattle.std.specs.List.{list_any}
 use Rattle.std.proofs.lemmas.List.{at_drop_more, at_drop_all, take_all}
-use Rattle.jh_num.proofs.Lists.{list_any_map}
+use Rattle.jh_num.proofs.Public.{list_any_map}
 use Rattle.jh_image.specs.declared.board.ProgramFile.{ProgramFile}
 use Rattle.jh_image.specs.Boards.{are_distinct, seat_of, is_seat}
 

@@ -3,7 +3,7 @@ use Rattle.std.proofs.Common.{ℕ, ◌≡◌, ◌≢◌, ◌<◌, Bool, true, fa
 use Rattle.std.proofs.lemmas.Bool.{cases_Bool, cases_eq, cases_lt, and_parts, both_ways}
 use Rattle.std.proofs.lemmas.Bool.Decides.{nat_tests}
 use Rattle.std.proofs.lemmas.List.{length-set, length-map, get_or-map, get_or-set_same, get_or-set_other, get_or_default, same_lists}
-use Rattle.jh_vpci.proofs.BitLemmas.{equals}
+use Rattle.jh_vpci.proofs.Public.{equals}
 use Rattle.jh_ivshmem.specs.declared.endpoint.Endpoint.{Endpoint}
 use Rattle.jh_ivshmem.specs.declared.spec.EndpointSpec.{EndpointSpec}
 use Rattle.jh_ivshmem.specs.Specs.{is_device, is_peer, AreEndpointsApart}

@@ -1,9 +1,10 @@
-pub mod ChangeLemmas
+mod ChangeLemmas
 mod KeyLemmas
-pub mod OrderLemmas
+mod OrderLemmas
 mod LoopLemmas
-pub mod NamedLemmas
-pub mod ApartLemmas
-pub mod LawLemmas
-pub mod BesidesLemmas
+mod NamedLemmas
+mod ApartLemmas
+mod LawLemmas
+mod BesidesLemmas
 mod PendingLemmas
+pub mod Public

@@ -30,8 +30,7 @@ use Rattle.jh_history.specs.Admitted.{IsAdmitted}
 use Rattle.jh_history.specs.Sound.{IsSound}
 use Rattle.jh_laws.specs.Ways.{is_phase, is_decide, call_begun, begun}
 use Rattle.jh_laws.specs.Exchanges.{how_many, made_by_named, made_by_cell, IsSettledBy, IsHeardBy}
-use Rattle.jh_history.proofs.SoundLemmas.{sound_after}
-use Rattle.jh_history.proofs.PlainStepLemmas.{after_call}
+use Rattle.jh_history.proofs.Public.{sound_after, after_call}
 use Rattle.jh_history.specs.Commits.{is_commit}
 use Rattle.jh_laws.proofs.CallLemmas.{Expects, phase_expects, expects_counted, phase_of_due, begun_of, stretch, IsBeside, entry_of_call, not_same}
 use Rattle.jh_laws.proofs.DueCpusLemmas.{named_of, settled_with, heard_with}

@@ -25,8 +25,7 @@ use Rattle.jh_history.specs.Endpoints.{with_words}
 use Rattle.jh_history.specs.History.{after, facts}
 use Rattle.jh_history.specs.Due.{IsLegal, IsLegalFrom}
 use Rattle.jh_history.specs.Admitted.{IsAdmitted, has_byte_at, IsOtherPreload}
-use Rattle.jh_history.proofs.FactsLemmas.{facts_push, facts_nil}
-use Rattle.jh_history.proofs.LegalLemmas.{IsLegal_begin}
+use Rattle.jh_history.proofs.Public.{facts_push, facts_nil, IsLegal_begin}
 use Rattle.jh_laws.specs.Outcomes.{is_violation}
 use Rattle.jh_laws.specs.Writes.{Writes, WritesNot}
 use Rattle.jh_laws.specs.Written.{IsByteBy}

@@ -33,18 +33,10 @@ use Rattle.jh_history.specs.History.{start, after, facts, coming_of, coming_by}
 use Rattle.jh_history.specs.Phases.{phase_act, settled_of, heard_of, decision, keeps_decide, keeps_commit}
 use Rattle.jh_shape.specs.Lives.{configs_of}
 use Rattle.jh_history.specs.Due.{due_at, due, is_idle_but, IsLegal, IsLegalFrom}
-use Rattle.jh_history.proofs.FactsLemmas.{facts_push}
-use Rattle.jh_history.proofs.LegalLemmas.{due_split, IsLegal_begin}
+use Rattle.jh_history.proofs.Public.{facts_push, due_split, IsLegal_begin, come_rests, halting_rests, root_unnamed, IsNext, next_from_due, IsOutcomeOf, IsOfProgram, state_parts, IsOfCall, call_parts, coming_from_decision, sound_after, legal_sound, noted_act, settle_act, unless, after_call, call_open}
 use Rattle.jh_history.specs.Sound.{HasCome, IsAboutLive, IsCreate, IsNews, IsOpen, IsSound}
 use Rattle.jh_laws.specs.Ways.{is_phase, is_decide, is_finish, is_agreement, call_begun, begun_by, begun, IsBegun, IsNoteOr, IsTelling, IsBehindGo, IsBehindCommit, MayFollow}
 use Rattle.jh_laws.proofs.LegalLemmas.{IsLegal_rest}
-use Rattle.jh_history.proofs.SoundCpusLemmas.{come_rests, halting_rests, root_unnamed}
-use Rattle.jh_history.proofs.SoundDueLemmas.{IsNext, next_from_due, IsOutcomeOf, IsOfProgram, state_parts, IsOfCall, call_parts}
-use Rattle.jh_history.proofs.SoundDecideLemmas.{coming_from_decision}
-use Rattle.jh_history.proofs.SoundLemmas.{sound_after, legal_sound}
-use Rattle.jh_history.proofs.DuePhaseLemmas.{noted_act, settle_act, unless}
-use Rattle.jh_history.proofs.PlainStepLemmas.{after_call}
-use Rattle.jh_history.proofs.DueComesLemmas.{call_open}
 use Rattle.jh_history.specs.Commits.{is_commit}
 
 -- ---- an entry beside a call

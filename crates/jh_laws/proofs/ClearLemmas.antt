@@ -5,7 +5,7 @@ use Rattle.std.specs.Option.{option_map_or}
 use Rattle.std.proofs.lemmas.Bool.{both_ways, and_parts, and_from, cases_eq, eqb-true, eq-eqb, ne_eqb, not-true, false≢true}
 use Rattle.std.proofs.lemmas.Option.{same_Some}
 use Rattle.std.proofs.lemmas.List.Elements.{All-contains}
-use Rattle.jh_num.proofs.Lists.{Contains_cases, Contains_tail, IsFound_from_list_any, list_any_from_Contains}
+use Rattle.jh_num.proofs.Public.{Contains_cases, Contains_tail, IsFound_from_list_any, list_any_from_Contains}
 use Rattle.jh_cellcfg.specs.declared.config.CellConfig.{CellConfig}
 use Rattle.jh_check.specs.Clean.{AreLinked, IsClean}
 use Rattle.jh_ivshmem.specs.declared.endpoint.Endpoint.{Endpoint}
@@ -13,8 +13,7 @@ use Rattle.jh_ivshmem.specs.declared.spec.EndpointSpec.{EndpointSpec}
 use Rattle.jh_ivshmem.specs.Endpoint.{raised}
 use Rattle.jh_ivshmem.specs.Links.{endpoint_at}
 use Rattle.jh_ivshmem.specs.Specs.{is_other}
-use Rattle.jh_ivshmem.proofs.ChangeLemmas.{raised_spec}
-use Rattle.jh_ivshmem.proofs.NamedLemmas.{named_cell, named_device}
+use Rattle.jh_ivshmem.proofs.Public.{raised_spec, named_cell, named_device}
 use Rattle.jh_call.specs.declared.call.Call.{Call}
 use Rattle.jh_call.specs.declared.call.Call.TheVariants.{Create, Start, Loadable, Destroy, Info, State, CpuInfo, Unknown}
 use Rattle.jh_script.specs.declared.image.Image.{Image}
@@ -32,11 +31,10 @@ use Rattle.jh_history.specs.Facts.{Facts}
 use Rattle.jh_history.specs.Lives.{live_in}
 use Rattle.jh_shape.specs.Lives.{configs_of}
 use Rattle.jh_history.specs.Sound.{IsOfDevice, HasEndpoint, IsInPhase, IsSoundEndpoint, IsSound}
-use Rattle.jh_history.proofs.SpecsLemmas.{specs_pairs, held_numbered, other_id}
+use Rattle.jh_history.proofs.Public.{specs_pairs, held_numbered, other_id, opened_call, call_open, spec_cell}
 use Rattle.jh_laws.specs.Vectors.{PutsRegister, IsAbout, Clears}
 use Rattle.jh_laws.proofs.CallLemmas.{Expects, phase_of_due, phase_expects, not_same}
 use Rattle.jh_history.specs.Due.{due_at, is_idle_but}
-use Rattle.jh_history.proofs.SoundLemmas.{opened_call}
 use Rattle.jh_laws.specs.Ways.{is_phase}
 use Rattle.jh_laws.proofs.HeldLemmas.{found_by_id}
 use Rattle.jh_laws.proofs.DevicesLemmas.{endpoint_held, endpoint_sound, cell_named}
@@ -44,8 +42,6 @@ use Rattle.jh_laws.proofs.LinkedLemmas.{IsClearing, IsQuietAt, quiet_all, is_tol
 use Rattle.jh_laws.proofs.PendingLemmas.{one_endpoint, endpoint_found}
 use Rattle.jh_laws.proofs.RaiseLemmas.{Calls, IsDropped, HasBecome, IsNow, become_raised, stays_so}
 use Rattle.jh_laws.proofs.WindowLemmas.{spec_is}
-use Rattle.jh_history.proofs.DueComesLemmas.{call_open}
-use Rattle.jh_history.proofs.SoundEndpointsLemmas.{spec_cell}
 use Rattle.jh_history.specs.Commits.{is_commit}
 
 -- ---- devices of one live cell

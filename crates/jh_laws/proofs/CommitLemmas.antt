@@ -25,15 +25,11 @@ use Rattle.jh_history.specs.History.{after, facts, coming_of, coming_by}
 use Rattle.jh_shape.specs.Lives.{configs_of, marked}
 use Rattle.jh_history.specs.Due.{due_at, is_idle_but, IsLegal}
 use Rattle.jh_history.specs.Admitted.{IsAdmitted}
-use Rattle.jh_history.proofs.FactsLemmas.{facts_push}
-use Rattle.jh_history.proofs.LegalLemmas.{due_split, IsLegal_begin}
+use Rattle.jh_history.proofs.Public.{facts_push, due_split, IsLegal_begin, sound_after, legal_sound, after_call, after_cells, uncommitted_cells, call_open}
 use Rattle.jh_history.specs.Sound.{IsInPhase, IsOpen, IsSound}
 use Rattle.jh_laws.specs.Ways.{is_phase, is_finish, call_begun, begun}
-use Rattle.jh_history.proofs.SoundLemmas.{sound_after, legal_sound}
-use Rattle.jh_history.proofs.PlainStepLemmas.{after_call, after_cells, uncommitted_cells}
 use Rattle.jh_laws.proofs.CallLemmas.{Expects, phase_expects, phase_of_due, phase_goes, call_counted, IsBeside, entry_of_call, along, stretch, begun_of, past_from, not_same, IsPast}
 use Rattle.jh_laws.proofs.FactsLemmas.{facts_append}
-use Rattle.jh_history.proofs.DueComesLemmas.{call_open}
 
 pub cells_kept : (image : Image) (before : List Entry) (entry : Entry) → is_commit entry.act ≡ false → (facts image (before ++ entry ∷ [])).cells ≡ (facts image before).cells
 cells_kept image before entry h =

@@ -5,7 +5,7 @@ use Rattle.std.specs.List.{fold, AllByRecursion, cons_option}
 use Rattle.std.proofs.lemmas.Bool.{ne_eqb, cases_eq}
 use Rattle.std.proofs.lemmas.Option.{none-some, slice_get_within, get_or_from_slice_get}
 use Rattle.std.proofs.lemmas.List.{take_more, append-nil}
-use Rattle.jh_num.proofs.Booleans.{same_number}
+use Rattle.jh_num.proofs.Public.{same_number}
 use Rattle.jh_cpu.specs.declared.cpu.Cpu.{Cpu}
 use Rattle.jh_cpu.specs.declared.cpu.Mode.TheVariants.{Failed}
 use Rattle.jh_script.specs.declared.image.Image.{Image}
@@ -14,8 +14,7 @@ use Rattle.jh_history.specs.declared.entry.Entry.{Entry}
 use Rattle.jh_history.specs.Facts.{Facts}
 use Rattle.jh_history.specs.History.{start, after, facts}
 use Rattle.jh_history.specs.Due.{due_at, due, IsLegal, IsLegalFrom}
-use Rattle.jh_history.proofs.FactsLemmas.{facts_push}
-use Rattle.jh_history.proofs.LegalLemmas.{IsLegal_begin}
+use Rattle.jh_history.proofs.Public.{facts_push, IsLegal_begin}
 use Rattle.jh_laws.specs.Outcomes.{is_violation}
 use Rattle.jh_laws.specs.Operations.{op_of, op_by, operations_by, program_in}
 use Rattle.jh_laws.proofs.MadeLemmas.{IsSilent, IsNext, AllRoots, moved_by, own_after, other_after, roots_after, roots_at, roots_start, next_made, made_at, made_access, due_at_failed, done_by_moved}

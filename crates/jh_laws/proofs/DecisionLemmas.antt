@@ -5,7 +5,7 @@ use Rattle.std.specs.List.{list_any}
 use Rattle.std.proofs.lemmas.Bool.{both_ways, and_parts, and_from, eqb-true, eq-eqb, ne_eqb, not-true, not_from_false, false_from_ne_true}
 use Rattle.std.proofs.lemmas.Option.{none-some, same_Some}
 use Rattle.jh_num.specs.declared.error.TheConstants.{EPERM, ENOENT, EINVAL}
-use Rattle.jh_num.proofs.Lists.{IsFound_from_list_any, list_any_from_Contains}
+use Rattle.jh_num.proofs.Public.{IsFound_from_list_any, list_any_from_Contains}
 use Rattle.jh_cellcfg.specs.declared.config.CellConfig.{CellConfig}
 use Rattle.jh_cellcfg.specs.declared.live.Live.{Live}
 use Rattle.jh_cellcfg.specs.declared.fault.ConfigFault.{ConfigFault}
@@ -13,7 +13,7 @@ use Rattle.jh_cellcfg.specs.Lives.{id_of, has_id}
 use Rattle.jh_cellcfg.specs.Faults.{header_fault, header_size}
 use Rattle.jh_cellcfg.specs.Reading.{config_of}
 use Rattle.jh_check.specs.Refusals.{any_below, refusal_of}
-use Rattle.jh_check.proofs.RefusalLemmas.{accepted_to}
+use Rattle.jh_check.proofs.Public.{accepted_to}
 use Rattle.jh_shape.specs.Pages.{pages_of}
 use Rattle.jh_comm.specs.declared.words.TheConstants.{STATE_RUNNING_LOCKED}
 use Rattle.jh_call.specs.declared.call.Call.{Call}
@@ -35,16 +35,13 @@ use Rattle.jh_history.specs.History.{facts}
 use Rattle.jh_history.specs.Phases.{phase_act, keeps_decide, state_word, may_give, is_locked, is_other_locked, unless_refused, creation_by, creation_of, refused_by, id_refusal, first_refusal, decision}
 use Rattle.jh_shape.specs.Lives.{configs_of}
 use Rattle.jh_history.specs.Due.{due_at, is_idle_but, IsLegal}
-use Rattle.jh_history.proofs.LegalLemmas.{due_split, IsLegal_begin}
+use Rattle.jh_history.proofs.Public.{due_split, IsLegal_begin, other_root, legal_sound, call_open}
 use Rattle.jh_history.specs.Sound.{AreSoundCells}
 use Rattle.jh_laws.specs.Ways.{is_phase, is_decide, call_begun, begun}
 use Rattle.jh_laws.specs.Decisions.{IsLockedBy, NoneIsLocked, NoOtherIsLocked, LivesNot, IsIdDecision, IsDestroyDecision, IsUnreadDecision, IsRefusedOf, IsCreateDecision, IsDecision}
-use Rattle.jh_history.proofs.SoundCpusLemmas.{other_root}
-use Rattle.jh_history.proofs.SoundLemmas.{legal_sound}
 use Rattle.jh_laws.proofs.CallLemmas.{phase_expects, phase_of_due, begun_of, not_same}
 use Rattle.jh_laws.proofs.HeldLemmas.{live_cell}
 use Rattle.jh_laws.proofs.HvcLemmas.{none_live}
-use Rattle.jh_history.proofs.DueComesLemmas.{call_open}
 
 -- ---- by the id
 

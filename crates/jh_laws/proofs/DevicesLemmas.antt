@@ -6,7 +6,7 @@ use Rattle.std.specs.Option.{option_map_or}
 use Rattle.std.proofs.lemmas.Bool.{both_ways, and_parts, and_from, eqb-true, eq-eqb, lt-ltb, cases_lt}
 use Rattle.std.proofs.lemmas.Option.{none-some, same_Some}
 use Rattle.std.proofs.lemmas.List.Elements.{All-contains}
-use Rattle.jh_num.proofs.Lists.{IsFound_from_find, find_None}
+use Rattle.jh_num.proofs.Public.{IsFound_from_find, find_None}
 use Rattle.jh_cellcfg.specs.declared.config.CellConfig.{CellConfig}
 use Rattle.jh_cellcfg.specs.declared.config.PciDevice.{PciDevice}
 use Rattle.jh_cellcfg.specs.declared.live.Live.{Live}
@@ -14,14 +14,14 @@ use Rattle.jh_check.specs.Clean.{AreLinked}
 use Rattle.jh_check.specs.Devices.{is_shmem}
 use Rattle.jh_mmio.specs.declared.hitting.Window.{Window}
 use Rattle.jh_mmio.specs.Dispatch.{window_has}
-use Rattle.jh_mmio.proofs.AccessLemmas.{lies_from, lies_parts}
+use Rattle.jh_mmio.proofs.Public.{lies_from, lies_parts}
 use Rattle.jh_vpci.specs.Space.{Space, has_vectors, window_of}
 use Rattle.jh_vpci.specs.Words.{read_of as config_read}
 use Rattle.jh_ivshmem.specs.declared.endpoint.Endpoint.{Endpoint}
 use Rattle.jh_ivshmem.specs.Links.{endpoint_at}
 use Rattle.jh_ivshmem.specs.Registers.{register_of}
 use Rattle.jh_ivshmem.specs.Specs.{is_device}
-use Rattle.jh_ivshmem.proofs.NamedLemmas.{named_device}
+use Rattle.jh_ivshmem.proofs.Public.{named_device}
 use Rattle.jh_script.specs.declared.image.Image.{Image}
 use Rattle.jh_history.specs.declared.access.Access.{Access}
 use Rattle.jh_history.specs.Access.{config_told, register_told}

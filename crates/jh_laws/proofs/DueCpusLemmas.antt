@@ -9,7 +9,7 @@ use Rattle.jh_cellcfg.specs.declared.live.Live.{Live}
 use Rattle.jh_cellcfg.specs.Lives.{has_id}
 use Rattle.jh_cellcfg.specs.Cells.{is_passive}
 use Rattle.jh_check.specs.Refusals.{any_below}
-use Rattle.jh_check.proofs.RefusalLemmas.{below_at, below_of}
+use Rattle.jh_check.proofs.Public.{below_at, below_of}
 use Rattle.jh_comm.specs.declared.words.TheConstants.{REPLY_REQUEST_APPROVED, REPLY_RECEIVED}
 use Rattle.jh_cpu.specs.declared.cpu.Cpu.{Cpu}
 use Rattle.jh_cpu.specs.declared.cpu.Mode.TheVariants.{Running}
@@ -44,15 +44,10 @@ use Rattle.jh_history.specs.Admitted.{IsAdmitted}
 use Rattle.jh_history.specs.Sound.{AreSoundCells, IsHalted, IsAsked, IsHalting, IsCaller, IsOpen, IsSound, IsCalm}
 use Rattle.jh_laws.specs.Ends.{IsAnswered, IsReadBy, IsGotBy}
 use Rattle.jh_laws.specs.Ready.{IsDueIn, NothingElse, HasHeard, RootHasStopped, IsPhaseDue, IsReadyCaller, IsReadyProgram, IsReadyAt}
-use Rattle.jh_history.proofs.SoundCpusLemmas.{goes_calm, goes_running, running_mode, root_unnamed}
-use Rattle.jh_history.proofs.SoundDecideLemmas.{board_few, halted_to_decide}
-use Rattle.jh_history.proofs.SoundCommitLemmas.{halted_to_commit, named_board}
-use Rattle.jh_history.proofs.SoundDueLemmas.{IsOfProgram, state_parts}
+use Rattle.jh_history.proofs.Public.{goes_calm, goes_running, running_mode, root_unnamed, board_few, halted_to_decide, halted_to_commit, named_board, IsOfProgram, state_parts, call_open, is_some_entry}
 use Rattle.jh_laws.proofs.HeldLemmas.{found_by_id, live_found}
 use Rattle.jh_laws.proofs.PendingLemmas.{next_some_holds, next_is}
 use Rattle.jh_laws.proofs.EndsLemmas.{got_of_cell, one_value, width_some, ops_plain}
-use Rattle.jh_history.proofs.DueComesLemmas.{call_open}
-use Rattle.jh_history.proofs.DueLemmas.{is_some_entry}
 
 -- ---- what an operation comes to
 

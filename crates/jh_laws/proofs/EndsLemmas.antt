@@ -37,12 +37,10 @@ use Rattle.jh_shape.specs.Lives.{configs_of}
 use Rattle.jh_history.specs.History.{facts}
 use Rattle.jh_history.specs.Due.{due_at, act_of, await_of, got_by, IsLegal}
 use Rattle.jh_history.specs.Admitted.{IsAdmitted}
-use Rattle.jh_history.proofs.LegalLemmas.{due_split, IsLegal_begin}
+use Rattle.jh_history.proofs.Public.{due_split, IsLegal_begin, next_from_due, legal_sound}
 use Rattle.jh_history.specs.Sound.{AreSoundCells, IsSound}
 use Rattle.jh_laws.specs.Ways.{is_phase}
 use Rattle.jh_laws.proofs.RootLemmas.{op_plain}
-use Rattle.jh_history.proofs.SoundDueLemmas.{next_from_due}
-use Rattle.jh_history.proofs.SoundLemmas.{legal_sound}
 use Rattle.jh_laws.proofs.CallLemmas.{IsMadeBy, Stopping, Running, Calling, made_by}
 use Rattle.jh_laws.specs.Held.{IsGrantedTo, AreGrantedTo}
 use Rattle.jh_laws.proofs.HeldLemmas.{granted_to}

@@ -23,18 +23,14 @@ use Rattle.jh_history.specs.Hypercalls.{seen_of}
 use Rattle.jh_history.specs.History.{facts}
 use Rattle.jh_history.specs.Due.{due_at, act_of, await_of, got_by, IsLegal}
 use Rattle.jh_history.specs.Admitted.{IsAdmitted}
-use Rattle.jh_history.proofs.LegalLemmas.{due_split, IsLegal_begin}
+use Rattle.jh_history.proofs.Public.{due_split, IsLegal_begin, goes_calm, goes_running, running_mode, next_from_due, legal_sound, call_open}
 use Rattle.jh_history.specs.Sound.{IsCalm, IsSound}
 use Rattle.jh_laws.specs.Ways.{is_phase}
 use Rattle.jh_laws.specs.Held.{IsRootOrLive}
 use Rattle.jh_laws.specs.Operations.{op_of}
 use Rattle.jh_laws.specs.States.{is_stop_act}
-use Rattle.jh_history.proofs.SoundCpusLemmas.{goes_calm, goes_running, running_mode}
-use Rattle.jh_history.proofs.SoundDueLemmas.{next_from_due}
-use Rattle.jh_history.proofs.SoundLemmas.{legal_sound}
 use Rattle.jh_laws.proofs.CallLemmas.{IsMadeBy, Stopping, Running as Runs, Calling, made_by, phase_of_due}
 use Rattle.jh_laws.proofs.HeldLemmas.{cell_live}
-use Rattle.jh_history.proofs.DueComesLemmas.{call_open}
 
 -- ---- the operation
 

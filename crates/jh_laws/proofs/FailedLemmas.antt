@@ -24,12 +24,11 @@ use Rattle.jh_history.specs.Endpoints.{specs_changing, with_words}
 use Rattle.jh_history.specs.History.{after, facts}
 use Rattle.jh_history.specs.Due.{due_at, IsLegal}
 use Rattle.jh_history.specs.Admitted.{IsAdmitted}
-use Rattle.jh_history.proofs.FactsLemmas.{facts_push}
+use Rattle.jh_history.proofs.Public.{facts_push, sound_after, call_open}
 use Rattle.jh_history.specs.Sound.{IsSound}
 use Rattle.jh_laws.specs.Moves.{ended}
 use Rattle.jh_laws.specs.Outcomes.{is_violation}
 use Rattle.jh_laws.specs.Ready.{IsReadyAt, IsReadyCaller, IsReadyProgram}
-use Rattle.jh_history.proofs.SoundLemmas.{sound_after}
 use Rattle.jh_laws.proofs.CallLemmas.{along, stretch}
 use Rattle.jh_laws.proofs.StatesLemmas.{others_by, begins, own_ends, violation_own}
 use Rattle.jh_laws.proofs.PlacesHeldLemmas.{byte_behind, commit_or, physical_kept}
@@ -37,7 +36,6 @@ use Rattle.jh_laws.proofs.WordLemmas.{specs_none}
 use Rattle.jh_laws.proofs.EntryLemmas.{runs_at}
 use Rattle.jh_laws.proofs.DueCpusLemmas.{ready_from_due}
 use Rattle.jh_laws.proofs.FactsLemmas.{cpu_after_holds}
-use Rattle.jh_history.proofs.DueComesLemmas.{call_open}
 use Rattle.jh_history.specs.Commits.{is_commit}
 
 -- ---- what it writes

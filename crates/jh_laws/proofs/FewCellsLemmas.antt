@@ -8,7 +8,7 @@ use Rattle.std.specs.Option.{option_map_or}
 use Rattle.std.proofs.lemmas.Bool.{both_ways, cond_both}
 use Rattle.std.proofs.lemmas.List.Elements.{Contains-push_cases}
 use Rattle.std.proofs.lemmas.Option.{none-some, same_Some, slice_get-get_or, get_or_from_slice_get}
-use Rattle.jh_num.proofs.Lists.{Contains_cases, IsFound_from_filter}
+use Rattle.jh_num.proofs.Public.{Contains_cases, IsFound_from_filter}
 use Rattle.jh_cellcfg.specs.declared.config.CellConfig.{CellConfig}
 use Rattle.jh_cellcfg.specs.declared.live.Live.{Live}
 use Rattle.jh_cellcfg.specs.declared.fault.ConfigFault.{ConfigFault}
@@ -17,7 +17,7 @@ use Rattle.jh_cellcfg.specs.Lives.{has_id}
 use Rattle.jh_cellcfg.specs.Faults.{header_fault, header_size}
 use Rattle.jh_cellcfg.specs.Reading.{config_of}
 use Rattle.jh_check.specs.Refusals.{any_below, AreTwo}
-use Rattle.jh_check.proofs.GivenLemmas.{sound_set}
+use Rattle.jh_check.proofs.Public.{sound_set}
 use Rattle.jh_comm.specs.declared.words.TheConstants.{STATE_RUNNING, STATE_SHUT_DOWN, STATE_FAILED, MESSAGE_SHUTDOWN_REQUEST}
 use Rattle.jh_cpu.specs.declared.cpu.Cpu.{Cpu}
 use Rattle.jh_call.specs.declared.call.Call.{Call}
@@ -49,21 +49,14 @@ use Rattle.jh_history.specs.Cpus.{acted, changed, change_of, settled, is_agreed,
 use Rattle.jh_history.specs.History.{start, after, facts, coming_by, coming_of}
 use Rattle.jh_history.specs.Pages.{is_left, failing, unless_good, asking, committing, named_cell, page_write_by, on_page}
 use Rattle.jh_shape.specs.Lives.{configs_of, marked}
-use Rattle.jh_shape.proofs.JoinedLemmas.{configs_marked}
+use Rattle.jh_shape.proofs.Public.{configs_marked}
 use Rattle.jh_history.specs.Due.{due_at, IsLegal, IsLegalFrom}
 use Rattle.jh_history.specs.Admitted.{IsAdmitted}
 use Rattle.jh_history.specs.Sound.{IsMadeOfBytes, IsSound}
-use Rattle.jh_history.proofs.SoundCommitLemmas.{configs_joined, configs_others, is_other_config}
-use Rattle.jh_history.proofs.SoundCpusLemmas.{changed_owner}
-use Rattle.jh_history.proofs.SoundDecideLemmas.{board_few, found_live, settled_owner}
-use Rattle.jh_history.proofs.SoundStepLemmas.{begun_owner, finished_owner}
-use Rattle.jh_history.proofs.SoundLemmas.{sound_start, sound_after, legal_sound}
-use Rattle.jh_history.proofs.PlainStepLemmas.{after_call}
+use Rattle.jh_history.proofs.Public.{configs_joined, configs_others, is_other_config, changed_owner, board_few, found_live, settled_owner, begun_owner, finished_owner, sound_start, sound_after, legal_sound, after_call, call_open, two_ids}
 use Rattle.jh_laws.proofs.FewLemmas.{IsTyped, ArePreloadsBytes, MayWriteBytes, page_write_small_holds, write_small, words_small, opening_small, config_typed, read_bytes, picked, picked_few, index_small, length_map, get_map}
 use Rattle.jh_laws.proofs.RegisterLemmas.{HaveRegisters, registers_after, registers_open}
 use Rattle.jh_laws.proofs.RefusalLemmas.{FitsRefusal, refusal_fits}
-use Rattle.jh_history.proofs.DueComesLemmas.{call_open}
-use Rattle.jh_history.proofs.FewLemmas.{two_ids}
 
 abbrev pub AreTyped : List CellConfig → Type 0
 AreTyped configs = (config : CellConfig) → Contains configs config → IsTyped config

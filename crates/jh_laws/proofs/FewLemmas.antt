@@ -8,7 +8,7 @@ use Rattle.std.proofs.lemmas.List.Elements.{All-nil, All-cons, All-head, All-tai
 use Rattle.std.proofs.lemmas.Map.Made.{IsDistinct-from_AllPairs}
 use Rattle.std.proofs.lemmas.Map.Steps.{length-le_from_distinct_below}
 use Rattle.jh_num.specs.Memory.{stored}
-use Rattle.jh_num.proofs.Lists.{Contains_head, Contains_tail, IsFound_from_list_any}
+use Rattle.jh_num.proofs.Public.{Contains_head, Contains_tail, IsFound_from_list_any}
 use Rattle.jh_cellcfg.specs.declared.config.CellConfig.{CellConfig}
 use Rattle.jh_cellcfg.specs.Reading.{config_of, config_of_body}
 use Rattle.jh_comm.specs.Page.{with_state, sent, fresh_page, signature}

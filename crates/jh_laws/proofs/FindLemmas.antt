@@ -2,7 +2,7 @@
 use Rattle.std.proofs.Common.{◌≡◌, ℕ, zero, suc, ◌<◌, Bool, true, cond, List, [], ◌∷◌, length, get_or, Some, refl, ap, ◌∙◌, inl, inr, arith}
 use Rattle.std.specs.List.{find, Contains}
 use Rattle.std.proofs.lemmas.Bool.{cases_Bool}
-use Rattle.jh_num.proofs.Lists.{Contains_head, Contains_tail}
+use Rattle.jh_num.proofs.Public.{Contains_head, Contains_tail}
 
 -- no two elements pass
 abbrev pub IsOnly : {X : Type 0} → (X → Bool) → List X → Type 0

@@ -1,6 +1,6 @@
 -- What accesses by root reach, by what it is granted.
 use Rattle.std.proofs.Common.{◌≡◌, ℕ, ◌+◌, ◌-◌, ◌≤◌, Bool, cond, ap, ◌∙◌, arith}
-use Rattle.jh_cellcfg.proofs.AddressLemmas.{has_address_from}
+use Rattle.jh_cellcfg.proofs.Public.{has_address_from}
 use Rattle.jh_script.specs.declared.image.Image.{Image}
 use Rattle.jh_history.specs.declared.place.Place.{Place}
 use Rattle.jh_history.specs.declared.place.Place.TheVariants.{Physical, Page}

@@ -5,19 +5,19 @@ use Rattle.std.specs.Option.{option_map_or}
 use Rattle.std.proofs.lemmas.Bool.{both_ways, and_parts, and_from, eqb-true, eq-eqb, ne_eqb, cases_lt, false_from_ne_true}
 use Rattle.std.proofs.lemmas.Option.{none-some, same_Some, slice_get-get_or, get_or_from_slice_get}
 use Rattle.jh_num.specs.declared.address.TheConstants.{ADDRESS_END}
-use Rattle.jh_num.proofs.Lists.{IsFound_from_find, find_some, Contains_from_map}
+use Rattle.jh_num.proofs.Public.{IsFound_from_find, find_some, Contains_from_map}
 use Rattle.jh_cellcfg.specs.declared.config.CellConfig.{CellConfig}
 use Rattle.jh_cellcfg.specs.declared.config.SystemConfig.{SystemConfig}
 use Rattle.jh_cellcfg.specs.declared.live.Live.{Live}
 use Rattle.jh_cellcfg.specs.declared.region.Region.{Region}
 use Rattle.jh_cellcfg.specs.Lives.{has_id}
 use Rattle.jh_cellcfg.specs.Regions.{has_flags, has_address, virt_end, is_comm, is_page_mapped}
-use Rattle.jh_cellcfg.proofs.AddressLemmas.{has_address_first, has_address_last, has_address_from}
+use Rattle.jh_cellcfg.proofs.Public.{has_address_first, has_address_last, has_address_from}
 use Rattle.jh_check.specs.Laws.{IsNumbered}
 use Rattle.jh_check.specs.Refusals.{AreTwo}
 use Rattle.jh_shape.specs.Laws.{IsTaken}
 use Rattle.jh_shape.specs.Shapes.{is_closed, holder_of_live}
-use Rattle.jh_shape.proofs.LawLemmas.{taken_there, taken_back}
+use Rattle.jh_shape.proofs.Public.{taken_there, taken_back}
 use Rattle.jh_script.specs.declared.image.Image.{Image}
 use Rattle.jh_history.specs.declared.place.Place.{Place}
 use Rattle.jh_history.specs.declared.place.Place.TheVariants.{Physical, Page}
@@ -32,10 +32,7 @@ use Rattle.jh_history.specs.Sound.{AreSoundCells}
 use Rattle.jh_laws.specs.Grants.{may, IsGranted}
 use Rattle.jh_laws.specs.Held.{IsRootOrLive, IsLeft, IsGrantedTo}
 use Rattle.jh_laws.proofs.FindLemmas.{IsOnly, find_only}
-use Rattle.jh_history.proofs.SoundCpusLemmas.{other_root}
-use Rattle.jh_history.proofs.SoundDecideLemmas.{found_live}
-use Rattle.jh_history.proofs.FewLemmas.{two_ids}
-use Rattle.jh_history.proofs.GrantLemmas.{gives_has, gives_from}
+use Rattle.jh_history.proofs.Public.{other_root, found_live, two_ids, gives_has, gives_from}
 
 -- ---- live cells by their ids
 

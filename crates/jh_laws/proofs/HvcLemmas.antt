@@ -31,14 +31,10 @@ use Rattle.jh_history.specs.Phases.{state_word}
 use Rattle.jh_shape.specs.Lives.{configs_of}
 use Rattle.jh_history.specs.Due.{due_at, act_of, await_of, got_by, IsLegal}
 use Rattle.jh_history.specs.Admitted.{IsAdmitted}
-use Rattle.jh_history.proofs.LegalLemmas.{due_split, IsLegal_begin}
+use Rattle.jh_history.proofs.Public.{due_split, IsLegal_begin, other_root, found_live, next_from_due, legal_sound}
 use Rattle.jh_history.specs.Sound.{AreSoundCells}
 use Rattle.jh_laws.specs.Ways.{is_phase}
 use Rattle.jh_laws.specs.Hypercalls.{IsInfo, IsStateTold, IsCpuTold, IsAnswer}
-use Rattle.jh_history.proofs.SoundCpusLemmas.{other_root}
-use Rattle.jh_history.proofs.SoundDecideLemmas.{found_live}
-use Rattle.jh_history.proofs.SoundDueLemmas.{next_from_due}
-use Rattle.jh_history.proofs.SoundLemmas.{legal_sound}
 use Rattle.jh_laws.proofs.CallLemmas.{IsMadeBy, Stopping, Running as Runs, Calling, made_by}
 use Rattle.jh_laws.proofs.HeldLemmas.{live_cell}
 

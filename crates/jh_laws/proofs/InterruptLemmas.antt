@@ -17,9 +17,7 @@ use Rattle.jh_history.specs.Facts.{Facts}
 use Rattle.jh_history.specs.History.{facts}
 use Rattle.jh_history.specs.Lives.{is_on_board, op_at}
 use Rattle.jh_history.specs.Sound.{IsCalm}
-use Rattle.jh_history.proofs.DueDevicesLemmas.{interrupt_next}
-use Rattle.jh_history.proofs.LegalLemmas.{due_split, IsLegal_begin}
-use Rattle.jh_history.proofs.SoundLemmas.{legal_sound}
+use Rattle.jh_history.proofs.Public.{interrupt_next, due_split, IsLegal_begin, legal_sound}
 use Rattle.jh_laws.specs.Ready.{IsDueIn, IsReadyCaller, IsReadyProgram, IsReadyAt}
 use Rattle.jh_laws.specs.Vectors.{IsPendingIn, IsNext}
 use Rattle.jh_laws.proofs.PendingLemmas.{next_is}

@@ -9,11 +9,10 @@ use Rattle.std.proofs.lemmas.List.Sums.{fold-append}
 use Rattle.jh_script.specs.declared.image.Image.{Image}
 use Rattle.jh_history.specs.declared.entry.Entry.{Entry}
 use Rattle.jh_history.specs.History.{facts}
-use Rattle.jh_history.proofs.DueLemmas.{due_at_absent, due_at_beyond}
+use Rattle.jh_history.proofs.Public.{due_at_absent, due_at_beyond, reached}
 use Rattle.jh_history.specs.Lives.{is_on_board}
 use Rattle.jh_history.specs.Due.{due, IsQuiet}
 use Rattle.jh_history.specs.Items.{Reached, with_due, with_item, items, below, rounds, cpus_of}
-use Rattle.jh_history.proofs.ItemsLemmas.{reached}
 
 -- after a stop nothing changes
 fold_full : (image : Image) (limit : ℕ) (cpus : List ℕ) (es : List Entry) → fold (with_item image limit) (record { entries = es; full = true }) cpus ≡ record { entries = es; full = true }

@@ -9,7 +9,7 @@ mod OutcomeLemmas
 mod AloneLemmas
 mod ByteLemmas
 mod CpuLemmas
-pub mod ReadyLemmas
+mod ReadyLemmas
 mod ItemsLemmas
 mod RunLemmas
 mod CallLemmas
@@ -44,3 +44,4 @@ mod AnswerLemmas
 mod ExchangeLemmas
 mod FailedLemmas
 mod NewIdLemmas
+pub mod Public

@@ -6,7 +6,7 @@ use Rattle.std.specs.Option.{option_map_or}
 use Rattle.std.proofs.lemmas.Bool.{both_ways, and_parts, and_from, and_left, and_right, cases_Bool, eqb-true, eq-eqb, ne_eqb, not-true, not_from_false, false_from_ne_true}
 use Rattle.std.proofs.lemmas.Option.{none-some, same_Some}
 use Rattle.std.proofs.lemmas.Grind.{common_steps}
-use Rattle.jh_num.proofs.Lists.{Contains_head, Contains_tail, Contains_cases, find_map, find_None, find_nothing, IsFound_from_find, IsFound_from_filter, list_any_agree, list_any_nothing, find_kept}
+use Rattle.jh_num.proofs.Public.{Contains_head, Contains_tail, Contains_cases, find_map, find_None, find_nothing, IsFound_from_find, IsFound_from_filter, list_any_agree, list_any_nothing, find_kept}
 use Rattle.jh_ivshmem.specs.declared.endpoint.Endpoint.{Endpoint}
 use Rattle.jh_ivshmem.specs.declared.spec.EndpointSpec.{EndpointSpec}
 use Rattle.jh_ivshmem.specs.Specs.{is_device, is_other, is_before}
@@ -14,9 +14,7 @@ use Rattle.jh_ivshmem.specs.Changes.{changed}
 use Rattle.jh_ivshmem.specs.Endpoint.{raised, cleared, fresh, vector_at, fresh_vector, fresh_vectors}
 use Rattle.jh_ivshmem.specs.Links.{endpoint_at, others_raised, told_of, reset_of, left_by, joined}
 use Rattle.jh_ivshmem.specs.declared.vector.Vector.{Vector}
-use Rattle.jh_ivshmem.proofs.ChangeLemmas.{raised_spec, cleared_spec}
-use Rattle.jh_ivshmem.proofs.LawLemmas.{closed_control}
-use Rattle.jh_ivshmem.proofs.NamedLemmas.{named_cell, named_device}
+use Rattle.jh_ivshmem.proofs.Public.{raised_spec, cleared_spec, closed_control, named_cell, named_device}
 use Rattle.jh_history.specs.declared.device_change.DeviceChange.{DeviceChange}
 use Rattle.jh_history.specs.declared.device_change.DeviceChange.TheVariants.{Join, Reset, Leave}
 use Rattle.jh_history.specs.Endpoints.{endpoint_changed, endpoints_changed}

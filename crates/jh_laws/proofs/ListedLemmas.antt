@@ -4,8 +4,7 @@ use Rattle.std.specs.Prelude.{option_map, option_and_then}
 use Rattle.std.proofs.lemmas.Bool.{eqb-true, and_parts, and_from, cases_Bool, false≢true}
 use Rattle.std.proofs.lemmas.Option.{none-some}
 use Rattle.std.proofs.Math.Nat.{pow-succ', div-one, div-div-eq-div-mul}
-use Rattle.jh_num.proofs.Booleans.{same_number}
-use Rattle.jh_num.proofs.MemoryLemmas.{little_endian_first}
+use Rattle.jh_num.proofs.Public.{same_number, little_endian_first}
 use Rattle.jh_num.specs.Memory.{spelled, little_endian}
 use Rattle.jh_history.specs.declared.place.Place.{Place}
 use Rattle.jh_history.specs.declared.place.Place.TheVariants.{Physical, Page}

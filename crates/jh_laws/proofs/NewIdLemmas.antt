@@ -25,12 +25,9 @@ use Rattle.jh_history.specs.Facts.{Facts}
 use Rattle.jh_history.specs.History.{after, facts, coming_of}
 use Rattle.jh_shape.specs.Lives.{configs_of}
 use Rattle.jh_history.specs.Sound.{IsInPhase, IsSound}
-use Rattle.jh_history.proofs.FactsLemmas.{facts_push}
-use Rattle.jh_history.proofs.PlainStepLemmas.{after_call}
-use Rattle.jh_history.proofs.SoundLemmas.{sound_after}
+use Rattle.jh_history.proofs.Public.{facts_push, after_call, sound_after, call_open}
 use Rattle.jh_laws.specs.Ways.{is_phase, is_finish, call_begun, begun}
 use Rattle.jh_laws.proofs.CallLemmas.{Expects, IsBeside, along, begun_of, call_counted, entry_of_call, not_same, phase_expects, phase_of_due, stretch}
-use Rattle.jh_history.proofs.DueComesLemmas.{call_open}
 
 -- the phase leads to the end with the answer
 abbrev Answers : ℤ → Phase → Type 0

@@ -16,7 +16,7 @@ use Rattle.jh_history.specs.Access.{is_reached}
 use Rattle.jh_history.specs.Endpoints.{endpoints_changed}
 use Rattle.jh_history.specs.Admitted.{IsAdmitted}
 use Rattle.jh_history.specs.Facts.{Facts}
-use Rattle.jh_history.proofs.SoundLemmas.{sound_start, legal_sound}
+use Rattle.jh_history.proofs.Public.{sound_start, legal_sound, IsLegal_begin}
 use Rattle.jh_history.specs.History.{facts}
 use Rattle.jh_history.specs.Grants.{reach}
 use Rattle.jh_history.specs.Due.{got_by, IsLegal}
@@ -25,7 +25,6 @@ use Rattle.jh_laws.specs.Ends.{IsAnswered, IsReadBy, IsGotBy, IsAwaitedBy}
 use Rattle.jh_laws.specs.Outcomes.{HasItsOutcome}
 use Rattle.jh_shape.specs.Lives.{configs_of}
 use Rattle.jh_history.specs.Sound.{AreSoundCells, AreOwned, IsSoundCall, AreEndpoints, IsSound}
-use Rattle.jh_history.proofs.LegalLemmas.{IsLegal_begin}
 use Rattle.jh_laws.proofs.EndsLemmas.{got_of_cell, reached_of_cell, one_value, width_some}
 use Rattle.jh_laws.proofs.MadeLemmas.{IsSilent, AllRoots, AwaitOf, IsAccess, no_specs_of_root, made_access, made_at}
 

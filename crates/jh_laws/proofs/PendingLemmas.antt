@@ -8,17 +8,16 @@ use Rattle.std.proofs.lemmas.Option.{none-some, same_Some}
 use Rattle.std.proofs.lemmas.List.{get_or_past}
 use Rattle.std.proofs.lemmas.List.Quantifiers.{position-Some}
 use Rattle.std.proofs.lemmas.List.Sums.{fails_before_first}
-use Rattle.jh_num.proofs.Lists.{Contains_cases, Contains_head, Contains_tail, IsFound_from_find, find_unique}
+use Rattle.jh_num.proofs.Public.{Contains_cases, Contains_head, Contains_tail, IsFound_from_find, find_unique}
 use Rattle.jh_ivshmem.specs.declared.endpoint.Endpoint.{Endpoint}
 use Rattle.jh_ivshmem.specs.declared.vector.Vector.{Vector}
 use Rattle.jh_ivshmem.specs.Endpoint.{fresh_vector, vector_at, pending_in}
 use Rattle.jh_ivshmem.specs.Links.{endpoint_at, earlier, pending_at, pending_of}
 use Rattle.jh_ivshmem.specs.Specs.{is_device, AreEndpointsApart}
-use Rattle.jh_ivshmem.proofs.NamedLemmas.{named_cell, named_device}
-use Rattle.jh_ivshmem.proofs.OrderLemmas.{pairs_of}
+use Rattle.jh_ivshmem.proofs.Public.{named_cell, named_device, pairs_of}
 use Rattle.jh_history.specs.Facts.{Facts}
 use Rattle.jh_history.specs.Sound.{IsSound}
-use Rattle.jh_history.proofs.LinkLemmas.{one_of_pairs}
+use Rattle.jh_history.proofs.Public.{one_of_pairs}
 use Rattle.jh_script.specs.declared.image.Image.{Image}
 use Rattle.jh_laws.specs.Vectors.{IsPendingIn, IsNext}
 

@@ -6,7 +6,7 @@ use Rattle.std.proofs.lemmas.Bool.{both_ways, or_parts, and_parts, and_from, and
 use Rattle.std.proofs.lemmas.Option.{same_Some, slice_get-get_or, get_or_from_slice_get, slice_get_within}
 use Rattle.std.specs.Option.{option_map_or}
 use Rattle.std.proofs.lemmas.List.Elements.{All-contains, Contains-append_left, Contains-push}
-use Rattle.jh_num.proofs.Lists.{IsFound_from_list_any, Contains_cases, Contains_map, Contains_tail}
+use Rattle.jh_num.proofs.Public.{IsFound_from_list_any, Contains_cases, Contains_map, Contains_tail}
 use Rattle.jh_cellcfg.specs.declared.config.CellConfig.{CellConfig}
 use Rattle.jh_cellcfg.specs.declared.config.PciDevice.{PciDevice}
 use Rattle.jh_cellcfg.specs.declared.live.Live.{Live}
@@ -15,7 +15,7 @@ use Rattle.jh_cellcfg.specs.Lives.{has_id}
 use Rattle.jh_cellcfg.specs.Regions.{has_flags, has_place, phys_end, is_comm, is_unshared}
 use Rattle.jh_check.specs.Regions.{both_shared}
 use Rattle.jh_check.specs.Clean.{IsClean, IsSection, IsGoodDevice, IsSameSection}
-use Rattle.jh_check.proofs.GivenLemmas.{may_join}
+use Rattle.jh_check.proofs.Public.{may_join}
 use Rattle.jh_shape.specs.Laws.{IsTaken}
 use Rattle.jh_call.specs.declared.call.Call.{Call}
 use Rattle.jh_call.specs.declared.call.Call.TheVariants.{Create, Start, Loadable, Destroy, Info, State, CpuInfo, Unknown}
@@ -47,11 +47,8 @@ use Rattle.jh_history.specs.History.{cells_after, facts}
 use Rattle.jh_shape.specs.Lives.{configs_of}
 use Rattle.jh_history.specs.Due.{IsLegal}
 use Rattle.jh_history.specs.Admitted.{IsAdmitted}
-use Rattle.jh_history.proofs.FactsLemmas.{facts_push}
-use Rattle.jh_history.proofs.LegalLemmas.{IsLegal_begin}
+use Rattle.jh_history.proofs.Public.{facts_push, IsLegal_begin, configs_joined, found_live, legal_sound, spec_cell}
 use Rattle.jh_history.specs.Sound.{AreSoundCells, IsOfDevice, IsInPhase, IsSoundCall, IsSound}
-use Rattle.jh_history.proofs.SoundCommitLemmas.{configs_joined}
-use Rattle.jh_history.proofs.SoundDecideLemmas.{found_live}
 use Rattle.jh_laws.specs.Held.{IsHeld, AreLinkedSections, IsOwnOrLinked}
 use Rattle.jh_laws.specs.Vectors.{PutsRegister}
 use Rattle.jh_laws.specs.Written.{WritesWordThere}
@@ -64,8 +61,6 @@ use Rattle.jh_laws.proofs.WordLemmas.{IsByteAt, IsApart, slot_cases, slot_other,
 use Rattle.jh_laws.proofs.HeldLemmas.{at_same}
 use Rattle.jh_laws.proofs.StoredLemmas.{IsGivenTo, listed_at, byte_put, IsStored, IsWord, placed, places_given}
 use Rattle.jh_laws.proofs.FactsLemmas.{byte_after_holds}
-use Rattle.jh_history.proofs.SoundLemmas.{legal_sound}
-use Rattle.jh_history.proofs.SoundEndpointsLemmas.{spec_cell}
 
 -- ---- places
 

@@ -3,14 +3,13 @@ use Rattle.std.proofs.Common.{◌≡◌, ◌≢◌, ℕ, List, Bool, true, false
 use Rattle.std.specs.Prelude.{Contains, option_map, option_and_then, nat_le}
 use Rattle.std.proofs.lemmas.Bool.{both_ways, and_parts, eq-eqb, eqb-true, ne_eqb, not-true, false_from_ne_true, or_right}
 use Rattle.std.proofs.lemmas.Option.{none-some}
-use Rattle.jh_num.proofs.Booleans.{same_number}
-use Rattle.jh_num.proofs.Lists.{find_some, Contains_from_map}
+use Rattle.jh_num.proofs.Public.{same_number, find_some, Contains_from_map}
 use Rattle.jh_cellcfg.specs.declared.config.CellConfig.{CellConfig}
 use Rattle.jh_cellcfg.specs.declared.live.Live.{Live}
 use Rattle.jh_cellcfg.specs.Lives.{has_id}
 use Rattle.jh_cellcfg.specs.Cells.{is_passive}
 use Rattle.jh_check.specs.Refusals.{any_below}
-use Rattle.jh_check.proofs.RefusalLemmas.{below_of}
+use Rattle.jh_check.proofs.Public.{below_of}
 use Rattle.jh_comm.specs.declared.words.TheConstants.{REPLY_REQUEST_APPROVED, REPLY_RECEIVED}
 use Rattle.jh_call.specs.declared.call.Call.{Call}
 use Rattle.jh_call.specs.declared.call.Call.TheVariants.{Create, Start, Loadable, Destroy, Info, State, CpuInfo, Unknown}
@@ -36,8 +35,7 @@ use Rattle.jh_shape.specs.Lives.{configs_of}
 use Rattle.jh_history.specs.Due.{due_at, entry_of, entry_by, next_act, state_act, caller_act, is_idle_but, IsLegal, IsQuiet}
 use Rattle.jh_history.specs.Admitted.{IsAdmitted}
 use Rattle.jh_history.specs.Sound.{IsHalted, IsAsked, IsHalting, IsAboutLive, IsTold, IsCaller, IsOpen, IsSound}
-use Rattle.jh_history.proofs.SoundCpusLemmas.{root_unnamed}
-use Rattle.jh_history.proofs.SoundLemmas.{legal_sound}
+use Rattle.jh_history.proofs.Public.{root_unnamed, legal_sound}
 use Rattle.jh_laws.proofs.DueCpusLemmas.{some_later, keeps_a_decide, keeps_a_commit}
 
 -- nothing is due to a CPU

@@ -13,9 +13,7 @@ use Rattle.jh_ivshmem.specs.Changes.{changed}
 use Rattle.jh_ivshmem.specs.Endpoint.{is_open, raised, taken, vector_at, fresh_vector}
 use Rattle.jh_ivshmem.specs.Registers.{register_written, with_word, is_in_table}
 use Rattle.jh_ivshmem.specs.Links.{endpoint_at, rung, state_written, told_of, written}
-use Rattle.jh_ivshmem.proofs.ChangeLemmas.{raised_spec, taken_spec, register_written_spec}
-use Rattle.jh_ivshmem.proofs.LawLemmas.{closed, raised_pending, raised_others, raised_keeps_pending}
-use Rattle.jh_ivshmem.proofs.NamedLemmas.{named_cell}
+use Rattle.jh_ivshmem.proofs.Public.{raised_spec, taken_spec, register_written_spec, closed, raised_pending, raised_others, raised_keeps_pending, named_cell}
 use Rattle.jh_script.specs.declared.image.Image.{Image}
 use Rattle.jh_history.specs.declared.access.Access.TheVariants.{Write as ToWrite}
 use Rattle.jh_history.specs.declared.access.Reach.{Reach}

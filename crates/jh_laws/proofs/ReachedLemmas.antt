@@ -7,18 +7,18 @@ use Rattle.std.specs.Option.{option_map_or}
 use Rattle.std.proofs.lemmas.Bool.{both_ways, or_parts, or_cases, and_parts, and_from, not-true, eqb-true, eq-eqb, cases_lt, cases_Bool, lt-ltb}
 use Rattle.std.proofs.lemmas.Option.{same_Some, slice_get-get_or}
 use Rattle.jh_num.specs.declared.address.TheConstants.{ADDRESS_END}
-use Rattle.jh_num.proofs.Lists.{IsFound_from_find, find_None}
+use Rattle.jh_num.proofs.Public.{IsFound_from_find, find_None}
 use Rattle.jh_cellcfg.specs.declared.config.CellConfig.{CellConfig}
 use Rattle.jh_cellcfg.specs.declared.config.SystemConfig.{SystemConfig}
 use Rattle.jh_cellcfg.specs.declared.live.Live.{Live}
 use Rattle.jh_cellcfg.specs.declared.region.Region.{Region}
 use Rattle.jh_cellcfg.specs.Regions.{has_size, has_address, is_page_mapped, virt_end, allows_width, allows_unaligned}
-use Rattle.jh_cellcfg.proofs.AddressLemmas.{has_address_from}
+use Rattle.jh_cellcfg.proofs.Public.{has_address_from}
 use Rattle.jh_mmio.specs.declared.hitting.Hitting.TheVariants.{Ecam, Bar, Nothing as HitsNothing}
 use Rattle.jh_mmio.specs.declared.hitting.Window.{Window as TheWindow}
 use Rattle.jh_mmio.specs.Dispatch.{lies_between, is_at_closed, takes_all, has_right, lets_through, by_ecam_at, by_window, window_has}
 use Rattle.jh_num.specs.Numbers.{item_number}
-use Rattle.jh_mmio.proofs.AccessLemmas.{lies_from, lies_parts}
+use Rattle.jh_mmio.proofs.Public.{lies_from, lies_parts}
 use Rattle.jh_ivshmem.specs.declared.endpoint.Endpoint.{Endpoint}
 use Rattle.jh_script.specs.declared.image.Image.{Image}
 use Rattle.jh_history.specs.declared.place.Place.{Place}
@@ -35,17 +35,13 @@ use Rattle.jh_history.specs.Grants.{is_kept, granted, behind_in, reach, devices_
 use Rattle.jh_history.specs.Lives.{cell_in, regions_in}
 use Rattle.jh_shape.specs.Lives.{configs_of}
 use Rattle.jh_history.specs.Sound.{AreSoundCells, IsSound}
-use Rattle.jh_history.proofs.AccessLemmas.{reach_by_within, reach_by_beyond, places_from_row}
-use Rattle.jh_history.proofs.PlaceLemmas.{further_none, further_next}
-use Rattle.jh_history.proofs.GrantLemmas.{place_in_cell_further}
-use Rattle.jh_history.proofs.BehindLemmas.{takes_all_subpage, kept_row, answer_within, answer_beyond}
+use Rattle.jh_history.proofs.Public.{reach_by_within, reach_by_beyond, places_from_row, further_none, further_next, place_in_cell_further, takes_all_subpage, kept_row, answer_within, answer_beyond, nothing_memory}
 use Rattle.jh_laws.specs.Grants.{may}
 use Rattle.jh_laws.specs.Held.{IsRootOrLive, IsGrantedTo, AreGrantedTo}
 use Rattle.jh_laws.specs.Ends.{HasAccess, LetsThrough, IsBehindMemory, IsAnsweredBy, IsInEcam, IsAnsweredByWindow, IsAnsweredByRegister, IsAnswered, GivesPlaces, AreItsPlaces}
 use Rattle.jh_laws.proofs.DevicesLemmas.{position_single, window_lies, window_none, found_passes}
 use Rattle.jh_laws.proofs.ListedLemmas.{places_from_listed, places_from_each, places_from_some, listed}
 use Rattle.jh_laws.proofs.HeldLemmas.{live_cell, cell_live, number_of_holds, granted_to, to_granted_holds, regions_of_live, left_free, free_left}
-use Rattle.jh_history.proofs.ReadLemmas.{nothing_memory}
 
 -- ---- memory
 

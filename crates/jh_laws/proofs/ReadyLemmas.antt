@@ -3,7 +3,7 @@ use Rattle.std.proofs.Common.{◌≡◌, ℕ, List, [], Bool, true, false, cond,
 use Rattle.std.specs.Prelude.{IsSome, option_map}
 use Rattle.std.proofs.lemmas.Bool.{false≢true, eqb-true, eq-eqb}
 use Rattle.std.proofs.lemmas.Option.{none-some, same_Some}
-use Rattle.jh_num.proofs.Booleans.{same_test}
+use Rattle.jh_num.proofs.Public.{same_test}
 use Rattle.jh_cellcfg.specs.Cells.{name_of}
 use Rattle.jh_script.specs.declared.image.Image.{Image}
 use Rattle.jh_script.specs.declared.op.Op.{Op}
@@ -20,7 +20,7 @@ use Rattle.jh_history.specs.Grants.{reach}
 use Rattle.jh_history.specs.Due.{due, act_of, await_of, irq_of, got_by, entry_by, IsLegal, IsQuiet}
 use Rattle.jh_history.specs.Admitted.{IsNoCall}
 use Rattle.jh_history.specs.Sound.{IsSound}
-use Rattle.jh_history.proofs.SoundLemmas.{legal_sound}
+use Rattle.jh_history.proofs.Public.{legal_sound}
 use Rattle.jh_laws.specs.Ends.{IsAnswered, IsReadBy, IsGotBy, IsAwaitedBy}
 use Rattle.jh_laws.specs.Outcomes.{HasItsOutcome}
 use Rattle.jh_laws.specs.Operations.{op_of, IsDueOp, IsReady, IsOwn}

@@ -35,7 +35,7 @@ use Rattle.jh_history.specs.Phases.{is_locked, is_other_locked, may_give, unless
 use Rattle.jh_shape.specs.Lives.{configs_of}
 use Rattle.jh_history.specs.Due.{due_at}
 use Rattle.jh_history.specs.Sound.{IsSound}
-use Rattle.jh_history.proofs.DuePhaseLemmas.{IsActIn, IsLater, later_open}
+use Rattle.jh_history.proofs.Public.{IsActIn, IsLater, later_open}
 
 -- each is one of the error numbers
 abbrev Fits : Option ℤ → Type 0

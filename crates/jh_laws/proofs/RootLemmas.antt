@@ -7,20 +7,18 @@ use Rattle.std.proofs.lemmas.Bool.{and_parts, and_from, eqb-true, false_from_ne_
 use Rattle.std.proofs.lemmas.Slice.Eq.{bytes_eq-Decides}
 use Rattle.std.proofs.lemmas.Option.{slice_get_within, get_or_from_slice_get}
 use Rattle.jh_num.specs.declared.address.TheConstants.{ADDRESS_END}
-use Rattle.jh_num.proofs.Lists.{find_nothing}
-use Rattle.jh_num.proofs.Booleans.{same_number}
+use Rattle.jh_num.proofs.Public.{find_nothing, same_number}
 use Rattle.jh_cellcfg.specs.declared.region.Region.{Region}
 use Rattle.jh_cellcfg.specs.Regions.{has_address, is_comm, virt_end}
-use Rattle.jh_cellcfg.proofs.AddressLemmas.{has_address_first, has_address_last}
-use Rattle.jh_check.proofs.JoinLemmas.{clean_from_nothing}
-use Rattle.jh_check.proofs.GivenLemmas.{zero_names}
+use Rattle.jh_cellcfg.proofs.Public.{has_address_first, has_address_last}
+use Rattle.jh_check.proofs.Public.{clean_from_nothing, zero_names}
 use Rattle.jh_script.specs.declared.image.Image.{Image}
 use Rattle.jh_script.specs.declared.image.Program.{Program}
 use Rattle.jh_script.specs.declared.op.Op.{Op}
 use Rattle.jh_script.specs.Operations.{IsWellFormed}
 use Rattle.jh_history.specs.Admitted.{IsAdmitted}
 use Rattle.jh_history.specs.Lives.{is_program_of, program_of, is_on_board}
-use Rattle.jh_history.proofs.AdmittedLemmas.{sound_root, program_of_plain}
+use Rattle.jh_history.proofs.Public.{sound_root, program_of_plain}
 use Rattle.jh_laws.proofs.FindLemmas.{IsOnly, find_only}
 
 abbrev pub regions : Image → List Region

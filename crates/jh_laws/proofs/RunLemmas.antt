@@ -6,16 +6,14 @@ use Rattle.std.proofs.lemmas.Bool.{false≢true, cases_lt, lt-ltb, le-ltb}
 use Rattle.std.proofs.lemmas.List.{length_push, get_or_append_left, get_or_push}
 use Rattle.std.proofs.lemmas.List.Elements.{Contains-append_left, Contains-append_right}
 use Rattle.std.proofs.lemmas.List.Kept.{IsStrictlyIncreasing-filter}
-use Rattle.jh_num.proofs.Lists.{Contains_head, Contains_filter, IsFound_from_filter}
+use Rattle.jh_num.proofs.Public.{Contains_head, Contains_filter, IsFound_from_filter}
 use Rattle.jh_script.specs.declared.image.Image.{Image}
 use Rattle.jh_history.specs.declared.entry.Entry.{Entry}
 use Rattle.jh_history.specs.Lives.{is_on_board}
 use Rattle.jh_history.specs.Due.{due, IsLegal, IsQuiet}
 use Rattle.jh_history.specs.Items.{Reached, with_due, items, played, below, rounds, cpus_of}
 use Rattle.jh_history.specs.Admitted.{IsAdmitted}
-use Rattle.jh_history.proofs.DueLemmas.{IsLegal_made}
-use Rattle.jh_history.proofs.FactsLemmas.{IsLegal_nil}
-use Rattle.jh_history.proofs.ItemsLemmas.{reached}
+use Rattle.jh_history.proofs.Public.{IsLegal_made, IsLegal_nil, reached}
 use Rattle.jh_laws.specs.Items.{ItemsLead, IsCutShort}
 use Rattle.jh_laws.proofs.RootLemmas.{few_cpus}
 use Rattle.jh_laws.proofs.ItemsLemmas.{items_append, items_append_full, items_nil, items_one, items_quiet, rounds_append, Grows, items_grows, IsQuiet_from_cpus}

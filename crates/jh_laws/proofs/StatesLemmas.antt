@@ -35,20 +35,14 @@ use Rattle.jh_history.specs.Cpus.{acted, changed, change_if, begun as begun_cpu,
 use Rattle.jh_history.specs.History.{facts}
 use Rattle.jh_shape.specs.Lives.{configs_of}
 use Rattle.jh_history.specs.Due.{is_idle_but, IsLegal}
-use Rattle.jh_history.proofs.FactsLemmas.{facts_push}
-use Rattle.jh_history.proofs.LegalLemmas.{due_split, IsLegal_begin}
+use Rattle.jh_history.proofs.Public.{facts_push, due_split, IsLegal_begin, configs_joined, legal_sound, after_cells, call_open, few_operations}
 use Rattle.jh_history.specs.Sound.{IsCaller, IsInPhase}
 use Rattle.jh_laws.specs.Ways.{is_phase, is_agreement, call_begun, begun}
 use Rattle.jh_laws.specs.Moves.{stepped, ended}
 use Rattle.jh_laws.specs.Outcomes.{is_violation}
 use Rattle.jh_laws.specs.States.{changes_others, is_stop_act, HasBegun, HasAgreed, HasCommitted, HasFinished}
-use Rattle.jh_history.proofs.SoundCommitLemmas.{configs_joined}
-use Rattle.jh_history.proofs.SoundLemmas.{legal_sound}
-use Rattle.jh_history.proofs.PlainStepLemmas.{after_cells}
 use Rattle.jh_laws.proofs.CallLemmas.{Expects, phase_expects, phase_of_due, begun_of, not_same, IsMadeBy, Stopping, Running as Runs, Calling, made_by, phase_call}
 use Rattle.jh_laws.proofs.FactsLemmas.{cpu_after_holds}
-use Rattle.jh_history.proofs.DueComesLemmas.{call_open}
-use Rattle.jh_history.proofs.AdmittedLemmas.{few_operations}
 
 -- CPU i behind an entry
 pub behind_cpu : (image : Image) (before : List Entry) (entry : Entry) (i : ℕ) → (facts image (before ++ entry ∷ [])).cpu i ≡ acted image (facts image before).call entry.act entry.cpu i ((facts image before).cpu i)

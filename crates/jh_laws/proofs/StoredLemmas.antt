@@ -20,8 +20,7 @@ use Rattle.jh_history.specs.Access.{place_in_cell, write_of, or_behind, with_slo
 use Rattle.jh_history.specs.Facts.{Facts}
 use Rattle.jh_history.specs.Grants.{is_kept, granted, behind_in, reach, devices_of}
 use Rattle.jh_history.specs.Lives.{regions_in}
-use Rattle.jh_history.proofs.AccessLemmas.{reach_by_within, reach_by_beyond}
-use Rattle.jh_history.proofs.BehindLemmas.{answer_beyond}
+use Rattle.jh_history.proofs.Public.{reach_by_within, reach_by_beyond, answer_beyond}
 use Rattle.jh_shape.specs.Lives.{configs_of}
 use Rattle.jh_history.specs.Sound.{AreSoundCells, IsSound}
 use Rattle.jh_laws.specs.Grants.{place_behind}

@@ -8,7 +8,7 @@ use Rattle.std.proofs.lemmas.List.Elements.{All-contains}
 use Rattle.std.proofs.lemmas.Option.{none-some, same_Some}
 use Rattle.jh_num.specs.declared.error.TheConstants.{EPERM, ENOENT, EINVAL, ENOSYS}
 use Rattle.jh_num.specs.Memory.{little_endian}
-use Rattle.jh_num.proofs.MemoryLemmas.{zero_fits}
+use Rattle.jh_num.proofs.Public.{zero_fits}
 use Rattle.jh_cellcfg.specs.declared.live.Live.{Live}
 use Rattle.jh_check.specs.Devices.{is_shmem}
 use Rattle.jh_cpu.specs.declared.cpu.Cpu.{Cpu}
@@ -24,7 +24,7 @@ use Rattle.jh_ivshmem.specs.declared.vector.Vector.{Vector}
 use Rattle.jh_ivshmem.specs.declared.spec.EndpointSpec.{EndpointSpec}
 use Rattle.jh_ivshmem.specs.Endpoint.{fresh_vector}
 use Rattle.jh_ivshmem.specs.Links.{pending_of}
-use Rattle.jh_ivshmem.proofs.NamedLemmas.{named_device}
+use Rattle.jh_ivshmem.proofs.Public.{named_device}
 use Rattle.jh_script.specs.declared.image.Image.{Image}
 use Rattle.jh_script.specs.declared.op.Op.{Op}
 use Rattle.jh_script.specs.declared.op.Op.TheVariants.{Read as ReadOp, Write as WriteOp, Fetch as FetchOp, Await as AwaitOp, Irq as IrqOp, Hvc as HvcOp}
@@ -46,12 +46,7 @@ use Rattle.jh_history.specs.Hypercalls.{seen_of}
 use Rattle.jh_history.specs.Lives.{cell_in}
 use Rattle.jh_shape.specs.Lives.{configs_of}
 use Rattle.jh_history.specs.Sound.{IsInPhase, IsOfDevice, IsSoundEndpoint, IsSound}
-use Rattle.jh_history.proofs.DuePhaseLemmas.{IsActIn, phase_act_holds}
-use Rattle.jh_history.proofs.LegalLemmas.{due_split, IsLegal_begin}
-use Rattle.jh_history.proofs.SoundDecideLemmas.{board_few}
-use Rattle.jh_history.proofs.SoundDueLemmas.{next_from_due}
-use Rattle.jh_history.proofs.SoundLemmas.{legal_sound}
-use Rattle.jh_history.proofs.SpecsLemmas.{specs_device}
+use Rattle.jh_history.proofs.Public.{IsActIn, phase_act_holds, due_split, IsLegal_begin, board_few, next_from_due, legal_sound, specs_device, call_open}
 use Rattle.jh_laws.specs.Grants.{place_behind}
 use Rattle.jh_laws.specs.Held.{IsGrantedTo}
 use Rattle.jh_laws.specs.Ends.{IsAnswered, IsAnsweredByWindow, IsReadBy, IsGotBy}
@@ -64,7 +59,6 @@ use Rattle.jh_laws.proofs.FewLemmas.{length_map}
 use Rattle.jh_laws.proofs.PendingLemmas.{endpoint_of_pending, next_is}
 use Rattle.jh_laws.proofs.RefusalLemmas.{FitsRefusal, refusal_fits}
 use Rattle.jh_laws.proofs.RegisterLemmas.{HasRegisters, register_small}
-use Rattle.jh_history.proofs.DueComesLemmas.{call_open}
 
 -- ---- the value of an access
 

@@ -12,8 +12,7 @@ use Rattle.jh_ivshmem.specs.Endpoint.{fresh_vector, is_open, raised, taken, vect
 use Rattle.jh_ivshmem.specs.Registers.{register_written}
 use Rattle.jh_ivshmem.specs.Specs.{is_device, is_peer}
 use Rattle.jh_ivshmem.specs.Links.{endpoint_at, is_pending, rung, state_written, told_of, written}
-use Rattle.jh_ivshmem.proofs.ChangeLemmas.{raised_spec, taken_spec, register_written_spec}
-use Rattle.jh_ivshmem.proofs.NamedLemmas.{named_cell, named_device}
+use Rattle.jh_ivshmem.proofs.Public.{raised_spec, taken_spec, register_written_spec, named_cell, named_device}
 use Rattle.jh_vpci.specs.Writes.{written as config_written}
 use Rattle.jh_script.specs.declared.image.Image.{Image}
 use Rattle.jh_history.specs.declared.access.Access.TheVariants.{Write as ToWrite}
@@ -31,9 +30,7 @@ use Rattle.jh_history.specs.Facts.{Facts}
 use Rattle.jh_history.specs.Grants.{reach, devices_of}
 use Rattle.jh_history.specs.History.{after, facts}
 use Rattle.jh_history.specs.Sound.{IsSound}
-use Rattle.jh_history.proofs.FactsLemmas.{facts_push, facts_nil}
-use Rattle.jh_history.proofs.LegalLemmas.{due_split, IsLegal_begin}
-use Rattle.jh_history.proofs.SoundLemmas.{legal_sound}
+use Rattle.jh_history.proofs.Public.{facts_push, facts_nil, due_split, IsLegal_begin, legal_sound}
 use Rattle.jh_history.specs.Commits.{is_commit}
 use Rattle.jh_laws.specs.Vectors.{IsPendingIn, Raises, Clears, Drops, written_part, IsKeptByOthers}
 use Rattle.jh_laws.proofs.ClearLemmas.{IsClear, IsJoin, IsIdle, commit_cases, IsCleared, commit_now}

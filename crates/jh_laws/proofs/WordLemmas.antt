@@ -4,7 +4,7 @@ use Rattle.std.specs.Prelude.{◌⊎◌, Contains}
 use Rattle.std.specs.Option.{option_map_or}
 use Rattle.std.proofs.lemmas.Bool.{both_ways, and_parts, cases_lt, eqb-true, eq-eqb, ne_eqb, not-true, false≢true}
 use Rattle.std.proofs.lemmas.Option.{none-some, same_Some}
-use Rattle.jh_num.proofs.Lists.{Contains_head, Contains_tail, Contains_cases}
+use Rattle.jh_num.proofs.Public.{Contains_head, Contains_tail, Contains_cases}
 use Rattle.jh_cellcfg.specs.declared.config.CellConfig.{CellConfig}
 use Rattle.jh_cellcfg.specs.declared.live.Live.{Live}
 use Rattle.jh_ivshmem.specs.declared.spec.EndpointSpec.{EndpointSpec}
@@ -22,8 +22,7 @@ use Rattle.jh_history.specs.Devices.{specs_of}
 use Rattle.jh_history.specs.Places.{is_physical, number_of, places_in_row, written}
 use Rattle.jh_history.specs.Access.{with_slot}
 use Rattle.jh_history.specs.Endpoints.{changing_at, changing_by, specs_changing, with_words}
-use Rattle.jh_history.proofs.FactsLemmas.{same_function}
-use Rattle.jh_history.proofs.PlaceLemmas.{written_over}
+use Rattle.jh_history.proofs.Public.{same_function, written_over}
 use Rattle.jh_history.specs.Commits.{is_commit}
 use Rattle.jh_laws.proofs.ListedLemmas.{over_at, over_other, listed}
 

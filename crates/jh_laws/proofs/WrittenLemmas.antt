@@ -3,7 +3,7 @@ use Rattle.std.proofs.Common.{◌≡◌, ◌≢◌, ℕ, zero, suc, ◌+◌, ◌
 use Rattle.std.specs.Prelude.{Contains, slice_get, nat_lt, nat_le}
 use Rattle.std.proofs.lemmas.Bool.{both_ways, and_parts, and_from, eqb-true, false≢true, true≢false, lt-ltb, ltb-true, le-leb, false_from_ne_true}
 use Rattle.std.proofs.lemmas.Option.{none-some, same_Some, slice_get-get_or}
-use Rattle.jh_num.proofs.Booleans.{same_number}
+use Rattle.jh_num.proofs.Public.{same_number}
 use Rattle.jh_cellcfg.specs.declared.config.CellConfig.{CellConfig}
 use Rattle.jh_cellcfg.specs.declared.live.Live.{Live}
 use Rattle.jh_cellcfg.specs.declared.region.Region.{Region}
@@ -34,9 +34,7 @@ use Rattle.jh_history.specs.History.{facts}
 use Rattle.jh_shape.specs.Lives.{configs_of}
 use Rattle.jh_history.specs.Due.{IsLegal}
 use Rattle.jh_history.specs.Admitted.{IsAdmitted}
-use Rattle.jh_history.proofs.FactsLemmas.{same_function}
-use Rattle.jh_history.proofs.PlaceLemmas.{written_over}
-use Rattle.jh_history.proofs.LegalLemmas.{IsLegal_begin}
+use Rattle.jh_history.proofs.Public.{same_function, written_over, IsLegal_begin, place_in_cell_further, legal_sound}
 use Rattle.jh_history.specs.Sound.{AreSoundCells, IsSound}
 use Rattle.jh_laws.specs.Grants.{IsGranted}
 use Rattle.jh_laws.specs.Held.{IsRootOrLive, IsGrantedTo}
@@ -48,9 +46,7 @@ use Rattle.jh_laws.proofs.HeldLemmas.{live_cell, number_of_holds}
 use Rattle.jh_laws.proofs.EndsLemmas.{IsSmallAct, small_at}
 use Rattle.jh_laws.proofs.StoredLemmas.{byte_put, write_stored, register_stored, IsStored, IsWord, placed}
 use Rattle.jh_laws.proofs.WordLemmas.{IsByteAt, IsApart, state_word, value_fits, state_put, slot_at, slot_other, zero_byte, words_put, words_kept, words_page, specs_none}
-use Rattle.jh_history.proofs.GrantLemmas.{place_in_cell_further}
 use Rattle.jh_laws.proofs.PlacesHeldLemmas.{physical_kept, byte_behind}
-use Rattle.jh_history.proofs.SoundLemmas.{legal_sound}
 use Rattle.jh_history.specs.Commits.{is_commit}
 
 -- ---- no two addresses of a cell have one place

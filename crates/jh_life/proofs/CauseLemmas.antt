@@ -6,15 +6,14 @@ use Rattle.std.specs.Cmp.Lexicographic.{pointwise, same_text, other_text}
 use Rattle.std.proofs.lemmas.Bool.{false≢true, cases_lt, cases_Bool, eq-eqb, eqb-true, ltb-true, lt-ltb, and_parts, and_from, or_cases, or_left, or_right, not-true, not_from_false, false_from_ne_true}
 use Rattle.std.proofs.lemmas.Option.{none-some, same_Some}
 use Rattle.jh_num.specs.declared.error.TheConstants.{EBUSY, EEXIST, EINVAL, ENOMEM, EPERM}
-use Rattle.jh_num.proofs.Lists.{IsFound_from_list_any, list_any_from_Contains}
+use Rattle.jh_num.proofs.Public.{IsFound_from_list_any, list_any_from_Contains}
 use Rattle.jh_cellcfg.specs.declared.config.CellConfig.{CellConfig}
 use Rattle.jh_cellcfg.specs.Cells.{name_of}
 use Rattle.jh_check.specs.declared.finding.Finding.{Finding}
 use Rattle.jh_check.specs.Findings.{findings}
 use Rattle.jh_check.specs.Refusals.{is_namesake, is_known, names_beyond, by_check, refusal_of}
 use Rattle.jh_check.specs.Verdicts.{names, is_overlap, is_invalid, is_busy, verdict_by, verdict_of}
-use Rattle.jh_check.proofs.RefusalLemmas.{beyond_named, named_beyond}
-use Rattle.jh_check.proofs.RuleLemmas.{broken_from_listed, listed_from_broken}
+use Rattle.jh_check.proofs.Public.{beyond_named, named_beyond, broken_from_listed, listed_from_broken}
 use Rattle.jh_num.specs.Bits.{has_bit}
 use Rattle.jh_shape.specs.Pages.{pages_of}
 use Rattle.jh_life.specs.Seen.{Seen}

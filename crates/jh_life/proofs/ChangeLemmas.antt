@@ -8,7 +8,7 @@ use Rattle.std.proofs.lemmas.Option.{none-some, same_Some}
 use Rattle.std.proofs.lemmas.List.{get_or-map, length-map}
 use Rattle.std.proofs.lemmas.List.Folds.{find-append}
 use Rattle.std.specs.Cmp.Lexicographic.{pointwise}
-use Rattle.jh_num.proofs.Lists.{find_map, IsFound_from_find}
+use Rattle.jh_num.proofs.Public.{find_map, IsFound_from_find}
 use Rattle.jh_cellcfg.specs.declared.config.CellConfig.{CellConfig}
 use Rattle.jh_cellcfg.specs.declared.live.Live.{Live}
 use Rattle.jh_cellcfg.specs.Cells.{name_of}
@@ -16,7 +16,7 @@ use Rattle.jh_cellcfg.specs.Lives.{has_id}
 use Rattle.jh_check.specs.Refusals.{AreTwo}
 use Rattle.jh_life.specs.Lives.{new_live, marks_of}
 use Rattle.jh_shape.specs.Lives.{configs_of, marked}
-use Rattle.jh_shape.proofs.JoinedLemmas.{config_marked}
+use Rattle.jh_shape.proofs.Public.{config_marked}
 use Rattle.jh_life.specs.Changes.{CellChange, Created, Dropped, Marked, without, after, live_after, AreNew}
 
 -- ---- one cell with an id

@@ -7,13 +7,13 @@ use Rattle.std.proofs.lemmas.List.{length_push, map_push, get_or-map}
 use Rattle.std.proofs.lemmas.List.Edits.{length-remove}
 use Rattle.std.proofs.lemmas.List.Sums.{sum_by_push, sum_by-remove}
 use Rattle.std.proofs.lemmas.List.Quantifiers.{all_pairs_push, all_pairs_remove}
-use Rattle.jh_num.proofs.Lists.{list_any_false, read_again}
+use Rattle.jh_num.proofs.Public.{list_any_false, read_again}
 use Rattle.jh_cellcfg.specs.declared.config.CellConfig.{CellConfig}
 use Rattle.jh_check.specs.Refusals.{is_namesake, is_known, AreTwo}
 use Rattle.jh_life.specs.Lives.{marks_of}
 use Rattle.jh_shape.specs.Lives.{with_marks}
 use Rattle.jh_life.specs.SoundRecords.{AreSoundRecords}
-use Rattle.jh_shape.proofs.PageLemmas.{own_pages}
+use Rattle.jh_shape.proofs.Public.{own_pages}
 
 pub marks_joined : (configs : List CellConfig) (marks : List Bool) → length marks ≡ length configs → marks_of (with_marks configs marks) ≡ marks
 marks_joined [] [] e = refl

@@ -4,10 +4,10 @@ use Rattle.std.specs.Prelude.{AllPairs, Contains}
 use Rattle.std.proofs.lemmas.Bool.{both_ways, cases_order}
 use Rattle.std.proofs.lemmas.List.{get_or_default}
 use Rattle.std.proofs.lemmas.List.Elements.{All-contains}
-use Rattle.jh_num.proofs.Lists.{Contains_cases, Contains_head, Contains_tail}
+use Rattle.jh_num.proofs.Public.{Contains_cases, Contains_head, Contains_tail}
 use Rattle.jh_cellcfg.specs.declared.region.Region.{Region}
 use Rattle.jh_cellcfg.specs.Regions.{is_comm, place_in, byte_in}
-use Rattle.jh_cellcfg.proofs.AddressLemmas.{has_address_first}
+use Rattle.jh_cellcfg.proofs.Public.{has_address_first}
 use Rattle.jh_map.specs.declared.run.Run.{Run}
 use Rattle.jh_map.specs.Maps.{is_granted, leads_to, IsIn, IsRunOf, IsRunIn, EndsBefore, IsMap}
 use Rattle.jh_map.proofs.MapLemmas.{first_granted, granted_has}

@@ -1,4 +1,5 @@
 mod ListLemmas
-pub mod MapLemmas
+mod MapLemmas
 mod RunLemmas
 mod AlikeLemmas
+pub mod Public

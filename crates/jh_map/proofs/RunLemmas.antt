@@ -7,11 +7,10 @@ use Rattle.std.proofs.lemmas.List.{get_or-map, get_or_default, length-map}
 use Rattle.std.proofs.lemmas.List.Elements.{All-nil, All-cons, All-map, Contains-get_or}
 use Rattle.jh_num.specs.declared.range.Range.{Range}
 use Rattle.jh_num.specs.Bytes.{in_range, has_byte, AreApart}
-use Rattle.jh_num.proofs.BytesLemmas.{within_range, not_empty_at, ends_before}
-use Rattle.jh_num.proofs.Lists.{IsFound_from_list_any, list_any_from_Contains, Contains_map, Contains_head}
+use Rattle.jh_num.proofs.Public.{within_range, not_empty_at, ends_before, IsFound_from_list_any, list_any_from_Contains, Contains_map, Contains_head}
 use Rattle.jh_cellcfg.specs.declared.region.Region.{Region}
 use Rattle.jh_cellcfg.specs.Regions.{has_address, has_place, is_comm, place_in, byte_in, virt_end, phys_end, IsInRange}
-use Rattle.jh_cellcfg.proofs.AddressLemmas.{has_address_first, has_address_last, has_address_from}
+use Rattle.jh_cellcfg.proofs.Public.{has_address_first, has_address_last, has_address_from}
 use Rattle.jh_map.specs.declared.run.Run.{Run}
 use Rattle.jh_map.specs.Maps.{is_granted, IsRunOf, IsRunIn, IsInRun, EndsBefore, IsMap}
 use Rattle.jh_map.specs.Private.Places.{AreFree, run_to}

@@ -4,8 +4,7 @@ use Rattle.std.specs.Prelude.{Contains}
 use Rattle.std.specs.List.{list_any, range_with_len, list_all}
 use Rattle.std.proofs.lemmas.Bool.{leb-true, ltb-true, lt-ltb, le-leb, and_parts, and_from}
 use Rattle.std.proofs.lemmas.List.FromFn.{get_or-range_with_len, length-range_with_len}
-use Rattle.jh_num.proofs.Booleans.{same_test}
-use Rattle.jh_num.proofs.Lists.{list_all_each, IsFound_from_list_any, list_any_from_Contains, Contains_cases}
+use Rattle.jh_num.proofs.Public.{same_test, list_all_each, IsFound_from_list_any, list_any_from_Contains, Contains_cases}
 use Rattle.jh_num.specs.declared.range.Range.{Range}
 use Rattle.jh_num.specs.Bytes.{has_byte}
 use Rattle.jh_cellcfg.specs.declared.region.Region.{Region}

@@ -4,11 +4,11 @@ use Rattle.std.specs.Prelude.{find, position, slice_get}
 use Rattle.std.specs.Option.{option_map_or}
 use Rattle.std.proofs.lemmas.Bool.{and_parts, and_from, not-true, false_from_ne_true, both_ways}
 use Rattle.std.proofs.lemmas.Option.{none-some, same_Some, slice_get-get_or}
-use Rattle.jh_num.proofs.Lists.{IsFound_from_find, find_None, position_here, position_nowhere}
+use Rattle.jh_num.proofs.Public.{IsFound_from_find, find_None, position_here, position_nowhere}
 use Rattle.jh_num.specs.declared.range.Range.{Range}
 use Rattle.jh_cellcfg.specs.declared.region.Region.{Region}
 use Rattle.jh_cellcfg.specs.Regions.{has_address, has_size, is_page_mapped, virt_end}
-use Rattle.jh_cellcfg.proofs.AddressLemmas.{has_address_from}
+use Rattle.jh_cellcfg.proofs.Public.{has_address_from}
 use Rattle.jh_mmio.specs.declared.hitting.Window.{Window}
 use Rattle.jh_mmio.specs.declared.hitting.Hitting.TheVariants.{Subpage, Nothing}
 use Rattle.jh_mmio.specs.Index.{IsNumberAt, IsRegionAt}

@@ -9,7 +9,7 @@ use Rattle.std.proofs.lemmas.Option.{slice_get_within, get_or_from_slice_get, sl
 use Rattle.std.proofs.lemmas.List.Sorted.{Contains-permutation, All-permutation}
 use Rattle.jh_cellcfg.specs.declared.region.Region.{Region}
 use Rattle.jh_cellcfg.specs.Regions.{has_address, SharesNoAddress}
-use Rattle.jh_cellcfg.proofs.AddressLemmas.{has_address_first, has_address_last, has_address_from}
+use Rattle.jh_cellcfg.proofs.Public.{has_address_first, has_address_last, has_address_from}
 use Rattle.jh_mmio.specs.Index.{IsNumberAt, AreNumbers, IsOrder, size_at, start_at}
 
 pub leb_at : (a b : ℕ) → leb a b ≡ true → a ≤ b

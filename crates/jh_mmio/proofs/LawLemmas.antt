@@ -6,11 +6,11 @@ use Rattle.std.specs.Option.{option_map_or}
 use Rattle.std.proofs.lemmas.Bool.{ltb-true, and_parts, false_from_ne_true, both_ways}
 use Rattle.std.proofs.lemmas.Option.{none-some, same_Some, slice_get-get_or, slice_get_within, get_or_from_slice_get}
 use Rattle.std.proofs.lemmas.List.Sums.{passes_at_first}
-use Rattle.jh_num.proofs.Lists.{list_any_from_Contains, position_here}
+use Rattle.jh_num.proofs.Public.{list_any_from_Contains, position_here}
 use Rattle.jh_num.specs.declared.range.Range.{Range}
 use Rattle.jh_cellcfg.specs.declared.region.Region.{Region}
 use Rattle.jh_cellcfg.specs.Regions.{has_address, has_size, is_page_mapped, is_comm, place_in, virt_end, SharesNoAddress}
-use Rattle.jh_cellcfg.proofs.AddressLemmas.{no_region}
+use Rattle.jh_cellcfg.proofs.Public.{no_region}
 use Rattle.jh_mmio.specs.declared.hitting.Window.{Window}
 use Rattle.jh_mmio.specs.declared.hitting.Hitting.TheVariants.{Subpage, Ecam, Bar, Nothing}
 use Rattle.jh_mmio.specs.Dispatch.{IsLetThrough, lies_between, is_at_closed, takes_all, lets_through, by_subpage, by_ecam, by_window, window_has, behind_regions, hitting}

@@ -1,4 +1,5 @@
-pub mod IndexLemmas
-pub mod AccessLemmas
+mod IndexLemmas
+mod AccessLemmas
 mod HittingLemmas
 mod LawLemmas
+pub mod Public

@@ -1,4 +1,4 @@
-pub mod BytesLemmas
+mod BytesLemmas
 mod InsertLemmas
 mod StepsLemmas
 mod MeetingLemmas
@@ -6,7 +6,8 @@ mod MergeLemmas
 mod RemoveLemmas
 mod ReadLemmas
 mod SearchLemmas
-pub mod MemoryLemmas
-pub mod Booleans
-pub mod Lists
-pub mod Results
+mod MemoryLemmas
+mod Booleans
+mod Lists
+mod Results
+pub mod Public

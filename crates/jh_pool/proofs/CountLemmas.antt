@@ -5,7 +5,7 @@ use Rattle.std.specs.Prelude.{map, ◌↔◌, not}
 use Rattle.std.proofs.lemmas.Bool.{cases_eq}
 use Rattle.std.proofs.lemmas.Bool.Decides.{nat_tests}
 use Rattle.std.proofs.lemmas.List.Sums.{sum_by-cons}
-use Rattle.jh_num.proofs.Booleans.{count_few}
+use Rattle.jh_num.proofs.Public.{count_few}
 use Rattle.jh_pool.specs.Pages.{IsPageIn, IsTakenPage}
 use Rattle.jh_pool.specs.SoundPool.{often, IsSoundPool}
 use Rattle.jh_pool.proofs.ListLemmas.{often_from_any, none_from_any}

@@ -6,7 +6,7 @@ use Rattle.jh_script.specs.declared.image.Image.{Image}
 use Rattle.jh_history.specs.declared.entry.Entry.{Entry}
 use Rattle.jh_history.specs.Due.{due, IsQuiet}
 use Rattle.jh_history.specs.Items.{Reached, items, played, cpus_of, rounds}
-use Rattle.jh_history.proofs.ItemsLemmas.{reached}
+use Rattle.jh_history.proofs.Public.{reached}
 use Rattle.jh_laws.specs.Items.{ItemsLead, IsCutShort}
 use Rattle.jh_board.specs.BoardView.{BoardView}
 use Rattle.jh_run.specs.declared.ended.Ended.{Ended}
@@ -14,7 +14,7 @@ use Rattle.jh_run.specs.declared.ended.Ended.TheVariants.{Quiet, Full}
 use Rattle.jh_run.specs.Ends.{is_full}
 use Rattle.jh_run.specs.Private.Ran.{Ran}
 use Rattle.jh_run.specs.Plays.{IsBoardOf, Follows, Plays, IsFullAtItem, IsFullAtCpu}
-use Rattle.jh_laws.proofs.ReadyLemmas.{some_none}
+use Rattle.jh_laws.proofs.Public.{some_none}
 
 -- the laws on items, as they are stated
 abbrev pub LeadLaw : Type 0

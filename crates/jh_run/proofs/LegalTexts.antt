@@ -26,7 +26,7 @@ use Rattle.jh_text.specs.Faults.{IsFault, IsFirstBadLine, IsJournalText, IsTooLo
 use Rattle.jh_text.specs.Ranges.{IsReadable, IsReadableAct}
 use Rattle.jh_text.specs.Text.{journal_text}
 use Rattle.jh_run.specs.Typed.{IsTypedOp, HasTypedNumbers}
-use Rattle.jh_history.proofs.AdmittedLemmas.{program_of_all}
+use Rattle.jh_history.proofs.Public.{program_of_all}
 
 -- the laws of journals that this stands on
 pub record JournalLaws : Type 0 where

@@ -1,4 +1,4 @@
-pub mod RunLemmas
+mod RunLemmas
 mod RanLemmas
 mod EndLemmas
 mod LegalTexts

@@ -4,7 +4,7 @@ use Rattle.std.specs.Prelude.{Contains, find, option_map}
 use Rattle.std.proofs.lemmas.Bool.{eq-eqb, both_ways}
 use Rattle.std.proofs.lemmas.List.{append-nil}
 use Rattle.std.proofs.lemmas.Option.{none-some}
-use Rattle.jh_num.proofs.Lists.{Contains_cases, Contains_from_map, find_None}
+use Rattle.jh_num.proofs.Public.{Contains_cases, Contains_from_map, find_None}
 use Rattle.jh_cellcfg.specs.declared.config.CellConfig.{CellConfig}
 use Rattle.jh_cellcfg.specs.declared.live.Live.{Live}
 use Rattle.jh_cellcfg.specs.declared.region.Region.{Region}

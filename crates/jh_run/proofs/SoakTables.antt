@@ -4,7 +4,7 @@ use Rattle.std.proofs.lemmas.Bool.Decides.{nat_tests}
 use Rattle.jh_shape.specs.Claims.{Claims}
 use Rattle.jh_shape.specs.Shapes.{is_table}
 use Rattle.jh_shape.specs.Pages.{count_below, tables_at, tables_of, root_claims}
-use Rattle.jh_shape.proofs.CountLemmas.{count_below_le}
+use Rattle.jh_shape.proofs.Public.{count_below_le}
 use Rattle.jh_history.specs.Admitted.{root_pages, pool_pages}
 use Rattle.jh_run.specs.Soak.{region, soak_system}
 

@@ -6,7 +6,7 @@ use Rattle.jh_history.specs.declared.entry.Entry.{Entry}
 use Rattle.jh_script.specs.declared.image.Image.{Image}
 use Rattle.jh_history.specs.Lives.{is_on_board}
 use Rattle.jh_history.specs.Due.{due, due_at, IsQuiet}
-use Rattle.jh_history.proofs.DueLemmas.{by_cpu}
+use Rattle.jh_history.proofs.Public.{by_cpu}
 use Rattle.jh_turn.specs.Histories.{Grows}
 use Rattle.jh_board.specs.BoardView.{BoardView}
 use Rattle.jh_board.specs.Turns.{Turns, Refuses}

@@ -1,6 +1,7 @@
 mod GrammarLemmas
 mod LawLemmas
-pub mod NumberLemmas
+mod NumberLemmas
 mod OperationLemmas
 mod ProgramLemmas
 mod WordLemmas
+pub mod Public

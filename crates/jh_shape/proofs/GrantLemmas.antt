@@ -9,7 +9,7 @@ use Rattle.std.proofs.lemmas.List.Elements.{All-contains, All-contains_itself}
 use Rattle.std.proofs.lemmas.List.Folds.{list_any_at, Any-from_list_any}
 use Rattle.jh_cellcfg.specs.declared.region.Region.{Region}
 use Rattle.jh_cellcfg.specs.Regions.{virt_end, phys_end, has_address, has_place, place_in, is_comm, is_page_mapped, is_unshared, is_loadable, is_device, rights_of}
-use Rattle.jh_cellcfg.proofs.AddressLemmas.{same_region}
+use Rattle.jh_cellcfg.proofs.Public.{same_region}
 use Rattle.jh_shape.specs.declared.want.Want.{Want}
 use Rattle.jh_shape.specs.declared.want.Want.TheVariants.{Nothing, Leaf}
 use Rattle.jh_shape.specs.Claims.{Claims, Holder}
@@ -20,7 +20,7 @@ use Rattle.jh_shape.specs.Suits.{IsFit, IsWhole, AreSoundClaims, IsSlot}
 use Rattle.jh_num.specs.declared.rights.Rights.{Rights}
 use Rattle.jh_shape.specs.Grants.{place_at, IsGranted, TellsGrants}
 use Rattle.jh_shape.proofs.WantLemmas.{LeafBy, found, leaf_parts, is_none_find}
-use Rattle.jh_num.proofs.Booleans.{same_test}
+use Rattle.jh_num.proofs.Public.{same_test}
 
 -- the place of a later slot
 place_later : (region : Region) (start at : ℕ) → region.virt_start ≤ start → place_in region (start + at) ≡ place_in region start + at

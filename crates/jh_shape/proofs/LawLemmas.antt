@@ -4,7 +4,7 @@ use Rattle.std.specs.List.{list_any, Contains}
 use Rattle.std.specs.Option.{is_none}
 use Rattle.std.proofs.lemmas.Bool.{and_parts, and_from, or_cases, or_left, or_right, leb-true, ltb-true, le-leb, lt-ltb, lt-leb, le-ltb, eqb-true, eq-eqb, cases_lt, cases_eq, not-true, not_from_false, both_ways, false_from_ne_true}
 use Rattle.std.proofs.lemmas.Nat.{pow_pos}
-use Rattle.jh_num.proofs.Lists.{IsFound_from_list_any, list_any_from_Contains, list_any_map}
+use Rattle.jh_num.proofs.Public.{IsFound_from_list_any, list_any_from_Contains, list_any_map, within_both}
 use Rattle.jh_cellcfg.specs.declared.live.Live.{Live}
 use Rattle.jh_cellcfg.specs.declared.region.Region.{Region}
 use Rattle.jh_cellcfg.specs.Regions.{virt_end, phys_end, has_address, has_place, place_in, is_page_mapped, is_comm, is_unshared, is_loadable, may_have_blocks}
@@ -17,7 +17,6 @@ use Rattle.jh_shape.specs.Pages.{count_below, tables_at, tables_of}
 use Rattle.jh_shape.specs.Shapes.{holder_of_live, is_mapped, meets_in_part, are_cut, takes, is_closed, is_aligned_alike, fits_blocks, may_be_block, is_leaf_by, is_leaf, is_met, is_met_by, is_table, leaf_region, is_kept_from, want_from, want_of}
 use Rattle.jh_shape.proofs.WantLemmas.{is_none_find}
 use Rattle.jh_num.specs.Levels.{slot_size}
-use Rattle.jh_num.proofs.Booleans.{within_both}
 
 -- a slot has an address
 pub size_some : (level : ℕ) → 0 < slot_size level

@@ -1,10 +1,11 @@
 mod HoldersLemmas
 mod WantLemmas
 mod WordLemmas
-pub mod CountLemmas
-pub mod PageLemmas
-pub mod OrderLemmas
+mod CountLemmas
+mod PageLemmas
+mod OrderLemmas
 mod GrantLemmas
-pub mod LawLemmas
+mod LawLemmas
 mod MarkLemmas
-pub mod JoinedLemmas
+mod JoinedLemmas
+pub mod Public

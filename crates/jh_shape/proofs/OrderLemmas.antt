@@ -16,7 +16,7 @@ use Rattle.jh_shape.specs.Intervals.{spans}
 use Rattle.jh_shape.specs.Shapes.{is_mapped, meets_in_part, are_cut, fits_blocks, may_be_block, is_leaf_by, is_leaf, is_met, is_met_by, is_table}
 use Rattle.jh_num.specs.Levels.{slot_size}
 use Rattle.jh_shape.specs.Pages.{count_below, tables_at, tables_from, tables_of, holder_of, root_claims, cell_claims, pages_of}
-use Rattle.jh_num.proofs.Booleans.{same_test}
+use Rattle.jh_num.proofs.Public.{same_test}
 use Rattle.jh_shape.proofs.HoldersLemmas.{are_cut_append}
 
 -- a test that passes wherever another does

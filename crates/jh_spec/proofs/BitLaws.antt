@@ -5,7 +5,7 @@ use Rattle.std.specs.Int.{bit_at}
 use Rattle.std.proofs.lemmas.Bool.{cases_lt, eqb-true, eq-eqb, false≢true}
 use Rattle.std.proofs.lemmas.List.{get_or_append_left, get_or_push}
 use Rattle.std.proofs.lemmas.Option.{same_Some, none-some}
-use Rattle.jh_num.proofs.Lists.{IsFound_from_list_any, list_any_from_Contains}
+use Rattle.jh_num.proofs.Public.{IsFound_from_list_any, list_any_from_Contains}
 use Rattle.serde_json.specs.Data.{Data}
 use Rattle.jh_spec.specs.Json.{list_told}
 use Rattle.jh_spec.specs.Fields.{u64_told}

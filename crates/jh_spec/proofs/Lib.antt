@@ -1,6 +1,6 @@
 mod Unlisted
 mod Marks
-pub mod ListsTold
+mod ListsTold
 mod NamesTold
 mod Steps
 mod Roots
@@ -8,3 +8,4 @@ mod KindTold
 mod FieldLaws
 mod FaultLaws
 mod BitLaws
+pub mod Public

@@ -6,7 +6,7 @@ use Rattle.std.specs.List.{list_any}
 use Rattle.std.specs.Cmp.Lexicographic.{pointwise}
 use Rattle.serde_json.specs.declared.value.Value.{Value}
 use Rattle.serde_json.specs.View.{members_view}
-use Rattle.jh_num.proofs.Lists.{list_any_map}
+use Rattle.jh_num.proofs.Public.{list_any_map}
 use Rattle.jh_spec.specs.Json.{first_unlisted}
 
 abbrev pub key_unlisted : List (List ℕ) → List (String Global) → Option (List ℕ)

@@ -8,7 +8,7 @@ use Rattle.jh_cellcfg.specs.declared.fault.ConfigFault.{ConfigFault}
 use Rattle.jh_cellcfg.specs.declared.fault.ConfigFault.TheVariants.{Short}
 use Rattle.jh_cellcfg.specs.Faults.{fault_if, first_of, body_fault, refusal}
 use Rattle.jh_cellcfg.specs.Spelling.{u16_bytes, body_bytes}
-use Rattle.jh_cellcfg.proofs.Faultless.{length_body_bytes, body_unfaulted, one_body}
+use Rattle.jh_cellcfg.proofs.Public.{length_body_bytes, body_unfaulted, one_body}
 use Rattle.jh_syscfg.specs.Layout.{platform_bytes, platform_of, system_spelling, IsPlatform, IsSystem, IsSystemWithinLimits}
 use Rattle.jh_syscfg.specs.SystemFaults.{system_start_fault, system_fault, GivesSystem}
 use Rattle.jh_syscfg.specs.declared.platform.Platform.{Platform}

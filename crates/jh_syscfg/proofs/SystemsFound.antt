@@ -11,8 +11,7 @@ use Rattle.jh_cellcfg.specs.declared.fault.ConfigFault.{ConfigFault}
 use Rattle.jh_cellcfg.specs.declared.fault.ConfigFault.TheVariants.{Short, Signature, Revision}
 use Rattle.jh_cellcfg.specs.Faults.{fault_if, u16_at, body_fault}
 use Rattle.jh_cellcfg.specs.Spelling.{u16_bytes}
-use Rattle.jh_cellcfg.proofs.Fields.{IsBytes, IsBytes_take, IsBytes_drop}
-use Rattle.jh_cellcfg.proofs.Found.{body_found, all_bytes, rest_of, head_of, passed}
+use Rattle.jh_cellcfg.proofs.Public.{IsBytes, IsBytes_take, IsBytes_drop, body_found, all_bytes, rest_of, head_of, passed}
 use Rattle.jh_syscfg.specs.Layout.{platform_bytes, system_spelling, IsSystem, IsSystemWithinLimits}
 use Rattle.jh_syscfg.specs.SystemFaults.{system_start_fault, system_fault}
 use Rattle.jh_syscfg.proofs.Platforms.{platform_field}

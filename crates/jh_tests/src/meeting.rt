@@ -4,8 +4,8 @@ use jh_outside::Gate;
 use std::sync::atomic::{AtomicU64, Ordering};
 use std::thread;
 
-/// The worker of CPU 0 waits before its first turn until that of the other CPU comes to its second, and that one waits
-/// before its second turn until CPU 0's comes to its second.
+/// Whoever takes the turns of CPU 0 waits before the first until a worker comes to the other CPU's second turn, and
+/// that one waits before it until CPU 0's second comes.
 #[derive(Drop)]
 pub struct Meeting {
     other: u8,

@@ -11,7 +11,7 @@ use Rattle.std.proofs.Math.Nat.{pow-le-pow_left}
 use Rattle.jh_text.specs.Private.Reading.{◌>>=◌, is_lower, lower_digit, with_digit, with_written_digit, digits_until, begins_plain, number_until}
 use Rattle.jh_text.proofs.Plain.{is_plain, digits_of_plain, plain_digits, several_plain}
 use Rattle.jh_text.proofs.Splits.{Lacks, Lacks_cons}
-use Rattle.jh_script.proofs.NumberLemmas.{value_ge}
+use Rattle.jh_script.proofs.Public.{value_ge}
 
 -- a byte that is no digit, such as a space or a line feed, is none of the digits of a number
 no_digit : (radix byte d : ℕ) → radix ≤ 16 → digit_value byte ≡ 36 → digit_value d < radix → eqb d byte ≡ false

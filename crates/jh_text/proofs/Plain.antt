@@ -8,7 +8,7 @@ use Rattle.std.proofs.lemmas.Bool.{cases_lt, and_parts, ltb-true, lt-ltb, le-ltb
 use Rattle.std.proofs.Math.Nat.{mul-add-div_right, mul-add-mod_self_right, div-eq_of_lt, mod-eq_of_lt, le-mul_of_pos_right, pow-zero, pow-suc, mul_comm}
 use Rattle.jh_text.specs.Private.Reading.{is_lower}
 use Rattle.jh_text.proofs.Digits.{none_written, next_written, first_written, fewer_left, some_left}
-use Rattle.jh_script.proofs.NumberLemmas.{value_ge}
+use Rattle.jh_script.proofs.Public.{value_ge}
 
 -- a word of digits in lower case that doesn't begin with a 0 that isn't all of it
 abbrev pub is_plain : List ℕ → Bool

@@ -17,7 +17,7 @@ use Rattle.jh_text.specs.Ranges.{is_width}
 use Rattle.jh_text.specs.Text.{hexadecimal, got_text, ok_text, decision_text, settled_text, heard_text}
 use Rattle.jh_text.specs.Private.Reading.{mapped, begins, max_u64, number_until, hexadecimal_until, answer_of, negative, width_digit, width_of, got_of, ok_of, decision_of, settled_of, heard_of}
 use Rattle.jh_text.proofs.Numbers.{number_again}
-use Rattle.jh_history.proofs.AdmittedLemmas.{width_le}
+use Rattle.jh_history.proofs.Public.{width_le}
 
 pub decimal_again : (end most n : ℕ) (rest : List ℕ) → digit_value end ≡ 36 → n < 2 ^ 64 → n ≤ most → number_until 10 end most (decimal n ++ end ∷ rest) ≡ Some (n, rest)
 decimal_again end most n rest none small fits = number_again 10 end most n rest (omega arith) (omega arith) none (omega arith) small fits

@@ -1,7 +1,7 @@
 -- The hands of all ports come together.
 use Rattle.std.proofs.Common.{◌≡◌, ℕ, List, [], ◌∷◌, ◌++◌, map, All, Contains, subst, sym}
 use Rattle.std.proofs.lemmas.List.Elements.{All-cons, All-nil, All-weaker, All-contains, Contains-append_left, Contains-append_right}
-use Rattle.jh_num.proofs.Lists.{Contains_head, Contains_from_map}
+use Rattle.jh_num.proofs.Public.{Contains_head, Contains_from_map}
 use Rattle.jh_turn.specs.declared.turner.Turner.{Ghosts}
 use Rattle.jh_turn.specs.declared.shared.Port.{Port}
 use Rattle.jh_turn.specs.declared.rule.Hand.{Hand}

@@ -6,7 +6,7 @@ use mathlib.Core.List.{IsPrefix}
 use lib.ListN.{get_elem?}
 use lib.Seq.{set-get_or}
 use prog.Atomic.{either}
-use Rattle.jh_num.proofs.Lists.{Contains_head}
+use Rattle.jh_num.proofs.Public.{Contains_head}
 use Rattle.atomic_table.specs.Table.{State, step, keeps, takes, gives, stepped, put_back, Allows}
 use Rattle.atomic_table.proofs.Lists.{set_here, set_again}
 use Rattle.jh_turn.specs.declared.rule.Hand.{Hand}

@@ -1,8 +1,9 @@
 mod Closes
 mod Keeps
 mod Opens
-pub mod PortSets
+mod PortSets
 mod Prefixes
 mod Seating
 mod Seats
 mod Turns
+pub mod Public

@@ -1,6 +1,6 @@
 -- The first seat gives the callers' hands away, one after another.
 use Rattle.std.proofs.Common.{◌≡◌, ◌≢◌, ℕ, suc, ◌<◌, false, List, [], ◌∷◌, length, get_or, slice_index, drop, map, Contains, AllPairs, Some, refl, ap, sym, ◌∙◌, arith}
-use Rattle.jh_num.proofs.Lists.{Contains_from_map}
+use Rattle.jh_num.proofs.Public.{Contains_from_map}
 use Rattle.atomic_table.specs.Table.{Splits}
 use Rattle.jh_turn.specs.declared.rule.Hand.{Hand}
 use Rattle.jh_turn.specs.declared.rule.View.{View}

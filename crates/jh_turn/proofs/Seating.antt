@@ -4,7 +4,7 @@ use Rattle.std.proofs.lemmas.List.Elements.{Contains-append_cases}
 use mathlib.Core.Option as maybe
 use mathlib.Core.List.{IsPrefix}
 use lib.ListN.{get_elem?}
-use Rattle.jh_num.proofs.Lists.{Contains_head, Contains_tail, Contains_from_map}
+use Rattle.jh_num.proofs.Public.{Contains_head, Contains_tail, Contains_from_map}
 use Rattle.atomic_table.specs.Table.{State, opening, Splits, Joins, Final, Seen}
 use Rattle.atomic_table.proofs.Lists.{set_else, at_longer}
 use Rattle.jh_turn.specs.declared.rule.Hand.{Hand}

@@ -1,3 +1,4 @@
 mod SplicedLemmas
-pub mod BitLemmas
+mod BitLemmas
 mod WordLemmas
+pub mod Public

@@ -1,6 +1,6 @@
 mod SumLemmas
 mod LiftLemmas
-pub mod WalkLemmas
+mod WalkLemmas
 mod PathLemmas
 mod SameLemmas
 mod SlotLemmas

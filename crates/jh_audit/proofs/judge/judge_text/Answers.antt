@@ -1,6 +1,6 @@
 -- The first entry that isn't due ends the audit, where the rest has no fault.
 use Rattle.std.proofs.Common.{[], ◌∷◌, ◌++◌}
-use Rattle.jh_num.proofs.Results.{passed_up}
+use Rattle.jh_num.proofs.Public.{passed_up}
 use Rattle.jh_text.specs.Faults.{IsFault}
 use Rattle.jh_text.specs.Lines.{IsReadTo}
 use Rattle.jh_audit.proofs.JudgeLemmas.{is_illegal}

@@ -3,8 +3,7 @@ use Rattle.std.proofs.Common.{◌≡◌, ◌∙◌, List, [], ◌∷◌, ◌++�
 use Rattle.std.specs.Prelude.{IfSome}
 use Rattle.jh_history.specs.declared.entry.Entry.{Entry}
 use Rattle.jh_history.specs.History.{facts}
-use Rattle.jh_history.proofs.FactsLemmas.{facts_push}
-use Rattle.jh_history.proofs.DueLemmas.{IsLegal_made}
+use Rattle.jh_history.proofs.Public.{facts_push, IsLegal_made}
 use Rattle.jh_history.specs.Due.{due_at}
 use Rattle.jh_history.specs.Wants.{IsReachOfEntry}
 use Rattle.jh_board.proofs.board.advance.Goals as goal

@@ -5,7 +5,7 @@ use Rattle.jh_history.specs.declared.place.Place.{Place}
 use Rattle.jh_history.specs.Bytes.{loaded_byte}
 use Rattle.jh_history.specs.Devices.{specs_of}
 use Rattle.jh_history.specs.Endpoints.{endpoints_changed, with_words}
-use Rattle.jh_history.proofs.FactsLemmas.{same_function}
+use Rattle.jh_history.proofs.Public.{same_function}
 use Rattle.jh_board.specs.Pages.{byte_of}
 use Rattle.jh_board.proofs.KeptLemmas.{words_kept}
 use Rattle.jh_board.proofs.MeansLemmas.{Means_opened}

@@ -9,7 +9,7 @@ use Rattle.jh_history.specs.Behind.{answer_to, ecam_start, ecam_end, window_foun
 use Rattle.jh_history.specs.Devices.{Devices, devices_in}
 use Rattle.jh_history.specs.Grants.{is_kept}
 use Rattle.jh_history.specs.Lives.{regions_in}
-use Rattle.jh_history.proofs.BehindLemmas.{answer_within, answer_beyond, answer_no_bytes}
+use Rattle.jh_history.proofs.Public.{answer_within, answer_beyond, answer_no_bytes}
 use Rattle.jh_board.proofs.granted.behind.Goals as goal
 
 pub returns-then-is_within : goal.returns-then-is_within

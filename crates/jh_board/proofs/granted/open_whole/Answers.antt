@@ -1,7 +1,7 @@
 -- The region that has the whole access, unless one of its places is kept.
 use Rattle.std.proofs.Common.{◌≤◌, Bool, Some, None, cond, ap, sym, ◌∙◌}
 use Rattle.std.specs.List.{list_any}
-use Rattle.jh_cellcfg.proofs.AddressLemmas.{has_address_first}
+use Rattle.jh_cellcfg.proofs.Public.{has_address_first}
 use Rattle.jh_mmio.specs.Dispatch.{unless_closed}
 use Rattle.jh_history.specs.declared.place.Place.{Place}
 use Rattle.jh_history.specs.declared.place.Place.TheVariants.{Physical}

@@ -1,7 +1,7 @@
 -- The one region that may have the address decides.
 use Rattle.std.proofs.Common.{sym}
-use Rattle.jh_cellcfg.proofs.AddressLemmas.{has_some}
-use Rattle.jh_history.proofs.GrantLemmas.{gives_has}
+use Rattle.jh_cellcfg.proofs.Public.{has_some}
+use Rattle.jh_history.proofs.Public.{gives_has}
 use Rattle.jh_board.proofs.IndexLemmas.{giving_true, giving_false, region_of_none}
 use Rattle.jh_board.proofs.indexed.giving.Goals as goal
 

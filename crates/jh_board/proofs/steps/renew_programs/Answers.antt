@@ -2,7 +2,7 @@
 use Rattle.std.proofs.Common.{◌∙◌, List, sym, subst}
 use Rattle.jh_cellcfg.specs.declared.live.Live.{Live}
 use Rattle.jh_history.specs.Commits.{is_commit}
-use Rattle.jh_history.proofs.PlainStepLemmas.{uncommitted_cells}
+use Rattle.jh_history.proofs.Public.{uncommitted_cells}
 use Rattle.jh_board.specs.Indexed.{AreFound}
 use Rattle.jh_board.proofs.steps.renew_programs.Goals as goal
 

@@ -2,10 +2,9 @@
 use Rattle.std.proofs.Common.{◌≡◌, ℕ, List, Result, Ok, sym, subst, ◌∙◌, arith}
 use Rattle.std.specs.Str.Parse.{ParsesUnsigned}
 use Rattle.std.proofs.lemmas.Fmt.{parse-decimal}
-use Rattle.jh_num.proofs.Results.{ok_err}
+use Rattle.jh_num.proofs.Public.{ok_err, ok_one}
 use Rattle.jh_cli.specs.Soak.{AreRounds, TellsRounds}
 use Rattle.jh_cli.proofs.RoundsLemmas.{rounds_told}
-use Rattle.jh_cli.proofs.ResultLemmas.{ok_one}
 use Rattle.jh_cli.proofs.soak.read_rounds.Goals as goal
 
 -- a word that tells a number of rounds is parsed as that

@@ -1,6 +1,6 @@
 -- One byte more, from the last on.
 use Rattle.std.proofs.Common.{◌+◌, ◌-◌, ◌*◌, ◌^◌, ◌<◌, length, arith}
-use Rattle.jh_num.proofs.MemoryLemmas.{byte_fits}
+use Rattle.jh_num.proofs.Public.{byte_fits}
 use Rattle.jh_frames.proofs.ByteLemmas.{spelled_start, spelled_more, spelled_end, next_fits}
 use Rattle.jh_frames.proofs.bytes.spelled.Goals as goal
 

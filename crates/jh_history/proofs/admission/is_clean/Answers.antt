@@ -1,7 +1,7 @@
 -- The first thousand findings are none exactly where there is none.
 use Rattle.std.proofs.Common.{sym, ◌∙◌, []}
 use Rattle.jh_check.specs.Findings.{findings}
-use Rattle.jh_check.proofs.CappedLemmas.{capped_none, capped_nil}
+use Rattle.jh_check.proofs.Public.{capped_none, capped_nil}
 use Rattle.jh_history.proofs.admission.is_clean.Goals as goal
 
 pub returns : goal.returns

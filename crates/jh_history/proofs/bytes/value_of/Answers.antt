@@ -1,6 +1,6 @@
 -- The high row is spelled first, and the low one below it.
 use Rattle.std.proofs.Common.{[], refl, arith}
-use Rattle.jh_num.proofs.MemoryLemmas.{zero_fits}
+use Rattle.jh_num.proofs.Public.{zero_fits}
 use Rattle.jh_history.specs.Places.{places_of_row}
 use Rattle.jh_history.proofs.ValueLemmas.{fits_alone, fits_below, fits_in_places, value_of_rows}
 use Rattle.jh_history.proofs.bytes.value_of.Goals as goal

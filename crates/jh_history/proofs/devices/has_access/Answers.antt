@@ -1,6 +1,6 @@
 -- The bytes behind the first are enough, or the first lies before the start.
 use Rattle.std.proofs.Common.{arith}
-use Rattle.jh_mmio.proofs.AccessLemmas.{lies_test}
+use Rattle.jh_mmio.proofs.Public.{lies_test}
 use Rattle.jh_history.proofs.devices.has_access.Goals as goal
 
 pub returns-then-wanted-window : goal.returns-then-wanted-window

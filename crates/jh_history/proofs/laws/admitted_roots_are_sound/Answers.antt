@@ -1,7 +1,7 @@
 -- The check finds nothing in root alone.
 use Rattle.std.proofs.Common.{refl, [], List, ℕ}
 use Rattle.jh_check.specs.Clean.{IsSoundBitmap, IsSoundCpuSet}
-use Rattle.jh_check.proofs.JoinLemmas.{clean_from_nothing}
+use Rattle.jh_check.proofs.Public.{clean_from_nothing}
 use Rattle.jh_history.proofs.AdmittedLemmas.{sound_root}
 use Rattle.jh_history.proofs.laws.admitted_roots_are_sound.Goals as goal
 

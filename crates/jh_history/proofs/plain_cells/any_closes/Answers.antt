@@ -5,7 +5,7 @@ use Rattle.jh_cellcfg.specs.declared.live.Live.{Live}
 use Rattle.jh_cellcfg.specs.declared.region.Region.{Region}
 use Rattle.jh_shape.specs.Shapes.{takes}
 use Rattle.jh_shape.specs.Lives.{with_marks}
-use Rattle.jh_shape.proofs.JoinedLemmas.{length_joined, live_of}
+use Rattle.jh_shape.proofs.Public.{length_joined, live_of}
 use Rattle.jh_history.proofs.LoopLemmas.{any_found, any_next, any_end, closing, closed_by, joined_read}
 use Rattle.jh_history.proofs.plain_cells.any_closes.Goals as goal
 

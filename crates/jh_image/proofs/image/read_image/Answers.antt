@@ -1,6 +1,6 @@
 -- Which files were read.
 use Rattle.std.proofs.Common.{[], ◌∷◌, map, sym, subst}
-use Rattle.jh_num.proofs.Results.{passed_up}
+use Rattle.jh_num.proofs.Public.{passed_up}
 use Rattle.jh_outside.specs.Trail.{Asks, AsksUntil}
 use Rattle.jh_image.specs.Images.{with_listing, ReadsTo}
 use Rattle.jh_image.specs.Causes.{OnRefused}

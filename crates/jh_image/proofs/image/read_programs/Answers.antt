@@ -1,7 +1,7 @@
 -- The loop over the programs' files.
 use Rattle.std.proofs.Common.{◌≡◌, ◌+◌, ◌<◌, ◌≤◌, length, get_or, refl, sym, subst, arith, map, [], ◌∷◌}
 use Rattle.std.proofs.lemmas.List.{take_all}
-use Rattle.jh_num.proofs.Results.{passed_up}
+use Rattle.jh_num.proofs.Public.{passed_up}
 use Rattle.jh_image.specs.Images.{so_far_of}
 use Rattle.jh_image.specs.Causes.{IsProgramUnread, OnRefused, StopsReading}
 use Rattle.jh_image.proofs.StopLemmas.{on_refused, program_stops}

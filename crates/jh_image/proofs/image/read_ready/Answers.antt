@@ -1,5 +1,5 @@
 -- The system is admitted, or isn't.
-use Rattle.jh_num.proofs.Results.{passed_up}
+use Rattle.jh_num.proofs.Public.{passed_up}
 use Rattle.jh_image.specs.Causes.{IsUnsound, OnRefused, StopsReading}
 use Rattle.jh_image.proofs.StopLemmas.{on_refused, system_read, unsound_stops}
 use Rattle.jh_image.proofs.image.read_ready.Goals as goal

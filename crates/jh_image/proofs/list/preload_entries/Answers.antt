@@ -1,6 +1,6 @@
 -- What the entries so far have told, and this one.
 use Rattle.std.proofs.Common.{◌+◌, sym, subst, ◌∙◌}
-use Rattle.jh_spec.proofs.ListsTold.{ToldSoFar, one_told, told_none, all_told}
+use Rattle.jh_spec.proofs.Public.{ToldSoFar, one_told, told_none, all_told}
 use Rattle.jh_image.specs.Boards.{preload_told}
 use Rattle.jh_image.proofs.list.preload_entries.Goals as goal
 

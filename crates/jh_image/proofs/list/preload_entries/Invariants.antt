@@ -1,6 +1,6 @@
 -- What the entries so far have told.
 use Rattle.jh_image.specs.Boards.{preload_told}
-use Rattle.jh_spec.proofs.ListsTold.{ToldSoFar}
+use Rattle.jh_spec.proofs.Public.{ToldSoFar}
 use Rattle.jh_image.proofs.list.preload_entries.Given as goal
 
 abbrev pub invariant-loop-entry : goal.invariant-loop-entry

@@ -1,6 +1,6 @@
 -- The board can't be read, is too large, or has a fault.
 use Rattle.std.proofs.Common.{[], ◌∷◌}
-use Rattle.jh_num.proofs.Results.{passed_up}
+use Rattle.jh_num.proofs.Public.{passed_up}
 use Rattle.jh_outside.specs.Trail.{Ask, Asks}
 use Rattle.jh_image.specs.Order.{ask_for}
 use Rattle.jh_image.proofs.OrderLemmas.{board_asked}

@@ -1,7 +1,7 @@
 -- The system's file can't be read, is too large, or has a fault.
 use Rattle.std.proofs.Common.{sym, subst, [], ◌∷◌, rules, arith}
 use Rattle.std.proofs.lemmas.Grind.{common_steps}
-use Rattle.jh_num.proofs.Results.{passed_up}
+use Rattle.jh_num.proofs.Public.{passed_up}
 use Rattle.jh_outside.specs.Trail.{Asks}
 use Rattle.jh_image.specs.declared.fault.ImageCause.TheVariants.{System}
 use Rattle.jh_image.specs.Order.{ask_for}

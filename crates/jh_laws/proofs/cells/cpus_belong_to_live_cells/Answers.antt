@@ -3,8 +3,7 @@ use Rattle.std.proofs.Common.{sym, ◌∙◌, ⊎_elim}
 use Rattle.std.proofs.lemmas.Bool.{both_ways, false_from_ne_true}
 use Rattle.jh_cellcfg.specs.Cells.{is_cpu_set}
 use Rattle.jh_laws.specs.Moments.{live_configs}
-use Rattle.jh_history.proofs.SoundCpusLemmas.{other_root}
-use Rattle.jh_history.proofs.SoundLemmas.{legal_sound}
+use Rattle.jh_history.proofs.Public.{other_root, legal_sound}
 use Rattle.jh_laws.proofs.cells.cpus_belong_to_live_cells.Goals as goal
 
 pub returns-clause-cells : goal.returns-clause-cells

@@ -1,8 +1,8 @@
 -- The cells are sound.
-use Rattle.jh_check.proofs.JoinLemmas.{nothing_from_clean}
+use Rattle.jh_check.proofs.Public.{nothing_from_clean}
 use Rattle.jh_laws.specs.Moments.{live_configs}
 use Rattle.jh_laws.proofs.FewCellsLemmas.{few_cells}
-use Rattle.jh_history.proofs.SoundLemmas.{legal_sound}
+use Rattle.jh_history.proofs.Public.{legal_sound}
 use Rattle.jh_laws.proofs.cells.the_check_holds_of_live_cells.Goals as goal
 
 pub returns-clause-findings : goal.returns-clause-findings

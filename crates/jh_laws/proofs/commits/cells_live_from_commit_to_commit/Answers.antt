@@ -2,7 +2,7 @@
 use Rattle.std.proofs.Common.{ap}
 use Rattle.jh_call.specs.declared.call.Call.TheVariants.{Create, Start, Loadable, Destroy}
 use Rattle.jh_history.specs.Facts.{Facts}
-use Rattle.jh_history.proofs.FactsLemmas.{facts_nil}
+use Rattle.jh_history.proofs.Public.{facts_nil}
 use Rattle.jh_laws.proofs.CommitLemmas.{cells_kept, commit_as, commit_create, commit_destroy, commit_start, commit_loadable}
 use Rattle.jh_laws.proofs.commits.cells_live_from_commit_to_commit.Goals as goal
 

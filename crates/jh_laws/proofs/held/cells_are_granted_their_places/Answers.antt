@@ -1,7 +1,7 @@
 -- At most one region of a cell gives an address.
 use Rattle.jh_laws.specs.Moments.{facts_of}
 use Rattle.jh_laws.proofs.HeldLemmas.{granted_to, to_granted_holds}
-use Rattle.jh_history.proofs.SoundLemmas.{legal_sound}
+use Rattle.jh_history.proofs.Public.{legal_sound}
 use Rattle.jh_laws.proofs.held.cells_are_granted_their_places.Goals as goal
 
 pub returns : goal.returns

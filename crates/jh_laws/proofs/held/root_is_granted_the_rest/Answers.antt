@@ -2,7 +2,7 @@
 use Rattle.jh_history.specs.declared.place.Place.TheVariants.{Physical}
 use Rattle.jh_laws.specs.Moments.{facts_of}
 use Rattle.jh_laws.proofs.HeldLemmas.{root_rest, rest_root, other_granted, granted_other}
-use Rattle.jh_history.proofs.SoundLemmas.{legal_sound}
+use Rattle.jh_history.proofs.Public.{legal_sound}
 use Rattle.jh_laws.proofs.held.root_is_granted_the_rest.Goals as goal
 
 pub returns-clause-root : goal.returns-clause-root

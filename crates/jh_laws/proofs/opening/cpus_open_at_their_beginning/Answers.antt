@@ -1,7 +1,7 @@
 -- By the facts at opening.
 use Rattle.std.proofs.Common.{ap}
 use Rattle.jh_history.specs.Facts.{Facts}
-use Rattle.jh_history.proofs.FactsLemmas.{facts_nil}
+use Rattle.jh_history.proofs.Public.{facts_nil}
 use Rattle.jh_laws.proofs.opening.cpus_open_at_their_beginning.Goals as goal
 
 pub returns-clause-owner : goal.returns-clause-owner

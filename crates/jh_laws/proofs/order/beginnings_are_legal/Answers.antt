@@ -1,5 +1,5 @@
 -- By the parts of a legal journal.
-use Rattle.jh_history.proofs.LegalLemmas.{IsLegal_begin}
+use Rattle.jh_history.proofs.Public.{IsLegal_begin}
 use Rattle.jh_laws.proofs.order.beginnings_are_legal.Goals as goal
 
 pub returns : goal.returns

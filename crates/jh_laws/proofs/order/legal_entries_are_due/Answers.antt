@@ -1,5 +1,5 @@
 -- By the parts of a legal journal.
-use Rattle.jh_history.proofs.LegalLemmas.{due_split}
+use Rattle.jh_history.proofs.Public.{due_split}
 use Rattle.jh_laws.proofs.LegalLemmas.{IsLegal_from_due}
 use Rattle.jh_laws.proofs.order.legal_entries_are_due.Goals as goal
 

@@ -1,7 +1,7 @@
 -- The entry would be due.
 use Rattle.std.proofs.Common.{sym, ◌∙◌}
 use Rattle.std.proofs.lemmas.Option.{none-some}
-use Rattle.jh_history.proofs.LegalLemmas.{due_split}
+use Rattle.jh_history.proofs.Public.{due_split}
 use Rattle.jh_laws.proofs.order.nothing_extends_a_quiet_journal.Goals as goal
 
 pub returns : goal.returns

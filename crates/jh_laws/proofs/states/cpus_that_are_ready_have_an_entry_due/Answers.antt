@@ -1,7 +1,7 @@
 -- By the open call and the CPU's state.
 use Rattle.jh_laws.specs.Moments.{facts_of}
 use Rattle.jh_laws.proofs.DueCpusLemmas.{ready_from_due, due_from_ready}
-use Rattle.jh_history.proofs.SoundLemmas.{legal_sound}
+use Rattle.jh_history.proofs.Public.{legal_sound}
 use Rattle.jh_laws.proofs.states.cpus_that_are_ready_have_an_entry_due.Goals as goal
 
 pub returns : goal.returns

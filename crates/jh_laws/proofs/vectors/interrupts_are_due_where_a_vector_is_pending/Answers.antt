@@ -1,5 +1,5 @@
 -- By what a ready CPU is, and by the lowest pending vector.
-use Rattle.jh_history.proofs.SoundLemmas.{legal_sound}
+use Rattle.jh_history.proofs.Public.{legal_sound}
 use Rattle.jh_laws.specs.Moments.{facts_of}
 use Rattle.jh_laws.proofs.DueCpusLemmas.{ready_from_due, due_from_ready}
 use Rattle.jh_laws.proofs.InterruptLemmas.{ready_pending, pending_ready, interrupt_is}

@@ -3,7 +3,7 @@ use Rattle.std.proofs.Common.{[], ◌∷◌, ◌++◌, List, ap, sym, subst, ◌
 use Rattle.jh_history.specs.declared.entry.Entry.{Entry}
 use Rattle.jh_history.specs.Facts.{Facts}
 use Rattle.jh_history.specs.Due.{IsLegal}
-use Rattle.jh_history.proofs.FactsLemmas.{facts_nil}
+use Rattle.jh_history.proofs.Public.{facts_nil}
 use Rattle.jh_laws.proofs.WrittenLemmas.{entry_writes, rest_keeps}
 use Rattle.jh_laws.proofs.writes.bytes_are_as_last_written.Goals as goal
 

@@ -1,5 +1,5 @@
 use Rattle.std.proofs.Common.{◌≡◌, ◌∷◌, List, length, AllPairs, sym, ap, subst, arith}
-use Rattle.jh_shape.proofs.JoinedLemmas.{configs_joined, length_joined}
+use Rattle.jh_shape.proofs.Public.{configs_joined, length_joined}
 use Rattle.jh_cellcfg.specs.declared.config.CellConfig.{CellConfig}
 use Rattle.jh_check.specs.Refusals.{AreTwo}
 use Rattle.jh_life.specs.Lives.{numbered_cells}

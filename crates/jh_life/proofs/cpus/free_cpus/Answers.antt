@@ -3,7 +3,7 @@ use Rattle.std.proofs.lemmas.Bool.{cases_lt, and_left}
 use Rattle.jh_num.specs.Bits.{has_bit}
 use Rattle.jh_life.specs.Verdict.{may_have}
 use Rattle.jh_life.proofs.cpus.free_cpus.Goals as goal
-use Rattle.jh_check.proofs.MaskLemmas.{no_bit, high_bit, so_far}
+use Rattle.jh_check.proofs.Public.{no_bit, high_bit, so_far}
 
 pub loop-cpu-init : goal.loop-cpu-init
 loop-cpu-init c = (λ k l. absurd (omega arith), λ k l. no_bit k)

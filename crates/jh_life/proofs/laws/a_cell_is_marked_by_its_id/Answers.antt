@@ -1,7 +1,7 @@
 use Rattle.std.proofs.Common.{refl, sym, map, ◌∙◌}
 use Rattle.std.proofs.lemmas.Bool.{eq-eqb}
 use Rattle.jh_shape.specs.Lives.{marked}
-use Rattle.jh_shape.proofs.JoinedLemmas.{configs_marked}
+use Rattle.jh_shape.proofs.Public.{configs_marked}
 use Rattle.jh_life.proofs.ChangeLemmas.{single, lives_same, marked_marks}
 use Rattle.jh_life.proofs.laws.a_cell_is_marked_by_its_id.Goals as goal
 

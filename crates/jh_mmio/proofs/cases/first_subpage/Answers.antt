@@ -2,8 +2,8 @@
 use Rattle.std.proofs.Common.{◌≡◌, sym, ◌∙◌, ap, below_more, arith, length}
 use Rattle.std.proofs.lemmas.List.{get_or_default}
 use Rattle.jh_num.specs.Bytes.{has_byte}
-use Rattle.jh_num.proofs.Lists.{position_here, position_nowhere}
-use Rattle.jh_cellcfg.proofs.AddressLemmas.{no_region}
+use Rattle.jh_num.proofs.Public.{position_here, position_nowhere}
+use Rattle.jh_cellcfg.proofs.Public.{no_region}
 use Rattle.jh_mmio.specs.Dispatch.{takes_all}
 use Rattle.jh_mmio.proofs.cases.first_subpage.Goals as goal
 

@@ -2,7 +2,7 @@
 use Rattle.std.proofs.Common.{arith}
 use Rattle.jh_turn.specs.Ports.{opened_value}
 use Rattle.jh_run.specs.Running.{origin_of}
-use Rattle.jh_turn.proofs.PortSets.{same_set_at}
+use Rattle.jh_turn.proofs.Public.{same_set_at}
 use Rattle.jh_run.proofs.PortLemmas.{some_shows-at}
 use Rattle.jh_run.proofs.driving.drive_round.Goals as goal
 

@@ -1,6 +1,6 @@
 -- The board that was closed is the one that was opened.
 use Rattle.jh_turn.specs.Ports.{opened_value}
-use Rattle.jh_turn.proofs.PortSets.{all_still}
+use Rattle.jh_turn.proofs.Public.{all_still}
 use Rattle.jh_run.specs.Running.{origin_of}
 use Rattle.jh_run.proofs.WholeLemmas.{quiet_of, full_of}
 use Rattle.jh_run.proofs.runs.run.Goals as goal

@@ -1,7 +1,7 @@
 use Rattle.std.proofs.Common.{◌*◌, ◌<◌, ◌≤◌, nat_lt, sym, ap, ◌∙◌, arith}
 use Rattle.std.proofs.lemmas.Bool.{le-ltb}
 use Rattle.jh_num.specs.declared.address.TheConstants.{ADDRESS_END}
-use Rattle.jh_num.proofs.Lists.{list_any_agree, list_any_nothing}
+use Rattle.jh_num.proofs.Public.{list_any_agree, list_any_nothing}
 use Rattle.jh_cellcfg.specs.declared.region.Region.{Region}
 use Rattle.jh_cellcfg.specs.Regions.{phys_end}
 use Rattle.jh_shape.specs.Marks.{is_place_beyond}

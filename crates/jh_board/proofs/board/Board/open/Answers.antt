@@ -1,6 +1,6 @@
 -- An empty journal is legal, and a new board stands for it.
 use Rattle.std.proofs.Common.{◌≡◌, arith}
-use Rattle.jh_history.proofs.FactsLemmas.{IsLegal_nil}
+use Rattle.jh_history.proofs.Public.{IsLegal_nil}
 use Rattle.jh_board.proofs.board.Board.open.Goals as goal
 
 pub invariant_of-result : goal.invariant_of-result

@@ -3,7 +3,7 @@ use Rattle.std.proofs.Common.{◌≡◌, Some, None, ◌∙◌, sym, ap}
 use Rattle.jh_num.specs.Memory.{spelled}
 use Rattle.jh_board.specs.Pages.{bytes_from}
 use Rattle.jh_num.specs.Pages.{page_at, byte_of_page}
-use Rattle.jh_num.proofs.MemoryLemmas.{zero_fits}
+use Rattle.jh_num.proofs.Public.{zero_fits}
 use Rattle.jh_board.proofs.PieceLemmas.{zeros_spell_nothing}
 use Rattle.jh_board.proofs.comm_pages.CommPages.value.Goals as goal
 

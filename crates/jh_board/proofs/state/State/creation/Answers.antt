@@ -17,8 +17,7 @@ use Rattle.jh_history.specs.LiveView.{is_locked_by}
 use Rattle.jh_history.specs.Phases.{is_locked, creation_of, creation_by}
 use Rattle.jh_shape.specs.Lives.{configs_of}
 use Rattle.jh_history.specs.ReadView.{as_read, read_by}
-use Rattle.jh_history.proofs.FactsLemmas.{same_function}
-use Rattle.jh_history.proofs.ReadLemmas.{read_by_is}
+use Rattle.jh_history.proofs.Public.{same_function, read_by_is}
 use Rattle.jh_board.specs.declared.held.Held.{Held}
 use Rattle.jh_board.specs.Means.{Means}
 use Rattle.jh_board.specs.Pages.{byte_of}

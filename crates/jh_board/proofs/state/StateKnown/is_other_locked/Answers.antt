@@ -5,7 +5,7 @@ use Rattle.jh_cellcfg.specs.declared.live.Live.{Live}
 use Rattle.jh_history.specs.declared.place.Place.{Place}
 use Rattle.jh_history.specs.LiveView.{is_other_locked_by}
 use Rattle.jh_shape.specs.Lives.{configs_of}
-use Rattle.jh_history.proofs.FactsLemmas.{same_function}
+use Rattle.jh_history.proofs.Public.{same_function}
 use Rattle.jh_board.specs.Pages.{byte_of}
 use Rattle.jh_board.specs.StateView.{StateView}
 use Rattle.jh_board.proofs.state.StateKnown.is_other_locked.Goals as goal

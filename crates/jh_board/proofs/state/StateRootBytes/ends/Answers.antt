@@ -1,7 +1,7 @@
 -- Nothing is read past the addresses.
 use Rattle.jh_history.specs.declared.access.Access.TheVariants.{Read}
 use Rattle.jh_history.specs.Grants.{granted_in}
-use Rattle.jh_history.proofs.ReadLemmas.{read_beyond}
+use Rattle.jh_history.proofs.Public.{read_beyond}
 use Rattle.jh_board.specs.Pages.{byte_of}
 use Rattle.jh_board.proofs.state.StateRootBytes.ends.Goals as goal
 

@@ -1,6 +1,6 @@
 -- One cell more at the end.
 use Rattle.std.proofs.Common.{◌≡◌, false, List, [], ◌∷◌, ◌++◌, Bool, ap, ◌∙◌}
-use Rattle.jh_shape.proofs.JoinedLemmas.{joined_push}
+use Rattle.jh_shape.proofs.Public.{joined_push}
 use Rattle.jh_cellcfg.specs.declared.config.CellConfig.{CellConfig}
 use Rattle.jh_history.proofs.plain_cells.PlainCells.add.Goals as goal
 

@@ -1,6 +1,6 @@
 -- The configurations without their marks.
 use Rattle.std.proofs.Common.{sym, ◌∙◌}
-use Rattle.jh_shape.proofs.JoinedLemmas.{configs_joined}
+use Rattle.jh_shape.proofs.Public.{configs_joined}
 use Rattle.jh_history.proofs.plain_cells.PlainCells.configs.Goals as goal
 
 pub returns : goal.returns

@@ -3,8 +3,7 @@ use Rattle.jh_cellcfg.specs.declared.config.CellConfig.{CellConfig}
 use Rattle.jh_check.specs.Refusals.{is_known}
 use Rattle.jh_life.specs.Lives.{numbered_cells}
 use Rattle.jh_life.proofs.JoinedLemmas.{stands_push}
-use Rattle.jh_shape.proofs.PageLemmas.{own_le}
-use Rattle.jh_shape.proofs.JoinedLemmas.{configs_joined, length_joined, joined_push}
+use Rattle.jh_shape.proofs.Public.{own_le, configs_joined, length_joined, joined_push}
 use Rattle.jh_life.proofs.cells.Cells.add.Goals as goal
 
 pub overflow_add-self : goal.overflow_add-self

@@ -1,7 +1,7 @@
 use Rattle.std.proofs.Common.{◌≡◌, ℕ, ◌+◌, Bool, List, ◌∷◌, Some, None, position, sym, ap, ◌∙◌}
 use Rattle.std.specs.Prelude.{option_map}
 use Rattle.std.proofs.lemmas.Bool.{ne_eqb}
-use Rattle.jh_shape.proofs.JoinedLemmas.{configs_joined}
+use Rattle.jh_shape.proofs.Public.{configs_joined}
 use Rattle.jh_cellcfg.specs.declared.config.CellConfig.{CellConfig}
 use Rattle.jh_life.specs.Lives.{has_config_id}
 use Rattle.jh_life.proofs.JoinedLemmas.{position_behind}

@@ -1,5 +1,5 @@
 use Rattle.std.proofs.Common.{List, length, sym, ap, ◌∙◌}
-use Rattle.jh_shape.proofs.JoinedLemmas.{configs_joined, length_joined}
+use Rattle.jh_shape.proofs.Public.{configs_joined, length_joined}
 use Rattle.jh_cellcfg.specs.declared.config.CellConfig.{CellConfig}
 use Rattle.jh_life.proofs.cells.Cells.list.Goals as goal
 

@@ -4,8 +4,7 @@ use Rattle.std.specs.Option.{option_copied}
 use Rattle.jh_cellcfg.specs.declared.config.CellConfig.{CellConfig}
 use Rattle.jh_cellcfg.specs.declared.region.Region.{Region}
 use Rattle.jh_shape.specs.Pages.{pages_of}
-use Rattle.jh_shape.proofs.PageLemmas.{own_pages}
-use Rattle.jh_shape.proofs.JoinedLemmas.{configs_joined}
+use Rattle.jh_shape.proofs.Public.{own_pages, configs_joined}
 use Rattle.jh_life.proofs.cells.Cells.pages.Goals as goal
 
 pub pages_of-requires-clause-taken : goal.pages_of-requires-clause-taken

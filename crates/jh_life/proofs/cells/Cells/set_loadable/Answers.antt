@@ -1,6 +1,6 @@
 use Rattle.std.proofs.Common.{◌≡◌, ◌-◌, Bool, List, length, set, vec_len, rules, sym, ap, ◌∙◌, arith}
 use Rattle.std.proofs.lemmas.List.{length-set}
-use Rattle.jh_shape.proofs.JoinedLemmas.{configs_joined, length_joined}
+use Rattle.jh_shape.proofs.Public.{configs_joined, length_joined}
 use Rattle.jh_life.proofs.JoinedLemmas.{marks_joined}
 use Rattle.jh_life.proofs.cells.Cells.set_loadable.Goals as goal
 

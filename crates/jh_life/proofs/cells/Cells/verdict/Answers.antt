@@ -9,7 +9,7 @@ use Rattle.jh_shape.specs.Pages.{pages_of}
 use Rattle.jh_life.specs.Seen.{Seen}
 use Rattle.jh_life.specs.Lives.{numbered_cells}
 use Rattle.jh_shape.specs.Lives.{configs_of}
-use Rattle.jh_shape.proofs.JoinedLemmas.{configs_joined, length_joined}
+use Rattle.jh_shape.proofs.Public.{configs_joined, length_joined}
 use Rattle.jh_life.specs.Verdict.{may_have}
 use Rattle.jh_life.proofs.VerdictLemmas.{refused_same, refused_kept, refused_left, same_cells, accepted_none, accepted_unknown, if_none_from, if_none_some, may_none}
 use Rattle.jh_life.proofs.cells.Cells.verdict.Goals as goal

@@ -3,7 +3,7 @@ use Rattle.std.proofs.Common.{◌≡◌, List, Some, None, sym, subst, ◌∙◌
 use Rattle.std.specs.Prelude.{position}
 use Rattle.jh_num.specs.Bytes.{has_byte}
 use Rattle.jh_cellcfg.specs.declared.region.Region.{Region}
-use Rattle.jh_cellcfg.proofs.AddressLemmas.{no_region}
+use Rattle.jh_cellcfg.proofs.Public.{no_region}
 use Rattle.jh_mmio.specs.Dispatch.{takes_all}
 use Rattle.jh_mmio.proofs.HittingLemmas.{subpage_found, subpage_other, subpage_none}
 use Rattle.jh_mmio.proofs.index.RegionIndex.subpage_at.Goals as goal
