@@ -1,20 +1,23 @@
 -- What the format promises of all configurations: one spelling each, which has no fault.
 use Rattle.std.proofs.Common.{◌≡◌, ℕ, suc, ◌+◌, ◌-◌, ◌*◌, ◌<◌, ◌≤◌, ◌^◌, Bool, false, not, ◌==◌, List, [], ◌∷◌, ◌++◌, length, take, drop, Option, None, Result, Ok, Err, refl, sym, ap, subst, ◌∙◌, length-append, arith}
-use Rattle.std.specs.Prelude.{nat_lt, codes, IfOk}
+use Rattle.std.specs.Prelude.{nat_lt, nat_eq, codes, IfOk}
 use Rattle.std.proofs.lemmas.Bool.{le-ltb, ne_eqb}
 use Rattle.std.proofs.Math.Nat.{mul-suc}
-use Rattle.std.specs.List.{flat_map, AllByRecursion}
-use Rattle.std.proofs.lemmas.List.{append-nil, take_at}
+use Rattle.std.specs.List.{flat_map, starts_with, AllByRecursion}
+use Rattle.std.specs.Int.{w16, from_le_bytes}
+use Rattle.std.proofs.lemmas.Bool.Decides.{Decides-eqb}
+use Rattle.std.proofs.lemmas.Slice.Eq.{starts_is}
+use Rattle.std.proofs.lemmas.List.{append-nil, drop_at, take_at}
 use Rattle.jh_cellcfg.specs.declared.config.CellConfig.{CellConfig}
 use Rattle.jh_cellcfg.specs.declared.config.Irqchip.{Irqchip}
 use Rattle.jh_cellcfg.specs.declared.config.PciDevice.{PciDevice}
 use Rattle.jh_cellcfg.specs.declared.fault.ConfigFault.{ConfigFault}
-use Rattle.jh_cellcfg.specs.declared.fault.ConfigFault.TheVariants.{Short, Name, Count, Trailing}
+use Rattle.jh_cellcfg.specs.declared.fault.ConfigFault.TheVariants.{Short, Signature, Revision, Name, Count, Trailing}
 use Rattle.jh_cellcfg.specs.declared.fault.Part.{Part}
 use Rattle.jh_cellcfg.specs.declared.fault.Part.TheVariants.{CpuSet, MemoryRegions, CacheRegions, Irqchips, PioRegions, PciDevices, PciCaps, StreamIds, Total}
 use Rattle.jh_cellcfg.specs.declared.header.Counts.{Counts}
 use Rattle.jh_cellcfg.specs.declared.header.Header.{Header}
-use Rattle.jh_cellcfg.specs.Faults.{fault_if, first_of, over, count_fault, limits_fault, length_fault, counts_at, start_fault, body_fault, header_fault, header_size, first_fault, refusal, Gives}
+use Rattle.jh_cellcfg.specs.Faults.{fault_if, first_of, over, u16_at, count_fault, limits_fault, length_fault, counts_at, start_fault, body_fault, header_fault, header_size, first_fault, refusal, Gives}
 use Rattle.jh_cellcfg.proofs.Headers.{header_name, header_counts}
 use Rattle.jh_cellcfg.specs.Spelling.{u16_bytes, u32_bytes, region_bytes, irqchip_bytes, device_bytes, counts_of, header_of, header_bytes, parts_bytes, body_bytes, spelling}
 use Rattle.jh_cellcfg.specs.Limits.{is_name, parts_size, whole_size, AreWithinLimits, IsWithinLimits}
@@ -160,15 +163,23 @@ body_unfaulted front c cell limits =
     (first_none (exact (front + 124 + parts_size (counts_at (body_bytes c))) (front + length (body_bytes c)) (omega (arith, length_body_bytes c cell limits))) none_left) in
     free.none
 
-started : (body : List ℕ) → start_fault (codes "JHCELL" ++ (u16_bytes 13 ++ body)) ≡ None
+-- what begins with the signature and the revision has no fault in its start
+pub started : (signature rest : List ℕ) → length signature ≡ 6 → start_fault signature (signature ++ (u16_bytes 13 ++ rest)) ≡ None
 unfolding start_fault
-started body = refl
+started signature rest six =
+    let bytes = signature ++ (u16_bytes 13 ++ rest) in
+    let signed = (starts_is Decides-eqb bytes signature (starts_with nat_eq bytes signature) refl).1 (u16_bytes 13 ++ rest) refl in
+    let revised : u16_at bytes 6 ≡ 13 = ap (λ (l : List ℕ). from_le_bytes w16 (take 2 l)) (drop_at signature (u16_bytes 13 ++ rest) 6 six) in
+    let free =
+    first_none (passes (not (starts_with nat_eq bytes signature)) Signature (ap not signed))
+    (first_none (passes (not (u16_at bytes 6 == 13)) (Revision (u16_at bytes 6)) (ap (λ (n : ℕ). not (n == 13)) revised)) none_left) in
+    free.none
 
 pub spelling_unfaulted : (c : CellConfig) → IsCell c → IsWithinLimits c → first_fault (spelling c) ≡ None
 spelling_unfaulted c cell limits =
     let free =
     first_none (passes (nat_lt (length (spelling c)) 132) (Short 132) (le-ltb (length (spelling c)) 132 (omega (arith, length_body_bytes c cell limits))))
-    (first_none (started (body_bytes c))
+    (first_none (started (codes "JHCELL") (body_bytes c) refl)
     (first_none (body_unfaulted 8 c cell limits) none_left)) in
     free.none
 
@@ -202,6 +213,6 @@ header_unfaulted c cell limits =
     let counts = counts_alone (header_of c) fits in
     let name = name_alone (header_of c) fits in
     let free =
-    first_none (started (header_bytes (header_of c)))
+    first_none (started (codes "JHCELL") (header_bytes (header_of c)) refl)
     (first_none ((λ i. limits_fault (name i) (counts i)) ∙ limits_unfaulted c limits) none_left) in
     ap header_fault (header_in_front c cell limits) ∙ free.none

@@ -6,7 +6,8 @@ use Rattle.std.proofs.lemmas.Bool.{ltb-false, eqb-true, cases_lt}
 use Rattle.std.proofs.lemmas.List.{append-nil, drop-drop, nil_from_length, get_or_past, take-append-drop, length-take}
 use Rattle.std.proofs.lemmas.List.Elements.{All-get_or}
 use Rattle.std.proofs.lemmas.Nat.{le_bytes_2}
-use Rattle.std.proofs.lemmas.Slice.Eq.{bytes_eq-Decides}
+use Rattle.std.proofs.lemmas.Bool.Decides.{Decides-eqb}
+use Rattle.std.proofs.lemmas.Slice.Eq.{starts_is}
 use Rattle.jh_cellcfg.specs.declared.config.CellConfig.{CellConfig}
 use Rattle.jh_cellcfg.specs.declared.fault.ConfigFault.{ConfigFault}
 use Rattle.jh_cellcfg.specs.declared.fault.ConfigFault.TheVariants.{Short, Signature, Revision, Name, Count, Trailing}
@@ -183,11 +184,14 @@ body_found front body all long none =
       t.is ∙ (λ i. header_bytes (sym found.2 i) ++ found.3 i),
     )
 
-start_found : (bytes : List ℕ) → IsBytes bytes → 8 ≤ length bytes → start_fault bytes ≡ None → bytes ≡ codes "JHCELL" ++ (u16_bytes 13 ++ drop 8 bytes)
+-- bytes whose start has no fault begin with the signature and the revision
+pub start_found : (signature bytes : List ℕ) → length signature ≡ 6 → IsBytes bytes → 8 ≤ length bytes → start_fault signature bytes ≡ None
+    → bytes ≡ signature ++ (u16_bytes 13 ++ drop 8 bytes)
 unfolding start_fault
-start_found bytes all long none =
-    let e = free (fault_if (not (starts_with nat_eq bytes (codes "JHCELL"))) Signature ∷ fault_if (not (u16_at bytes 6 == 13)) (Revision (u16_at bytes 6)) ∷ []) none in
-    let signature : take 6 bytes ≡ codes "JHCELL" = sym ((bytes_eq-Decides (codes "JHCELL") (take 6 bytes)).0 (both_true (starts_with nat_eq bytes (codes "JHCELL")) (passed (not (starts_with nat_eq bytes (codes "JHCELL"))) Signature (head_none e)))) in
+start_found signature bytes six all long none =
+    let begins = starts_with nat_eq bytes signature in
+    let e = free (fault_if (not begins) Signature ∷ fault_if (not (u16_at bytes 6 == 13)) (Revision (u16_at bytes 6)) ∷ []) none in
+    let signed : bytes ≡ signature ++ drop (length signature) bytes = (starts_is Decides-eqb bytes signature begins refl).0 (both_true begins (passed (not begins) Signature (head_none e))) in
     let last = rest_none e in
     let number : u16_at bytes 6 ≡ 13 = eqb-true (u16_at bytes 6) 13 (both_true (u16_at bytes 6 == 13) (passed (not (u16_at bytes 6 == 13)) (Revision (u16_at bytes 6)) (head_none last))) in
     let two = take 2 (drop 6 bytes) in
@@ -196,7 +200,7 @@ start_found bytes all long none =
     let revision : u16_bytes 13 ≡ two = le_bytes_2 two 13 len small (sym number) in
     let behind : drop 6 bytes ≡ u16_bytes 13 ++ drop 8 bytes
     = sym (take-append-drop 2 (drop 6 bytes)) ∙ (λ i. sym revision i ++ drop-drop 2 6 bytes i) in
-    sym (take-append-drop 6 bytes) ∙ (λ i. signature i ++ behind i)
+    signed ∙ ap (λ (l : List ℕ). signature ++ l) (ap (λ (n : ℕ). drop n bytes) six ∙ behind)
 
 -- each item is a byte, also where the list has none
 pub all_bytes : (bytes : List ℕ) → All (λ byte. byte < 256) bytes → IsBytes bytes
@@ -209,10 +213,10 @@ all_bytes bytes all i =
 pub bytes_found : (bytes : List ℕ) → All (λ byte. byte < 256) bytes → first_fault bytes ≡ None
     → (c : CellConfig) × IsCell c × IsWithinLimits c × (bytes ≡ spelling c)
 bytes_found bytes each none =
-    let e = free (fault_if (nat_lt (length bytes) 132) (Short 132) ∷ start_fault bytes ∷ body_fault 8 (drop 8 bytes) ∷ []) none in
+    let e = free (fault_if (nat_lt (length bytes) 132) (Short 132) ∷ start_fault (codes "JHCELL") bytes ∷ body_fault 8 (drop 8 bytes) ∷ []) none in
     let all = all_bytes bytes each in
     let long = ltb-false (length bytes) 132 (passed (nat_lt (length bytes) 132) (Short 132) (head_none e)) in
     let later = rest_none e in
-    let start = start_found bytes all (omega arith) (head_none later) in
+    let start = start_found (codes "JHCELL") bytes refl all (omega arith) (head_none later) in
     let found = body_found 8 (drop 8 bytes) (IsBytes_drop 8 bytes all) (omega (arith, length-drop 8 bytes)) (head_none (rest_none later)) in
     (found.0, found.1, found.2, start ∙ ap (λ (l : List ℕ). codes "JHCELL" ++ (u16_bytes 13 ++ l)) found.3)

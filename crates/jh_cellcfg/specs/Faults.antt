@@ -89,16 +89,16 @@ body_fault front body = first_of (
     ∷ length_fault (front + 124 + parts_size (counts_at body)) (front + length body)
     ∷ [])
 
--- the first fault of what stands before the header's name: of the signature and the revision
-unfoldable pub start_fault : List ℕ → Option ConfigFault
-start_fault bytes = first_of (
-    fault_if (not (starts_with nat_eq bytes (codes "JHCELL"))) Signature
+-- the first fault of what stands before all that is configured: of the signature of six bytes and the revision
+unfoldable pub start_fault : List ℕ → List ℕ → Option ConfigFault
+start_fault signature bytes = first_of (
+    fault_if (not (starts_with nat_eq bytes signature)) Signature
     ∷ fault_if (not (u16_at bytes 6 == 13)) (Revision (u16_at bytes 6))
     ∷ [])
 
 -- the first fault of a whole header, from its signature to the total of its counts
 abbrev pub header_fault : List ℕ → Option ConfigFault
-header_fault header = first_of (start_fault header ∷ limits_fault (slice_range header 8 40) (counts_at (drop 8 header)) ∷ [])
+header_fault header = first_of (start_fault (codes "JHCELL") header ∷ limits_fault (slice_range header 8 40) (counts_at (drop 8 header)) ∷ [])
 
 -- how many bytes the whole configuration has, by the counts of its header
 abbrev pub header_size : List ℕ → ℕ
@@ -108,7 +108,7 @@ header_size header = whole_size (counts_at (drop 8 header))
 abbrev pub first_fault : List ℕ → Option ConfigFault
 first_fault bytes = first_of (
     fault_if (nat_lt (length bytes) 132) (Short 132)
-    ∷ start_fault bytes
+    ∷ start_fault (codes "JHCELL") bytes
     ∷ body_fault 8 (drop 8 bytes)
     ∷ [])
 

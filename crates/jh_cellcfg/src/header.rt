@@ -1,5 +1,8 @@
 //! The header of a cell's configuration.
 
+/// What a cell's configuration begins with.
+pub const SIGNATURE: &[u8; 6] = b"JHCELL";
+
 /// The revision of the format: the number behind a file's signature.
 pub const REVISION: u16 = 13;
 

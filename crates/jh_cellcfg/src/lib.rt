@@ -27,7 +27,7 @@ pub use laws::{
 };
 pub use limits::{fits, is_name};
 pub use live::Live;
-pub use read::{cell_size, read_body, read_cell};
+pub use read::{cell_size, check_start, read_body, read_cell};
 pub use reader::Reader;
 pub use record::Record;
 pub use region::Region;

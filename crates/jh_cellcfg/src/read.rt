@@ -1,5 +1,5 @@
 //! Reading a cell's configuration.
-ghost use Rattle.std.specs.Prelude.{◌≡◌, ◌+◌, ◌≤◌, ◌<◌, ◌^◌, ◌++◌, length, take, drop, codes, IfOk, OnOk};
+ghost use Rattle.std.specs.Prelude.{◌≡◌, ◌+◌, ◌≤◌, ◌<◌, ◌^◌, ◌++◌, length, take, drop, IfOk, OnOk};
 ghost use Rattle.jh_cellcfg.specs.Spelling.{u16_bytes, header_bytes, header_of, parts_bytes, body_bytes, spelling};
 ghost use Rattle.jh_cellcfg.specs.Widths.{IsHeader, IsCell};
 ghost use Rattle.jh_cellcfg.specs.Limits.{whole_size, parts_size, AreWithinLimits, IsWithinLimits};
@@ -9,7 +9,7 @@ ghost use Rattle.jh_cellcfg.specs.declared.config.CellConfig.{CellConfig};
 
 use crate::config::CellConfig;
 use crate::fault::ConfigFault;
-use crate::header::{Header, REVISION};
+use crate::header::{Header, REVISION, SIGNATURE};
 use crate::reader::Reader;
 use crate::record::{Record, read_list};
 use jh_num::{NoMemory, Seq};
@@ -100,15 +100,16 @@ pub fn read_body(alloc: Global, front: u32, body: &[u8]) -> Result<CellConfig, C
     Ok(read_parts(alloc, header, parts)?)
 }
 
-/// The signature and the revision.
+/// Checks what stands before all that is configured, the first 8 bytes: a signature of 6, and the revision in 2.
+/// Another signature is refused, and then another revision.
 #[tactic(auto, unfolding(crate::specs::Faults::start_fault))]
-fn check_start(bytes: &[u8]) -> Result<(), ConfigFault>
+pub fn check_start(bytes: &[u8], signature: &[u8; 6]) -> Result<(), ConfigFault>
     requires { 8 ≤ length bytes.now }
-    ensures start { OnOk result (bytes.now ≡ codes "JHCELL" ++ (u16_bytes 13 ++ drop 8 bytes.now)) }
-    ensures fault { fault_of result ≡ start_fault bytes.now }
+    ensures start { OnOk result (bytes.now ≡ signature.now ++ (u16_bytes 13 ++ drop 8 bytes.now)) }
+    ensures fault { fault_of result ≡ start_fault signature.now bytes.now }
     ensures memory { refusal result ≡ fault_of result }
 {
-    if !bytes.starts_with(b"JHCELL") {
+    if !bytes.starts_with(signature) {
         return Err(ConfigFault::Signature);
     }
     let found = u16::from_le_bytes([bytes[6], bytes[7]]);
@@ -128,7 +129,7 @@ fn read_whole(alloc: Global, bytes: &[u8]) -> Result<CellConfig, ConfigFault>
     if bytes.len() < 132 {
         return Err(ConfigFault::Short { need: 132 });
     }
-    check_start(bytes)?;
+    check_start(bytes, SIGNATURE)?;
     read_body(alloc, 8, &bytes[8..])
 }
 
@@ -157,7 +158,7 @@ pub fn cell_size(header: &[u8; 132]) -> Result<u32, ConfigFault>
     ensures fault { fault_of result ≡ header_fault header.now }
 {
     let bytes = header.as_slice();
-    check_start(bytes)?;
+    check_start(bytes, SIGNATURE)?;
     let (header, _) = header_at(&bytes[8..]);
     header.size()
 }

@@ -4,7 +4,7 @@ ghost use Rattle.jh_cellcfg.specs.Spelling.{counts_of, header_of, parts_bytes, b
 ghost use Rattle.jh_cellcfg.specs.Limits.{AreWithinLimits, IsWithinLimits};
 
 use crate::config::CellConfig;
-use crate::header::{Counts, Header, REVISION};
+use crate::header::{Counts, Header, REVISION, SIGNATURE};
 use crate::record::{Record, write_list};
 use crate::writer::Writer;
 use jh_num::NoMemory;
@@ -78,7 +78,7 @@ pub fn write_cell(alloc: Global, config: &CellConfig) -> Result<Vec<u8>, NoMemor
     requires { IsWithinLimits config.now }
     ensures { IfOk result (λ bytes. bytes.items ≡ spelling config.now) }
 {
-    let start = Writer::new(alloc).bytes(b"JHCELL")?.u16(REVISION)?;
+    let start = Writer::new(alloc).bytes(SIGNATURE)?.u16(REVISION)?;
     let whole = write_body(config, start)?;
     Ok(whole.written)
 }

@@ -19,6 +19,23 @@ use jh_num::{NoMemory, Seq};
 use serde_json::Value;
 use std::alloc::Global;
 
+/// The names of a cell's members, its kind first, which root doesn't have.
+pub const CELL_NAMES: [&str; 13] = [
+    "kind",
+    "name",
+    "id",
+    "flags",
+    "cpu_set_size",
+    "cpus",
+    "regions",
+    "irqchips",
+    "devices",
+    "vpci_irq_base",
+    "cpu_reset_address",
+    "msg_reply_timeout",
+    "console",
+];
+
 /// What the object's member of this name tells, or what stands for a missing one; else the member is at fault.
 pub fn field<T: FromJson + Drop>(alloc: Global, object: &Value, name: &str) -> Result<T, JsonFault>
     ensures { IsAsWanted (member_told name.now (told_or T.tells T.missing (get name.now (view object.now)))) result }

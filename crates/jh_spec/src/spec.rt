@@ -6,7 +6,7 @@ ghost use Rattle.jh_spec.specs.Json.{IsText};
 ghost use Rattle.jh_spec.specs.Specs.{IsSpecAnswer, MayBeWritten, IsNoSpec, kind_told, object_told};
 ghost use Rattle.jh_spec.specs.Faults.{IsAsWanted};
 
-use crate::cell::cell;
+use crate::cell::{CELL_NAMES, cell};
 use crate::fault::{JsonFault, fault_of};
 use crate::system::system;
 use jh_cellcfg::{CellConfig, SystemConfig};
@@ -26,23 +26,6 @@ enum Kind {
     System,
 }
 
-/// The names of a cell's members, its kind first.
-const NAMES: [&str; 13] = [
-    "kind",
-    "name",
-    "id",
-    "flags",
-    "cpu_set_size",
-    "cpus",
-    "regions",
-    "irqchips",
-    "devices",
-    "vpci_irq_base",
-    "cpu_reset_address",
-    "msg_reply_timeout",
-    "console",
-];
-
 /// Reads a SPEC, all of the bytes: a JSON text of one object that tells a cell or a system, by its member `kind`. A
 /// refusal names the member at fault.
 pub fn read_spec(alloc: Global, bytes: &[u8]) -> Result<Spec, JsonFault>
@@ -59,7 +42,7 @@ fn spec_of(alloc: Global, object: &Value) -> Result<Spec, JsonFault>
     ensures limits { IfOk result MayBeWritten }
 {
     match kind_of(object) {
-        Some(Kind::Cell) => Ok(Spec::Cell(cell(alloc, object, &NAMES)?)),
+        Some(Kind::Cell) => Ok(Spec::Cell(cell(alloc, object, &CELL_NAMES)?)),
         Some(Kind::System) => Ok(Spec::System(system(alloc, object)?)),
         None => Err(fault_of(alloc, "kind")),
     }

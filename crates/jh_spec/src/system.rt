@@ -6,7 +6,7 @@ ghost use Rattle.jh_syscfg.specs.Layout.{IsSystemWithinLimits};
 ghost use Rattle.jh_spec.specs.Cells.{platform_told, root_told, system_told, IsFaultInRoot};
 ghost use Rattle.jh_spec.specs.Faults.{IsAsWanted};
 
-use crate::cell::{all_listed, cell, field};
+use crate::cell::{CELL_NAMES, all_listed, cell, field};
 use crate::fault::{JsonFault, fault_of};
 use jh_cellcfg::{CellConfig, SystemConfig};
 use jh_syscfg::Platform;
@@ -23,21 +23,6 @@ const NAMES: [&str; 9] = [
     "is_virtual",
     "domain",
     "root",
-];
-
-const ROOT_NAMES: [&str; 12] = [
-    "name",
-    "id",
-    "flags",
-    "cpu_set_size",
-    "cpus",
-    "regions",
-    "irqchips",
-    "devices",
-    "vpci_irq_base",
-    "cpu_reset_address",
-    "msg_reply_timeout",
-    "console",
 ];
 
 /// The members before root.
@@ -81,7 +66,7 @@ fn root(alloc: Global, object: &Value) -> Result<CellConfig, JsonFault>
     let Some(value) = object.get("root") else {
         return Err(fault_of(alloc, "root"));
     };
-    match cell(alloc, value, &ROOT_NAMES) {
+    match cell(alloc, value, &CELL_NAMES[1..]) {
         Ok(config) => Ok(config),
         Err(fault) => Err(fault_in_root(alloc, fault)),
     }

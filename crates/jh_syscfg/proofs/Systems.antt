@@ -7,10 +7,10 @@ use Rattle.jh_cellcfg.specs.declared.config.SystemConfig.{SystemConfig}
 use Rattle.jh_cellcfg.specs.declared.fault.ConfigFault.{ConfigFault}
 use Rattle.jh_cellcfg.specs.declared.fault.ConfigFault.TheVariants.{Short}
 use Rattle.jh_cellcfg.specs.Faults.{fault_if, first_of, body_fault, refusal}
-use Rattle.jh_cellcfg.specs.Spelling.{u16_bytes, body_bytes}
-use Rattle.jh_cellcfg.proofs.Public.{length_body_bytes, body_unfaulted, one_body}
+use Rattle.jh_cellcfg.specs.Spelling.{body_bytes}
+use Rattle.jh_cellcfg.proofs.Public.{length_body_bytes, body_unfaulted, one_body, started}
 use Rattle.jh_syscfg.specs.Layout.{platform_bytes, platform_of, system_spelling, IsPlatform, IsSystem, IsSystemWithinLimits}
-use Rattle.jh_syscfg.specs.SystemFaults.{system_start_fault, system_fault, GivesSystem}
+use Rattle.jh_syscfg.specs.SystemFaults.{system_fault, GivesSystem}
 use Rattle.jh_syscfg.specs.declared.platform.Platform.{Platform}
 use Rattle.jh_syscfg.proofs.Platforms.{platform_splits, platform_field}
 
@@ -38,10 +38,6 @@ one_system_spelling a b fa fb la lb e =
 
 -- ---- a spelling has no fault
 
-started : (rest : List ℕ) → system_start_fault (codes "JHSYST" ++ (u16_bytes 13 ++ rest)) ≡ None
-unfolding system_start_fault
-started rest = refl
-
 unfaulted_whole : (short start body : Option ConfigFault) → short ≡ None → start ≡ None → body ≡ None → first_of (short ∷ start ∷ body ∷ []) ≡ None
 unfaulted_whole short start body a b c = λ i. first_of (a i ∷ b i ∷ c i ∷ [])
 
@@ -53,7 +49,7 @@ system_unfaulted s fits limits =
     let long : 220 ≤ length (system_spelling s) = omega (arith, length-append (platform_bytes p) (body_bytes s.root), platform, body) in
     unfaulted_whole _ _ _
     (ap (λ t. fault_if t (Short 220)) (le-ltb (length (system_spelling s)) 220 long))
-    (started (platform_bytes p ++ body_bytes s.root))
+    (started (codes "JHSYST") (platform_bytes p ++ body_bytes s.root) refl)
     (ap (body_fault 96) (behind_platform p (body_bytes s.root) fits.platform) ∙ body_unfaulted 96 s.root fits.root limits.root)
 
 -- an answer that is spelled so, or refused by the first fault, gives what is spelled so

@@ -1,24 +1,16 @@
 -- The first fault of bytes that are no system.
-use Rattle.std.specs.Prelude.{◌≡◌, ℕ, ◌==◌, nat_lt, nat_eq, not, List, [], ◌∷◌, length, drop, codes, Option, None, Result, IfOk}
-use Rattle.std.specs.List.{starts_with}
+use Rattle.std.specs.Prelude.{◌≡◌, ℕ, nat_lt, List, [], ◌∷◌, length, drop, codes, Option, None, Result, IfOk}
 use Rattle.jh_cellcfg.specs.declared.config.SystemConfig.{SystemConfig}
 use Rattle.jh_cellcfg.specs.declared.fault.ConfigFault.{ConfigFault}
-use Rattle.jh_cellcfg.specs.declared.fault.ConfigFault.TheVariants.{Short, Signature, Revision}
-use Rattle.jh_cellcfg.specs.Faults.{fault_if, first_of, u16_at, body_fault, refusal}
-
--- the fault of the signature and the revision
-unfoldable pub system_start_fault : List ℕ → Option ConfigFault
-system_start_fault bytes = first_of (
-    fault_if (not (starts_with nat_eq bytes (codes "JHSYST"))) Signature
-    ∷ fault_if (not (u16_at bytes 6 == 13)) (Revision (u16_at bytes 6))
-    ∷ [])
+use Rattle.jh_cellcfg.specs.declared.fault.ConfigFault.TheVariants.{Short}
+use Rattle.jh_cellcfg.specs.Faults.{fault_if, first_of, start_fault, body_fault, refusal}
 
 -- the first fault of all the bytes, if they have one: root's name and parts stand behind 96 bytes,
 -- and what is between the revision and them has no fault
 abbrev pub system_fault : List ℕ → Option ConfigFault
 system_fault bytes = first_of (
     fault_if (nat_lt (length bytes) 220) (Short 220)
-    ∷ system_start_fault bytes
+    ∷ start_fault (codes "JHSYST") bytes
     ∷ body_fault 96 (drop 96 bytes)
     ∷ [])
 

@@ -5,6 +5,9 @@ ghost use Rattle.jh_syscfg.specs.Layout.{platform_bytes, IsPlatform};
 use jh_cellcfg::{Console, Reader, Record, Region, Writer};
 use jh_num::NoMemory;
 
+/// What a system's configuration begins with.
+pub const SIGNATURE: &[u8; 6] = b"JHSYST";
+
 /// The fields of a system but root, in their order: 88 bytes behind the signature and the revision.
 #[derive(Clone, Copy, PartialEq, Eq, Debug)]
 pub struct Platform {

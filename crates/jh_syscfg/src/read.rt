@@ -1,13 +1,14 @@
 //! Reading a system's configuration.
-ghost use Rattle.std.specs.Prelude.{◌≡◌, ◌≤◌, ◌++◌, length, drop, codes, IfOk, OnOk};
+ghost use Rattle.std.specs.Prelude.{◌≡◌, ◌≤◌, ◌++◌, length, drop, IfOk};
 ghost use Rattle.jh_cellcfg.specs.declared.config.SystemConfig.{SystemConfig};
-ghost use Rattle.jh_cellcfg.specs.Faults.{fault_of, refusal};
-ghost use Rattle.jh_cellcfg.specs.Spelling.{u16_bytes};
+ghost use Rattle.jh_cellcfg.specs.Faults.{refusal};
 ghost use Rattle.jh_syscfg.specs.Layout.{platform_bytes, system_of, system_spelling, IsPlatform, IsSystem, IsSystemWithinLimits};
-ghost use Rattle.jh_syscfg.specs.SystemFaults.{system_start_fault, system_fault, GivesSystem};
+ghost use Rattle.jh_syscfg.specs.SystemFaults.{system_fault, GivesSystem};
 
-use crate::platform::Platform;
-use jh_cellcfg::{CellConfig, ConfigFault, REVISION, Reader, Record, SystemConfig, read_body};
+use crate::platform::{Platform, SIGNATURE};
+use jh_cellcfg::{
+    CellConfig, ConfigFault, Reader, Record, SystemConfig, check_start, read_body,
+};
 use std::alloc::Global;
 
 impl Platform {
@@ -42,24 +43,6 @@ impl Platform {
     }
 }
 
-/// The signature and the revision.
-#[tactic(auto, unfolding(crate::specs::SystemFaults::system_start_fault))]
-fn check_start(bytes: &[u8]) -> Result<(), ConfigFault>
-    requires { 8 ≤ length bytes.now }
-    ensures start { OnOk result (bytes.now ≡ codes "JHSYST" ++ (u16_bytes 13 ++ drop 8 bytes.now)) }
-    ensures fault { fault_of result ≡ system_start_fault bytes.now }
-    ensures memory { refusal result ≡ fault_of result }
-{
-    if !bytes.starts_with(b"JHSYST") {
-        return Err(ConfigFault::Signature);
-    }
-    let found = u16::from_le_bytes([bytes[6], bytes[7]]);
-    if found != REVISION {
-        return Err(ConfigFault::Revision { found });
-    }
-    Ok(())
-}
-
 /// Reads a system's configuration, all of the bytes, or tells their first fault.
 fn read_whole(alloc: Global, bytes: &[u8]) -> Result<SystemConfig, ConfigFault>
     ensures typed { IfOk result IsSystem }
@@ -70,7 +53,7 @@ fn read_whole(alloc: Global, bytes: &[u8]) -> Result<SystemConfig, ConfigFault>
     if bytes.len() < 220 {
         return Err(ConfigFault::Short { need: 220 });
     }
-    check_start(bytes)?;
+    check_start(bytes, SIGNATURE)?;
     let (platform, body) = Platform::at(&bytes[8..]);
     let root = read_body(alloc, 96, body)?;
     Ok(platform.with(root))

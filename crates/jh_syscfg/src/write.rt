@@ -2,7 +2,7 @@
 ghost use Rattle.std.specs.Prelude.{◌≡◌, IfOk};
 ghost use Rattle.jh_syscfg.specs.Layout.{platform_of, system_spelling, IsSystemWithinLimits};
 
-use crate::platform::Platform;
+use crate::platform::{Platform, SIGNATURE};
 use jh_cellcfg::{REVISION, Record, SystemConfig, Writer, write_body};
 use jh_num::NoMemory;
 use std::alloc::Global;
@@ -31,7 +31,7 @@ pub fn write_system(alloc: Global, system: &SystemConfig) -> Result<Vec<u8>, NoM
     requires { IsSystemWithinLimits system.now }
     ensures { IfOk result (λ bytes. bytes.items ≡ system_spelling system.now) }
 {
-    let start = Writer::new(alloc).bytes(b"JHSYST")?.u16(REVISION)?;
+    let start = Writer::new(alloc).bytes(SIGNATURE)?.u16(REVISION)?;
     let before_root = Platform::of(system).write(start)?;
     let whole = write_body(&system.root, before_root)?;
     Ok(whole.written)
