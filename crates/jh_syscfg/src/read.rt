@@ -6,9 +6,7 @@ ghost use Rattle.jh_syscfg.specs.Layout.{platform_bytes, system_of, system_spell
 ghost use Rattle.jh_syscfg.specs.SystemFaults.{system_fault, GivesSystem};
 
 use crate::platform::{Platform, SIGNATURE};
-use jh_cellcfg::{
-    CellConfig, ConfigFault, Reader, Record, SystemConfig, check_start, read_body,
-};
+use jh_cellcfg::{CellConfig, ConfigFault, Reader, Record, SystemConfig, check_start, read_body};
 use std::alloc::Global;
 
 impl Platform {
