@@ -12,6 +12,7 @@ mod running;
 mod runs;
 mod schedule;
 mod soak;
+mod spread;
 mod summary;
 mod turning;
 mod typed;

@@ -19,7 +19,7 @@ use jh_num::{NoMemory, Seq};
 use serde_json::Value;
 use std::alloc::Global;
 
-/// The names of a cell's members, its kind first, which root doesn't have.
+/// The names of a cell's members, its kind first. Root has no kind.
 pub const CELL_NAMES: [&str; 13] = [
     "kind",
     "name",
