@@ -147,14 +147,17 @@ impl<H: Home> Posts<H> {
         self.left.lock(rt).put(post);
     }
 
-    /// The own post, or another one where a worker is at that, once one was left.
-    pub fn take<R: Wait>(&self, rt: &R, own: u8) -> Post<H> {
+    /// The own post, or another one where a worker is at that, once one was left. None where the run has ended and none is left.
+    pub fn take<R: Wait>(&self, rt: &R, own: u8) -> Option<Post<H>> {
         for _ in rt.forever() {
             let mut left = self.left.lock(rt);
             if let Some(post) = left.take(own).or_else(|| left.take_any()) {
-                return post;
+                return Some(post);
             }
             drop(left);
+            if self.have_ended() {
+                return None;
+            }
             thread::yield_now();
         }
         unreachable!()
@@ -173,7 +176,7 @@ impl<H: Home> Posts<H> {
     }
 
     /// Leaves the post, lets other threads go first for a while, and takes the own one or another.
-    pub fn rest<R: Wait>(&self, rt: &R, post: Post<H>, own: u8) -> Post<H> {
+    pub fn rest<R: Wait>(&self, rt: &R, post: Post<H>, own: u8) -> Option<Post<H>> {
         self.leave(rt, post);
         self.look(rt);
         self.take(rt, own)

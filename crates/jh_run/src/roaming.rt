@@ -18,16 +18,16 @@ fn next_post<H: Home, R: Wait>(
     post: Post<H>,
     own: u8,
     answer: Result<Turn, TurnFault>,
-) -> Post<H> {
+) -> Option<Post<H>> {
     match answer {
-        Ok(Turn::Made(_) | Turn::Edited { .. }) => post,
+        Ok(Turn::Made(_) | Turn::Edited { .. }) => Some(post),
         Ok(Turn::NotNow { due_to }) => match posts.trade(rt, post, due_to) {
-            Ok(other) => other,
+            Ok(other) => Some(other),
             Err(post) => posts.rest(rt, post, own),
         },
         Ok(Turn::Done) | Err(_) => {
             posts.end();
-            post
+            Some(post)
         }
     }
 }
@@ -43,15 +43,18 @@ pub fn roam<H: Home, R: Wait, G: Gate>(
 )
     requires home { H.shared ≡ Some shared.now }
 {
-    let mut post = posts.take(rt, own);
+    let mut next = posts.take(rt, own);
     for _ in rt.forever() {
+        let Some(mut post) = next else {
+            return;
+        };
         if posts.have_ended() {
-            break;
+            posts.leave(rt, post);
+            return;
         }
         let answer = post.turn(rt, shared, gate);
-        post = next_post(rt, posts, post, own, answer);
+        next = next_post(rt, posts, post, own, answer);
     }
-    posts.leave(rt, post);
 }
 
 /// The place in the caller's own list for the turn behind one that answered this: the same one while its CPU has entries due, and
