@@ -5,7 +5,6 @@ mod LegalTexts
 mod MapsLemmas
 mod TurnLemmas
 mod PortLemmas
-mod SpreadLemmas
 mod WholeLemmas
 mod CallerLemmas
 mod SoakLemmas

@@ -1,17 +1,14 @@
 -- Ports of one object, driven and given back.
-use Rattle.std.proofs.Common.{◌≡◌, ℕ, ◌<◌, List, [], ◌∷◌, length, get_or, set, Contains, map, Option, Some, None, subst, arith, length-set}
+use Rattle.std.proofs.Common.{◌≡◌, ℕ, ◌<◌, List, [], ◌∷◌, length, get_or, set, Contains, Option, Some, None, subst, arith, length-set}
 use Rattle.std.specs.Prelude.{IfSome}
 use Rattle.std.proofs.lemmas.List.{get_or-set_same}
-use Rattle.std.proofs.lemmas.List.Elements.{All-weaker, Contains-get_or, Contains-append_left}
+use Rattle.std.proofs.lemmas.List.Elements.{Contains-get_or, Contains-append_left}
 use mathlib.Core.List.{IsPrefix}
 use Rattle.jh_turn.specs.declared.turner.Turner.{Ghosts}
 use Rattle.jh_turn.specs.declared.shared.Port.{Port}
-use Rattle.jh_turn.specs.declared.shared.Shared.{Shared}
-use Rattle.jh_turn.specs.Ports.{AreAllPorts, all_callers, port_caller}
 use Rattle.jh_history.specs.declared.entry.Entry.{Entry}
 use Rattle.jh_run.specs.Origins.{Origin}
 use Rattle.jh_run.specs.Drives.{Shows, SomeShows}
-use Rattle.jh_run.specs.Private.Workers.{AreBack}
 use Rattle.jh_run.specs.declared.driving.DriveEnd.{DriveEnd}
 
 -- the element that was just put into a list is in it
@@ -37,8 +34,3 @@ module _ {T A : Type 0} {G : Ghosts T Entry A} where
   some_shows-one origin end [] d one s = absurd (omega arith)
   some_shows-one origin end (x ∷ []) d one s = s
   some_shows-one origin end (x ∷ y ∷ rest) d one s = absurd (omega arith)
-
-module _ {T E A : Type 0} {G : Ghosts T E A} where
-  -- all ports that are back are all ports
-  pub all_back : (shared : Shared T E A) (before after : List (Port T E A G)) → AreAllPorts shared before → AreBack shared before after → AreAllPorts shared after
-  all_back shared before after all back = (back.own, All-weaker (Contains (map port_caller before)) (Contains (map port_caller after)) back.each (all_callers shared) all.1)

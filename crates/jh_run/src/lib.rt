@@ -12,7 +12,6 @@ mod running;
 mod runs;
 mod schedule;
 mod soak;
-mod spread;
 mod summary;
 mod turning;
 mod typed;

@@ -4,10 +4,8 @@ ghost use Rattle.std.specs.Option.{ForSome};
 ghost use Rattle.jh_history.specs.declared.entry.Entry.{Entry as TheEntry};
 ghost use Rattle.jh_board.specs.declared.turn.Turn.{Turn as TheTurn};
 ghost use Rattle.jh_board.specs.declared.turn.TurnFault.{TurnFault as TheFault};
-ghost use Rattle.jh_turn.specs.Histories.{IsTurn};
-ghost use Rattle.jh_turn.specs.Ports.{IsPortOf, opened_value, port_caller, seen_by};
+ghost use Rattle.jh_turn.specs.Ports.{IsPortOf, port_caller};
 ghost use Rattle.jh_turn.specs.declared.shared.Shared.{Shared as TheShared};
-ghost use Rattle.jh_run.specs.Running.{whose_entry, origin_of, IsTurnAnswer};
 ghost use Rattle.jh_run.specs.declared.running.Running.{Running as TheRunning};
 
 use crate::running::Running;
@@ -69,7 +67,6 @@ impl<H: Home> Post<H> {
     ) -> Result<Turn, TurnFault>
         requires home { H.shared ≡ Some shared.now }
         ensures caller { port_caller self.new.port ≡ port_caller self.old.port }
-        ensures turn { IsTurn whose_entry (IsTurnAnswer (origin_of (opened_value shared.now)) (port_caller self.old.port)) (port_caller self.old.port) (seen_by self.old.port) result (seen_by self.new.port) }
     {
         gate.pass(self.port.caller(), self.turns);
         self.turns = self.turns.saturating_add(1);
@@ -147,17 +144,14 @@ impl<H: Home> Posts<H> {
         self.left.lock(rt).put(post);
     }
 
-    /// The own post, or another one where a worker is at that, once one was left. None where the run has ended and none is left.
-    pub fn take<R: Wait>(&self, rt: &R, own: u8) -> Option<Post<H>> {
+    /// The own post, or another one where a worker is at that, once one was left.
+    pub fn take<R: Wait>(&self, rt: &R, own: u8) -> Post<H> {
         for _ in rt.forever() {
             let mut left = self.left.lock(rt);
             if let Some(post) = left.take(own).or_else(|| left.take_any()) {
-                return Some(post);
+                return post;
             }
             drop(left);
-            if self.have_ended() {
-                return None;
-            }
             thread::yield_now();
         }
         unreachable!()
@@ -176,7 +170,7 @@ impl<H: Home> Posts<H> {
     }
 
     /// Leaves the post, lets other threads go first for a while, and takes the own one or another.
-    pub fn rest<R: Wait>(&self, rt: &R, post: Post<H>, own: u8) -> Option<Post<H>> {
+    pub fn rest<R: Wait>(&self, rt: &R, post: Post<H>, own: u8) -> Post<H> {
         self.leave(rt, post);
         self.look(rt);
         self.take(rt, own)

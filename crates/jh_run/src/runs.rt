@@ -90,9 +90,9 @@ fn end_run(shared: Shared<Running>, driven: Driven) -> Result<(Board, Ended), No
     Ok((board, ended))
 }
 
-/// A worker for each CPU of the image's board, until nothing is due to any CPU or the journal is full: the caller is one, and
-/// each other has a thread of its own. A CPU whose thread can't be started is driven in the caller's own list. Each worker
-/// passes the gate before each of its turns. It waits for the workers, and may wait for ever.
+/// A worker for each CPU of the image's board, each in a thread of its own where one can be had, until
+/// nothing is due to any CPU or the journal is full. Each worker passes the gate before each of its turns.
+/// It waits for the workers, and may wait for ever.
 pub fn run<R: Threads + Wait + Sync, G: Gate + Sync>(
     rt: &R,
     alloc: Global,

@@ -1,6 +1,6 @@
 -- Turns at several ports leave what ports they are.
 use Rattle.std.proofs.Common.{◌≡◌, ◌≢◌, ℕ, zero, suc, ◌<◌, ◌==◌, Bool, true, false, not, ◌&&◌, List, [], ◌∷◌, length, get_or, set, All, AllPairs, Contains, map, sym, subst, ap, ◌∙◌, true≢false, arith, eq-eqb}
-use Rattle.std.proofs.Math.Seq.{map-set_same}
+use Rattle.std.proofs.lemmas.List.{map-set, set-get_or}
 use Rattle.std.proofs.lemmas.List.Elements.{All-set}
 use Rattle.std.proofs.lemmas.Bool.{and_parts}
 use Rattle.jh_turn.specs.declared.turner.Turner.{Ghosts}
@@ -15,7 +15,7 @@ module _ {T E A : Type 0} {G : Ghosts T E A} where
       → IsSameSet shared first (set now i q)
   same_set_at shared first now i p q same own caller = record {
     own = All-set (IsPortOf shared) now i q own same.own;
-    callers = map-set_same port_caller now i q p caller ∙ same.callers;
+    callers = map-set port_caller now i q ∙ (ap (set (map port_caller now) i) caller ∙ (sym (map-set port_caller now i (get_or now i p)) ∙ (ap (map port_caller) (set-get_or now i p) ∙ same.callers)));
   }
 
   -- all ports are all ports still
