@@ -1,5 +1,5 @@
 //! A worker, which is at one post after another.
-ghost use Rattle.std.specs.Prelude.{◌≡◌, Some};
+ghost use Rattle.std.specs.Prelude.{◌≡◌, ◌<◌, Some, length};
 
 use crate::posts::{Home, Post, Posts};
 use crate::running::Running;
@@ -7,6 +7,7 @@ use jh_board::{Turn, TurnFault};
 use jh_outside::Gate;
 use jh_turn::Shared;
 use std::sync::Wait;
+use std::thread;
 
 /// The post for the turn behind one that answered this: the same one while its CPU has entries due, and else that of
 /// the CPU that has. Where a worker is at that one, this one rests.
@@ -50,4 +51,53 @@ pub fn roam<H: Home, R: Wait, G: Gate>(
         post = next_post(rt, posts, post, own, answer);
     }
     posts.leave(rt, post);
+}
+
+/// The place in the caller's own list for the turn behind one that answered this: the same one while its CPU has entries due, and
+/// else that of the CPU that has. Where a worker is at that one, other threads go first, and the next place has its turn.
+fn next_place<H: Home>(
+    posts: &Posts<H>,
+    own: &[Post<H>],
+    at: usize,
+    answer: Result<Turn, TurnFault>,
+) -> usize
+    requires { at < length own.now }
+    ensures { result < length own.now }
+{
+    match answer {
+        Ok(Turn::Made(_) | Turn::Edited { .. }) => at,
+        Ok(Turn::NotNow { due_to }) => {
+            if let Some(place) = own.iter().position(|post| post.port.caller() == due_to) {
+                return place;
+            }
+            thread::yield_now();
+            (at + 1) % own.len()
+        }
+        Ok(Turn::Done) | Err(_) => {
+            posts.end();
+            at
+        }
+    }
+}
+
+/// Takes turns at the posts of the caller's own list, each behind the gate, until a worker finds that nothing is due to any CPU, or that a turn
+/// is refused. No other worker goes to these.
+pub fn roam_own<H: Home, R: Wait, G: Gate>(
+    rt: &R,
+    shared: &Shared<Running>,
+    posts: &Posts<H>,
+    gate: &G,
+    own: &mut [Post<H>],
+)
+    requires home { H.shared ≡ Some shared.now }
+    requires some { 0 < length own.old }
+{
+    let mut at = 0;
+    for _ in rt.forever() {
+        if posts.have_ended() {
+            return;
+        }
+        let answer = own[at].turn(rt, shared, gate);
+        at = next_place(posts, own, at, answer);
+    }
 }

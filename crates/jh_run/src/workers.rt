@@ -8,7 +8,7 @@ ghost use Rattle.jh_run.specs.Running.{origin_of};
 
 use crate::driving::drive;
 use crate::posts::{Home, Post, Posts};
-use crate::roaming::roam;
+use crate::roaming::{roam, roam_own};
 use crate::running::Running;
 use jh_board::TurnFault;
 use jh_num::NoMemory;
@@ -38,43 +38,96 @@ fn callers_of(alloc: Global, ports: &[Port<Running>]) -> Result<Vec<u8>, NoMemor
     Ok(callers)
 }
 
-/// Leaves the post of each port.
-fn leave_all<H: Home, R: Wait>(
-    rt: &R,
-    shared: &Shared<Running>,
-    posts: &Posts<H>,
-    ports: Vec<Port<Running>>,
-)
-    requires home { H.shared ≡ Some shared.now }
-    requires own { All (IsPortOf shared.now) ports.items }
-{
-    for port in ports {
-        posts.leave(rt, Post::new(shared, port));
+/// Leaves the posts.
+fn leave_all<H: Home, R: Wait>(rt: &R, posts: &Posts<H>, own: Vec<Post<H>>) {
+    for post in own {
+        posts.leave(rt, post);
     }
 }
 
-/// Starts a worker for each caller but the first, as far as threads can be had, and is the first one's here.
+/// Starts a worker for the caller in a thread of its own, and tells whether one could be had.
+fn start<'s, E, H: Home + Send + Sync, R: Threads + Wait + Sync, G: Gate + Sync>(
+    scope: &'s Scope<'s, E>,
+    rt: &'s R,
+    shared: &'s Shared<Running>,
+    posts: &'s Posts<H>,
+    gate: &'s G,
+    caller: u8,
+) -> bool
+    requires home { H.shared ≡ Some shared.now }
+{
+    let started = scope.spawn(
+        move || -> ()
+            requires { H.shared ≡ Some shared.now }
+        { roam(rt, shared, posts, gate, caller) },
+    );
+    started.is_ok()
+}
+
+/// Leaves the post of each port that a worker can be started for. The others are the caller's own list, the first port always.
+fn spread_out<'s, E, H: Home + Send + Sync, R: Threads + Wait + Sync, G: Gate + Sync>(
+    scope: &'s Scope<'s, E>,
+    rt: &'s R,
+    shared: &'s Shared<Running>,
+    posts: &'s Posts<H>,
+    gate: &'s G,
+    ports: Vec<Port<Running>>,
+    own: &mut Vec<Post<H>>,
+)
+    requires home { H.shared ≡ Some shared.now }
+    requires ports { All (IsPortOf shared.now) ports.items }
+    requires some { 0 < length ports.items }
+    requires room { length own.old.items + length ports.items ≤ vec_capacity own.old }
+    ensures { 0 < length own.new.items }
+{
+    for port in ports {
+        let caller = port.caller();
+        let post = Post::new(shared, port);
+        if own.is_empty() || !start(scope, rt, shared, posts, gate, caller) {
+            own.push_reserved(post);
+        } else {
+            posts.leave(rt, post);
+        }
+    }
+}
+
+/// Drives the caller's own list until the run has ended, and leaves its posts. Where it has one post alone, all others have workers,
+/// and the caller is one of these.
+fn drive_own<H: Home, R: Wait, G: Gate>(
+    rt: &R,
+    shared: &Shared<Running>,
+    posts: &Posts<H>,
+    gate: &G,
+    mut own: Vec<Post<H>>,
+)
+    requires home { H.shared ≡ Some shared.now }
+    requires some { 0 < length own.items }
+{
+    let first = own[0].port.caller();
+    if own.len() > 1 {
+        roam_own(rt, shared, posts, gate, own.as_mut_slice());
+    }
+    leave_all(rt, posts, own);
+    roam(rt, shared, posts, gate, first);
+}
+
+/// Spreads the ports over workers and the caller's own list, and drives the latter until the run has ended.
 fn work<'s, E, H: Home + Send + Sync, R: Threads + Wait + Sync, G: Gate + Sync>(
     scope: &'s Scope<'s, E>,
     rt: &'s R,
     shared: &'s Shared<Running>,
     posts: &'s Posts<H>,
     gate: &'s G,
-    first: u8,
-    others: &[u8],
+    ports: Vec<Port<Running>>,
+    mut own: Vec<Post<H>>,
 )
     requires home { H.shared ≡ Some shared.now }
+    requires ports { All (IsPortOf shared.now) ports.items }
+    requires some { 0 < length ports.items }
+    requires room { length own.items + length ports.items ≤ vec_capacity own }
 {
-    for own in others {
-        let own = *own;
-        // without a thread, the post is driven by the workers that there are
-        let _ = scope.spawn(
-            move || -> ()
-                requires { H.shared ≡ Some shared.now }
-            { roam(rt, shared, posts, gate, own) },
-        );
-    }
-    roam(rt, shared, posts, gate, first);
+    spread_out(scope, rt, shared, posts, gate, ports, &mut own);
+    drive_own(rt, shared, posts, gate, own);
 }
 
 /// A gate for turns of a port that has made others before.
@@ -132,23 +185,29 @@ fn gather<H: Home, R: Wait>(
     }
 }
 
-/// A worker for each caller, at the posts, until the run has ended.
-fn run_workers<'x, H: Home + Send + Sync, R: Threads + Wait + Sync, G: Gate + Sync>(
+/// The same as `work`, in a scope for the threads of the workers, for all of which it waits.
+fn work_in_scope<'x, H: Home + Send + Sync, R: Threads + Wait + Sync, G: Gate + Sync>(
     rt: &'x R,
     shared: &'x Shared<Running>,
     posts: &'x Posts<H>,
     gate: &'x G,
-    first: u8,
-    others: &'x [u8],
+    ports: Vec<Port<Running>>,
+    own: Vec<Post<H>>,
 )
     requires home { H.shared ≡ Some shared.now }
+    requires ports { All (IsPortOf shared.now) ports.items }
+    requires some { 0 < length ports.items }
+    requires room { length own.items + length ports.items ≤ vec_capacity own }
 {
     thread::scope(
         thread::scope_env(),
         rt,
         |scope| -> ()
-            requires { H.shared ≡ Some shared.now }
-        { work(scope, rt, shared, posts, gate, first, others) },
+            requires home { H.shared ≡ Some shared.now }
+            requires ports { All (IsPortOf shared.now) ports.items }
+            requires some { 0 < length ports.items }
+            requires room { length own.items + length ports.items ≤ vec_capacity own }
+        { work(scope, rt, shared, posts, gate, ports, own) },
     );
 }
 
@@ -168,11 +227,11 @@ fn drive_at<H: Home + Send + Sync, R: Threads + Wait + Sync, G: Gate + Sync>(
 {
     let callers = callers_of(alloc, ports.as_slice())?;
     let mut back = Vec::with_capacity(alloc, ports.len())?;
+    let own = Vec::with_capacity(alloc, ports.len())?;
     let posts: Posts<H> = Posts::new(alloc)?;
-    leave_all(rt, shared, &posts, ports);
+    work_in_scope(rt, shared, &posts, gate, ports, own);
     let first = callers.as_slice()[0];
     let others = &callers.as_slice()[1..];
-    run_workers(rt, shared, &posts, gate, first, others);
     let (port, refused) = see_end(rt, shared, posts.take_back(rt, first), gate);
     back.push_reserved(port);
     gather(rt, shared, &posts, others, &mut back);
@@ -182,8 +241,8 @@ fn drive_at<H: Home + Send + Sync, R: Threads + Wait + Sync, G: Gate + Sync>(
     })
 }
 
-/// Drives the ports by as many workers, each in a thread of its own where one can be had, until nothing is due to any CPU or a turn
-/// is refused. It waits for the workers.
+/// Drives the ports by as many workers until nothing is due to any CPU or a turn is refused: the caller is one, and each other has a
+/// thread of its own. A port whose thread can't be started is driven in the caller's own list. It waits for the workers.
 pub fn drive_all<R: Threads + Wait + Sync, G: Gate + Sync>(
     rt: &R,
     alloc: Global,
