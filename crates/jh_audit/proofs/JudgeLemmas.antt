@@ -7,7 +7,7 @@ use Rattle.jh_text.specs.LinesView.{LinesView}
 use Rattle.jh_text.specs.Lines.{IsReadTo}
 use Rattle.jh_audit.specs.declared.verdict.Verdict.TheVariants.{Illegal}
 use Rattle.jh_audit.specs.Judges.{IsFirstIllegal, JudgesText}
-use Rattle.jh_audit.specs.Rest.{EndsJournal}
+use Rattle.jh_audit.specs.Private.Rest.{EndsJournal}
 
 -- the entry in the line that was read last is the first that isn't due
 is_first : (image : Image) (before : List Entry) (entry : Entry) (rest : List Entry) (line : ℕ) (expected : Option Entry)

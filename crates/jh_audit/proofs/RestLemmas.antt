@@ -5,7 +5,7 @@ use Rattle.jh_text.specs.declared.fault.JournalFault.{JournalFault}
 use Rattle.jh_text.specs.Faults.{IsFault}
 use Rattle.jh_text.specs.LinesView.{LinesView}
 use Rattle.jh_text.specs.Lines.{IsReadTo, PassesLine, RefusesLine}
-use Rattle.jh_audit.specs.Rest.{ReadsOn, EndsAtFault}
+use Rattle.jh_audit.specs.Private.Rest.{ReadsOn, EndsAtFault}
 
 -- what is known of the lines of a text
 

@@ -1,2 +1,2 @@
 pub mod Judges
-pub mod Rest
+pub mod Private

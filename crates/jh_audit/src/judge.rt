@@ -5,7 +5,7 @@ ghost use Rattle.jh_history.specs.declared.entry.Entry.{Entry as TheEntry};
 ghost use Rattle.jh_board.specs.Turns.{MakesDue};
 ghost use Rattle.jh_text.specs.Faults.{IsFault, IsFirstBadLine, IsJournalText, IsTooLong};
 ghost use Rattle.jh_audit.specs.Judges.{Judges, JudgesText, Compares};
-ghost use Rattle.jh_audit.specs.Rest.{EndsJournal, EndsAtFault};
+ghost use Rattle.jh_audit.specs.Private.Rest.{EndsJournal, EndsAtFault};
 
 use crate::compared::Compared;
 use crate::verdict::Verdict;

@@ -22,7 +22,7 @@ use Rattle.jh_history.specs.Grants.{reach, devices_of}
 use Rattle.jh_history.specs.Pages.{page_write_by, with_page_write}
 use Rattle.jh_history.specs.Wants.{IsReachOfAct, IsReachOfEntry}
 use Rattle.jh_history.proofs.Public.{same_function}
-use Rattle.jh_board.specs.Steps.{memory_written, memory_after, slot_after, endpoints_acted_by}
+use Rattle.jh_board.specs.Private.Steps.{memory_written, memory_after, slot_after, endpoints_acted_by}
 
 -- ---- bytes
 

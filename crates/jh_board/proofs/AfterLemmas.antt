@@ -9,7 +9,7 @@ use Rattle.jh_cellcfg.specs.declared.live.Live.{Live}
 use Rattle.jh_cellcfg.specs.Lives.{has_id}
 use Rattle.jh_call.specs.declared.call.Call.{Call}
 use Rattle.jh_call.specs.declared.call.Call.TheVariants.{Create, Start, Loadable, Destroy, Info, State, CpuInfo, Unknown}
-use Rattle.jh_ivshmem.specs.Seen.{Seen}
+use Rattle.jh_ivshmem.specs.EndpointsView.{EndpointsView}
 use Rattle.jh_shape.specs.Lives.{marked}
 use Rattle.jh_script.specs.declared.image.Image.{Image}
 use Rattle.jh_history.specs.declared.access.Reach.{Reach}
@@ -32,11 +32,11 @@ use Rattle.jh_history.specs.Calls.{call_by}
 use Rattle.jh_history.specs.Commits.{is_other, committed_cells, cells_by, created, created_at, created_by}
 use Rattle.jh_history.specs.DueFacts.{NamesCpu, MayLive, IsLive, HasPage, IsOfCells, ReachesCells, WritesCells}
 use Rattle.jh_board.specs.declared.held.Held.{Held}
-use Rattle.jh_board.specs.declared.indexed.FoundProgram.{FoundProgram}
-use Rattle.jh_board.specs.Indexed.{AreFound}
+use Rattle.jh_board.specs.declared.indexed.ProgramIndex.{ProgramIndex}
+use Rattle.jh_board.specs.Indexed.{AreProgramIndices}
 use Rattle.jh_board.specs.Pages.{byte_of, HoldsComm, MayHold, MemoryView}
 use Rattle.jh_board.specs.Means.{Means, HoldsPageOf, HoldsWords, IsReady, IsReadyIn, IsReadyFor}
-use Rattle.jh_board.specs.Steps.{IsFree, MayWrite, MayWriteOf, MayJoinCells, IsPrepared}
+use Rattle.jh_board.specs.Private.Steps.{IsFree, MayWrite, MayWriteOf, MayJoinCells, IsPrepared}
 use Rattle.jh_board.proofs.KeptLemmas.{KeepsPages, comms_kept, words_kept, all_words_kept}
 use Rattle.jh_board.proofs.MadeLemmas.{ready_written}
 
@@ -236,7 +236,7 @@ pub record IsCalled (image : Image) (mid new : Held) (entry : Entry) (coming : O
   pub lives : new.cells.lives ≡ cells_by mid.call mid.cells.lives entry.act
   pub named : IfSome (created_by mid.call entry.act) NamesCpu
   pub call : new.call ≡ call_by mid.cells.lives coming mid.call entry entry.act
-  pub programs : (call : Option OpenCall) (lives : List Live) → AreFound image lives mid.programs → new.cells.lives ≡ cells_by call lives entry.act → AreFound image new.cells.lives new.programs
+  pub programs : (call : Option OpenCall) (lives : List Live) → AreProgramIndices image lives mid.programs → new.cells.lives ≡ cells_by call lives entry.act → AreProgramIndices image new.cells.lives new.programs
   pub ready : IsReady mid new.call → IsReady new new.call
 
 -- and the steps before it, memory, devices and CPUs
@@ -262,8 +262,8 @@ Means_made image old mid new f entry coming prepared written called =
     let after-call : new.call ≡ call_after image f entry = called.call ∙ ap (λ (c : Option OpenCall). call_by mid.cells.lives coming c entry act) call ∙ ap (λ (cs : List Live). call_by cs coming f.call entry act) lives ∙ prepared.read in
     let pages : KeepsPages old.memory new.memory = λ q held. rw called.memory (written.pages q held) in
     let living : new.cells.lives ≡ cells_by f.call f.cells act = called.lives ∙ ap (λ (c : Option OpenCall). cells_by c mid.cells.lives act) call ∙ ap (λ (cs : List Live). cells_by f.call cs act) lives in
-    let F : List FoundProgram → Type 0 = AreFound image f.cells in
-    let G : List Live → Type 0 = λ cs. AreFound image cs new.programs in
+    let F : List ProgramIndex → Type 0 = AreProgramIndices image f.cells in
+    let G : List Live → Type 0 = λ cs. AreProgramIndices image cs new.programs in
     let R : Option OpenCall → Type 0 = IsReady mid in
     let S : Option OpenCall → Type 0 = IsReady new in
     record {
@@ -271,7 +271,7 @@ Means_made image old mid new f entry coming prepared written called =
       cpus = λ i lt. rw called.cpus (written.cpus i lt);
       system = called.system ∙ rw written.cells means.system;
       cells = living;
-      endpoints = ap (λ (es : Seen). es.list) called.endpoints ∙ written.endpoints;
+      endpoints = ap (λ (es : EndpointsView). es.list) called.endpoints ∙ written.endpoints;
       call = after-call;
       pages = all_made (λ (config : CellConfig). HoldsComm new.memory.comms config.id) f.call f.cells act
           (All-weaker (HoldsPageOf old) (HoldsPageOf new) (λ live. comms_kept old.memory new.memory live.config.id pages) f.cells means.pages)

@@ -21,7 +21,7 @@ use Rattle.jh_life.specs.Lives.{has_config_id, new_live}
 use Rattle.jh_shape.specs.Lives.{configs_of, marked}
 use Rattle.jh_history.specs.Commits.{is_other}
 use Rattle.jh_history.specs.Lives.{live_in}
-use Rattle.jh_board.specs.Closed.{IsIndexOf, live_regions, all_regions, count_regions, AreInRange}
+use Rattle.jh_board.specs.Private.Closed.{IsIndexOf, live_regions, all_regions, count_regions, AreInRange}
 
 -- ---- the index of a cell
 

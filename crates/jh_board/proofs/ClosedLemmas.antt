@@ -22,7 +22,7 @@ use Rattle.jh_shape.specs.Claims.{Holder}
 use Rattle.jh_shape.specs.Shapes.{takes, holder_of_live}
 use Rattle.jh_life.specs.Lives.{is_loadable_at}
 use Rattle.jh_shape.specs.Lives.{configs_of}
-use Rattle.jh_board.specs.Closed.{is_taken, is_closed_by, all_regions, count_regions}
+use Rattle.jh_board.specs.Private.Closed.{is_taken, is_closed_by, all_regions, count_regions}
 
 abbrev end_of : Range → ℕ
 end_of range = range.end

@@ -33,7 +33,7 @@ use Rattle.jh_history.specs.Sound.{IsSound, IsOfDevice}
 use Rattle.jh_board.specs.declared.held.Held.{Held}
 use Rattle.jh_board.specs.Means.{Means, HoldsWords}
 use Rattle.jh_board.specs.Pages.{MemoryView, HoldsPlace, HoldsSlot, HoldsWord}
-use Rattle.jh_board.specs.Steps.{devices_held, slot_after, MayPut, MayWriteSlot, MayCommitDevices, MayCommit}
+use Rattle.jh_board.specs.Private.Steps.{devices_held, slot_after, MayPut, MayWriteSlot, MayCommitDevices, MayCommit}
 use Rattle.jh_board.proofs.ActedLemmas.{word_acted}
 use Rattle.jh_board.proofs.AfterLemmas.{if_some, IsComing, created_phase, ready_coming}
 use Rattle.jh_board.proofs.KeptLemmas.{KeepsPages, words_kept}

@@ -22,7 +22,7 @@ use Rattle.jh_history.specs.declared.place.Place.{Place}
 use Rattle.jh_history.specs.Devices.{is_endpoint, section_at, place_of_section, spec_of, specs_from, specs_of, specs_by, specs_at}
 use Rattle.jh_history.specs.Endpoints.{HasGoodDevices, MayJoinThem, MayChange, endpoint_changed, endpoints_changed, with_words}
 use Rattle.jh_history.proofs.Public.{same_function, kind_from, All_from_held}
-use Rattle.jh_board.specs.Closed.{AreInRange}
+use Rattle.jh_board.specs.Private.Closed.{AreInRange}
 
 -- ---- one device after another
 
@@ -138,7 +138,7 @@ first_table config device good range =
     let item : section_at config device 0 ≡ Some own = slice_get-get_or config.memory_regions place (record { phys_start = 0; virt_start = 0; size = 0; flags = 0 }) below in
     let number : 0 < 2 + device.shmem_peers = omega arith in
     let table = good.table own (record { number = number; item = item }) in
-    let plain = good.plain 0 own (record { number = number; item = item }) in
+    let plain = good.sections 0 own (record { number = number; item = item }) in
     let some : 0 < own.size = let pages = table.some in omega arith in
     let inside = range place (record { phys_start = 0; virt_start = 0; size = 0; flags = 0 }) below some in
     let ends : own.phys_start + own.size ≤ ADDRESS_END = inside.phys plain.no_comm in

@@ -21,7 +21,7 @@ use Rattle.jh_history.specs.Access.{places_from, place_of, memory_or_nothing, re
 use Rattle.jh_history.specs.Grants.{is_kept, unless, granted_in}
 use Rattle.jh_history.specs.Lives.{live_in, regions_in}
 use Rattle.jh_history.proofs.Public.{unless_kept}
-use Rattle.jh_board.specs.Closed.{is_closed_by, live_regions}
+use Rattle.jh_board.specs.Private.Closed.{is_closed_by, live_regions}
 
 -- ---- which places root is kept from
 

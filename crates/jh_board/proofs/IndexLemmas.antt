@@ -22,8 +22,8 @@ use Rattle.std.proofs.lemmas.List.Elements.{All-contains}
 use Rattle.std.proofs.lemmas.List.{drop_more, drop_all}
 use Rattle.jh_history.specs.Admitted.{IsAdmitted}
 use Rattle.jh_history.proofs.Public.{within, gives_has}
-use Rattle.jh_board.specs.declared.indexed.FoundProgram.{FoundProgram}
-use Rattle.jh_board.specs.Indexed.{ops_at, AreRootPrograms, AreFound}
+use Rattle.jh_board.specs.declared.indexed.ProgramIndex.{ProgramIndex}
+use Rattle.jh_board.specs.Indexed.{ops_at, AreRootPrograms, AreProgramIndices}
 
 -- the first element that passes, where a search has come to it
 pub find_here : {X : Type 0} (p : X → Bool) (xs : List X) (k : ℕ) (x : X) → k < length xs → x ≡ get_or xs k x → p x ≡ true → find p (drop k xs) ≡ find p xs → find p xs ≡ slice_get xs k
@@ -83,14 +83,14 @@ none_found image lives id cpu at other is end =
     rw (root, is, slice_get_past image.programs at (omega arith)) refl
 
 -- each of 16 programs is found
-pub all_found : (image : Image) (lives : List Live) (found : List FoundProgram) → length found ≡ 16 → ((k : ℕ) (d : FoundProgram) → k < 16 → ops_at image (get_or found k d).index ≡ ops_in image lives (get_or found k d).owner k) → AreFound image lives found
+pub all_found : (image : Image) (lives : List Live) (found : List ProgramIndex) → length found ≡ 16 → ((k : ℕ) (d : ProgramIndex) → k < 16 → ops_at image (get_or found k d).index ≡ ops_in image lives (get_or found k d).owner k) → AreProgramIndices image lives found
 all_found image lives found all told = λ cpu p is.
-    let P : FoundProgram → Type 0 = λ x. ops_at image x.index ≡ ops_in image lives x.owner cpu in
+    let P : ProgramIndex → Type 0 = λ x. ops_at image x.index ≡ ops_in image lives x.owner cpu in
     let within = slice_get_within found cpu p is in
     subst P (get_or_from_slice_get found cpu p p is) (told cpu p (omega arith))
 
 -- the program that was found for the cell is the cell's
-pub found_at : (image : Image) (lives : List Live) (found : List FoundProgram) (at cpu id : ℕ) (d : FoundProgram) → length found ≡ 16 → cpu < 16 → at ≡ cpu → (get_or found at d).owner ≡ id → AreFound image lives found
+pub found_at : (image : Image) (lives : List Live) (found : List ProgramIndex) (at cpu id : ℕ) (d : ProgramIndex) → length found ≡ 16 → cpu < 16 → at ≡ cpu → (get_or found at d).owner ≡ id → AreProgramIndices image lives found
     → ops_at image (get_or found at d).index ≡ ops_in image lives id cpu
 found_at image lives found at cpu id d all few same owner are =
     let P : ℕ → Type 0 = λ k. slice_get found k ≡ Some (get_or found at d) in
@@ -98,10 +98,10 @@ found_at image lives found at cpu id d all few same owner are =
     subst Q owner (are cpu (get_or found at d) (subst P same (slice_get-get_or found at d (omega arith))))
 
 -- the operations of the program at a place are plain
-pub plain_at : (image : Image) (at : ℕ) (p : Program) → IsAdmitted image → slice_get image.programs at ≡ Some p → All IsWellFormed p.ops
-plain_at image at p admitted is =
+pub well_formed_at : (image : Image) (at : ℕ) (p : Program) → IsAdmitted image → slice_get image.programs at ≡ Some p → All IsWellFormed p.ops
+well_formed_at image at p admitted is =
     let P : Program → Type 0 = λ program. All IsWellFormed program.ops in
-    subst P (get_or_from_slice_get image.programs at p p is) (admitted.programs at p (slice_get_within image.programs at p is)).plain
+    subst P (get_or_from_slice_get image.programs at p p is) (admitted.programs at p (slice_get_within image.programs at p is)).well_formed
 
 -- a region of root that is found is in range
 found_in_range : (image : Image) (access : Access) (at : ℕ) (o : Option Region) → IsAdmitted image → region_of image.system.root.memory_regions access at ≡ o → IfSome o IsInRange

@@ -18,8 +18,8 @@ use Rattle.jh_history.specs.Devices.{specs_of}
 use Rattle.jh_history.specs.Places.{places_in_row}
 use Rattle.jh_history.specs.Facts.{Facts}
 use Rattle.jh_board.specs.declared.held.Held.{Held}
-use Rattle.jh_board.specs.declared.indexed.FoundProgram.{FoundProgram}
-use Rattle.jh_board.specs.Indexed.{AreFound}
+use Rattle.jh_board.specs.declared.indexed.ProgramIndex.{ProgramIndex}
+use Rattle.jh_board.specs.Indexed.{AreProgramIndices}
 use Rattle.jh_board.specs.Pages.{byte_of, HoldsComm, HoldsPlace, HoldsWord, MemoryView}
 use Rattle.jh_board.specs.Means.{Means, HoldsPageOf, HoldsWords, IsReadyFor, IsReadyIn, IsReady}
 
@@ -79,6 +79,6 @@ Means_kept image old new f bytes pages cpus system lives programs endpoints call
   words = all_words_kept old new f.cells pages h.words;
   root_words = words_kept old.memory new.memory (specs_of image.system.root) pages h.root_words;
   named = h.named;
-  programs = let P : List FoundProgram → Type 0 = AreFound image f.cells in subst P (sym programs) h.programs;
+  programs = let P : List ProgramIndex → Type 0 = AreProgramIndices image f.cells in subst P (sym programs) h.programs;
   ready = ready;
 }

@@ -12,7 +12,7 @@ mod KeptLemmas
 mod MadeLemmas
 mod AfterLemmas
 mod RootReadLemmas
-mod ToldLemmas
+mod RegionMapLemmas
 mod DevicesLemmas
 mod ActedLemmas
 mod CommitLemmas

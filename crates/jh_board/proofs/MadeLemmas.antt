@@ -19,7 +19,7 @@ use Rattle.jh_board.specs.declared.held.Held.{Held}
 use Rattle.jh_board.specs.declared.steps.CellsChange.{CellsChange}
 use Rattle.jh_board.specs.declared.steps.CellsChange.TheVariants.{Keep}
 use Rattle.jh_board.specs.Means.{IsReady}
-use Rattle.jh_board.specs.Steps.{change_of_call, change_of_cells, changed_cells, joined_cells}
+use Rattle.jh_board.specs.Private.Steps.{change_of_call, change_of_cells, changed_cells, joined_cells}
 use Rattle.jh_board.proofs.ReadyLemmas.{ready_committed}
 use Rattle.jh_board.proofs.KeptLemmas.{KeepsPages, ready_kept}
 

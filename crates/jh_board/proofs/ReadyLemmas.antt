@@ -15,15 +15,15 @@ use Rattle.jh_history.specs.declared.entry.Act.{Act}
 use Rattle.jh_history.specs.declared.entry.Act.TheVariants.{Read, Write, Fetch, Await, Irq, Hvc, Begin, Stop, Decide, Settle, Commit, Note, Noted, Finish}
 use Rattle.jh_script.specs.declared.image.Image.{Image}
 use Rattle.jh_history.specs.declared.call.Creation.{Creation}
-use Rattle.jh_history.specs.declared.call.Creation.TheVariants.{Refused, Comes}
+use Rattle.jh_history.specs.declared.call.Creation.TheVariants.{Refused, Accepted}
 use Rattle.jh_history.specs.Facts.{Facts}
 use Rattle.jh_history.specs.Configs.{Reads, read_at, config_read}
 use Rattle.jh_history.specs.Phases.{refused_by}
 use Rattle.jh_history.specs.History.{coming_by, coming_of, call_after}
-use Rattle.jh_history.specs.Calls.{telling, first_told, decided, after_commit, call_by}
+use Rattle.jh_history.specs.Calls.{telling, first_recipient, decided, after_commit, call_by}
 use Rattle.jh_board.specs.declared.held.Held.{Held}
 use Rattle.jh_board.specs.Means.{IsReadyIn, IsReady, IsReadyFor}
-use Rattle.jh_board.specs.Steps.{decides_to_go_on, create_of}
+use Rattle.jh_board.specs.Private.Steps.{decides_to_go_on, create_of}
 
 -- ---- readiness
 
@@ -34,7 +34,7 @@ ready_telling held about answer (Some id) = tt
 ready_created : (held : Held) (at : ℕ) (cells : List Live) (phase : Phase) → IsReadyIn held (after_commit (Create at) phase cells)
 ready_created held at cells ToDecide = tt
 ready_created held at cells (ToSettle waited) = tt
-ready_created held at cells (ToCreate config) = ready_telling held config.id (pos config.id) (first_told config.id cells)
+ready_created held at cells (ToCreate config) = ready_telling held config.id (pos config.id) (first_recipient config.id cells)
 ready_created held at cells ToCommit = tt
 ready_created held at cells (ToNote id about answer) = tt
 ready_created held at cells (ToNoted id about answer waited) = tt
@@ -44,7 +44,7 @@ pub ready_committed : (held : Held) (call : Call) (cells : List Live) (phase : P
 ready_committed held (Create at) cells phase = ready_created held at cells phase
 ready_committed held (Start id) cells phase = tt
 ready_committed held (Loadable id) cells phase = tt
-ready_committed held (Destroy id) cells phase = ready_telling held id (pos 0) (first_told id cells)
+ready_committed held (Destroy id) cells phase = ready_telling held id (pos 0) (first_recipient id cells)
 ready_committed held (Info kind) cells phase = tt
 ready_committed held (State id) cells phase = tt
 ready_committed held (CpuInfo cpu kind) cells phase = tt
@@ -105,5 +105,5 @@ ready_early held call o is early =
     subst P (sym is) (subst Q (sym early) tt)
 
 -- what comes isn't refused
-pub not_refused : (config : CellConfig) (number : ℤ) (c : Creation) → c ≡ Comes config → c ≡ Refused number → ⊥
+pub not_refused : (config : CellConfig) (number : ℤ) (c : Creation) → c ≡ Accepted config → c ≡ Refused number → ⊥
 not_refused config number c comes refused = none-some number (ap refused_by (sym comes ∙ refused))

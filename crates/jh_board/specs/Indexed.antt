@@ -7,7 +7,7 @@ use Rattle.jh_script.specs.declared.image.Image.{Image}
 use Rattle.jh_script.specs.declared.image.Program.{Program}
 use Rattle.jh_script.specs.declared.op.Op.{Op}
 use Rattle.jh_history.specs.Lives.{is_program_of, ops_in}
-use Rattle.jh_board.specs.declared.indexed.FoundProgram.{FoundProgram}
+use Rattle.jh_board.specs.declared.indexed.ProgramIndex.{ProgramIndex}
 
 -- the indices are those of root's programs, one of each CPU
 abbrev pub AreRootPrograms : Image → List ℕ → Type 0
@@ -18,5 +18,5 @@ abbrev pub ops_at : Image → ℕ → List Op
 ops_at image index = option_map_or (λ (p : Program). p.ops) (slice_get image.programs index) []
 
 -- the program of each CPU is where it was found, for the cell that it was found for
-abbrev pub AreFound : Image → List Live → List FoundProgram → Type 0
-AreFound image lives found = (cpu : ℕ) (p : FoundProgram) → slice_get found cpu ≡ Some p → ops_at image p.index ≡ ops_in image lives p.owner cpu
+abbrev pub AreProgramIndices : Image → List Live → List ProgramIndex → Type 0
+AreProgramIndices image lives found = (cpu : ℕ) (p : ProgramIndex) → slice_get found cpu ≡ Some p → ops_at image p.index ≡ ops_in image lives p.owner cpu

@@ -1,15 +1,8 @@
 pub mod Pages
-pub mod Closed
-pub mod IsCellRegions
-pub mod LiveView
-pub mod KeptCells
-pub mod StateView
 pub mod Means
-pub mod Steps
 pub mod BoardView
 pub mod Turns
 pub mod SoundBoard
 pub mod Indexed
-pub mod IsIndexed
 pub mod Maps
-pub mod Judged
+pub mod Private

@@ -40,13 +40,13 @@ is_right Write rights = rights.write
 is_right Fetch rights = rights.execute
 
 -- the run tells that memory may be accessed so at the address
-abbrev pub is_told : Access → ℕ → Run → Bool
-is_told access at run = (nat_le run.start at && nat_lt at run.end) && (run.page && is_right access run.rights)
+abbrev pub is_mapped_at : Access → ℕ → Run → Bool
+is_mapped_at access at run = (nat_le run.start at && nat_lt at run.end) && (run.page && is_right access run.rights)
 
 -- the place to which the run leads the address of the cell with the id
-abbrev pub place_told : ℕ → ℕ → Run → Place
-place_told id at run = if run.comm then Page id (run.place + (at - run.start)) else Physical (run.place + (at - run.start))
+abbrev pub place_of_run : ℕ → ℕ → Run → Place
+place_of_run id at run = if run.comm then Page id (run.place + (at - run.start)) else Physical (run.place + (at - run.start))
 
 -- what the map of the cell tells that it is granted at the address, with the right
-abbrev pub told_grant : ℕ → List Run → Access → ℕ → Option Place
-told_grant id runs access at = option_map (place_told id at) (find (is_told access at) runs)
+abbrev pub grant_of_map : ℕ → List Run → Access → ℕ → Option Place
+grant_of_map id runs access at = option_map (place_of_run id at) (find (is_mapped_at access at) runs)

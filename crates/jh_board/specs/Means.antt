@@ -10,7 +10,7 @@ use Rattle.jh_history.specs.declared.place.Place.{Place}
 use Rattle.jh_history.specs.DueFacts.{NamesCpu}
 use Rattle.jh_history.specs.Devices.{specs_of}
 use Rattle.jh_history.specs.Facts.{Facts}
-use Rattle.jh_board.specs.Indexed.{AreFound}
+use Rattle.jh_board.specs.Indexed.{AreProgramIndices}
 use Rattle.jh_board.specs.Pages.{byte_of, HoldsComm, HoldsWord}
 use Rattle.jh_board.specs.declared.held.Held.{Held}
 
@@ -54,5 +54,5 @@ pub record Means (image : Image) (held : Held) (facts : Facts) : Type 0 where
   pub words : All (λ (live : Live). HoldsWords held live.config) facts.cells
   pub root_words : HoldsWords held image.system.root
   pub named : All (λ (live : Live). NamesCpu live.config) facts.cells
-  pub programs : AreFound image facts.cells held.programs
+  pub programs : AreProgramIndices image facts.cells held.programs
   pub ready : IsReady held facts.call

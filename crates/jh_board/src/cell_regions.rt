@@ -5,7 +5,7 @@ ghost use Rattle.std.specs.List.{list_any};
 ghost use Rattle.jh_cellcfg.specs.declared.region.Region.{Region as TheRegion};
 ghost use Rattle.jh_cellcfg.specs.Regions.{has_place, is_comm, is_unshared, is_loadable, IsInRange, SharesNoAddress};
 ghost use Rattle.jh_shape.specs.Shapes.{takes};
-ghost use Rattle.jh_board.specs.Closed.{is_taken, AreTaken, AreInRange};
+ghost use Rattle.jh_board.specs.Private.Closed.{is_taken, AreTaken, AreInRange};
 
 use jh_cellcfg::Region;
 use jh_mmio::RegionIndex;
@@ -27,7 +27,7 @@ pub struct CellRegions {
 impl Model for CellRegions {
     ghost use Rattle.std.specs.Prelude.{List};
     ghost use Rattle.jh_cellcfg.specs.declared.region.Region.{Region as TheRegion};
-    ghost use Rattle.jh_board.specs.IsCellRegions.{IsCellRegions};
+    ghost use Rattle.jh_board.specs.Private.IsCellRegions.{IsCellRegions};
 
     ghost Value = { List TheRegion };
 

@@ -12,7 +12,7 @@ ghost use Rattle.jh_life.specs.Lives.{has_config_id, new_live};
 ghost use Rattle.jh_shape.specs.Lives.{configs_of, marked};
 ghost use Rattle.jh_history.specs.Commits.{is_other};
 ghost use Rattle.jh_history.specs.Lives.{live_in};
-ghost use Rattle.jh_board.specs.Closed.{is_closed_by, live_regions, AreInRange, IsIndexOf};
+ghost use Rattle.jh_board.specs.Private.Closed.{is_closed_by, live_regions, AreInRange, IsIndexOf};
 
 use crate::cell_regions::CellRegions;
 use crate::closed::{close_again, close_cell};
@@ -38,8 +38,8 @@ pub struct LiveCells {
 
 impl Model for LiveCells {
     ghost use Rattle.std.specs.Prelude.{◌+◌, ◌-◌, ◌^◌, min, vec_len, vec_capacity};
-    ghost use Rattle.jh_board.specs.LiveView.{LiveView};
-    ghost use Rattle.jh_board.specs.KeptCells.{FitsItsCells};
+    ghost use Rattle.jh_board.specs.Private.LiveView.{LiveView};
+    ghost use Rattle.jh_board.specs.Private.KeptCells.{FitsItsCells};
 
     ghost Value = { LiveView };
 

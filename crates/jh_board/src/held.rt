@@ -2,7 +2,7 @@
 
 use crate::cell_regions::CellRegions;
 use crate::cells::LiveCells;
-use crate::indexed::FoundProgram;
+use crate::indexed::ProgramIndex;
 use crate::memory::Memory;
 use jh_cpu::Cpu;
 use jh_history::OpenCall;
@@ -16,7 +16,7 @@ pub struct Held {
     pub cpus: [Cpu; 16],
     pub cells: LiveCells,
     /// Where the program of each CPU is.
-    pub programs: [FoundProgram; 16],
+    pub programs: [ProgramIndex; 16],
     /// The endpoints of all live cells' devices, root's too.
     pub endpoints: Endpoints,
     pub call: Option<OpenCall>,

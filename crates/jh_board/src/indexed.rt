@@ -10,7 +10,7 @@ ghost use Rattle.jh_history.specs.Access.{region_of};
 ghost use Rattle.jh_history.specs.Admitted.{IsAdmitted, pool_pages};
 ghost use Rattle.jh_history.specs.Facts.{Facts};
 ghost use Rattle.jh_history.specs.Lives.{is_on_board, is_program_of, ops_in, op_at};
-ghost use Rattle.jh_board.specs.Indexed.{ops_at, AreRootPrograms, AreFound};
+ghost use Rattle.jh_board.specs.Indexed.{ops_at, AreRootPrograms, AreProgramIndices};
 
 use crate::cells::LiveCells;
 use jh_cellcfg::{CellConfig, Region};
@@ -25,7 +25,7 @@ use std::marker::Model;
 
 /// Where the program of a CPU is: that of the cell with the id `owner` is at `index` among the programs.
 #[derive(Clone, Copy, PartialEq, Eq, Debug)]
-pub struct FoundProgram {
+pub struct ProgramIndex {
     pub owner: u32,
     pub index: usize,
 }
@@ -45,7 +45,7 @@ impl Model for IndexedImage {
 
     ghost Value = { TheImage };
 
-    ghost use Rattle.jh_board.specs.IsIndexed.{IsIndexed};
+    ghost use Rattle.jh_board.specs.Private.IsIndexed.{IsIndexed};
 
     ghost view = { λ s. s.image };
 
@@ -77,15 +77,15 @@ fn root_programs(image: &Image) -> [usize; 16]
 }
 
 /// Where the program of each CPU is while root alone lives.
-pub fn opening_programs(image: &Image) -> [FoundProgram; 16]
-    ensures { AreFound image.now [] result }
+pub fn opening_programs(image: &Image) -> [ProgramIndex; 16]
+    ensures { AreProgramIndices image.now [] result }
 {
     let indices = root_programs(image);
     let owner = image.system.root.id;
-    let mut found = [FoundProgram { owner, index: 0 }; 16];
+    let mut found = [ProgramIndex { owner, index: 0 }; 16];
     for cpu in 0..16u8 {
         let index = indices[usize::from(cpu)];
-        found[usize::from(cpu)] = FoundProgram { owner, index };
+        found[usize::from(cpu)] = ProgramIndex { owner, index };
     }
     found
 }
@@ -185,7 +185,7 @@ impl IndexedImage {
     /// The operations of the program at the index.
     fn ops_at(&self, index: usize) -> &[Op]
         ensures ops { result.now ≡ ops_at self.now index }
-        ensures plain { All IsWellFormed result.now }
+        ensures well_formed { All IsWellFormed result.now }
     {
         match self.image.programs.get(index) {
             Some(program) => program.ops.as_slice(),
@@ -209,22 +209,22 @@ impl IndexedImage {
     }
 
     /// Where the programs of CPUs in these states are, where these cells live besides root.
-    pub fn find_programs(&self, cells: &LiveCells, cpus: &[Cpu; 16]) -> [FoundProgram; 16]
-        ensures { AreFound self.now cells.now.lives result }
+    pub fn find_programs(&self, cells: &LiveCells, cpus: &[Cpu; 16]) -> [ProgramIndex; 16]
+        ensures { AreProgramIndices self.now cells.now.lives result }
     {
-        let mut found = [FoundProgram { owner: 0, index: 0 }; 16];
+        let mut found = [ProgramIndex { owner: 0, index: 0 }; 16];
         for cpu in 0..16u8 {
             let owner = cpus[usize::from(cpu)].owner;
             let index = self.find_program(cells, owner, cpu);
-            found[usize::from(cpu)] = FoundProgram { owner, index };
+            found[usize::from(cpu)] = ProgramIndex { owner, index };
         }
         found
     }
 
     /// Where the CPU's program in the cell with the id is: as it was found, or else as it is found now.
-    fn index_of(&self, cells: &LiveCells, found: &[FoundProgram; 16], id: u32, cpu: u8) -> usize
+    fn index_of(&self, cells: &LiveCells, found: &[ProgramIndex; 16], id: u32, cpu: u8) -> usize
         requires { cpu < 16 }
-        ensures { AreFound self.now cells.now.lives found.now → ops_at self.now result ≡ ops_in self.now cells.now.lives id cpu }
+        ensures { AreProgramIndices self.now cells.now.lives found.now → ops_at self.now result ≡ ops_in self.now cells.now.lives id cpu }
     {
         let program = found[usize::from(cpu)];
         if program.owner == id {
@@ -239,13 +239,13 @@ impl IndexedImage {
     pub fn operation(
         &self,
         cells: &LiveCells,
-        found: &[FoundProgram; 16],
+        found: &[ProgramIndex; 16],
         cpu: u8,
         state: Cpu,
     ) -> Option<Op>
         requires { cpu < 16 }
-        ensures told { (f : Facts) → f.cells ≡ cells.now.lives → AreFound self.now cells.now.lives found.now → result ≡ op_at self.now f state cpu }
-        ensures plain { IfSome result IsWellFormed }
+        ensures told { (f : Facts) → f.cells ≡ cells.now.lives → AreProgramIndices self.now cells.now.lives found.now → result ≡ op_at self.now f state cpu }
+        ensures well_formed { IfSome result IsWellFormed }
     {
         let index = self.index_of(cells, found, state.owner, cpu);
         self.ops_at(index).get(state.position as usize).copied()

@@ -8,7 +8,7 @@ ghost use Rattle.jh_history.specs.Admitted.{IsAdmitted};
 ghost use Rattle.jh_history.specs.Due.{IsLegal};
 ghost use Rattle.jh_history.specs.Grants.{granted};
 ghost use Rattle.jh_history.specs.History.{facts};
-ghost use Rattle.jh_board.specs.Maps.{IsMapIn, told_grant};
+ghost use Rattle.jh_board.specs.Maps.{IsMapIn, grant_of_map};
 
 use jh_history::legal_journals_are_sound;
 use jh_map::maps_tell_each_address;
@@ -17,7 +17,7 @@ use jh_map::maps_tell_each_address;
 /// there.
 pub fn maps_tell_what_is_granted()
     ensures { (image : TheImage) (entries : List TheEntry) (id : ℕ) (runs : List TheRun) → IsAdmitted image → IsLegal image entries →
-        IsMapIn image (facts image entries).cells id runs → (access : TheAccess) (at : ℕ) → told_grant id runs access at ≡ granted image (facts image entries) id access at }
+        IsMapIn image (facts image entries).cells id runs → (access : TheAccess) (at : ℕ) → grant_of_map id runs access at ≡ granted image (facts image entries) id access at }
 {
     legal_journals_are_sound();
     maps_tell_each_address();

@@ -5,7 +5,7 @@ ghost use Rattle.jh_check.specs.Clean.{IsClean};
 ghost use Rattle.jh_map.specs.Maps.{IsMap};
 ghost use Rattle.jh_history.specs.Lives.{cell_in, regions_in};
 ghost use Rattle.jh_shape.specs.Lives.{configs_of};
-ghost use Rattle.jh_board.specs.Closed.{AreInRange};
+ghost use Rattle.jh_board.specs.Private.Closed.{AreInRange};
 ghost use Rattle.jh_board.specs.Maps.{all_cells, is_kept_at, IsMapOrNone};
 
 use crate::cells::LiveCells;

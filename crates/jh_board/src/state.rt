@@ -6,7 +6,7 @@ ghost use Rattle.jh_history.specs.Phases.{creation_of};
 ghost use Rattle.jh_history.specs.Facts.{Facts};
 ghost use Rattle.jh_history.specs.Wants.{IsReachOfEntry};
 ghost use Rattle.jh_board.specs.Means.{Means};
-ghost use Rattle.jh_board.specs.Judged.{IsJudged};
+ghost use Rattle.jh_board.specs.Private.Judged.{IsJudged};
 
 use crate::granted::{reach, row_of_root};
 use crate::held::Held;
@@ -42,14 +42,14 @@ pub struct State<'a> {
 }
 
 impl<'a> Model for State<'a> {
-    ghost use Rattle.jh_board.specs.StateView.{StateView};
+    ghost use Rattle.jh_board.specs.Private.StateView.{StateView};
 
     ghost Value = { StateView };
 
     ghost view = { λ s. record { image = s.image.now; held = s.held.now } };
 
     ghost use Rattle.std.specs.Prelude.{IfSome};
-    ghost use Rattle.jh_board.specs.Judged.{IsJudged};
+    ghost use Rattle.jh_board.specs.Private.Judged.{IsJudged};
 
     ghost invariant = { λ s. IfSome s.found.now (IsJudged s.image.now s.held.now) };
 }
@@ -73,7 +73,7 @@ impl<'a> State<'a> {
         // root's grants are those of an admitted image
         self.image.has_few_cpus();
         match read_config(self.held.alloc, self, at)? {
-            Creation::Comes { config } => judge(self.image, self.held, caller, config),
+            Creation::Accepted { config } => judge(self.image, self.held, caller, config),
             refused => Ok(refused),
         }
     }

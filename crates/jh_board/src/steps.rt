@@ -20,17 +20,17 @@ ghost use Rattle.jh_history.specs.Pages.{with_page_write};
 ghost use Rattle.jh_history.specs.Due.{due_at};
 ghost use Rattle.jh_history.specs.Wants.{IsReachOfEntry};
 ghost use Rattle.jh_board.specs.Pages.{byte_of, HoldsComm, HoldsPlace};
-ghost use Rattle.jh_board.specs.Indexed.{AreFound};
-ghost use Rattle.jh_board.specs.Judged.{IsJudged};
+ghost use Rattle.jh_board.specs.Indexed.{AreProgramIndices};
+ghost use Rattle.jh_board.specs.Private.Judged.{IsJudged};
 ghost use Rattle.jh_board.specs.Means.{Means, IsReady, IsReadyFor};
-ghost use Rattle.jh_board.specs.Steps.{decides_to_go_on, create_of, change_of_call, change_of_cells, changed_cells, IsNext, IsRead, IsFree, WillBeReady, IsPrepared, MayWrite, MayWriteOf, MayWriteSlot, MayCommit, MayJoinCells, IsSameButDevices, joined_cells, devices_held, memory_written, memory_after, slot_after, endpoints_acted_by};
+ghost use Rattle.jh_board.specs.Private.Steps.{decides_to_go_on, create_of, change_of_call, change_of_cells, changed_cells, IsNext, IsRead, IsFree, WillBeReady, IsPrepared, MayWrite, MayWriteOf, MayWriteSlot, MayCommit, MayJoinCells, IsSameButDevices, joined_cells, devices_held, memory_written, memory_after, slot_after, endpoints_acted_by};
 
 use crate::cell_regions::CellRegions;
 use crate::cells::LiveCells;
 use crate::devices::{change_devices, prepare_devices, write_slot_if};
 use crate::granted::devices_of;
 use crate::held::Held;
-use crate::indexed::{FoundProgram, IndexedImage};
+use crate::indexed::{ProgramIndex, IndexedImage};
 use crate::memory::Memory;
 use crate::state::{JudgedCreate, creation_by};
 use jh_call::Call;
@@ -138,7 +138,7 @@ fn coming_of(
     a_cell_that_comes_may_live();
     devices_may_change();
     match creation_by(image, held, found.take(), begun.caller, at)? {
-        Creation::Comes { config } => Ok(Some(config)),
+        Creation::Accepted { config } => Ok(Some(config)),
         // what comes of it is what the entry says
         Creation::Refused { .. } => unreachable!(),
     }
@@ -342,9 +342,9 @@ fn renew_programs(
     cells: &LiveCells,
     cpus: &[Cpu; 16],
     act: &Act,
-    programs: &mut [FoundProgram; 16],
+    programs: &mut [ProgramIndex; 16],
 )
-    ensures { (call : Option TheOpenCall) (lives : List TheLive) → AreFound image.now lives programs.old → cells.now.lives ≡ cells_by call lives act.now → AreFound image.now cells.now.lives programs.new }
+    ensures { (call : Option TheOpenCall) (lives : List TheLive) → AreProgramIndices image.now lives programs.old → cells.now.lives ≡ cells_by call lives act.now → AreProgramIndices image.now cells.now.lives programs.new }
 {
     if !is_commit(act) {
         return;

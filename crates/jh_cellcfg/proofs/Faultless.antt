@@ -23,7 +23,7 @@ use Rattle.jh_cellcfg.specs.Spelling.{u16_bytes, u32_bytes, region_bytes, irqchi
 use Rattle.jh_cellcfg.specs.Limits.{is_name, parts_size, whole_size, AreWithinLimits, IsWithinLimits}
 use Rattle.jh_cellcfg.specs.Widths.{IsRegion, IsIrqchip, IsDevice, IsWordArray, IsHeader, IsCell}
 use Rattle.jh_cellcfg.proofs.Splits.{array_splits, list_splits, u32_splits, region_splits, irqchip_splits, device_splits, header_splits}
-use Rattle.jh_cellcfg.proofs.Found.{Free}
+use Rattle.jh_cellcfg.proofs.SpelledCells.{Free}
 
 -- the header of a configuration within the limits
 pub header_fits : (c : CellConfig) → IsCell c → IsWithinLimits c → IsHeader (header_of c)

@@ -3,8 +3,8 @@ mod Headers
 mod Splits
 mod Faultless
 mod Fields
-mod Found
-mod Told
+mod SpelledCells
+mod SpelledFields
 mod Writing
 mod AddressLemmas
 pub mod Public

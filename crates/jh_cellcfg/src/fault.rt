@@ -1,6 +1,6 @@
 //! Why bytes are no configuration.
 ghost use Rattle.std.specs.Prelude.{◌≡◌};
-ghost use Rattle.jh_cellcfg.specs.declared.fault.ConfigFault.TheVariants.{NoMemory as OutOfMemory};
+ghost use Rattle.jh_cellcfg.specs.declared.fault.ConfigFault.TheVariants.{NoMemory as WantOfMemory};
 
 use jh_num::NoMemory;
 use std::fmt;
@@ -36,7 +36,7 @@ pub enum Part {
 }
 
 impl From<NoMemory> for ConfigFault {
-    ghost from_gives = { λ _ e. e ≡ OutOfMemory };
+    ghost from_gives = { λ _ e. e ≡ WantOfMemory };
 
     fn from(_e: NoMemory) -> ConfigFault {
         ConfigFault::NoMemory

@@ -7,7 +7,7 @@ use Rattle.jh_check.specs.declared.spans.Span.{Span}
 use Rattle.jh_check.specs.declared.reach.Reach.{Reach}
 use Rattle.jh_check.specs.declared.reach.Reaches.{Reaches}
 use Rattle.jh_check.specs.declared.blocks.Extents.{Extents}
-use Rattle.jh_check.specs.Spans.{span_of}
+use Rattle.jh_check.specs.Private.Spans.{span_of}
 use Rattle.jh_check.specs.Findings.{spot, between, between_at}
 use Rattle.jh_check.specs.Private.Reaches.{passes_shared, unshared_of, IsReached, AreOf}
 use Rattle.jh_check.specs.Private.Blocks.{IsInside, AreInside, AreExtents, AreExtentsOf, between_from}

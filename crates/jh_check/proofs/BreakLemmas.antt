@@ -11,7 +11,7 @@ use Rattle.jh_check.specs.declared.rule.Rule.TheVariants.{VirtOverlap, PhysOverl
 use Rattle.jh_check.specs.declared.spans.Span.{Span}
 use Rattle.jh_check.specs.Regions.{Spot, pair_breaks, share_places, takes_pages, both_shared}
 use Rattle.jh_check.specs.Devices.{are_same_section}
-use Rattle.jh_check.specs.Spans.{takes_part, span_of, spans_meet, joins, is_within, IsIndex, AreSpansApart, StandApart}
+use Rattle.jh_check.specs.Private.Spans.{takes_part, span_of, spans_meet, joins, is_within, IsIndex, AreSpansApart, AreDisjoint}
 use Rattle.jh_check.specs.Lists.{only_if, is_any}
 use Rattle.jh_check.specs.Findings.{spot, beside, beside_at, between, between_at, finding_of}
 use Rattle.jh_check.proofs.ListLemmas.{found_none0, any_at, any_only}
@@ -223,7 +223,7 @@ met_before one other m h =
     omega arith
 
 -- one cell, whose regions stand apart
-pub between_stand : (rule : Rule) (a : ℕ) (one : CellConfig) → is_within rule ≡ true → StandApart rule one.memory_regions → between rule a one a one ≡ []
+pub between_stand : (rule : Rule) (a : ℕ) (one : CellConfig) → is_within rule ≡ true → AreDisjoint rule one.memory_regions → between rule a one a one ≡ []
 between_stand rule a one w stand =
     between_none rule a one a one (λ r s d i j t.
     let x = get_or one.memory_regions r d in

@@ -14,7 +14,7 @@ use Rattle.jh_cellcfg.specs.declared.config.SystemConfig.{SystemConfig}
 use Rattle.jh_cellcfg.specs.Regions.{has_flags, virt_end, is_page_mapped, is_comm, is_loadable}
 use Rattle.jh_cellcfg.specs.Limits.{is_zero}
 use Rattle.jh_check.specs.Devices.{is_shmem, are_linked, section_count, sections_of, has_good_peers, has_good_bars, bars_of, has_all_sections, is_good_table, has_good_table, is_section_region, are_read_only, are_alike, follows, are_in_a_row, is_twice, is_same_memory, are_same_memory, agrees_with, agrees_with_all, has_good_sections, is_good_shmem, device_breaks, cpus_break}
-use Rattle.jh_check.specs.Broken.{StandsAmong}
+use Rattle.jh_check.specs.Broken.{IsConsistentAmong}
 use Rattle.jh_check.specs.Clean.{IsDevice, IsShmem, AreLinked, IsSection, IsStateTable, IsSectionRegion, IsGoodDevice, DevicesAreGood, DevicesAreSingle, AgreesWith, LinksAgree, IsSoundBitmap, CpusAreFew}
 use Rattle.jh_check.proofs.CleanLemmas.{get_take, take_get, any_at, any_of, and_rest}
 use Rattle.jh_cellcfg.proofs.Public.{no_region}
@@ -140,15 +140,15 @@ table_whole x h =
 
 -- ---- each section
 
-plain_parts : (x : Region) → is_section_region x ≡ true → IsSectionRegion x
-plain_parts x t =
+section_parts : (x : Region) → is_section_region x ≡ true → IsSectionRegion x
+section_parts x t =
     let last = not (is_loadable x) && is_page_mapped x in
     let p = and_parts (not (is_comm x)) last t in
     let q = and_parts (not (is_loadable x)) (is_page_mapped x) p.1 in
     record { no_comm = not-true (is_comm x) p.0; no_loadable = not-true (is_loadable x) q.0; pages = q.1 }
 
-plain_whole : (x : Region) → IsSectionRegion x → is_section_region x ≡ true
-plain_whole x h =
+section_whole : (x : Region) → IsSectionRegion x → is_section_region x ≡ true
+section_whole x h =
     and_from (not (is_comm x)) (not (is_loadable x) && is_page_mapped x) (not_from_false (is_comm x) h.no_comm) (
     and_from (not (is_loadable x)) (is_page_mapped x) (not_from_false (is_loadable x) h.no_loadable) h.pages)
 
@@ -338,7 +338,7 @@ sound_from cell d peers bars all sound =
       bars = (bytes_eq-Decides d.bar_mask (bars_of d)).0 u.1;
       exist = leb-true (d.shmem_regions_start + section_count d) (length cell.memory_regions) all;
       table = λ x h. table_parts x (table_at xs x v.0 (section_in cell d 0 x h));
-      plain = λ k x h. plain_parts x (all_at is_section_region xs w.0 k x (section_in cell d k x h));
+      sections = λ k x h. section_parts x (all_at is_section_region xs w.0 k x (section_in cell d k x h));
       read_only = λ k x n h. read_only_at d.shmem_dev_id 0 (drop 2 xs) y.0 k x (output_in cell d k x h) (λ e. n (let f : k ≡ 0 + k = omega arith in f ∙ e));
       alike = λ i j x x' h h'. alike_at (drop 2 xs) z.0 i j x x' (output_in cell d i x h) (output_in cell d j x' h');
       row = λ j k x x' l h h' some some' between. row_at xs z.1 j k x x' l (section_in cell d j x h) (section_in cell d k x' h') some some' (λ i t m n g. between i t m n (in_section cell d i t g));
@@ -361,7 +361,7 @@ sound_sections cell d g =
     let last = are_alike (drop 2 xs) && are_in_a_row xs in
     let third = are_read_only d.shmem_dev_id 0 (drop 2 xs) && last in
     let table = table_from xs first.0 (section_in cell d 0 first.0 first.1) (table_whole first.0 (g.table first.0 first.1)) in
-    let plain = all_from is_section_region xs (λ k x h. plain_whole x (g.plain k x (in_section cell d k x h))) in
+    let plain = all_from is_section_region xs (λ k x h. section_whole x (g.sections k x (in_section cell d k x h))) in
     let read_only = read_only_from d.shmem_dev_id 0 (drop 2 xs) (λ k x h n. g.read_only k x (λ e. n (let f : 0 + k ≡ k = omega arith in f ∙ e)) (in_output cell d k x h)) in
     let alike = alike_from (drop 2 xs) (λ i j x y h k. g.alike i j x y (in_output cell d i x h) (in_output cell d j y k)) in
     let row = row_from xs (λ j k x y l h h' some some' between. g.row j k x y l (in_section cell d j x h) (in_section cell d k y h') some some' (λ i z m n u. between i z m n (section_in cell d i z u))) in
@@ -495,7 +495,7 @@ turned : (one other : PciDevice) → AreLinked one other → AreLinked other one
 turned one other h = record { one_kind = h.other_kind; other_kind = h.one_kind; place = sym h.place }
 
 -- what one device's rules say, in words and by tests
-pub words_good : (all : List CellConfig) (a : ℕ) (cell : CellConfig) (n : ℕ) (d : PciDevice) → IsShmem d → IsGoodDevice cell d → StandsAmong all a cell n d → is_good_shmem (take a all) cell (take n cell.pci_devices) d ≡ true
+pub words_good : (all : List CellConfig) (a : ℕ) (cell : CellConfig) (n : ℕ) (d : PciDevice) → IsShmem d → IsGoodDevice cell d → IsConsistentAmong all a cell n d → is_good_shmem (take a all) cell (take n cell.pci_devices) d ≡ true
 words_good all a cell n d kind g among =
     let regions = cell.memory_regions in
     let earlier = take n cell.pci_devices in
@@ -515,7 +515,7 @@ words_good all a cell n d kind g among =
     ])) in
     good_whole (take a all) cell earlier d (sound_peers cell d g, sound_bars cell d g, le-leb (d.shmem_regions_start + section_count d) (length regions) g.exist, sound_sections cell d g, once, agrees)
 
-pub good_words : (all : List CellConfig) (a : ℕ) (cell : CellConfig) (n : ℕ) (d : PciDevice) → IsShmem d → is_good_shmem (take a all) cell (take n cell.pci_devices) d ≡ true → IsGoodDevice cell d × StandsAmong all a cell n d
+pub good_words : (all : List CellConfig) (a : ℕ) (cell : CellConfig) (n : ℕ) (d : PciDevice) → IsShmem d → is_good_shmem (take a all) cell (take n cell.pci_devices) d ≡ true → IsGoodDevice cell d × IsConsistentAmong all a cell n d
 good_words all a cell n d kind t =
     let p = good_parts (take a all) cell (take n cell.pci_devices) d t in
     let inner = λ (lower : CellConfig). list_all (λ (f : PciDevice). agrees_with cell.memory_regions d lower.memory_regions f) lower.pci_devices in (
@@ -559,7 +559,7 @@ devices_to system cells sound single links a one n d na i t =
     let good = is_good_shmem (take a all) one (take n one.pci_devices) d in
     let p = and_parts (is_shmem d) (not good) t in
     let kind = eqb-true d.kind 3 p.0 in
-    let among : StandsAmong all a one n d = record {
+    let among : IsConsistentAmong all a one n d = record {
       single = λ m other l j linked. let same : m ≡ n = single a one na m n other d j i linked in omega arith;
       links = λ b other below nb m e j linked. links a b one other below na nb n m d e i j linked;
     } in

@@ -18,7 +18,7 @@ use Rattle.jh_check.specs.Verdicts.{names, is_overlap, is_invalid, is_busy, verd
 use Rattle.jh_check.proofs.Tested.{OfPair, OfRegion, OfMemory, OfDevice, OfCpus, OfRule, IsTested}
 use Rattle.jh_check.specs.Clean.{IsClean}
 use Rattle.jh_num.proofs.Public.{list_any_from_Contains}
-use Rattle.jh_check.proofs.FoundLemmas.{nothing_in, in_nothing, tested_from_listed, listed_from_tested}
+use Rattle.jh_check.proofs.FindingLemmas.{nothing_in, in_nothing, tested_from_listed, listed_from_tested}
 use Rattle.jh_check.proofs.CleanLemmas.{PairsHold, RegionsHold, addresses_from, addresses_to, places_from, places_to, hypervisor_from, hypervisor_to, memory_from, memory_range, memory_align, within_from, within_to, readable_from, readable_to, aligned_from, aligned_to, identity_from, identity_to, no_comm_from, no_comm_to, comms_from, comms_to, pages_from, pages_to, together_from, together_to}
 use Rattle.jh_check.proofs.DeviceLemmas.{DevicesHold, CpusHold, devices_from, single_from, links_from, devices_to, cpus_from, cpus_to}
 

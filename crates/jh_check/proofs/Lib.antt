@@ -12,7 +12,7 @@ mod SeatLemmas
 mod FitLemmas
 mod VerdictLemmas
 mod Tested
-mod FoundLemmas
+mod FindingLemmas
 mod CleanLemmas
 mod DeviceLemmas
 mod JoinLemmas

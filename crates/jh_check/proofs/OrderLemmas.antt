@@ -19,7 +19,7 @@ use Rattle.jh_check.specs.Findings.{rule_number, spot, finding_of, beside, besid
 use Rattle.jh_num.specs.Numbers.{item_number}
 use Rattle.jh_check.specs.Order.{Precedes, IsCountable}
 use Rattle.jh_check.proofs.Tested.{OfRegion, OfMemory, OfRule}
-use Rattle.jh_check.proofs.FoundLemmas.{found_at_holds, found_at0, only_at, found_of}
+use Rattle.jh_check.proofs.FindingLemmas.{found_at_holds, found_at0, only_at, found_of}
 
 -- ---- lists
 

@@ -17,10 +17,10 @@ use Rattle.jh_check.specs.declared.reach.Reaches.{Reaches}
 use Rattle.jh_check.specs.declared.reach.Window.{Window}
 use Rattle.jh_check.specs.Regions.{Spot, pair_breaks, share_places, takes_pages, both_shared}
 use Rattle.jh_check.specs.Devices.{are_same_section}
-use Rattle.jh_check.specs.Spans.{joins, takes_part, span_of, is_within}
+use Rattle.jh_check.specs.Private.Spans.{joins, takes_part, span_of, is_within}
 use Rattle.jh_check.specs.Lists.{capped, found_from, only_if}
 use Rattle.jh_check.specs.Findings.{spot, beside, beside_at, finding_of}
-use Rattle.jh_check.specs.Private.Reaches.{passes_shared, may_follow, unshared_of, reaches_for, HasOthers, InOrder, IsRising, IsReached, TellsEach, TellsPairs, IsOwn, TellsOthers, AreOf, IsIn, HasHits}
+use Rattle.jh_check.specs.Private.Reaches.{passes_shared, may_follow, unshared_of, reaches_for, HasOthers, InOrder, IsRising, IsReached, CoversEach, CoversPairs, IsOwn, CoversOthers, AreOf, IsIn, HasHits}
 use Rattle.jh_check.proofs.ListLemmas.{found_drop, found_end, found_none}
 use Rattle.jh_check.proofs.BreakLemmas.{pair_order, pair_joins, pair_takes_part, pair_second, pair_meets, beside_none, joins_same, two_parts, pages_parts, overlap_second, meet_swap}
 
@@ -204,7 +204,7 @@ reach_rises spans reaches n end low high order all = record {
   ends = all.rising;
 }
 
-pub reach_tells : (spans : List Span) (reaches : List Reach) (n end : ℕ) → length spans ≤ n → IsReachTo spans reaches n end → TellsEach spans reaches
+pub reach_tells : (spans : List Span) (reaches : List Reach) (n end : ℕ) → length spans ≤ n → IsReachTo spans reaches n end → CoversEach spans reaches
 reach_tells spans reaches n end low all = λ x z cx meets.
     let none : Reach = record { start = 0; end = 0; item = 0 } in
     let k = cx.0 in
@@ -224,7 +224,7 @@ reached_at reaches span start low high reached =
     let b = reached.ends in
     record { by = reached.by; is = reached.is; begins = omega arith; ends = omega arith }
 
-pub pairs_tell : (spans : List Span) (reaches : List Reach) (n far end last : ℕ) → length spans ≤ n → InOrder spans → ArePairsTo spans reaches n far end last → TellsPairs spans reaches
+pub pairs_tell : (spans : List Span) (reaches : List Reach) (n far end last : ℕ) → length spans ≤ n → InOrder spans → ArePairsTo spans reaches n far end last → CoversPairs spans reaches
 pairs_tell spans reaches n far end last low order all = λ x y cx cy differ some other meets.
     let p = cx.0 in
     let q = cy.0 in
@@ -292,7 +292,7 @@ span_some PhysOverlap r x w h = longer x.phys_start x.size ((and_parts (has_size
 span_some _ r x w h = absurd (false≢true w)
 
 -- what is told of spans is told of the regions that have them
-pub others_each : (rule : Rule) (pass : Bool) (b : ℕ) (cell : CellConfig) (spans : List Span) (reaches : List Reach) → HasOthers rule pass b cell.memory_regions spans → TellsEach spans reaches → TellsOthers rule pass b cell reaches
+pub others_each : (rule : Rule) (pass : Bool) (b : ℕ) (cell : CellConfig) (spans : List Span) (reaches : List Reach) → HasOthers rule pass b cell.memory_regions spans → CoversEach spans reaches → CoversOthers rule pass b cell reaches
 others_each rule pass b cell spans reaches has tells = λ one s d own passes within breaks.
     let y = get_or cell.memory_regions s d in
     let other = spot b cell s y in
@@ -301,7 +301,7 @@ others_each rule pass b cell spans reaches has tells = λ one s d own passes wit
     let same : t.0.by.item ≡ s = t.1 ∙ span_item rule s y in
     (t.0, λ w. same, omega arith)
 
-pub others_pairs : (rule : Rule) (pass : Bool) (b : ℕ) (cell : CellConfig) (spans : List Span) (reaches : List Reach) → is_within rule ≡ true → HasOthers rule pass b cell.memory_regions spans → TellsPairs spans reaches → TellsOthers rule pass b cell reaches
+pub others_pairs : (rule : Rule) (pass : Bool) (b : ℕ) (cell : CellConfig) (spans : List Span) (reaches : List Reach) → is_within rule ≡ true → HasOthers rule pass b cell.memory_regions spans → CoversPairs spans reaches → CoversOthers rule pass b cell reaches
 others_pairs rule pass b cell spans reaches w has tells = λ one s d own passes within breaks.
     let regions = cell.memory_regions in
     let y = get_or regions s d in
@@ -321,7 +321,7 @@ others_pairs rule pass b cell spans reaches w has tells = λ one s d own passes 
     (r.0, λ f. absurd (both_ways (is_within rule) f w), subst (λ n. n ≤ r.0.by.item) (span_item rule s y) r.1)
 
 -- those of a cell whose regions are in no pair as the other tell nothing
-pub others_none : (rule : Rule) (pass : Bool) (b : ℕ) (cell : CellConfig) → ((a : ℕ) → joins rule a b ≡ true → ⊥) → TellsOthers rule pass b cell []
+pub others_none : (rule : Rule) (pass : Bool) (b : ℕ) (cell : CellConfig) → ((a : ℕ) → joins rule a b ≡ true → ⊥) → CoversOthers rule pass b cell []
 others_none rule pass b cell apart = λ one s d own passes within breaks.
     absurd (apart one.cell (pair_joins rule one (spot b cell s (get_or cell.memory_regions s d)) breaks))
 
@@ -334,12 +334,12 @@ of_either P reaches any own =
     ]) own
 
 -- those of all regions and of unshared ones, if there are any, tell of the cell
-pub measured : (rule : Rule) (b : ℕ) (cell : CellConfig) (reaches : Reaches) → IsRising reaches.any.items → TellsOthers rule false b cell reaches.any.items → IfSome reaches.unshared (λ unshared. IsRising unshared.items) → IfSome reaches.unshared (λ unshared. TellsOthers rule true b cell unshared.items) → AreOf rule b cell reaches
+pub measured : (rule : Rule) (b : ℕ) (cell : CellConfig) (reaches : Reaches) → IsRising reaches.any.items → CoversOthers rule false b cell reaches.any.items → IfSome reaches.unshared (λ unshared. IsRising unshared.items) → IfSome reaches.unshared (λ unshared. CoversOthers rule true b cell unshared.items) → AreOf rule b cell reaches
 measured rule b cell reaches rises any unshared_rises unshared = record {
   any_rises = rises;
   any = any;
   unshared_rises = of_either (λ xs. IsRising xs) reaches rises unshared_rises;
-  unshared = of_either (λ xs. TellsOthers rule true b cell xs) reaches (λ one s d own passes within breaks. any one s d own (λ e. absurd (false≢true e)) within breaks) unshared;
+  unshared = of_either (λ xs. CoversOthers rule true b cell xs) reaches (λ one s d own passes within breaks. any one s d own (λ e. absurd (false≢true e)) within breaks) unshared;
 }
 
 -- ---- the search

@@ -7,7 +7,7 @@ use Rattle.jh_cellcfg.specs.declared.config.CellConfig.{CellConfig}
 use Rattle.jh_check.specs.declared.rule.Rule.{Rule}
 use Rattle.jh_check.specs.declared.reach.Window.{Window}
 use Rattle.jh_check.specs.declared.rising.Row.{Row}
-use Rattle.jh_check.specs.Spans.{takes_part, span_of, is_within, joins}
+use Rattle.jh_check.specs.Private.Spans.{takes_part, span_of, is_within, joins}
 use Rattle.jh_check.specs.declared.finding.Finding.{Finding}
 use Rattle.jh_check.specs.Lists.{found_from}
 use Rattle.jh_check.specs.Findings.{spot, beside, between, from_cell}

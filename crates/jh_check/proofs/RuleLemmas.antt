@@ -15,12 +15,12 @@ use Rattle.jh_check.specs.Regions.{Spot, pair_breaks, region_breaks, breaks_alon
 use Rattle.jh_check.specs.Devices.{is_shmem, are_same_section, is_good_shmem, device_breaks, cpus_break}
 use Rattle.jh_check.specs.Findings.{spot, findings}
 use Rattle.jh_check.specs.Clean.{IsSameSection}
-use Rattle.jh_check.specs.Broken.{Located, BreakTogether, HasEarlierComm, BreaksAlone, BreaksMemory, TellsOfTwo, TellsOfOne, TellsOfMemory, TellsOfDevice, TellsOfCpus, IsFoundBy, IsBroken}
+use Rattle.jh_check.specs.Broken.{Located, BreakTogether, HasEarlierComm, BreaksAlone, BreaksMemory, IsPairFinding, IsRegionFinding, IsMemoryFinding, IsDeviceFinding, IsCpuFinding, IsFindingOf, IsBroken}
 use Rattle.jh_check.proofs.BreakLemmas.{share_parts, within_parts}
 use Rattle.jh_check.proofs.CleanLemmas.{positive, not_zero, get_take, take_get, any_at, any_of, virt_common, phys_common, common_virt, common_phys, shared, same_section_from, same_section_to}
 use Rattle.jh_check.proofs.DeviceLemmas.{good_words, words_good, bitmap_from, bitmap_to}
 use Rattle.jh_check.proofs.Tested.{OfPair, OfRegion, OfMemory, OfDevice, OfCpus, OfRule}
-use Rattle.jh_check.proofs.FoundLemmas.{tested_from_listed, listed_from_tested}
+use Rattle.jh_check.proofs.FindingLemmas.{tested_from_listed, listed_from_tested}
 
 -- ---- two regions
 
@@ -263,7 +263,7 @@ words_memory _ h w = absurd w
 
 -- ---- findings
 
-two_tell : (rule : Rule) (all : List CellConfig) (f : Finding) → OfPair rule all f → TellsOfTwo rule all f
+two_tell : (rule : Rule) (all : List CellConfig) (f : Finding) → OfPair rule all f → IsPairFinding rule all f
 two_tell rule all f p = record {
   one = located p.a p.one p.r p.x;
   other = located p.b p.other p.s p.y;
@@ -273,7 +273,7 @@ two_tell rule all f p = record {
   told = p.told;
 }
 
-tell_two : (rule : Rule) (all : List CellConfig) (f : Finding) → TellsOfTwo rule all f → OfPair rule all f
+tell_two : (rule : Rule) (all : List CellConfig) (f : Finding) → IsPairFinding rule all f → OfPair rule all f
 tell_two rule all f t = record {
   a = t.one.a;
   b = t.other.a;
@@ -291,7 +291,7 @@ tell_two rule all f t = record {
   told = t.told;
 }
 
-one_tells : (rule : Rule) (h : Region) (all : List CellConfig) (f : Finding) → OfRegion rule h all f → TellsOfOne rule h all f
+one_tells : (rule : Rule) (h : Region) (all : List CellConfig) (f : Finding) → OfRegion rule h all f → IsRegionFinding rule h all f
 unfolding region_breaks
 one_tells rule h all f p =
     let q = and_parts (has_size p.x) (breaks_alone rule h p.a (take p.r p.one.memory_regions) p.x) p.breaks in
@@ -303,7 +303,7 @@ one_tells rule h all f p =
       told = p.told;
     }
 
-tell_one : (rule : Rule) (h : Region) (all : List CellConfig) (f : Finding) → TellsOfOne rule h all f → OfRegion rule h all f
+tell_one : (rule : Rule) (h : Region) (all : List CellConfig) (f : Finding) → IsRegionFinding rule h all f → OfRegion rule h all f
 unfolding region_breaks
 tell_one rule h all f t = record {
   a = t.at.a;
@@ -316,13 +316,13 @@ tell_one rule h all f t = record {
   told = t.told;
 }
 
-memory_tells : (rule : Rule) (h : Region) (f : Finding) → OfMemory rule h f → TellsOfMemory rule h f
+memory_tells : (rule : Rule) (h : Region) (f : Finding) → OfMemory rule h f → IsMemoryFinding rule h f
 memory_tells rule h f p = record { breaks = memory_words rule h p.breaks; told = p.told }
 
-tell_memory : (rule : Rule) (h : Region) (f : Finding) → TellsOfMemory rule h f → OfMemory rule h f
+tell_memory : (rule : Rule) (h : Region) (f : Finding) → IsMemoryFinding rule h f → OfMemory rule h f
 tell_memory rule h f t = record { breaks = words_memory rule h t.breaks; told = t.told }
 
-device_tells : (all : List CellConfig) (f : Finding) → OfDevice all f → TellsOfDevice all f
+device_tells : (all : List CellConfig) (f : Finding) → OfDevice all f → IsDeviceFinding all f
 unfolding device_breaks
 device_tells all f p =
     let good = is_good_shmem (take p.a all) p.one (take p.n p.one.pci_devices) p.device in
@@ -340,7 +340,7 @@ device_tells all f p =
       told = p.told;
     }
 
-tell_device : (all : List CellConfig) (f : Finding) → TellsOfDevice all f → OfDevice all f
+tell_device : (all : List CellConfig) (f : Finding) → IsDeviceFinding all f → OfDevice all f
 unfolding device_breaks
 tell_device all f t =
     let good = is_good_shmem (take t.a all) t.cell (take t.n t.cell.pci_devices) t.device in
@@ -359,10 +359,10 @@ tell_device all f t =
       told = t.told;
     }
 
-cpus_tell : (all : List CellConfig) (f : Finding) → OfCpus all f → TellsOfCpus all f
+cpus_tell : (all : List CellConfig) (f : Finding) → OfCpus all f → IsCpuFinding all f
 cpus_tell all f p = record { a = p.a; cell = p.one; is_cell = p.is_one; breaks = λ sound. bitmap_to p.one.cpu_set sound p.breaks; told = p.told }
 
-tell_cpus : (all : List CellConfig) (f : Finding) → TellsOfCpus all f → OfCpus all f
+tell_cpus : (all : List CellConfig) (f : Finding) → IsCpuFinding all f → OfCpus all f
 tell_cpus all f t =
     let bad : cpus_break t.cell.cpu_set ≡ true = elim (cases_Bool (cpus_break t.cell.cpu_set)) [
       | inl b ↦ b
@@ -370,15 +370,15 @@ tell_cpus all f t =
     ] in
     record { a = t.a; one = t.cell; is_one = t.is_cell; breaks = bad; told = t.told }
 
-both_tell : (rule : Rule) (h : Region) (all : List CellConfig) (f : Finding) → OfRegion rule h all f ⊎ OfMemory rule h f → TellsOfOne rule h all f ⊎ TellsOfMemory rule h f
+both_tell : (rule : Rule) (h : Region) (all : List CellConfig) (f : Finding) → OfRegion rule h all f ⊎ OfMemory rule h f → IsRegionFinding rule h all f ⊎ IsMemoryFinding rule h f
 both_tell rule h all f (inl p) = inl (one_tells rule h all f p)
 both_tell rule h all f (inr p) = inr (memory_tells rule h f p)
 
-tell_both : (rule : Rule) (h : Region) (all : List CellConfig) (f : Finding) → TellsOfOne rule h all f ⊎ TellsOfMemory rule h f → OfRegion rule h all f ⊎ OfMemory rule h f
+tell_both : (rule : Rule) (h : Region) (all : List CellConfig) (f : Finding) → IsRegionFinding rule h all f ⊎ IsMemoryFinding rule h f → OfRegion rule h all f ⊎ OfMemory rule h f
 tell_both rule h all f (inl t) = inl (tell_one rule h all f t)
 tell_both rule h all f (inr t) = inr (tell_memory rule h f t)
 
-tells : (rule : Rule) (h : Region) (all : List CellConfig) (f : Finding) → OfRule rule h all f → IsFoundBy rule h all f
+tells : (rule : Rule) (h : Region) (all : List CellConfig) (f : Finding) → OfRule rule h all f → IsFindingOf rule h all f
 tells VirtOverlap h all f p = two_tell VirtOverlap all f p
 tells PhysOverlap h all f p = two_tell PhysOverlap all f p
 tells Hypervisor h all f p = one_tells Hypervisor h all f p
@@ -393,7 +393,7 @@ tells Shmem h all f p = device_tells all f p
 tells NoCpu h all f p = cpus_tell all f p
 tells PhysAlign h all f p = both_tell PhysAlign h all f p
 
-told : (rule : Rule) (h : Region) (all : List CellConfig) (f : Finding) → IsFoundBy rule h all f → OfRule rule h all f
+told : (rule : Rule) (h : Region) (all : List CellConfig) (f : Finding) → IsFindingOf rule h all f → OfRule rule h all f
 told VirtOverlap h all f t = tell_two VirtOverlap all f t
 told PhysOverlap h all f t = tell_two PhysOverlap all f t
 told Hypervisor h all f t = tell_one Hypervisor h all f t

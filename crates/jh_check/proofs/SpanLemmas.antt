@@ -8,7 +8,7 @@ use Rattle.jh_cellcfg.specs.declared.region.Region.{Region}
 use Rattle.jh_check.specs.declared.rule.Rule.{Rule}
 use Rattle.jh_check.specs.declared.rule.Rule.TheVariants.{VirtOverlap}
 use Rattle.jh_check.specs.declared.spans.Span.{Span}
-use Rattle.jh_check.specs.Spans.{takes_part, span_of, spans_meet, AreApartTo, AreSpansApart, LiesWithin, StandApartTo}
+use Rattle.jh_check.specs.Private.Spans.{takes_part, span_of, spans_meet, AreApartTo, AreSpansApart, LiesWithin, AreDisjointTo}
 
 -- none is apart from nothing, and one more
 pub apart_none : (spans : List Span) → AreApartTo spans 0
@@ -131,10 +131,10 @@ pub span_ordered : (rule : Rule) (r : ℕ) (x : Region) → (span_of rule r x).s
 span_ordered VirtOverlap r x = let s : x.virt_start ≤ x.virt_start + x.size = omega arith in s
 span_ordered _ r x = let s : x.phys_start ≤ x.phys_start + x.size = omega arith in s
 
-pub stand_none : (rule : Rule) (regions : List Region) → StandApartTo rule regions 0 0
+pub stand_none : (rule : Rule) (regions : List Region) → AreDisjointTo rule regions 0 0
 stand_none rule regions = record { ends = λ i d h. absurd (omega arith); apart = λ i j d h k. absurd (omega arith) }
 
-pub stand_more : (rule : Rule) (regions : List Region) (n end more : ℕ) (x : Region) → n < length regions → x ≡ get_or regions n x → end ≤ more → (takes_part rule x ≡ true → LiesWithin (span_of rule n x) end more) → StandApartTo rule regions n end → StandApartTo rule regions (n + 1) more
+pub stand_more : (rule : Rule) (regions : List Region) (n end more : ℕ) (x : Region) → n < length regions → x ≡ get_or regions n x → end ≤ more → (takes_part rule x ≡ true → LiesWithin (span_of rule n x) end more) → AreDisjointTo rule regions n end → AreDisjointTo rule regions (n + 1) more
 stand_more rule regions n end more x within is grows behind before =
     let P : ℕ → Region → Type 0 = λ k y. takes_part rule y ≡ true → LiesWithin (span_of rule k y) end more in
     let here : (d : Region) → P n (get_or regions n d) = λ d. subst (λ y. P n y) (is ∙ get_or_default regions n x d within) behind in

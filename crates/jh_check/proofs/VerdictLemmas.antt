@@ -14,7 +14,7 @@ use Rattle.jh_check.specs.declared.rule.Rule.{Rule}
 use Rattle.jh_check.specs.declared.rule.Rule.TheVariants.{VirtOverlap, PhysOverlap, Hypervisor, OutOfRange, RootNotIdentity, CommInRoot, CommShape, ExecuteWithoutRead, SubpageTaken, CellsOverlap, Shmem, NoCpu, PhysAlign}
 use Rattle.jh_check.specs.Regions.{pair_breaks, region_breaks, hypervisor_breaks}
 use Rattle.jh_check.specs.Devices.{device_breaks, cpus_break}
-use Rattle.jh_check.specs.Spans.{is_within, joins}
+use Rattle.jh_check.specs.Private.Spans.{is_within, joins}
 use Rattle.jh_check.specs.Lists.{found_from, only_if, is_any}
 use Rattle.jh_check.specs.Findings.{rule_number, finding_of, spot, beside, beside_at, between, between_at, from_cell, in_pairs, in_cell, in_cell_at, in_regions, in_regions_at, in_hypervisor, in_devices_of, device_at, in_devices, in_devices_at, in_cpus, in_cpus_at, found_by, found_at, rules_in_order, findings}
 use Rattle.jh_check.specs.Verdicts.{is_invalid, is_busy, verdict_by, verdict_of}

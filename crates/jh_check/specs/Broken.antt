@@ -78,7 +78,7 @@ BreaksMemory _ h = ⊥
 
 -- what is asked of an ivshmem device beside others: no earlier one of its cell has its bdf, and it
 -- agrees with each that it is linked with in a cell before its own
-pub record StandsAmong (all : List CellConfig) (a : ℕ) (cell : CellConfig) (n : ℕ) (device : PciDevice) : Type 0 where
+pub record IsConsistentAmong (all : List CellConfig) (a : ℕ) (cell : CellConfig) (n : ℕ) (device : PciDevice) : Type 0 where
   pub single : (m : ℕ) (other : PciDevice) → m < n → IsDevice cell m other → AreLinked other device → ⊥
   pub links : (b : ℕ) (other_cell : CellConfig) → b < a → slice_get all b ≡ Some other_cell → (m : ℕ) (other : PciDevice)
       → IsDevice other_cell m other → AreLinked device other → AgreesWith cell device other_cell other
@@ -86,7 +86,7 @@ pub record StandsAmong (all : List CellConfig) (a : ℕ) (cell : CellConfig) (n 
 -- ---- findings
 
 -- the finding tells of two regions that break the rule together
-pub record TellsOfTwo (rule : Rule) (all : List CellConfig) (finding : Finding) : Type 0 where
+pub record IsPairFinding (rule : Rule) (all : List CellConfig) (finding : Finding) : Type 0 where
   pub one : Located
   pub other : Located
   pub is_one : IsLocated all one
@@ -95,7 +95,7 @@ pub record TellsOfTwo (rule : Rule) (all : List CellConfig) (finding : Finding) 
   pub told : finding ≡ finding_of rule one.a one.r other.a other.r
 
 -- the finding tells of one region that isn't empty and breaks the rule
-pub record TellsOfOne (rule : Rule) (memory : Region) (all : List CellConfig) (finding : Finding) : Type 0 where
+pub record IsRegionFinding (rule : Rule) (memory : Region) (all : List CellConfig) (finding : Finding) : Type 0 where
   pub at : Located
   pub is_at : IsLocated all at
   pub some : 0 < at.region.size
@@ -103,12 +103,12 @@ pub record TellsOfOne (rule : Rule) (memory : Region) (all : List CellConfig) (f
   pub told : finding ≡ finding_of rule at.a at.r 0 0
 
 -- the finding tells of the hypervisor's memory, which breaks the rule
-pub record TellsOfMemory (rule : Rule) (memory : Region) (finding : Finding) : Type 0 where
+pub record IsMemoryFinding (rule : Rule) (memory : Region) (finding : Finding) : Type 0 where
   pub breaks : BreaksMemory rule memory
   pub told : finding ≡ finding_of rule 16 0 0 0
 
 -- the finding tells of an ivshmem device that breaks what is asked of it in its own cell or beside others
-pub record TellsOfDevice (all : List CellConfig) (finding : Finding) : Type 0 where
+pub record IsDeviceFinding (all : List CellConfig) (finding : Finding) : Type 0 where
   pub a : ℕ
   pub cell : CellConfig
   pub n : ℕ
@@ -116,11 +116,11 @@ pub record TellsOfDevice (all : List CellConfig) (finding : Finding) : Type 0 wh
   pub is_cell : slice_get all a ≡ Some cell
   pub is_device : IsDevice cell n device
   pub kind : IsShmem device
-  pub breaks : (IsGoodDevice cell device → StandsAmong all a cell n device → ⊥)
+  pub breaks : (IsGoodDevice cell device → IsConsistentAmong all a cell n device → ⊥)
   pub told : finding ≡ finding_of Shmem a n 0 0
 
 -- the finding tells of a cell whose CPU set has no byte other than 0, or has one behind the second
-pub record TellsOfCpus (all : List CellConfig) (finding : Finding) : Type 0 where
+pub record IsCpuFinding (all : List CellConfig) (finding : Finding) : Type 0 where
   pub a : ℕ
   pub cell : CellConfig
   pub is_cell : slice_get all a ≡ Some cell
@@ -128,22 +128,22 @@ pub record TellsOfCpus (all : List CellConfig) (finding : Finding) : Type 0 wher
   pub told : finding ≡ finding_of NoCpu a 0 0 0
 
 -- the finding tells what breaks the rule
-abbrev pub IsFoundBy : Rule → Region → List CellConfig → Finding → Type 0
-IsFoundBy VirtOverlap h all f = TellsOfTwo VirtOverlap all f
-IsFoundBy PhysOverlap h all f = TellsOfTwo PhysOverlap all f
-IsFoundBy Hypervisor h all f = TellsOfOne Hypervisor h all f
-IsFoundBy OutOfRange h all f = TellsOfOne OutOfRange h all f ⊎ TellsOfMemory OutOfRange h f
-IsFoundBy RootNotIdentity h all f = TellsOfOne RootNotIdentity h all f
-IsFoundBy CommInRoot h all f = TellsOfOne CommInRoot h all f
-IsFoundBy CommShape h all f = TellsOfOne CommShape h all f
-IsFoundBy ExecuteWithoutRead h all f = TellsOfOne ExecuteWithoutRead h all f
-IsFoundBy SubpageTaken h all f = TellsOfTwo SubpageTaken all f
-IsFoundBy CellsOverlap h all f = TellsOfTwo CellsOverlap all f
-IsFoundBy Shmem h all f = TellsOfDevice all f
-IsFoundBy NoCpu h all f = TellsOfCpus all f
-IsFoundBy PhysAlign h all f = TellsOfOne PhysAlign h all f ⊎ TellsOfMemory PhysAlign h f
+abbrev pub IsFindingOf : Rule → Region → List CellConfig → Finding → Type 0
+IsFindingOf VirtOverlap h all f = IsPairFinding VirtOverlap all f
+IsFindingOf PhysOverlap h all f = IsPairFinding PhysOverlap all f
+IsFindingOf Hypervisor h all f = IsRegionFinding Hypervisor h all f
+IsFindingOf OutOfRange h all f = IsRegionFinding OutOfRange h all f ⊎ IsMemoryFinding OutOfRange h f
+IsFindingOf RootNotIdentity h all f = IsRegionFinding RootNotIdentity h all f
+IsFindingOf CommInRoot h all f = IsRegionFinding CommInRoot h all f
+IsFindingOf CommShape h all f = IsRegionFinding CommShape h all f
+IsFindingOf ExecuteWithoutRead h all f = IsRegionFinding ExecuteWithoutRead h all f
+IsFindingOf SubpageTaken h all f = IsPairFinding SubpageTaken all f
+IsFindingOf CellsOverlap h all f = IsPairFinding CellsOverlap all f
+IsFindingOf Shmem h all f = IsDeviceFinding all f
+IsFindingOf NoCpu h all f = IsCpuFinding all f
+IsFindingOf PhysAlign h all f = IsRegionFinding PhysAlign h all f ⊎ IsMemoryFinding PhysAlign h f
 
 -- a rule is broken, and the finding tells it
 pub record IsBroken (system : SystemConfig) (cells : List CellConfig) (finding : Finding) : Type 0 where
   pub rule : Rule
-  pub by : IsFoundBy rule system.hypervisor_memory (system.root ∷ cells) finding
+  pub by : IsFindingOf rule system.hypervisor_memory (system.root ∷ cells) finding

@@ -121,7 +121,7 @@ pub record IsGoodDevice (cell : CellConfig) (device : PciDevice) : Type 0 where
   -- all sections of the device are regions of the cell
   pub exist : device.shmem_regions_start + (2 + device.shmem_peers) ≤ length cell.memory_regions
   pub table : (x : Region) → IsSection cell device 0 x → IsStateTable x
-  pub plain : (k : ℕ) (x : Region) → IsSection cell device k x → IsSectionRegion x
+  pub sections : (k : ℕ) (x : Region) → IsSection cell device k x → IsSectionRegion x
   -- the outputs of others can't be written, and all outputs have one size
   pub read_only : (p : ℕ) (x : Region) → p ≢ device.shmem_dev_id → IsSection cell device (2 + p) x → has_flags 0x2 x ≡ false
   pub alike : (p q : ℕ) (x y : Region) → IsSection cell device (2 + p) x → IsSection cell device (2 + q) y → x.size ≡ y.size

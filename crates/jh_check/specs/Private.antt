@@ -7,3 +7,6 @@ pub mod Reaches
 pub mod Rising
 pub mod Seats
 pub mod Sound
+pub mod Cells
+pub mod Sites
+pub mod Spans

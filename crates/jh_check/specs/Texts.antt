@@ -26,18 +26,18 @@ name_of NoCpu = codes "NoCpu"
 name_of PhysAlign = codes "PhysAlign"
 
 -- the words for a region of a cell, or for the hypervisor's memory
-abbrev pub place_text : ℕ → ℕ → List ℕ
-place_text cell item = if cell == 16 then codes "h" else decimal cell ++ (codes "." ++ decimal item)
+abbrev pub location_text : ℕ → ℕ → List ℕ
+location_text cell item = if cell == 16 then codes "h" else decimal cell ++ (codes "." ++ decimal item)
 
 -- the words for what breaks the rule: two regions, a device, a cell, or a region
 abbrev pub items_text : Rule → Finding → List ℕ
-items_text VirtOverlap f = place_text f.cell f.item ++ (codes " " ++ place_text f.other_cell f.other_item)
-items_text PhysOverlap f = place_text f.cell f.item ++ (codes " " ++ place_text f.other_cell f.other_item)
-items_text SubpageTaken f = place_text f.cell f.item ++ (codes " " ++ place_text f.other_cell f.other_item)
-items_text CellsOverlap f = place_text f.cell f.item ++ (codes " " ++ place_text f.other_cell f.other_item)
+items_text VirtOverlap f = location_text f.cell f.item ++ (codes " " ++ location_text f.other_cell f.other_item)
+items_text PhysOverlap f = location_text f.cell f.item ++ (codes " " ++ location_text f.other_cell f.other_item)
+items_text SubpageTaken f = location_text f.cell f.item ++ (codes " " ++ location_text f.other_cell f.other_item)
+items_text CellsOverlap f = location_text f.cell f.item ++ (codes " " ++ location_text f.other_cell f.other_item)
 items_text Shmem f = decimal f.cell ++ (codes ".d" ++ decimal f.item)
 items_text NoCpu f = decimal f.cell
-items_text _ f = place_text f.cell f.item
+items_text _ f = location_text f.cell f.item
 
 -- the words for a finding of the rule: `NUMBER NAME ITEMS`; a number that no rule has is told alone
 abbrev pub text_by : Option Rule → Finding → List ℕ

@@ -3,7 +3,7 @@
 ghost use Rattle.std.specs.Prelude.{◌≡◌, ◌+◌, true, List, IfOk};
 ghost use Rattle.jh_cellcfg.specs.declared.region.Region.{Region as TheRegion};
 ghost use Rattle.jh_check.specs.declared.rule.Rule.{Rule as TheRule};
-ghost use Rattle.jh_check.specs.Spans.{span_of, takes_part};
+ghost use Rattle.jh_check.specs.Private.Spans.{span_of, takes_part};
 ghost use Rattle.jh_check.specs.Private.Blocks.{extent_for, IsInside, AreInside, AreExtents, AreExtentsOf, AreBlocks};
 
 use crate::reach::passes_shared;

@@ -1,6 +1,6 @@
 //! All findings in order.
 ghost use Rattle.std.specs.Prelude.{◌≡◌, ◌≤◌, ◌++◌, ◌∷◌, length, OnOk, IfOk};
-ghost use Rattle.jh_check.specs.Cells.{cells_of};
+ghost use Rattle.jh_check.specs.Private.Cells.{cells_of};
 ghost use Rattle.jh_check.specs.Lists.{capped, found_from};
 ghost use Rattle.jh_check.specs.Private.Sound.{AreSoundEach};
 ghost use Rattle.jh_check.specs.Findings.{in_regions, in_hypervisor, found_by, found_at, rules_in_order, findings};

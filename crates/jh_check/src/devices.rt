@@ -3,7 +3,7 @@ ghost use Rattle.std.specs.Prelude.{◌≡◌, ◌==◌, ◌||◌, true, false, 
 ghost use Rattle.std.specs.List.{list_any, list_all};
 ghost use Rattle.jh_cellcfg.specs.Regions.{has_flags};
 ghost use Rattle.jh_check.specs.declared.seats.Seat.{Seat};
-ghost use Rattle.jh_check.specs.Cells.{cells_of};
+ghost use Rattle.jh_check.specs.Private.Cells.{cells_of};
 ghost use Rattle.jh_check.specs.Private.Seats.{HasSeats, AreByBdf, AgreesAt};
 ghost use Rattle.jh_cellcfg.specs.Limits.{is_zero};
 ghost use Rattle.jh_check.specs.Devices.{is_shmem, are_linked, section_count, is_section, are_sections_of, are_same_section, sections_of, has_good_peers, has_good_bars, has_all_sections, is_good_table, has_good_table, is_section_region, are_read_only, are_alike, follows, are_in_a_row, is_twice, is_same_memory, are_same_memory, agrees_with, agrees_with_all, has_good_sections, is_good_shmem, device_breaks, cpus_break};
@@ -152,7 +152,7 @@ fn is_section_region(region: &Region) -> bool
 }
 
 /// Whether each of the sections is page-mapped, and neither a communication region nor loadable.
-fn are_plain(sections: &[Region]) -> bool
+fn are_section_regions(sections: &[Region]) -> bool
     ensures { result ≡ list_all is_section_region sections.now }
 {
     sections.iter().all(is_section_region)
@@ -382,7 +382,7 @@ fn has_good_sections(device: &PciDevice, sections: &[Region]) -> bool
 {
     let outputs = &sections[sections.len().min(2)..];
     has_good_table(sections)
-        && are_plain(sections)
+        && are_section_regions(sections)
         && are_read_only(device.shmem_dev_id, outputs)
         && are_alike(outputs)
         && are_in_a_row(sections)

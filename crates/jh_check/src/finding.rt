@@ -37,16 +37,16 @@ fn rule_of(number: u8) -> Option<Rule>
 
 /// A region of a cell, or the hypervisor's memory.
 #[derive(Clone, Copy)]
-struct Place {
+struct Location {
     cell: u32,
     item: u32,
 }
 
-impl fmt::Display for Place {
+impl fmt::Display for Location {
     ghost use Rattle.std.specs.Prelude.{Some};
-    ghost use Rattle.jh_check.specs.Texts.{place_text};
+    ghost use Rattle.jh_check.specs.Texts.{location_text};
 
-    ghost output = { λ place. Some (place_text place.cell place.item) };
+    ghost output = { λ place. Some (location_text place.cell place.item) };
 
     fn fmt<W: fmt::Write>(&self, f: &mut fmt::Formatter<W>) -> fmt::Result {
         if self.cell == HYPERVISOR {
@@ -98,11 +98,11 @@ impl fmt::Display for Items<'_> {
 
     fn fmt<W: fmt::Write>(&self, f: &mut fmt::Formatter<W>) -> fmt::Result {
         let finding = self.finding;
-        let one = Place {
+        let one = Location {
             cell: finding.cell,
             item: finding.item,
         };
-        let other = Place {
+        let other = Location {
             cell: finding.other_cell,
             item: finding.other_item,
         };

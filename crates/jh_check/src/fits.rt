@@ -2,7 +2,7 @@
 ghost use Rattle.std.specs.Prelude.{◌≡◌, ◌==◌, ◌≤◌, ◌<◌, ℕ, true, false, length, slice_index_or, IfOk};
 ghost use Rattle.std.specs.List.{list_any};
 ghost use Rattle.jh_check.specs.declared.seats.Seat.{Seat};
-ghost use Rattle.jh_check.specs.Cells.{cells_of};
+ghost use Rattle.jh_check.specs.Private.Cells.{cells_of};
 ghost use Rattle.jh_check.specs.Private.Seats.{AreByBdf};
 ghost use Rattle.jh_check.specs.Private.Fits.{is_like, LikeAt, FitEachOther, AreSure};
 

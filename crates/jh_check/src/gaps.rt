@@ -1,6 +1,6 @@
 //! The gaps between how far regions of a cell reach, by which those that meet none of them are told at once.
 ghost use Rattle.std.specs.Prelude.{◌≡◌, true, false};
-ghost use Rattle.jh_check.specs.Spans.{span_of, takes_part, LiesWithin};
+ghost use Rattle.jh_check.specs.Private.Spans.{span_of, takes_part, LiesWithin};
 ghost use Rattle.jh_check.specs.Private.Reaches.{unshared_of, reaches_for, IsRising, IsReached, IsGap, AreGaps};
 
 use crate::blocks::Extents;

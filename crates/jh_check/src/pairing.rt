@@ -1,9 +1,9 @@
 //! The search for pairs of regions, which passes over regions that meet none of another cell.
 ghost use Rattle.std.specs.Prelude.{◌≡◌, ◌+◌, ◌<◌, ◌≤◌, ◌++◌, true, length, slice_index_or, OnOk, IfOk};
 ghost use Rattle.jh_cellcfg.specs.declared.region.Region.{Region};
-ghost use Rattle.jh_check.specs.Cells.{cells_of};
+ghost use Rattle.jh_check.specs.Private.Cells.{cells_of};
 ghost use Rattle.jh_check.specs.Lists.{capped};
-ghost use Rattle.jh_check.specs.Spans.{joins, is_within};
+ghost use Rattle.jh_check.specs.Private.Spans.{joins, is_within};
 ghost use Rattle.jh_check.specs.Private.Blocks.{AreBlocks, AreExtents, between_from};
 ghost use Rattle.jh_check.specs.Private.Reaches.{IsOwn, AreOf, AreOfEach, AreGaps};
 ghost use Rattle.jh_check.specs.Private.Rising.{IsStretch};

@@ -1,6 +1,6 @@
 //! The rules about two regions.
 ghost use Rattle.std.specs.Prelude.{◌≡◌, true};
-ghost use Rattle.jh_check.specs.Sites.{spot_of};
+ghost use Rattle.jh_check.specs.Private.Sites.{spot_of};
 ghost use Rattle.jh_check.specs.Devices.{are_same_section};
 ghost use Rattle.jh_check.specs.Regions.{share_places, takes_pages, both_shared, pair_breaks};
 

@@ -2,8 +2,8 @@
 ghost use Rattle.std.specs.Prelude.{◌≡◌, ◌≢◌, ◌<◌, ◌≤◌, ◌-◌, ℕ, true, false, length, slice_index_or, OnOk, IfOk, IfSome, Contains};
 ghost use Rattle.jh_check.specs.declared.spans.Span.{Span};
 ghost use Rattle.jh_check.specs.declared.reach.Reach.{Reach};
-ghost use Rattle.jh_check.specs.Spans.{is_within, joins, span_of};
-ghost use Rattle.jh_check.specs.Private.Reaches.{passes_shared, may_follow, unshared_of, reaches_for, HasOthers, InOrder, IsRising, TellsEach, TellsPairs, TellsOthers, AreOf, IsIn};
+ghost use Rattle.jh_check.specs.Private.Spans.{is_within, joins, span_of};
+ghost use Rattle.jh_check.specs.Private.Reaches.{passes_shared, may_follow, unshared_of, reaches_for, HasOthers, InOrder, IsRising, CoversEach, CoversPairs, CoversOthers, AreOf, IsIn};
 
 use crate::rule::Rule;
 use crate::spans::{Span, span_of};
@@ -107,7 +107,7 @@ fn sorted(
 fn of_each(alloc: Global, spans: &[Span]) -> Result<Vec<Reach>, NoMemory>
     requires { InOrder spans.now }
     ensures rising { IfOk result (λ reaches. IsRising reaches.items) }
-    ensures tells { IfOk result (λ reaches. TellsEach spans.now reaches.items) }
+    ensures tells { IfOk result (λ reaches. CoversEach spans.now reaches.items) }
 {
     let mut reaches = Vec::with_capacity(alloc, spans.len())?;
     let mut end = 0;
@@ -126,7 +126,7 @@ fn of_each(alloc: Global, spans: &[Span]) -> Result<Vec<Reach>, NoMemory>
 fn of_pairs(alloc: Global, spans: &[Span]) -> Result<Vec<Reach>, NoMemory>
     requires { InOrder spans.now }
     ensures rising { IfOk result (λ reaches. IsRising reaches.items) }
-    ensures tells { IfOk result (λ reaches. TellsPairs spans.now reaches.items) }
+    ensures tells { IfOk result (λ reaches. CoversPairs spans.now reaches.items) }
 {
     let mut reaches = Vec::new(alloc);
     let mut farthest = 0;
@@ -157,7 +157,7 @@ fn of_own(
 ) -> Result<Vec<Reach>, NoMemory>
     requires { is_within rule ≡ true }
     ensures rising { IfOk result (λ reaches. IsRising reaches.items) }
-    ensures tells { IfOk result (λ reaches. TellsOthers rule pass b cell.now reaches.items) }
+    ensures tells { IfOk result (λ reaches. CoversOthers rule pass b cell.now reaches.items) }
 {
     let spans = sorted(alloc, rule, pass, b, cell.memory_regions.as_slice())?;
     of_pairs(alloc, spans.as_slice())
@@ -172,7 +172,7 @@ fn of_cell(
     cell: &CellConfig,
 ) -> Result<Vec<Reach>, NoMemory>
     ensures rising { IfOk result (λ reaches. IsRising reaches.items) }
-    ensures tells { IfOk result (λ reaches. TellsOthers rule pass b cell.now reaches.items) }
+    ensures tells { IfOk result (λ reaches. CoversOthers rule pass b cell.now reaches.items) }
 {
     if is_within(rule) {
         return of_own(alloc, rule, pass, b, cell);
@@ -200,7 +200,7 @@ fn of_unshared(
     cell: &CellConfig,
 ) -> Result<Option<Vec<Reach>>, NoMemory>
     ensures rising { IfOk result (λ unshared. IfSome unshared (λ reaches. IsRising reaches.items)) }
-    ensures tells { IfOk result (λ unshared. IfSome unshared (λ reaches. TellsOthers rule true b cell.now reaches.items)) }
+    ensures tells { IfOk result (λ unshared. IfSome unshared (λ reaches. CoversOthers rule true b cell.now reaches.items)) }
 {
     if !may_pass(rule, cell.memory_regions.as_slice()) {
         return Ok(None);

@@ -1,7 +1,7 @@
 //! The search for findings, each in its order.
 ghost use Rattle.std.specs.Prelude.{◌≡◌, ◌≤◌, ◌<◌, ◌++◌, ℕ, true, false, length, take, slice_index_or, Contains, OnOk, IfOk, [], ◌∷◌};
-ghost use Rattle.jh_check.specs.Cells.{cells_of};
-ghost use Rattle.jh_check.specs.Sites.{spot_of};
+ghost use Rattle.jh_check.specs.Private.Cells.{cells_of};
+ghost use Rattle.jh_check.specs.Private.Sites.{spot_of};
 ghost use Rattle.jh_check.specs.Lists.{capped, only_if};
 ghost use Rattle.jh_check.specs.Regions.{pair_breaks, hypervisor_breaks};
 ghost use Rattle.jh_check.specs.Private.Reaches.{HasHits};

@@ -1,7 +1,7 @@
 //! Where the devices of all cells stand on the bus, by which those that are linked are found.
 ghost use Rattle.std.specs.Prelude.{◌≡◌, ◌≤◌, length, OnOk, IfOk, Contains};
 ghost use Rattle.jh_cellcfg.specs.declared.config.PciDevice.{PciDevice};
-ghost use Rattle.jh_check.specs.Cells.{cells_of};
+ghost use Rattle.jh_check.specs.Private.Cells.{cells_of};
 ghost use Rattle.jh_check.specs.declared.seats.Seat.{Seat};
 ghost use Rattle.jh_check.specs.Private.Seats.{HasSeatsOf, HasSeats, AreByBdf};
 

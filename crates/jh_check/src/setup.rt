@@ -15,7 +15,7 @@ pub(crate) struct Setup<'a> {
 }
 
 impl<'a> Setup<'a> {
-    ghost use Rattle.jh_check.specs.Cells.{cells_of};
+    ghost use Rattle.jh_check.specs.Private.Cells.{cells_of};
 
     /// How many cells there are, root too.
     pub(crate) fn count(&self) -> u32

@@ -1,7 +1,7 @@
 //! An index of a cell's regions, by which pairs that can't break a rule are told at once.
 ghost use Rattle.std.specs.Prelude.{◌≡◌, ◌≢◌, ◌-◌, ◌<◌, ◌≤◌, true, length, slice_index_or, OnOk, IfOk, IfSome, Contains};
 ghost use Rattle.jh_check.specs.declared.spans.Span.{Span};
-ghost use Rattle.jh_check.specs.Spans.{takes_part, span_of, spans_meet, HasEach, HasOnly, AreSpansApart, LiesWithin, StandApart, IsIndex};
+ghost use Rattle.jh_check.specs.Private.Spans.{takes_part, span_of, spans_meet, HasEach, HasOnly, AreSpansApart, LiesWithin, AreDisjoint, IsIndex};
 
 use crate::rule::Rule;
 use jh_cellcfg::Region;
@@ -112,8 +112,8 @@ fn end_behind(rule: Rule, item: usize, region: &Region, end: u128) -> Option<u12
 }
 
 /// Whether each of the regions that take part begins behind those before it.
-pub(crate) fn stand_apart(rule: Rule, regions: &[Region]) -> bool
-    ensures { result ≡ true → StandApart rule regions.now }
+pub(crate) fn are_disjoint(rule: Rule, regions: &[Region]) -> bool
+    ensures { result ≡ true → AreDisjoint rule regions.now }
 {
     let mut end = 0;
     for (item, region) in regions.iter().enumerate() {

@@ -1,10 +1,10 @@
 //! Whether a new cell may join those that are live.
 ghost use Rattle.std.specs.Prelude.{◌≡◌, ◌≤◌, ◌+◌, ◌++◌, [], ◌∷◌, true, take, length, IfOk, IfSome};
 ghost use Rattle.std.specs.List.{list_any};
-ghost use Rattle.jh_check.specs.Cells.{cells_of};
-ghost use Rattle.jh_check.specs.Sites.{spot_of};
+ghost use Rattle.jh_check.specs.Private.Cells.{cells_of};
+ghost use Rattle.jh_check.specs.Private.Sites.{spot_of};
 ghost use Rattle.jh_check.specs.Lists.{is_any, found_from};
-ghost use Rattle.jh_check.specs.Spans.{is_within, IsIndex};
+ghost use Rattle.jh_check.specs.Private.Spans.{is_within, IsIndex};
 ghost use Rattle.jh_check.specs.Findings.{beside, between, in_cell, in_devices_of, found_by, found_at, in_pairs, rules_in_order};
 ghost use Rattle.jh_check.specs.Private.Sound.{AreSound};
 ghost use Rattle.jh_check.specs.Verdicts.{is_invalid, is_busy, verdict_of};
@@ -15,7 +15,7 @@ use crate::pairs::{Site, pair_breaks};
 use crate::regions::{are_sound, region_breaks};
 use crate::rule::{RULES, Rule, rule_at};
 use crate::setup::Setup;
-use crate::spans::{Span, index, met_by, span_of, stand_apart, takes_part};
+use crate::spans::{Span, index, met_by, span_of, are_disjoint, takes_part};
 use jh_cellcfg::{CellConfig, Region, SystemConfig};
 use jh_num::NoMemory;
 use std::alloc::Global;
@@ -75,7 +75,7 @@ fn any_within(alloc: Global, rule: Rule, number: u32, cell: &CellConfig) -> Resu
     requires { is_within rule ≡ true }
     ensures { IfOk result (λ breaks. breaks ≡ is_any (between rule number cell.now number cell.now)) }
 {
-    if stand_apart(rule, cell.memory_regions.as_slice()) {
+    if are_disjoint(rule, cell.memory_regions.as_slice()) {
         return Ok(false);
     }
     match index(alloc, rule, cell.memory_regions.as_slice())? {

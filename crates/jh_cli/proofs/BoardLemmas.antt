@@ -4,27 +4,27 @@ use Rattle.jh_script.specs.declared.image.Image.{Image}
 use Rattle.jh_image.specs.declared.fault.ImageCause.TheVariants.{ReadFault}
 use Rattle.jh_image.specs.declared.fault.ImageFault.{ImageFault}
 use Rattle.jh_image.specs.declared.fault.ImageFault.TheVariants.{Refused, NoMemory}
-use Rattle.jh_image.specs.Causes.{StopsReading, OnRefused}
+use Rattle.jh_image.specs.Causes.{IsCauseOf, OnRefused}
 use Rattle.jh_image.specs.Images.{IsImage}
 use Rattle.jh_history.specs.Admitted.{IsAdmitted}
 use Rattle.jh_cli.specs.declared.ending.Ending.{Ending}
-use Rattle.jh_cli.specs.declared.ending.Stop.{Stop}
-use Rattle.jh_cli.specs.declared.ending.Stop.TheVariants as stop
+use Rattle.jh_cli.specs.declared.ending.CallFault.{CallFault}
+use Rattle.jh_cli.specs.declared.ending.CallFault.TheVariants as stop
 use Rattle.jh_cli.specs.declared.status.Status.TheVariants as status
 use Rattle.jh_cli.specs.Lines.{exit_number}
 use Rattle.jh_image.specs.Files.{Contents}
 use Rattle.jh_cli.specs.Reading.{Reply}
 use Rattle.jh_cli.specs.Boards.{stopped, EndsAt, Opens}
-use Rattle.jh_cli.specs.Stopped.{OnEnded, OnEnding}
+use Rattle.jh_cli.specs.Endings.{OnEnded, OnEnding}
 use Rattle.jh_cli.proofs.StopLemmas.{on_stop, on_told}
 
 -- want of memory says nothing
-pub nothing : (P : Reply → Type 0) (s : Stop) → s ≡ stop.NoMemory → OnEnded s P
+pub nothing : (P : Reply → Type 0) (s : CallFault) → s ≡ stop.NoMemory → OnEnded s P
 nothing P s is = rw is tt
 
 -- the call ends where the reading of the board stops
-pub ends_at : (contents : Contents) (board : List ℕ) (fault : ImageFault) → OnRefused (StopsReading contents board) fault
-    → (s : Stop) → OnRefused (λ file cause. OnEnded s (λ said. said ≡ stopped file cause)) fault → (fault ≡ NoMemory → s ≡ stop.NoMemory) → OnEnded s (EndsAt contents board)
+pub ends_at : (contents : Contents) (board : List ℕ) (fault : ImageFault) → OnRefused (IsCauseOf contents board) fault
+    → (s : CallFault) → OnRefused (λ file cause. OnEnded s (λ said. said ≡ stopped file cause)) fault → (fault ≡ NoMemory → s ≡ stop.NoMemory) → OnEnded s (EndsAt contents board)
 ends_at contents board (Refused file cause) stops s told memory =
     on_stop (λ said. said ≡ stopped file cause) (EndsAt contents board) s (λ said is. record { file = file; cause = cause; stops = stops; told = is }) told
 ends_at contents board NoMemory stops s told memory = nothing (EndsAt contents board) s (memory refl)
@@ -37,5 +37,5 @@ refused_is_read said text is fault =
 
 -- what follows a board that was read
 pub opens : (contents : Contents) (board : List ℕ) (next : Image → Reply → Type 0) (image : Image) → IsImage contents board image → IsAdmitted image
-    → (r : Result Ending Stop) → OnEnding r (next image) → OnEnding r (Opens contents board next)
+    → (r : Result Ending CallFault) → OnEnding r (next image) → OnEnding r (Opens contents board next)
 opens contents board next image is admitted r h = on_told (next image) (Opens contents board next) r (λ said rest. inr (image, is, admitted, rest)) h

@@ -5,17 +5,17 @@ use Rattle.jh_outside.specs.Trail.{Ask}
 use Rattle.jh_cli.specs.declared.status.Status.{Status}
 use Rattle.jh_cli.specs.declared.status.Status.TheVariants.{ReadFault, WriteFault, NoMemory}
 use Rattle.jh_cli.specs.declared.ending.Ending.{Ending}
-use Rattle.jh_cli.specs.declared.ending.Stop.{Stop}
-use Rattle.jh_cli.specs.declared.ending.Stop.TheVariants as stop
+use Rattle.jh_cli.specs.declared.ending.CallFault.{CallFault}
+use Rattle.jh_cli.specs.declared.ending.CallFault.TheVariants as stop
 use Rattle.jh_cli.specs.Words.{Asked}
 use Rattle.jh_cli.specs.Lines.{exit_number}
 use Rattle.jh_image.specs.Files.{Contents}
 use Rattle.jh_cli.specs.Reading.{Reply}
-use Rattle.jh_cli.specs.Stopped.{said_of, OnEnding, IsCounted}
+use Rattle.jh_cli.specs.Endings.{said_of, OnEnding, IsCounted}
 use Rattle.jh_cli.specs.Order.{IsReadFor}
 use Rattle.jh_cli.specs.Outcome.{Outcome, Sent}
 use Rattle.jh_cli.specs.Complete.{AreGood, MayEndWith}
-use Rattle.jh_cli.specs.Call.{Says, IsCall}
+use Rattle.jh_cli.specs.Call.{IsReplyTo, IsCall}
 use Rattle.jh_cli.proofs.GoodLemmas.{answered_or_rose, unread, said_read, IsAnswered}
 use Rattle.jh_cli.proofs.OrderLemmas.{call_keeps}
 use Rattle.jh_cli.proofs.StatusLemmas.{outcome_other}
@@ -30,7 +30,7 @@ differ status one other is also apart = apart (ap exit_number (sym is ∙ also))
 
 module _ {S K : Type 0} (contents : S → Contents) (failed : S → List ℕ) (faults : S → ℕ) (one : S → Ask → S → Type 0) (written : K → Option (List ℕ)) (sink_faults : K → ℕ) where
   -- what was told was sent, or a proper front of it
-  told_call : GoodAreAnswered → (asked : Option Asked) (s t : S) (k l : K) (said : Reply) (status : Status) → Says contents failed faults one written sink_faults asked s t said
+  told_call : GoodAreAnswered → (asked : Option Asked) (s t : S) (k l : K) (said : Reply) (status : Status) → IsReplyTo contents failed faults one written sink_faults asked s t said
       → Sent (written k) (written l) said status → (status ≡ WriteFault → said.status ≢ WriteFault → Rose (sink_faults k) (sink_faults l))
       → IsCall contents failed faults one written sink_faults asked s t k l status
   told_call answered asked s t k l said status says sent fault =
@@ -55,7 +55,7 @@ module _ {S K : Type 0} (contents : S → Contents) (failed : S → List ℕ) (f
   }
 
   -- what a command told, or where it ended, was sent
-  pub finished_call : GoodAreAnswered → (asked : Option Asked) (s t : S) (k l : K) (r : Result Ending Stop) (status : Status)
+  pub finished_call : GoodAreAnswered → (asked : Option Asked) (s t : S) (k l : K) (r : Result Ending CallFault) (status : Status)
       → OnEnding r (Outcome (contents s) asked) → OnEnding r (IsCounted (faults s) (faults t) (failed t)) → OnEnding r (IsReadFor one failed (contents s) asked s t)
       → OnEnding r (λ said. Sent (written k) (written l) said status) → OnEnding r (λ said. status ≡ WriteFault → said.status ≢ WriteFault → Rose (sink_faults k) (sink_faults l))
       → (r ≡ Err stop.NoMemory → (status ≡ NoMemory) × (written l ≡ written k))

@@ -33,9 +33,9 @@ use Rattle.jh_audit.specs.declared.verdict.Verdict.{Verdict}
 use Rattle.jh_audit.specs.declared.verdict.Verdict.TheVariants.{Legal, Illegal}
 use Rattle.jh_image.specs.declared.fault.ImageCause.{ImageCause}
 use Rattle.jh_image.specs.declared.fault.ImageCause.TheVariants.{ReadFault as CantBeRead}
-use Rattle.jh_image.specs.Causes.{StopsReading}
+use Rattle.jh_image.specs.Causes.{IsCauseOf}
 use Rattle.jh_image.specs.Images.{IsImage}
-use Rattle.jh_image.specs.Laws.{AreTold}
+use Rattle.jh_image.specs.Laws.{AreKnown}
 use Rattle.jh_image.proofs.Public.{SpellingsAreFaultless}
 use Rattle.jh_run.specs.Maps.{Maps}
 use Rattle.jh_run.specs.Soak.{soak_board}
@@ -45,8 +45,8 @@ use Rattle.jh_cli.specs.Limits.{most_of_a_file, most_of_a_journal}
 use Rattle.jh_cli.specs.Lines.{exit_number, fault_line}
 use Rattle.jh_cli.specs.Words.{Asked, CheckOf, PackOf, PlayOf, RunOf, MapOf, AuditOf, SoakOf}
 use Rattle.jh_image.specs.Files.{Contents}
-use Rattle.jh_cli.specs.Reading.{Reply, StopsAt, ReadsAt}
-use Rattle.jh_cli.specs.Check.{IsCellFile, CellRefusal, IsSystemFile, SystemRefusal, StopsAmong, ChecksCells, Checks, checked_status}
+use Rattle.jh_cli.specs.Reading.{Reply, FailsAt, ReadsAt}
+use Rattle.jh_cli.specs.Check.{IsCellFile, CellRefusal, IsSystemFile, SystemRefusal, FailsAmong, ChecksCells, Checks, checked_status}
 use Rattle.jh_cli.specs.Pack.{IsSpecFile, SpecRefusal, Packs, packed}
 use Rattle.jh_cli.specs.Boards.{stopped, EndsAt}
 use Rattle.jh_cli.specs.Play.{AreCpus, IsSchedule, ScheduleRefusal, IsPlayed, played_status, PlaysBy, Plays}
@@ -55,10 +55,10 @@ use Rattle.jh_cli.specs.Map.{mapped_said, IsMapped, MapsBy, MapsOf}
 use Rattle.jh_cli.specs.Soak.{AreRounds, Soaks}
 use Rattle.jh_cli.specs.Audit.{IsJournalFile, JournalRefusal, IsAudited, AuditsBy, Audits, verdict_status}
 use Rattle.jh_cli.specs.Outcome.{Outcome, Sent}
-use Rattle.jh_cli.specs.Stopped.{IsCounted}
-use Rattle.jh_cli.specs.Complete.{IsBoardTold, FileSpells, HoldCells, AreGoodToCheck, IsGoodToPack, AreGoodToPlay, AreGoodToRun, AreGoodToAudit, AreGood, MayEndWith}
+use Rattle.jh_cli.specs.Endings.{IsCounted}
+use Rattle.jh_cli.specs.Complete.{IsKnownBoard, FileSpells, HoldCells, AreGoodToCheck, IsGoodToPack, AreGoodToPlay, AreGoodToRun, AreGoodToAudit, AreGood, MayEndWith}
 use Rattle.jh_cli.proofs.StatusLemmas.{run_ends}
-use Rattle.jh_cli.proofs.ToldLemmas.{all_told, each_is_told, is_image, stops}
+use Rattle.jh_cli.proofs.KnownLemmas.{all_told, each_is_told, is_image, stops}
 
 -- ---- the laws of the layers below
 
@@ -72,10 +72,10 @@ abbrev pub NotLong : Type 0
 NotLong = (text : List ℕ) (entries : List Entry) → IsJournalText text entries → IsTooLong text → ⊥
 
 abbrev pub OneImage : Type 0
-OneImage = (contents : Contents) (board : List ℕ) (one other : Image) → AreTold contents → IsImage contents board one → IsImage contents board other → one ≡ other
+OneImage = (contents : Contents) (board : List ℕ) (one other : Image) → AreKnown contents → IsImage contents board one → IsImage contents board other → one ≡ other
 
 abbrev pub BoardsAreUnrefused : Type 0
-BoardsAreUnrefused = (contents : Contents) (board file : List ℕ) (image : Image) (cause : ImageCause) → AreTold contents → IsImage contents board image → StopsReading contents board file cause → cause ≡ CantBeRead
+BoardsAreUnrefused = (contents : Contents) (board file : List ℕ) (image : Image) (cause : ImageCause) → AreKnown contents → IsImage contents board image → IsCauseOf contents board file cause → cause ≡ CantBeRead
 
 -- ---- one file
 
@@ -101,7 +101,7 @@ of_verdict : (said : Reply) (status : Status) → said.status ≡ status → IsV
 of_verdict said status is one = inl (subst IsVerdict (sym is) one)
 
 stops_unrefused : {A : Type 0} (Answer : Status → Type 0) (most : ℕ) (contents : Contents) (name : List ℕ) (Why : List ℕ → List ℕ → Type 0) (Form : List ℕ → A → Type 0) (value : A) (said : Reply)
-    → IsSound Why Form most value → FileSpells most contents name Form value → StopsAt most contents name Why said → IsAnswered Answer said
+    → IsSound Why Form most value → FileSpells most contents name Form value → FailsAt most contents name Why said → IsAnswered Answer said
 stops_unrefused Answer most contents name Why Form value said sound held (inl fault) = inr (ap (λ (s : Reply). s.status) fault)
 stops_unrefused Answer most contents name Why Form value said sound held (inr is) =
     let same : is.bytes ≡ held.bytes = handed_held (contents name) most held.bytes is.bytes held.told held.within is.handed in
@@ -142,7 +142,7 @@ one_of_cells contents [] name rest (cell ∷ cells) held = (cell, held.0)
 one_of_cells contents (b ∷ before) name rest [] held = absurd held
 one_of_cells contents (b ∷ before) name rest (cell ∷ cells) held = one_of_cells contents before name rest cells held.1
 
-among_unrefused : CellsAreFaultless → (contents : Contents) (names : List (List ℕ)) (cells : List CellConfig) (said : Reply) → HoldCells contents names cells → StopsAmong contents names said → IsAnswered IsVerdict said
+among_unrefused : CellsAreFaultless → (contents : Contents) (names : List (List ℕ)) (cells : List CellConfig) (said : Reply) → HoldCells contents names cells → FailsAmong contents names said → IsAnswered IsVerdict said
 among_unrefused faultless contents names cells said held among =
     let split : HoldCells contents (among.before ++ among.name ∷ among.rest) cells = subst (λ (ns : List (List ℕ)). HoldCells contents ns cells) among.split held in
     let one = one_of_cells contents among.before among.name among.rest cells split in
@@ -183,7 +183,7 @@ pack_unrefused contents name said good h =
 
 -- ---- boards
 
-pub board_unrefused : BoardsAreUnrefused → (Answer : Status → Type 0) (contents : Contents) (board : List ℕ) (image : Image) (said : Reply) → IsBoardTold contents board → IsImage contents board image → EndsAt contents board said → IsAnswered Answer said
+pub board_unrefused : BoardsAreUnrefused → (Answer : Status → Type 0) (contents : Contents) (board : List ℕ) (image : Image) (said : Reply) → IsKnownBoard contents board → IsImage contents board image → EndsAt contents board said → IsAnswered Answer said
 board_unrefused unrefused Answer contents board image said told is ends =
     let cause : ends.cause ≡ CantBeRead =
     unrefused (all_told contents) board ends.file image ends.cause (each_is_told contents) (is_image contents board told image is) (stops contents board told ends.file ends.cause ends.stops) in

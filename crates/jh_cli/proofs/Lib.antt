@@ -12,4 +12,4 @@ mod RoundsLemmas
 mod RunLemmas
 mod StatusLemmas
 mod StopLemmas
-mod ToldLemmas
+mod KnownLemmas

@@ -31,12 +31,12 @@ use Rattle.jh_image.proofs.Public.{OneSpelling, hands_one}
 use Rattle.jh_cli.specs.declared.status.Status.TheVariants.{ReadFault}
 use Rattle.jh_cli.specs.Limits.{most_of_a_file, most_of_a_journal}
 use Rattle.jh_image.specs.Files.{Contents}
-use Rattle.jh_cli.specs.Reading.{Reply, StopsAt, SpellsAt, ReadsAt}
+use Rattle.jh_cli.specs.Reading.{Reply, FailsAt, SpellsAt, ReadsAt}
 use Rattle.jh_cli.specs.Check.{IsCellFile, CellRefusal, IsSystemFile, SystemRefusal, SpellCells, ChecksCells, checked}
 use Rattle.jh_cli.specs.Pack.{IsSpecFile, SpecRefusal}
 use Rattle.jh_cli.specs.Play.{ScheduleRefusal}
 use Rattle.jh_cli.specs.Audit.{JournalRefusal, IsAudited, verdict_status, verdict_text}
-use Rattle.jh_cli.specs.Complete.{AreNamesTold}
+use Rattle.jh_cli.specs.Complete.{AreKnownNames}
 use Rattle.jh_cli.proofs.GoodLemmas.{CellsAreFaultless, no_more, cell_sound, same_for_image}
 use Rattle.jh_cli.proofs.StopLemmas.{refused_said}
 use Rattle.jh_num.proofs.Public.{ok_one}
@@ -73,7 +73,7 @@ module _ {A : Type 0} (most : ℕ) (contents : Contents) (name : List ℕ) (is_t
   abbrev pub Apart : Type 0
   Apart = (bytes : List ℕ) (a : A) (words : List ℕ) → Form bytes a → Why bytes words → ⊥
 
-  one_stop : OneWord → (one other : Reply) → StopsAt most contents name Why one → StopsAt most contents name Why other → IsRead one → IsRead other → one ≡ other
+  one_stop : OneWord → (one other : Reply) → FailsAt most contents name Why one → FailsAt most contents name Why other → IsRead one → IsRead other → one ≡ other
   one_stop words one other (inl h) k read also = absurd (read (ap (λ (s : Reply). s.status) h))
   one_stop words one other (inr h) (inl k) read also = absurd (also (ap (λ (s : Reply). s.status) k))
   one_stop words one other (inr h) (inr k) read also =
@@ -81,7 +81,7 @@ module _ {A : Type 0} (most : ℕ) (contents : Contents) (name : List ℕ) (is_t
       let same : h.words ≡ k.words = words k.bytes h.words k.words (subst (λ b. Why b h.words) bytes h.why) k.why in
       h.told ∙ ap (refused_said name) same ∙ sym k.told
 
-  spelled_or_stopped : Apart → (value : A) (said : Reply) → SpellsAt most contents name Form value → StopsAt most contents name Why said → IsRead said → ⊥
+  spelled_or_stopped : Apart → (value : A) (said : Reply) → SpellsAt most contents name Form value → FailsAt most contents name Why said → IsRead said → ⊥
   spelled_or_stopped apart value said spells (inl h) read = read (ap (λ (s : Reply). s.status) h)
   spelled_or_stopped apart value said spells (inr h) read =
       let bytes : h.bytes ≡ spells.bytes = hands_one (contents name) most h.bytes spells.bytes is_told h.handed spells.handed in
@@ -132,10 +132,10 @@ module _ (faultless : CellsAreFaultless) (one_cell : OneCell) (contents : Conten
   cell_apart : (bytes : List ℕ) (cell : CellConfig) (words : List ℕ) → IsCellFile bytes cell → CellRefusal bytes words → ⊥
   cell_apart bytes cell words form why = cell_sound faultless cell bytes words form.within form why
 
-  not_both : (name : List ℕ) → contents name ≢ None → (cell : CellConfig) (said : Reply) → SpellsAt most_of_a_file contents name IsCellFile cell → StopsAt most_of_a_file contents name CellRefusal said → IsRead said → ⊥
+  not_both : (name : List ℕ) → contents name ≢ None → (cell : CellConfig) (said : Reply) → SpellsAt most_of_a_file contents name IsCellFile cell → FailsAt most_of_a_file contents name CellRefusal said → IsRead said → ⊥
   not_both name told cell said = spelled_or_stopped most_of_a_file contents name told CellRefusal IsCellFile cell_apart cell said
 
-  one_cells : (names : List (List ℕ)) → AreNamesTold contents names → (a b : List CellConfig) → SpellCells contents names a → SpellCells contents names b → a ≡ b
+  one_cells : (names : List (List ℕ)) → AreKnownNames contents names → (a b : List CellConfig) → SpellCells contents names a → SpellCells contents names b → a ≡ b
   one_cells [] told [] [] h k = refl
   one_cells [] told [] (b ∷ bs) h k = absurd k
   one_cells [] told (a ∷ us) b h k = absurd h
@@ -147,20 +147,20 @@ module _ (faultless : CellsAreFaultless) (one_cell : OneCell) (contents : Conten
       ap (λ (x : CellConfig). x ∷ us) first ∙ ap (λ (xs : List CellConfig). b ∷ xs) rest
 
   -- a file that stops the call isn't among those that spell cells
-  stop_among : (before : List (List ℕ)) (name : List ℕ) (rest : List (List ℕ)) (cells : List CellConfig) (said : Reply) → AreNamesTold contents (before ++ name ∷ rest)
-      → SpellCells contents (before ++ name ∷ rest) cells → StopsAt most_of_a_file contents name CellRefusal said → IsRead said → ⊥
+  stop_among : (before : List (List ℕ)) (name : List ℕ) (rest : List (List ℕ)) (cells : List CellConfig) (said : Reply) → AreKnownNames contents (before ++ name ∷ rest)
+      → SpellCells contents (before ++ name ∷ rest) cells → FailsAt most_of_a_file contents name CellRefusal said → IsRead said → ⊥
   stop_among [] name rest [] said told h k read = h
   stop_among [] name rest (c ∷ cs) said told h k read = not_both name told.0 c said h.0 k read
   stop_among (b ∷ bs) name rest [] said told h k read = h
   stop_among (b ∷ bs) name rest (c ∷ cs) said told h k read = stop_among bs name rest cs said told.1 h.1 k read
 
   -- the first file that stops the call is one
-  one_among : (xs : List (List ℕ)) (x : List ℕ) (r ys : List (List ℕ)) (y : List ℕ) (s : List (List ℕ)) (us bs : List CellConfig) (one other : Reply) → AreNamesTold contents (xs ++ x ∷ r)
+  one_among : (xs : List (List ℕ)) (x : List ℕ) (r ys : List (List ℕ)) (y : List ℕ) (s : List (List ℕ)) (us bs : List CellConfig) (one other : Reply) → AreKnownNames contents (xs ++ x ∷ r)
       → xs ++ x ∷ r ≡ ys ++ y ∷ s → SpellCells contents xs us → SpellCells contents ys bs
-      → StopsAt most_of_a_file contents x CellRefusal one → StopsAt most_of_a_file contents y CellRefusal other → IsRead one → IsRead other → one ≡ other
+      → FailsAt most_of_a_file contents x CellRefusal one → FailsAt most_of_a_file contents y CellRefusal other → IsRead one → IsRead other → one ≡ other
   one_among [] x r [] y s us bs one other told same h k stops also read read_also =
       let head : x ≡ y = cc same in
-      one_stop most_of_a_file contents x told.0 CellRefusal IsCellFile cell_words one other stops (subst (λ n. StopsAt most_of_a_file contents n CellRefusal other) (sym head) also) read read_also
+      one_stop most_of_a_file contents x told.0 CellRefusal IsCellFile cell_words one other stops (subst (λ n. FailsAt most_of_a_file contents n CellRefusal other) (sym head) also) read read_also
   one_among [] x r (y1 ∷ ys) y s us [] one other told same h k stops also read read_also = absurd k
   one_among [] x r (y1 ∷ ys) y s us (b ∷ bs) one other told same h k stops also read read_also =
       let head : x ≡ y1 = cc same in
@@ -168,20 +168,20 @@ module _ (faultless : CellsAreFaultless) (one_cell : OneCell) (contents : Conten
   one_among (x1 ∷ xs) x r [] y s [] bs one other told same h k stops also read read_also = absurd h
   one_among (x1 ∷ xs) x r [] y s (a ∷ us) bs one other told same h k stops also read read_also =
       let head : x1 ≡ y = cc same in
-      absurd (not_both x1 told.0 a other h.0 (subst (λ n. StopsAt most_of_a_file contents n CellRefusal other) (sym head) also) read_also)
+      absurd (not_both x1 told.0 a other h.0 (subst (λ n. FailsAt most_of_a_file contents n CellRefusal other) (sym head) also) read_also)
   one_among (x1 ∷ xs) x r (y1 ∷ ys) y s [] bs one other told same h k stops also read read_also = absurd h
   one_among (x1 ∷ xs) x r (y1 ∷ ys) y s (a ∷ us) [] one other told same h k stops also read read_also = absurd k
   one_among (x1 ∷ xs) x r (y1 ∷ ys) y s (a ∷ us) (b ∷ bs) one other told same h k stops also read read_also =
       let tail : xs ++ x ∷ r ≡ ys ++ y ∷ s = cc same in
       one_among xs x r ys y s us bs one other told.1 tail h.1 k.1 stops also read read_also
 
-  pub one_check : (names : List (List ℕ)) (system : SystemConfig) (one other : Reply) → AreNamesTold contents names → ChecksCells contents names system one → ChecksCells contents names system other → IsRead one → IsRead other → one ≡ other
+  pub one_check : (names : List (List ℕ)) (system : SystemConfig) (one other : Reply) → AreKnownNames contents names → ChecksCells contents names system one → ChecksCells contents names system other → IsRead one → IsRead other → one ≡ other
   one_check names system one other told (inl h) (inl k) read also =
-      one_among h.before h.name h.rest k.before k.name k.rest h.cells k.cells one other (subst (AreNamesTold contents) h.split told) (sym h.split ∙ k.split) h.spelled k.spelled h.stops k.stops read also
+      one_among h.before h.name h.rest k.before k.name k.rest h.cells k.cells one other (subst (AreKnownNames contents) h.split told) (sym h.split ∙ k.split) h.spelled k.spelled h.stops k.stops read also
   one_check names system one other told (inl h) (inr k) read also =
-      absurd (stop_among h.before h.name h.rest k.0 one (subst (AreNamesTold contents) h.split told) (subst (λ ns. SpellCells contents ns k.0) h.split k.1) h.stops read)
+      absurd (stop_among h.before h.name h.rest k.0 one (subst (AreKnownNames contents) h.split told) (subst (λ ns. SpellCells contents ns k.0) h.split k.1) h.stops read)
   one_check names system one other told (inr h) (inl k) read also =
-      absurd (stop_among k.before k.name k.rest h.0 other (subst (AreNamesTold contents) k.split told) (subst (λ ns. SpellCells contents ns h.0) k.split h.1) k.stops also)
+      absurd (stop_among k.before k.name k.rest h.0 other (subst (AreKnownNames contents) k.split told) (subst (λ ns. SpellCells contents ns h.0) k.split h.1) k.stops also)
   one_check names system one other told (inr h) (inr k) read also =
       let same : h.0 ≡ k.0 = one_cells names told h.0 k.0 h.1 k.1 in
       h.2 ∙ ap (checked system) same ∙ sym k.2

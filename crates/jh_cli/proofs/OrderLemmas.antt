@@ -10,16 +10,16 @@ use Rattle.jh_image.specs.declared.fault.ImageFault.TheVariants.{Refused, NoMemo
 use Rattle.jh_image.specs.Causes.{OnRefused}
 use Rattle.jh_image.specs.Order.{board_files, ask_for as ask_at, AsksBoard, AsksBoardUntil, until_the_board, until_a_file}
 use Rattle.jh_cli.specs.declared.ending.Ending.{Ending}
-use Rattle.jh_cli.specs.declared.ending.Stop.{Stop}
-use Rattle.jh_cli.specs.declared.ending.Stop.TheVariants as stop
+use Rattle.jh_cli.specs.declared.ending.CallFault.{CallFault}
+use Rattle.jh_cli.specs.declared.ending.CallFault.TheVariants as stop
 use Rattle.jh_cli.specs.declared.status.Status.{Status}
 use Rattle.jh_cli.specs.declared.status.Status.TheVariants as status
 use Rattle.jh_image.specs.Files.{Contents}
 use Rattle.jh_cli.specs.Reading.{Reply}
 use Rattle.jh_cli.specs.Boards.{stopped}
-use Rattle.jh_cli.specs.Stopped.{OnEnded, OnEnding}
+use Rattle.jh_cli.specs.Endings.{OnEnded, OnEnding}
 use Rattle.jh_cli.specs.Words.{Asked, CheckOf, PackOf, PlayOf, RunOf, MapOf, AuditOf, SoakOf}
-use Rattle.jh_cli.specs.Order.{IsStop, ask_for, StopsIn, ReadsIn, ReadsBoard, the_board_alone, what_it_lists, IsReadFor}
+use Rattle.jh_cli.specs.Order.{IsFileStatus, ask_for, FailsIn, ReadsIn, ReadsBoard, the_board_alone, what_it_lists, IsReadFor}
 use Rattle.jh_cli.proofs.StopLemmas.{on_stop, on_told}
 use Rattle.jh_cli.proofs.BoardLemmas.{nothing}
 
@@ -37,7 +37,7 @@ at_cause file (PoolSmall need have) = refl
 at_cause file (BadPreload number) = refl
 at_cause file (BadProgram fault) = refl
 
-is_stop : (file : List ℕ) (cause : ImageCause) → IsStop (stopped file cause).status
+is_stop : (file : List ℕ) (cause : ImageCause) → IsFileStatus (stopped file cause).status
 is_stop file ReadFault = tt
 is_stop file Oversize = tt
 is_stop file Json = tt
@@ -50,15 +50,15 @@ is_stop file (BadProgram fault) = tt
 
 module _ {S : Type 0} (one : S → Ask → S → Type 0) (failed : S → List ℕ) where
   -- where the call ends at a file, the read of that file is the last
-  pub stops_one : (name text : List ℕ) (s t : S) (stop : Stop) → Asks one failed s (faulted name ∷ []) t → OnEnded stop (λ said. said ≡ record { status = status.ReadFault; text = text }) → OnEnded stop (StopsIn one failed (name ∷ []) s t)
+  pub stops_one : (name text : List ℕ) (s t : S) (stop : CallFault) → Asks one failed s (faulted name ∷ []) t → OnEnded stop (λ said. said ≡ record { status = status.ReadFault; text = text }) → OnEnded stop (FailsIn one failed (name ∷ []) s t)
   stops_one name text s t stop asked h =
-      on_stop (λ said. said ≡ record { status = status.ReadFault; text = text }) (StopsIn one failed (name ∷ []) s t) stop
-      (λ said is. subst (StopsIn one failed (name ∷ []) s t) (sym is) (tt, until-first one failed s t name [] (ask_for status.ReadFault) asked)) h
+      on_stop (λ said. said ≡ record { status = status.ReadFault; text = text }) (FailsIn one failed (name ∷ []) s t) stop
+      (λ said is. subst (FailsIn one failed (name ∷ []) s t) (sym is) (tt, until-first one failed s t name [] (ask_for status.ReadFault) asked)) h
 
-  pub refuses_one : (name text : List ℕ) (s t : S) (stop : Stop) → AsksAll one failed (name ∷ []) s t → OnEnded stop (λ said. said ≡ record { status = status.Refused; text = text }) → OnEnded stop (StopsIn one failed (name ∷ []) s t)
+  pub refuses_one : (name text : List ℕ) (s t : S) (stop : CallFault) → AsksAll one failed (name ∷ []) s t → OnEnded stop (λ said. said ≡ record { status = status.Refused; text = text }) → OnEnded stop (FailsIn one failed (name ∷ []) s t)
   refuses_one name text s t stop asked h =
-      on_stop (λ said. said ≡ record { status = status.Refused; text = text }) (StopsIn one failed (name ∷ []) s t) stop
-      (λ said is. subst (StopsIn one failed (name ∷ []) s t) (sym is) (tt, until-first one failed s t name [] (ask_for status.Refused) asked)) h
+      on_stop (λ said. said ≡ record { status = status.Refused; text = text }) (FailsIn one failed (name ∷ []) s t) stop
+      (λ said is. subst (FailsIn one failed (name ∷ []) s t) (sym is) (tt, until-first one failed s t name [] (ask_for status.Refused) asked)) h
 
   -- ---- a board
 
@@ -71,7 +71,7 @@ module _ {S : Type 0} (one : S → Ask → S → Type 0) (failed : S → List �
 
   -- the call ends at one of a board's files
   pub stops_in_board : (contents : Contents) (board : List ℕ) (more : List (List ℕ)) (s t : S) (fault : ImageFault) → OnRefused (λ file cause. AsksBoardUntil one failed contents board cause s t) fault
-      → (r : Stop) → OnRefused (λ file cause. OnEnded r (λ said. said ≡ stopped file cause)) fault → (fault ≡ NoMemory → r ≡ stop.NoMemory) → OnEnded r (ReadsBoard one failed contents board more s t)
+      → (r : CallFault) → OnRefused (λ file cause. OnEnded r (λ said. said ≡ stopped file cause)) fault → (fault ≡ NoMemory → r ≡ stop.NoMemory) → OnEnded r (ReadsBoard one failed contents board more s t)
   stops_in_board contents board more s t (Refused file cause) until r told memory =
       on_stop (λ said. said ≡ stopped file cause) (ReadsBoard one failed contents board more s t) r
       (λ said is. subst (ReadsBoard one failed contents board more s t) (sym is) (stops_at_cause contents board more s t file cause until)) told
@@ -84,26 +84,26 @@ module _ {S : Type 0} (one : S → Ask → S → Type 0) (failed : S → List �
   reads_behind before names s t u asked said (inr stops) = inr (stops.0, until-behind one failed s t u before names (ask_for said.status) asked stops.1)
 
   pub file_behind : (name : List ℕ) (names : List (List ℕ)) (s t u : S) → AsksAll one failed (name ∷ []) s t
-      → (r : Result Ending Stop) → OnEnding r (ReadsIn one failed names t u) → OnEnding r (ReadsIn one failed (name ∷ names) s u)
+      → (r : Result Ending CallFault) → OnEnding r (ReadsIn one failed names t u) → OnEnding r (ReadsIn one failed (name ∷ names) s u)
   file_behind name names s t u asked r h = on_told (ReadsIn one failed names t u) (ReadsIn one failed (name ∷ names) s u) r (reads_behind (name ∷ []) names s t u asked) h
 
   pub board_behind : (contents : Contents) (board : List ℕ) (names : List (List ℕ)) (s t u : S) → AsksBoard one failed contents board s t
-      → (r : Result Ending Stop) → OnEnding r (ReadsIn one failed names t u) → OnEnding r (ReadsBoard one failed contents board names s u)
+      → (r : Result Ending CallFault) → OnEnding r (ReadsIn one failed names t u) → OnEnding r (ReadsBoard one failed contents board names s u)
   board_behind contents board names s t u opened r h =
       on_told (ReadsIn one failed names t u) (ReadsBoard one failed contents board names s u) r
       (λ said reads. what_it_lists opened.listing opened.lists (reads_behind (board_files board opened.listing) names s t u opened.all said reads)) h
 
   -- the call ends at the first of these files
-  pub first_stops : (name : List ℕ) (names : List (List ℕ)) (s t : S) (r : Stop) → OnEnded r (StopsIn one failed (name ∷ []) s t) → OnEnded r (ReadsIn one failed (name ∷ names) s t)
+  pub first_stops : (name : List ℕ) (names : List (List ℕ)) (s t : S) (r : CallFault) → OnEnded r (FailsIn one failed (name ∷ []) s t) → OnEnded r (ReadsIn one failed (name ∷ names) s t)
   first_stops name names s t r h =
-      on_stop (StopsIn one failed (name ∷ []) s t) (ReadsIn one failed (name ∷ names) s t) r (λ said stops. inr (stops.0, until-more one failed s t (name ∷ []) names (ask_for said.status) stops.1)) h
+      on_stop (FailsIn one failed (name ∷ []) s t) (ReadsIn one failed (name ∷ names) s t) r (λ said stops. inr (stops.0, until-more one failed s t (name ∷ []) names (ask_for said.status) stops.1)) h
 
   -- the next name's file stops the call; `f` gives a name's bytes
   pub next_stops : {X : Type 0} (f : X → List ℕ) (names : List X) (i : ℕ) (x : X) (s t u : S) → i < length names → x ≡ get_or names i x → AsksAll one failed (map f (take i names)) s t
-      → (r : Stop) → OnEnded r (StopsIn one failed (f x ∷ []) t u) → OnEnded r (StopsIn one failed (map f names) s u)
+      → (r : CallFault) → OnEnded r (FailsIn one failed (f x ∷ []) t u) → OnEnded r (FailsIn one failed (map f names) s u)
   next_stops f names i x s t u lt is before r h =
       let split = names-split f names i x lt is in
-      on_stop (StopsIn one failed (f x ∷ []) t u) (StopsIn one failed (map f names) s u) r
+      on_stop (FailsIn one failed (f x ∷ []) t u) (FailsIn one failed (map f names) s u) r
       (λ said stops. (
         stops.0,
         subst (λ ns. AsksUntil one failed ns (ask_for said.status) s u) (sym split.1)

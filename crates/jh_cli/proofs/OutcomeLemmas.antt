@@ -7,8 +7,8 @@ use Rattle.jh_history.specs.declared.entry.Entry.{Entry}
 use Rattle.jh_history.specs.Items.{items}
 use Rattle.jh_image.specs.declared.fault.ImageCause.{ImageCause}
 use Rattle.jh_image.specs.declared.fault.ImageCause.TheVariants.{ReadFault as CantBeRead}
-use Rattle.jh_image.specs.Causes.{StopsReading}
-use Rattle.jh_image.specs.Laws.{AreTold}
+use Rattle.jh_image.specs.Causes.{IsCauseOf}
+use Rattle.jh_image.specs.Laws.{AreKnown}
 use Rattle.jh_image.proofs.Public.{OneSpelling, SpellingsAreFaultless}
 use Rattle.jh_run.specs.Maps.{IsMapsText, Maps}
 use Rattle.jh_text.specs.Faults.{max_entries}
@@ -24,22 +24,22 @@ use Rattle.jh_cli.specs.Play.{IsSchedule, ScheduleRefusal, IsPlayed, PlaysBy}
 use Rattle.jh_cli.specs.Map.{mapped_said, IsMapped, MapsBy}
 use Rattle.jh_cli.specs.Audit.{IsJournalFile, JournalRefusal, IsAudited, AuditsBy}
 use Rattle.jh_cli.specs.Outcome.{Outcome}
-use Rattle.jh_cli.specs.Complete.{IsBoardTold, AreFilesTold}
+use Rattle.jh_cli.specs.Complete.{IsKnownBoard, AreKnownFiles}
 use Rattle.jh_cli.proofs.GoodLemmas.{CellsAreFaultless, NoBadLine, NotLong, OneImage, BoardsAreUnrefused, IsAnswered, system_sound, spec_sound, schedule_sound, one_schedule, journal_sound, board_unrefused}
-use Rattle.jh_cli.proofs.ToldLemmas.{all_told, each_is_told, is_image, stops}
+use Rattle.jh_cli.proofs.KnownLemmas.{all_told, each_is_told, is_image, stops}
 use Rattle.jh_cli.proofs.OneLemmas.{OneCell, OneJournal, NotBoth, OneLine, IsRead, one_reading, system_words, system_values, one_check, spec_words, spec_values, schedule_words, journal_words, one_audited}
 
 -- ---- boards
 
 abbrev pub OneCause : Type 0
-OneCause = (contents : Contents) (board file other : List ℕ) (cause more : ImageCause) → AreTold contents → StopsReading contents board file cause → cause ≢ CantBeRead
-    → StopsReading contents board other more → more ≢ CantBeRead → (cause ≡ more) × (file ≡ other)
+OneCause = (contents : Contents) (board file other : List ℕ) (cause more : ImageCause) → AreKnown contents → IsCauseOf contents board file cause → cause ≢ CantBeRead
+    → IsCauseOf contents board other more → more ≢ CantBeRead → (cause ≡ more) × (file ≡ other)
 
 is_unread : (file : List ℕ) (cause : ImageCause) (said : Reply) → said ≡ stopped file cause → IsRead said → cause ≢ CantBeRead
 is_unread file cause said is read fault = read (ap (λ (s : Reply). s.status) is ∙ ap (λ (c : ImageCause). (stopped file c).status) fault)
 
 -- a call ends at one file of a board for one cause
-one_end : OneCause → (contents : Contents) (board : List ℕ) → IsBoardTold contents board → (one other : Reply) → EndsAt contents board one → EndsAt contents board other → IsRead one → IsRead other → one ≡ other
+one_end : OneCause → (contents : Contents) (board : List ℕ) → IsKnownBoard contents board → (one other : Reply) → EndsAt contents board one → EndsAt contents board other → IsRead one → IsRead other → one ≡ other
 one_end one_cause contents board told one other h k read also =
     let same : (h.cause ≡ k.cause) × (h.file ≡ k.file) = one_cause (all_told contents) board h.file k.file h.cause k.cause (each_is_told contents)
     (stops contents board told h.file h.cause h.stops) (is_unread h.file h.cause one h.told read) (stops contents board told k.file k.cause k.stops) (is_unread k.file k.cause other k.told also) in
@@ -49,7 +49,7 @@ unread_end : (said : Reply) → IsAnswered (λ status. ⊥) said → said.status
 unread_end said (inl never) = absurd never
 unread_end said (inr is) = is
 
-one_opening : OneCause → OneImage → BoardsAreUnrefused → (contents : Contents) (board : List ℕ) (next : Image → Reply → Type 0) (one other : Reply) → IsBoardTold contents board
+one_opening : OneCause → OneImage → BoardsAreUnrefused → (contents : Contents) (board : List ℕ) (next : Image → Reply → Type 0) (one other : Reply) → IsKnownBoard contents board
     → ((image : Image) → next image one → next image other → one ≡ other)
     → Opens contents board next one → Opens contents board next other → IsRead one → IsRead other → one ≡ other
 one_opening one_cause one_image unrefused contents board next one other told rest (inl h) (inl k) read also = one_end one_cause contents board told one other h k read also
@@ -77,7 +77,7 @@ one_mapped one_maps image cpus one other (found, is, told) (more, also, said) = 
 -- ---- all of them
 
 pub one_outcome : CellsAreFaultless → SpellingsAreFaultless → OneCell → OneSpelling → NoBadLine → NotLong → OneJournal → NotBoth → OneLine → OneImage → BoardsAreUnrefused → OneCause → OneMaps
-    → (contents : Contents) (asked : Option Asked) (one other : Reply) → IsSerial asked → AreFilesTold contents asked → Outcome contents asked one → Outcome contents asked other → IsRead one → IsRead other → one ≡ other
+    → (contents : Contents) (asked : Option Asked) (one other : Reply) → IsSerial asked → AreKnownFiles contents asked → Outcome contents asked one → Outcome contents asked other → IsRead one → IsRead other → one ≡ other
 one_outcome cells systems one_cell one_system no_bad not_long one_journal not_both one_line one_image unrefused one_cause one_maps contents None one other serial told h k read also = h ∙ sym k
 one_outcome cells systems one_cell one_system no_bad not_long one_journal not_both one_line one_image unrefused one_cause one_maps contents (Some (CheckOf system names)) one other serial told h k read also =
     one_reading most_of_a_file contents system told.0 SystemRefusal IsSystemFile system_words (system_values one_system) (λ bytes s words form why. system_sound systems s bytes words form.within form why)

@@ -10,7 +10,7 @@ use Rattle.jh_run.specs.declared.ended.Ended.TheVariants.{Quiet, Full}
 use Rattle.jh_text.specs.Faults.{max_entries}
 use Rattle.jh_cli.specs.Lines.{exit_number}
 use Rattle.jh_cli.specs.Reading.{Reply}
-use Rattle.jh_cli.specs.Stopped.{IsCounted}
+use Rattle.jh_cli.specs.Endings.{IsCounted}
 use Rattle.jh_cli.specs.declared.status.Status.{Status}
 use Rattle.jh_cli.specs.declared.status.Status.TheVariants as status
 use Rattle.jh_cli.specs.Play.{played_status}

@@ -18,7 +18,7 @@ use Rattle.jh_cli.specs.declared.status.Status.TheVariants.{Good, Found, Usage, 
 use Rattle.jh_cli.specs.Lines.{exit_number}
 use Rattle.jh_cli.specs.Words.{Asked, CheckOf, PackOf, PlayOf, RunOf, MapOf, AuditOf, SoakOf}
 use Rattle.jh_image.specs.Files.{Contents}
-use Rattle.jh_cli.specs.Reading.{Reply, StopsAt, ReadsAt}
+use Rattle.jh_cli.specs.Reading.{Reply, FailsAt, ReadsAt}
 use Rattle.jh_cli.specs.Check.{IsSystemFile, SystemRefusal, CellRefusal, ChecksCells, checked_status}
 use Rattle.jh_cli.specs.Pack.{IsSpecFile, SpecRefusal, packed}
 use Rattle.jh_cli.specs.Boards.{stopped, Opens}
@@ -37,7 +37,7 @@ IsOther said = said.status ≢ WriteFault
 other : (said : Reply) (status : Status) → said.status ≡ status → exit_number status ≢ 5 → IsOther said
 other said status is differs h = differs (ap exit_number (sym is ∙ h))
 
-stops_other : (most : ℕ) (contents : Contents) (name : List ℕ) (Why : List ℕ → List ℕ → Type 0) (said : Reply) → StopsAt most contents name Why said → IsOther said
+stops_other : (most : ℕ) (contents : Contents) (name : List ℕ) (Why : List ℕ → List ℕ → Type 0) (said : Reply) → FailsAt most contents name Why said → IsOther said
 stops_other most contents name Why said (inl fault) = other said ReadFault (ap (λ (s : Reply). s.status) fault) (omega arith)
 stops_other most contents name Why said (inr is) = other said Refused (ap (λ (s : Reply). s.status) is.told) (omega arith)
 

@@ -3,7 +3,7 @@ use Rattle.std.specs.Prelude.{◌≡◌, ℕ, ◌⊎◌, List}
 use Rattle.jh_script.specs.declared.image.Image.{Image}
 use Rattle.jh_image.specs.declared.fault.ImageCause.{ImageCause}
 use Rattle.jh_image.specs.declared.fault.ImageCause.TheVariants.{ReadFault}
-use Rattle.jh_image.specs.Causes.{StopsReading}
+use Rattle.jh_image.specs.Causes.{IsCauseOf}
 use Rattle.jh_image.specs.Images.{IsImage}
 use Rattle.jh_history.specs.Admitted.{IsAdmitted}
 use Rattle.jh_image.specs.Texts.{cause_text}
@@ -21,7 +21,7 @@ stopped file cause = record { status = status.Refused; text = refusal_line file 
 pub record EndsAt (contents : Contents) (board : List ℕ) (said : Reply) : Type 0 where
   pub file : List ℕ
   pub cause : ImageCause
-  pub stops : StopsReading contents board file cause
+  pub stops : IsCauseOf contents board file cause
   pub told : said ≡ stopped file cause
 
 -- the board is read: the call ends at one of its files, or goes on with the image that they make, which is admitted

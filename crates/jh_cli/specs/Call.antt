@@ -8,7 +8,7 @@ use Rattle.jh_cli.specs.Words.{Asked}
 use Rattle.jh_cli.specs.Lines.{fault_line}
 use Rattle.jh_image.specs.Files.{Contents}
 use Rattle.jh_cli.specs.Reading.{Reply}
-use Rattle.jh_cli.specs.Stopped.{IsCounted}
+use Rattle.jh_cli.specs.Endings.{IsCounted}
 use Rattle.jh_cli.specs.Order.{IsReadFor}
 use Rattle.jh_cli.specs.Outcome.{Outcome, Sent}
 use Rattle.jh_cli.specs.Complete.{AreGood, MayEndWith}
@@ -21,7 +21,7 @@ module _ {S K : Type 0} (contents : S → Contents) (failed : S → List ℕ) (f
   -- what is said is what the words ask for; the files that they name are read for it in their order, each once and no
   -- other, up to the one where the call ends; and that a file can't be read is said only where the count rose, of the
   -- read that failed
-  pub record Says (asked : Option Asked) (s t : S) (said : Reply) : Type 0 where
+  pub record IsReplyTo (asked : Option Asked) (s t : S) (said : Reply) : Type 0 where
     pub outcome : Outcome (contents s) asked said
     pub read : IsReadFor one failed (contents s) asked s t said
     pub counted : IsCounted (faults s) (faults t) (failed t) said
@@ -29,7 +29,7 @@ module _ {S K : Type 0} (contents : S → Contents) (failed : S → List ℕ) (f
   -- the call ends with what is said, which was sent whole or a proper front of it, or with want of memory and nothing
   -- written
   abbrev pub Ends : Option Asked → S → S → K → K → Status → Type 0
-  Ends asked s t k l status = ((status ≡ NoMemory) × (written l ≡ written k)) ⊎ ((said : Reply) × Says asked s t said × Sent (written k) (written l) said status)
+  Ends asked s t k l status = ((status ≡ NoMemory) × (written l ≡ written k)) ⊎ ((said : Reply) × IsReplyTo asked s t said × Sent (written k) (written l) said status)
 
   -- what a call with these words is: it takes the files from `s` to `t` and the sink from `k` to `l`
   pub record IsCall (asked : Option Asked) (s t : S) (k l : K) (status : Status) : Type 0 where

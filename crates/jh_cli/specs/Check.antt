@@ -16,7 +16,7 @@ use Rattle.jh_check.specs.Findings.{findings}
 use Rattle.jh_check.specs.Lists.{capped, is_any}
 use Rattle.jh_check.specs.Texts.{finding_text}
 use Rattle.jh_image.specs.Files.{Contents}
-use Rattle.jh_cli.specs.Reading.{Reply, Spells, StopsAtFile, Reads, IsOversize}
+use Rattle.jh_cli.specs.Reading.{Reply, Spells, FailsAtFile, Reads, IsOversize}
 use Rattle.jh_cli.specs.declared.status.Status.{Status}
 use Rattle.jh_cli.specs.declared.status.Status.TheVariants.{Good, Found}
 use Rattle.jh_cli.specs.Limits.{most_of_a_file}
@@ -64,14 +64,14 @@ SpellCells contents (name ∷ names) (cell ∷ cells) = Spells contents name IsC
 SpellCells contents _ _ = ⊥
 
 -- one of the files stops the call, and those before it spell cells
-pub record StopsAmong (contents : Contents) (names : List (List ℕ)) (said : Reply) : Type 0 where
+pub record FailsAmong (contents : Contents) (names : List (List ℕ)) (said : Reply) : Type 0 where
   pub before : List (List ℕ)
   pub name : List ℕ
   pub rest : List (List ℕ)
   pub split : names ≡ before ++ name ∷ rest
   pub cells : List CellConfig
   pub spelled : SpellCells contents before cells
-  pub stops : StopsAtFile contents name CellRefusal said
+  pub stops : FailsAtFile contents name CellRefusal said
 
 -- a line for each finding, and one with their number
 abbrev pub findings_text : List Finding → List ℕ
@@ -88,7 +88,7 @@ checked system cells = record { status = checked_status (capped (findings system
 -- the files of the cells are read, and all is checked
 abbrev pub ChecksCells : Contents → List (List ℕ) → SystemConfig → Reply → Type 0
 ChecksCells contents names system said =
-    StopsAmong contents names said ⊎ ((cells : List CellConfig) × SpellCells contents names cells × (said ≡ checked system cells))
+    FailsAmong contents names said ⊎ ((cells : List CellConfig) × SpellCells contents names cells × (said ≡ checked system cells))
 
 -- what a check of these files ends with: they are read in the order of the words, and the first that stops
 -- the call ends it

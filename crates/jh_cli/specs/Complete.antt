@@ -38,24 +38,24 @@ HoldCells contents (name ∷ names) (cell ∷ cells) = FileSpells most_of_a_file
 HoldCells contents _ _ = ⊥
 
 -- the files tell of each of these names all the bytes that it holds, or that it is missing
-abbrev pub AreNamesTold : Contents → List (List ℕ) → Type 0
-AreNamesTold contents names = AllByRecursion (λ name. contents name ≢ None) names
+abbrev pub AreKnownNames : Contents → List (List ℕ) → Type 0
+AreKnownNames contents names = AllByRecursion (λ name. contents name ≢ None) names
 
 -- the files tell of the board and of what it lists
-pub record IsBoardTold (contents : Contents) (board : List ℕ) : Type 0 where
-  pub of_board : AreNamesTold contents (board ∷ [])
-  pub of_files : (listing : Listing) → Lists contents board listing → AreNamesTold contents (board_files board listing)
+pub record IsKnownBoard (contents : Contents) (board : List ℕ) : Type 0 where
+  pub of_board : AreKnownNames contents (board ∷ [])
+  pub of_files : (listing : Listing) → Lists contents board listing → AreKnownNames contents (board_files board listing)
 
 -- the files tell of each file that the words name, and of what a board lists
-abbrev pub AreFilesTold : Contents → Option Asked → Type 0
-AreFilesTold contents None = ⊤
-AreFilesTold contents (Some (CheckOf system cells)) = AreNamesTold contents (system ∷ cells)
-AreFilesTold contents (Some (PackOf spec)) = AreNamesTold contents (spec ∷ [])
-AreFilesTold contents (Some (PlayOf board schedule)) = IsBoardTold contents board × AreNamesTold contents (schedule ∷ [])
-AreFilesTold contents (Some (RunOf board)) = IsBoardTold contents board
-AreFilesTold contents (Some (MapOf board schedule)) = IsBoardTold contents board × AreNamesTold contents (schedule ∷ [])
-AreFilesTold contents (Some (AuditOf board journal)) = IsBoardTold contents board × AreNamesTold contents (journal ∷ [])
-AreFilesTold contents (Some (SoakOf rounds)) = ⊤
+abbrev pub AreKnownFiles : Contents → Option Asked → Type 0
+AreKnownFiles contents None = ⊤
+AreKnownFiles contents (Some (CheckOf system cells)) = AreKnownNames contents (system ∷ cells)
+AreKnownFiles contents (Some (PackOf spec)) = AreKnownNames contents (spec ∷ [])
+AreKnownFiles contents (Some (PlayOf board schedule)) = IsKnownBoard contents board × AreKnownNames contents (schedule ∷ [])
+AreKnownFiles contents (Some (RunOf board)) = IsKnownBoard contents board
+AreKnownFiles contents (Some (MapOf board schedule)) = IsKnownBoard contents board × AreKnownNames contents (schedule ∷ [])
+AreKnownFiles contents (Some (AuditOf board journal)) = IsKnownBoard contents board × AreKnownNames contents (journal ∷ [])
+AreKnownFiles contents (Some (SoakOf rounds)) = ⊤
 
 -- the files of a check hold a system and a cell each, whatever the check finds in them
 pub record AreGoodToCheck (contents : Contents) (system : List ℕ) (cells : List (List ℕ)) : Type 0 where
@@ -71,7 +71,7 @@ pub record IsGoodToPack (contents : Contents) (name : List ℕ) : Type 0 where
 
 -- the board's files make an image, and the schedule's holds items for it
 pub record AreGoodToPlay (contents : Contents) (board schedule : List ℕ) : Type 0 where
-  pub told : IsBoardTold contents board
+  pub told : IsKnownBoard contents board
   pub image : Image
   pub is : IsImage contents board image
   pub items : List ℕ
@@ -79,13 +79,13 @@ pub record AreGoodToPlay (contents : Contents) (board schedule : List ℕ) : Typ
 
 -- the board's files make an image
 pub record AreGoodToRun (contents : Contents) (board : List ℕ) : Type 0 where
-  pub told : IsBoardTold contents board
+  pub told : IsKnownBoard contents board
   pub image : Image
   pub is : IsImage contents board image
 
 -- the board's files make an image, and the journal's holds a journal, whether it is legal or not
 pub record AreGoodToAudit (contents : Contents) (board journal : List ℕ) : Type 0 where
-  pub told : IsBoardTold contents board
+  pub told : IsKnownBoard contents board
   pub image : Image
   pub is : IsImage contents board image
   pub entries : List Entry

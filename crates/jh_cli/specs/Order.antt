@@ -10,10 +10,10 @@ use Rattle.jh_cli.specs.declared.status.Status.{Status}
 use Rattle.jh_cli.specs.declared.status.Status.TheVariants.{Refused, ReadFault}
 
 -- a call with this status ends at a file: it couldn't be read, or is refused
-abbrev pub IsStop : Status → Type 0
-IsStop Refused = ⊤
-IsStop ReadFault = ⊤
-IsStop _ = ⊥
+abbrev pub IsFileStatus : Status → Type 0
+IsFileStatus Refused = ⊤
+IsFileStatus ReadFault = ⊤
+IsFileStatus _ = ⊥
 
 -- the read of the file at which a call ends with this status
 abbrev pub ask_for : Status → List ℕ → Ask
@@ -22,17 +22,17 @@ ask_for _ name = handed name
 
 module _ {S : Type 0} where
   -- of these files the first ones were read, one after another, each once, and no other; the call ends at the last of them
-  abbrev pub StopsIn : (S → Ask → S → Type 0) → (S → List ℕ) → List (List ℕ) → S → S → Reply → Type 0
-  StopsIn one failed names s t said = IsStop said.status × AsksUntil one failed names (ask_for said.status) s t
+  abbrev pub FailsIn : (S → Ask → S → Type 0) → (S → List ℕ) → List (List ℕ) → S → S → Reply → Type 0
+  FailsIn one failed names s t said = IsFileStatus said.status × AsksUntil one failed names (ask_for said.status) s t
 
   -- all of these files were read, one after another, each once, and no other, or those up to the one where the call ends
   abbrev pub ReadsIn : (S → Ask → S → Type 0) → (S → List ℕ) → List (List ℕ) → S → S → Reply → Type 0
-  ReadsIn one failed names s t said = AsksAll one failed names s t ⊎ StopsIn one failed names s t said
+  ReadsIn one failed names s t said = AsksAll one failed names s t ⊎ FailsIn one failed names s t said
 
   -- a board's files and then these were read, or those up to the one where the call ends: the board alone, or what it
   -- lists too
   pub data ReadsBoard (one : S → Ask → S → Type 0) (failed : S → List ℕ) (contents : Contents) (board : List ℕ) (more : List (List ℕ)) (s t : S) (said : Reply) : Type 0 where
-    the_board_alone : StopsIn one failed (board ∷ []) s t said → ReadsBoard one failed contents board more s t said
+    the_board_alone : FailsIn one failed (board ∷ []) s t said → ReadsBoard one failed contents board more s t said
     what_it_lists : (listing : Listing) → Lists contents board listing → ReadsIn one failed (board_files board listing ++ more) s t said → ReadsBoard one failed contents board more s t said
 
   -- the files that the command names are read in its order, all or up to the one where the call ends

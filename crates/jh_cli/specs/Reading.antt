@@ -21,12 +21,12 @@ pub record IsRefused (most : ℕ) (contents : Contents) (name : List ℕ) (Why :
   pub told : said ≡ record { status = Refused; text = refusal_line name words }
 
 -- the call ends at this file: it could not be read, or is refused
-abbrev pub StopsAt : ℕ → Contents → List ℕ → (List ℕ → List ℕ → Type 0) → Reply → Type 0
-StopsAt most contents name Why said = (said ≡ record { status = ReadFault; text = fault_line name }) ⊎ IsRefused most contents name Why said
+abbrev pub FailsAt : ℕ → Contents → List ℕ → (List ℕ → List ℕ → Type 0) → Reply → Type 0
+FailsAt most contents name Why said = (said ≡ record { status = ReadFault; text = fault_line name }) ⊎ IsRefused most contents name Why said
 
 -- the call ends at this file, which may have at most 1 MiB: it could not be read, or is refused
-abbrev pub StopsAtFile : Contents → List ℕ → (List ℕ → List ℕ → Type 0) → Reply → Type 0
-StopsAtFile contents name Why said = StopsAt most_of_a_file contents name Why said
+abbrev pub FailsAtFile : Contents → List ℕ → (List ℕ → List ℕ → Type 0) → Reply → Type 0
+FailsAtFile contents name Why said = FailsAt most_of_a_file contents name Why said
 
 module _ {A : Type 0} where
   -- the file hands out bytes that spell this value, where so many are asked
@@ -41,7 +41,7 @@ module _ {A : Type 0} where
 
   -- the file is read: the call ends at it, or goes on with what it spells
   abbrev pub ReadsAt : ℕ → Contents → List ℕ → (List ℕ → List ℕ → Type 0) → (List ℕ → A → Type 0) → (A → Reply → Type 0) → Reply → Type 0
-  ReadsAt most contents name Why Form next said = StopsAt most contents name Why said ⊎ ((value : A) × SpellsAt most contents name Form value × next value said)
+  ReadsAt most contents name Why Form next said = FailsAt most contents name Why said ⊎ ((value : A) × SpellsAt most contents name Form value × next value said)
 
   -- the file, which may have at most 1 MiB, is read: the call ends at it, or goes on with what it spells
   abbrev pub Reads : Contents → List ℕ → (List ℕ → List ℕ → Type 0) → (List ℕ → A → Type 0) → (A → Reply → Type 0) → Reply → Type 0

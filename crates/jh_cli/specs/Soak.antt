@@ -16,9 +16,9 @@ pub record AreRounds (word : List ℕ) (rounds : ℕ) : Type 0 where
   pub written : word ≡ decimal rounds
 
 -- the number that was found in the word, or none where it tells none
-abbrev pub TellsRounds : List ℕ → Option ℕ → Type 0
-TellsRounds word (Some rounds) = AreRounds word rounds
-TellsRounds word None = (rounds : ℕ) → AreRounds word rounds → ⊥
+abbrev pub ParsesRounds : List ℕ → Option ℕ → Type 0
+ParsesRounds word (Some rounds) = AreRounds word rounds
+ParsesRounds word None = (rounds : ℕ) → AreRounds word rounds → ⊥
 
 -- the line that tells what a journal comes to
 abbrev pub summary_line : Summary → List ℕ
@@ -34,7 +34,7 @@ pub record IsSoaked (rounds : ℕ) (said : Reply) : Type 0 where
 
 -- the word that tells no number of rounds is refused
 abbrev pub AreNoRounds : List ℕ → Reply → Type 0
-AreNoRounds word said = TellsRounds word None × (said ≡ record { status = Refused; text = rounds_line })
+AreNoRounds word said = ParsesRounds word None × (said ≡ record { status = Refused; text = rounds_line })
 
 -- what a soak of so many rounds as the word tells ends with; no file is read for it
 abbrev pub Soaks : List ℕ → Reply → Type 0

@@ -4,15 +4,15 @@ ghost use Rattle.jh_history.specs.Admitted.{IsAdmitted};
 ghost use Rattle.jh_text.specs.FaultText.{fault_text};
 ghost use Rattle.jh_text.specs.declared.fault.JournalFault.TheVariants.{NoMemory as for_memory};
 ghost use Rattle.jh_outside.specs.Trail.{AsksAll};
-ghost use Rattle.jh_cli.specs.Order.{StopsIn, ReadsIn, ReadsBoard};
+ghost use Rattle.jh_cli.specs.Order.{FailsIn, ReadsIn, ReadsBoard};
 ghost use Rattle.jh_cli.specs.Limits.{most_of_a_journal};
 ghost use Rattle.jh_cli.specs.Lines.{refusal_line};
-ghost use Rattle.jh_cli.specs.Reading.{StopsAt};
+ghost use Rattle.jh_cli.specs.Reading.{FailsAt};
 ghost use Rattle.jh_cli.specs.Audit.{JournalRefusal, JudgesFile, AuditsBy, Audits, due_text, verdict_text, verdict_status};
-ghost use Rattle.jh_cli.specs.Stopped.{said_of, OnEnded, OnEnding, IsCounted};
+ghost use Rattle.jh_cli.specs.Endings.{said_of, OnEnded, OnEnding, IsCounted};
 
 use crate::boards::open;
-use crate::ending::{Ending, Stop, read_below, refused_for};
+use crate::ending::{Ending, CallFault, read_below, refused_for};
 use crate::limits::MOST_OF_A_JOURNAL;
 use crate::status::Status;
 use jh_audit::{Verdict, audit as audit_journal};
@@ -24,24 +24,24 @@ use jh_text::{JournalFault, print_entry};
 use std::alloc::Global;
 
 /// The call ends since no journal was read from the file of this name.
-fn unread(alloc: Global, name: &str, fault: &JournalFault) -> Stop
+fn unread(alloc: Global, name: &str, fault: &JournalFault) -> CallFault
     ensures told { OnEnded result (λ said. said ≡ record { status = Status.Refused; text = refusal_line name.now (fault_text fault.now) }) }
-    ensures memory { fault.now ≡ for_memory → result ≡ Stop.NoMemory }
+    ensures memory { fault.now ≡ for_memory → result ≡ CallFault.NoMemory }
 {
     match fault {
-        JournalFault::NoMemory => Stop::NoMemory,
+        JournalFault::NoMemory => CallFault::NoMemory,
         _ => refused_for(alloc, name, fault),
     }
 }
 
 /// The verdict on the journal in the file of this name, by the image.
-fn judge<F: Files>(alloc: Global, files: &mut F, image: Image, name: &str) -> Result<Verdict, Stop>
+fn judge<F: Files>(alloc: Global, files: &mut F, image: Image, name: &str) -> Result<Verdict, CallFault>
     requires admitted { IsAdmitted image }
     ensures ok { IfOk result (JudgesFile (F.contents files.old) name.now image) }
-    ensures err { IfErr result (λ stop. OnEnded stop (StopsAt most_of_a_journal (F.contents files.old) name.now JournalRefusal)) }
+    ensures err { IfErr result (λ stop. OnEnded stop (FailsAt most_of_a_journal (F.contents files.old) name.now JournalRefusal)) }
     ensures counted { IfErr result (λ stop. OnEnded stop (IsCounted (F.faults files.old) (F.faults files.new) (F.failed files.new))) }
     ensures asked { OnOk result (AsksAll F.asks F.failed (name.now ∷ []) files.old files.new) }
-    ensures asked_until { IfErr result (λ stop. OnEnded stop (StopsIn F.asks F.failed (name.now ∷ []) files.old files.new)) }
+    ensures asked_until { IfErr result (λ stop. OnEnded stop (FailsIn F.asks F.failed (name.now ∷ []) files.old files.new)) }
 {
     let bytes = read_below(alloc, files, name, MOST_OF_A_JOURNAL)?;
     match audit_journal(alloc, image, bytes.as_slice()) {
@@ -111,7 +111,7 @@ fn audit_by<F: Files>(
     files: &mut F,
     image: Image,
     name: &str,
-) -> Result<Ending, Stop>
+) -> Result<Ending, CallFault>
     requires admitted { IsAdmitted image }
     ensures ends { OnEnding result (AuditsBy (F.contents files.old) name.now image) }
     ensures counted { OnEnding result (IsCounted (F.faults files.old) (F.faults files.new) (F.failed files.new)) }
@@ -127,7 +127,7 @@ pub fn audit<F: Files>(
     files: &mut F,
     board: &str,
     name: &str,
-) -> Result<Ending, Stop>
+) -> Result<Ending, CallFault>
     ensures ends { OnEnding result (Audits (F.contents files.old) board.now name.now) }
     ensures counted { OnEnding result (IsCounted (F.faults files.old) (F.faults files.new) (F.failed files.new)) }
     ensures asked { OnEnding result (ReadsBoard F.asks F.failed (F.contents files.old) board.now (name.now ∷ []) files.old files.new) }

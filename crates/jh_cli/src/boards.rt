@@ -7,9 +7,9 @@ ghost use Rattle.jh_image.specs.declared.fault.ImageFault.TheVariants.{NoMemory 
 ghost use Rattle.jh_image.specs.Order.{AsksBoard};
 ghost use Rattle.jh_cli.specs.Order.{ReadsBoard};
 ghost use Rattle.jh_cli.specs.Boards.{stopped, EndsAt};
-ghost use Rattle.jh_cli.specs.Stopped.{OnEnded, IsCounted};
+ghost use Rattle.jh_cli.specs.Endings.{OnEnded, IsCounted};
 
-use crate::ending::{Stop, faulted, refused};
+use crate::ending::{CallFault, faulted, refused};
 use jh_image::{ImageCause, ImageFault, cause_text, read_image};
 use jh_num::NoMemory;
 use jh_outside::Files;
@@ -17,31 +17,31 @@ use jh_script::Image;
 use std::alloc::Global;
 
 /// The call ends since the file is refused for this cause.
-fn stopped_for(alloc: Global, file: &[u8], cause: &ImageCause) -> Stop
+fn stopped_for(alloc: Global, file: &[u8], cause: &ImageCause) -> CallFault
     ensures { OnEnded result (λ said. said ≡ stopped file.now cause.now) }
 {
     match cause {
         ImageCause::ReadFault => faulted(alloc, file),
         _ => match cause_text(alloc, cause) {
             Ok(words) => refused(alloc, file, words.as_slice()),
-            Err(NoMemory) => Stop::NoMemory,
+            Err(NoMemory) => CallFault::NoMemory,
         },
     }
 }
 
 /// The call ends since the board's files make no image.
-fn unopened(alloc: Global, fault: &ImageFault) -> Stop
+fn unopened(alloc: Global, fault: &ImageFault) -> CallFault
     ensures refused { OnRefused (λ file cause. OnEnded result (λ said. said ≡ stopped file cause)) fault.now }
-    ensures memory { fault.now ≡ image_for_memory → result ≡ Stop.NoMemory }
+    ensures memory { fault.now ≡ image_for_memory → result ≡ CallFault.NoMemory }
 {
     match fault {
         ImageFault::Refused { file, cause } => stopped_for(alloc, file.as_slice(), cause),
-        ImageFault::NoMemory => Stop::NoMemory,
+        ImageFault::NoMemory => CallFault::NoMemory,
     }
 }
 
 /// The image that the board's files make.
-pub fn open<F: Files>(alloc: Global, files: &mut F, board: &str) -> Result<Image, Stop>
+pub fn open<F: Files>(alloc: Global, files: &mut F, board: &str) -> Result<Image, CallFault>
     ensures image { IfOk result (IsImage (F.contents files.old) board.now) }
     ensures admitted { IfOk result IsAdmitted }
     ensures err { IfErr result (λ stop. OnEnded stop (EndsAt (F.contents files.old) board.now)) }

@@ -4,12 +4,12 @@ ghost use Rattle.jh_check.specs.Findings.{findings};
 ghost use Rattle.jh_check.specs.Lists.{capped};
 ghost use Rattle.jh_check.specs.Texts.{finding_text};
 ghost use Rattle.jh_outside.specs.Trail.{AsksAll};
-ghost use Rattle.jh_cli.specs.Order.{StopsIn, ReadsIn};
-ghost use Rattle.jh_cli.specs.Reading.{Spells, StopsAtFile};
-ghost use Rattle.jh_cli.specs.Check.{IsCellFile, CellRefusal, IsSystemFile, SystemRefusal, SpellCells, StopsAmong, ChecksCells, Checks, checked, checked_status, findings_text};
-ghost use Rattle.jh_cli.specs.Stopped.{said_of, OnEnded, OnEnding, IsCounted};
+ghost use Rattle.jh_cli.specs.Order.{FailsIn, ReadsIn};
+ghost use Rattle.jh_cli.specs.Reading.{Spells, FailsAtFile};
+ghost use Rattle.jh_cli.specs.Check.{IsCellFile, CellRefusal, IsSystemFile, SystemRefusal, SpellCells, FailsAmong, ChecksCells, Checks, checked, checked_status, findings_text};
+ghost use Rattle.jh_cli.specs.Endings.{said_of, OnEnded, OnEnding, IsCounted};
 
-use crate::ending::{Ending, Stop, read_below, refused_for};
+use crate::ending::{Ending, CallFault, read_below, refused_for};
 use crate::limits::MOST;
 use crate::status::Status;
 use jh_cellcfg::{CellConfig, ConfigFault, SystemConfig, read_cell};
@@ -20,50 +20,50 @@ use jh_syscfg::read_system;
 use std::alloc::Global;
 
 /// The cell in the file of this name.
-fn cell<F: Files>(alloc: Global, files: &mut F, name: &str) -> Result<CellConfig, Stop>
+fn cell<F: Files>(alloc: Global, files: &mut F, name: &str) -> Result<CellConfig, CallFault>
     ensures ok { IfOk result (Spells (F.contents files.old) name.now IsCellFile) }
-    ensures err { IfErr result (λ stop. OnEnded stop (StopsAtFile (F.contents files.old) name.now CellRefusal)) }
+    ensures err { IfErr result (λ stop. OnEnded stop (FailsAtFile (F.contents files.old) name.now CellRefusal)) }
     ensures counted { IfErr result (λ stop. OnEnded stop (IsCounted (F.faults files.old) (F.faults files.new) (F.failed files.new))) }
     ensures never_falls { F.faults files.old ≤ F.faults files.new }
     ensures kept { F.contents files.new ≡ F.contents files.old }
     ensures asked { OnOk result (AsksAll F.asks F.failed (name.now ∷ []) files.old files.new) }
-    ensures asked_until { IfErr result (λ stop. OnEnded stop (StopsIn F.asks F.failed (name.now ∷ []) files.old files.new)) }
+    ensures asked_until { IfErr result (λ stop. OnEnded stop (FailsIn F.asks F.failed (name.now ∷ []) files.old files.new)) }
 {
     let bytes = read_below(alloc, files, name, MOST)?;
     match read_cell(alloc, bytes.as_slice()) {
         Ok(cell) => Ok(cell),
-        Err(ConfigFault::NoMemory) => Err(Stop::NoMemory),
+        Err(ConfigFault::NoMemory) => Err(CallFault::NoMemory),
         Err(fault) => Err(refused_for(alloc, name, &fault)),
     }
 }
 
 /// The system in the file of this name.
-fn system<F: Files>(alloc: Global, files: &mut F, name: &str) -> Result<SystemConfig, Stop>
+fn system<F: Files>(alloc: Global, files: &mut F, name: &str) -> Result<SystemConfig, CallFault>
     ensures ok { IfOk result (Spells (F.contents files.old) name.now IsSystemFile) }
-    ensures err { IfErr result (λ stop. OnEnded stop (StopsAtFile (F.contents files.old) name.now SystemRefusal)) }
+    ensures err { IfErr result (λ stop. OnEnded stop (FailsAtFile (F.contents files.old) name.now SystemRefusal)) }
     ensures counted { IfErr result (λ stop. OnEnded stop (IsCounted (F.faults files.old) (F.faults files.new) (F.failed files.new))) }
     ensures never_falls { F.faults files.old ≤ F.faults files.new }
     ensures kept { F.contents files.new ≡ F.contents files.old }
     ensures asked { OnOk result (AsksAll F.asks F.failed (name.now ∷ []) files.old files.new) }
-    ensures asked_until { IfErr result (λ stop. OnEnded stop (StopsIn F.asks F.failed (name.now ∷ []) files.old files.new)) }
+    ensures asked_until { IfErr result (λ stop. OnEnded stop (FailsIn F.asks F.failed (name.now ∷ []) files.old files.new)) }
 {
     let bytes = read_below(alloc, files, name, MOST)?;
     match read_system(alloc, bytes.as_slice()) {
         Ok(system) => Ok(system),
-        Err(ConfigFault::NoMemory) => Err(Stop::NoMemory),
+        Err(ConfigFault::NoMemory) => Err(CallFault::NoMemory),
         Err(fault) => Err(refused_for(alloc, name, &fault)),
     }
 }
 
 /// The cells in the files of these names, read in their order.
-fn cells<F: Files>(alloc: Global, files: &mut F, names: &[String]) -> Result<Seq<CellConfig>, Stop>
+fn cells<F: Files>(alloc: Global, files: &mut F, names: &[String]) -> Result<Seq<CellConfig>, CallFault>
     ensures ok { IfOk result (SpellCells (F.contents files.old) (map string_bytes names.now)) }
     ensures few { IfOk result (λ cells. length cells ≡ length names.now) }
-    ensures err { IfErr result (λ stop. OnEnded stop (StopsAmong (F.contents files.old) (map string_bytes names.now))) }
+    ensures err { IfErr result (λ stop. OnEnded stop (FailsAmong (F.contents files.old) (map string_bytes names.now))) }
     ensures counted { IfErr result (λ stop. OnEnded stop (IsCounted (F.faults files.old) (F.faults files.new) (F.failed files.new))) }
     ensures never_falls { F.faults files.old ≤ F.faults files.new }
     ensures asked { OnOk result (AsksAll F.asks F.failed (map string_bytes names.now) files.old files.new) }
-    ensures asked_until { IfErr result (λ stop. OnEnded stop (StopsIn F.asks F.failed (map string_bytes names.now) files.old files.new)) }
+    ensures asked_until { IfErr result (λ stop. OnEnded stop (FailsIn F.asks F.failed (map string_bytes names.now) files.old files.new)) }
 {
     let mut cells = Seq::new(alloc);
     for name in names {
@@ -112,7 +112,7 @@ fn check_cells<F: Files>(
     files: &mut F,
     system: &SystemConfig,
     names: &[String],
-) -> Result<Ending, Stop>
+) -> Result<Ending, CallFault>
     requires { length names.now ≤ 15 }
     ensures ends { OnEnding result (ChecksCells (F.contents files.old) (map string_bytes names.now) system.now) }
     ensures counted { OnEnding result (IsCounted (F.faults files.old) (F.faults files.new) (F.failed files.new)) }
@@ -128,7 +128,7 @@ pub fn check<F: Files>(
     files: &mut F,
     system_name: &str,
     names: &[String],
-) -> Result<Ending, Stop>
+) -> Result<Ending, CallFault>
     requires { length names.now ≤ 15 }
     ensures ends { OnEnding result (Checks (F.contents files.old) system_name.now (map string_bytes names.now)) }
     ensures counted { OnEnding result (IsCounted (F.faults files.old) (F.faults files.new) (F.failed files.new)) }

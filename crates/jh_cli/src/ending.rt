@@ -2,10 +2,10 @@
 ghost use Rattle.std.specs.Prelude.{◌≡◌, ◌≤◌, ◌<◌, ◌⊎◌, length, OnOk, IfOk, IfErr, IfSome, ◌∷◌, []};
 ghost use Rattle.jh_outside.specs.Reads.{HandsOut};
 ghost use Rattle.jh_outside.specs.Trail.{AsksAll};
-ghost use Rattle.jh_cli.specs.Order.{StopsIn};
+ghost use Rattle.jh_cli.specs.Order.{FailsIn};
 ghost use Rattle.jh_cli.specs.Lines.{fault_line, refusal_line};
-ghost use Rattle.jh_cli.specs.Reading.{StopsAt, IsOversizeAt};
-ghost use Rattle.jh_cli.specs.Stopped.{OnEnded, IsCounted};
+ghost use Rattle.jh_cli.specs.Reading.{FailsAt, IsOversizeAt};
+ghost use Rattle.jh_cli.specs.Endings.{OnEnded, IsCounted};
 
 use crate::lines::{fault_line, refusal_line};
 use crate::status::Status;
@@ -23,55 +23,55 @@ pub struct Ending {
 
 /// Why a step went no further: the call ends there, or memory is wanted.
 #[derive(Drop)]
-pub enum Stop {
+pub enum CallFault {
     Ended(Ending),
     NoMemory,
 }
 
-impl From<NoMemory> for Stop {
+impl From<NoMemory> for CallFault {
     ghost use Rattle.std.specs.Prelude.{◌≡◌};
-    ghost use Rattle.jh_cli.specs.declared.ending.Stop.TheVariants.{NoMemory as stop_for_memory};
+    ghost use Rattle.jh_cli.specs.declared.ending.CallFault.TheVariants.{NoMemory as stop_for_memory};
 
     ghost from_gives = { λ _ s. s ≡ stop_for_memory };
 
-    fn from(_e: NoMemory) -> Stop {
-        Stop::NoMemory
+    fn from(_e: NoMemory) -> CallFault {
+        CallFault::NoMemory
     }
 }
 
 /// The call ends since the file of this name could not be read.
-pub fn faulted(alloc: Global, name: &[u8]) -> Stop
+pub fn faulted(alloc: Global, name: &[u8]) -> CallFault
     ensures { OnEnded result (λ said. said ≡ record { status = Status.ReadFault; text = fault_line name.now }) }
 {
     match fault_line(alloc, name) {
-        Ok(text) => Stop::Ended(Ending {
+        Ok(text) => CallFault::Ended(Ending {
             status: Status::ReadFault,
             text,
         }),
-        Err(NoMemory) => Stop::NoMemory,
+        Err(NoMemory) => CallFault::NoMemory,
     }
 }
 
 /// The call ends since the file of this name is refused for what the words say.
-pub fn refused(alloc: Global, name: &[u8], words: &[u8]) -> Stop
+pub fn refused(alloc: Global, name: &[u8], words: &[u8]) -> CallFault
     ensures { OnEnded result (λ said. said ≡ record { status = Status.Refused; text = refusal_line name.now words.now }) }
 {
     match refusal_line(alloc, name, words) {
-        Ok(text) => Stop::Ended(Ending {
+        Ok(text) => CallFault::Ended(Ending {
             status: Status::Refused,
             text,
         }),
-        Err(NoMemory) => Stop::NoMemory,
+        Err(NoMemory) => CallFault::NoMemory,
     }
 }
 
 /// The call ends since the file of this name is refused for what the fault displays.
-pub fn refused_for<E: Display>(alloc: Global, name: &str, fault: &E) -> Stop
+pub fn refused_for<E: Display>(alloc: Global, name: &str, fault: &E) -> CallFault
     ensures { IfSome (E.output fault.now) (λ words. OnEnded result (λ said. said ≡ record { status = Status.Refused; text = refusal_line name.now words })) }
 {
     match fault.to_string(alloc) {
         Ok(words) => refused(alloc, name.as_bytes(), words.as_bytes()),
-        Err(_) => Stop::NoMemory,
+        Err(_) => CallFault::NoMemory,
     }
 }
 
@@ -81,20 +81,20 @@ pub fn read_below<F: Files>(
     files: &mut F,
     name: &str,
     most: usize,
-) -> Result<Seq<u8>, Stop>
+) -> Result<Seq<u8>, CallFault>
     ensures ok { IfOk result (λ bytes. HandsOut (F.contents files.old name.now) most bytes) }
     ensures within { IfOk result (λ bytes. length bytes < most) }
-    ensures err { IfErr result (λ stop. OnEnded stop (StopsAt most (F.contents files.old) name.now (IsOversizeAt most))) }
+    ensures err { IfErr result (λ stop. OnEnded stop (FailsAt most (F.contents files.old) name.now (IsOversizeAt most))) }
     ensures counted { IfErr result (λ stop. OnEnded stop (IsCounted (F.faults files.old) (F.faults files.new) (F.failed files.new))) }
     ensures never_falls { F.faults files.old ≤ F.faults files.new }
     ensures kept { F.contents files.new ≡ F.contents files.old }
     ensures asked { OnOk result (AsksAll F.asks F.failed (name.now ∷ []) files.old files.new) }
-    ensures asked_until { IfErr result (λ stop. OnEnded stop (StopsIn F.asks F.failed (name.now ∷ []) files.old files.new)) }
+    ensures asked_until { IfErr result (λ stop. OnEnded stop (FailsIn F.asks F.failed (name.now ∷ []) files.old files.new)) }
 {
     let bytes = match files.read(name, most) {
         Ok(bytes) => bytes,
         Err(FileFault::Fault) => return Err(faulted(alloc, name.as_bytes())),
-        Err(FileFault::NoMemory) => return Err(Stop::NoMemory),
+        Err(FileFault::NoMemory) => return Err(CallFault::NoMemory),
     };
     if bytes.len() >= most {
         return Err(refused(alloc, name.as_bytes(), b"oversize"));

@@ -4,7 +4,7 @@ ghost use Rattle.jh_cli.specs.Words.{Asked, IsSerial};
 ghost use Rattle.jh_image.specs.Files.{Contents};
 ghost use Rattle.jh_cli.specs.Reading.{Reply};
 ghost use Rattle.jh_cli.specs.Outcome.{Outcome};
-ghost use Rattle.jh_cli.specs.Complete.{AreFilesTold, AreGood, MayEndWith};
+ghost use Rattle.jh_cli.specs.Complete.{AreKnownFiles, AreGood, MayEndWith};
 
 use crate::status::Status;
 use jh_cellcfg::{one_spelling, spelling_has_no_fault};
@@ -32,7 +32,7 @@ pub fn good_inputs_are_answered()
 /// could not be read: one status and one text. What those two write may differ from call to call, as their threads take
 /// turns.
 pub fn words_have_one_outcome()
-    ensures { (contents : Contents) (asked : Option Asked) (one other : Reply) → IsSerial asked → AreFilesTold contents asked → Outcome contents asked one → Outcome contents asked other
+    ensures { (contents : Contents) (asked : Option Asked) (one other : Reply) → IsSerial asked → AreKnownFiles contents asked → Outcome contents asked one → Outcome contents asked other
         → one.status ≢ Status.ReadFault → other.status ≢ Status.ReadFault → one ≡ other }
 {
     spelling_has_no_fault();

@@ -17,7 +17,7 @@ mod schedule;
 mod send;
 mod soak;
 mod status;
-mod tell;
+mod reply;
 mod top;
 
 pub use command::{Command, command_of};

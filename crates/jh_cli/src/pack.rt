@@ -2,12 +2,12 @@
 ghost use Rattle.std.specs.Prelude.{◌≡◌, ◌≤◌, ◌++◌, codes, IfOk, IfErr, ◌∷◌, [], OnOk};
 ghost use Rattle.jh_spec.specs.Specs.{MayBeWritten};
 ghost use Rattle.jh_outside.specs.Trail.{AsksAll};
-ghost use Rattle.jh_cli.specs.Order.{StopsIn, ReadsIn};
-ghost use Rattle.jh_cli.specs.Reading.{Spells, StopsAtFile};
+ghost use Rattle.jh_cli.specs.Order.{FailsIn, ReadsIn};
+ghost use Rattle.jh_cli.specs.Reading.{Spells, FailsAtFile};
 ghost use Rattle.jh_cli.specs.Pack.{IsSpecFile, SpecRefusal, Packs, packed};
-ghost use Rattle.jh_cli.specs.Stopped.{said_of, OnEnded, OnEnding, IsCounted};
+ghost use Rattle.jh_cli.specs.Endings.{said_of, OnEnded, OnEnding, IsCounted};
 
-use crate::ending::{Ending, Stop, read_below, refused};
+use crate::ending::{Ending, CallFault, read_below, refused};
 use crate::limits::MOST;
 use crate::status::Status;
 use jh_cellcfg::write_cell;
@@ -28,14 +28,14 @@ fn member_words(alloc: Global, member: &[u8]) -> Result<Vec<u8>, NoMemory>
 }
 
 /// The configuration that the file of this name describes.
-fn spec<F: Files>(alloc: Global, files: &mut F, name: &str) -> Result<Spec, Stop>
+fn spec<F: Files>(alloc: Global, files: &mut F, name: &str) -> Result<Spec, CallFault>
     ensures ok { IfOk result (Spells (F.contents files.old) name.now IsSpecFile) }
     ensures limits { IfOk result MayBeWritten }
-    ensures err { IfErr result (λ stop. OnEnded stop (StopsAtFile (F.contents files.old) name.now SpecRefusal)) }
+    ensures err { IfErr result (λ stop. OnEnded stop (FailsAtFile (F.contents files.old) name.now SpecRefusal)) }
     ensures counted { IfErr result (λ stop. OnEnded stop (IsCounted (F.faults files.old) (F.faults files.new) (F.failed files.new))) }
     ensures never_falls { F.faults files.old ≤ F.faults files.new }
     ensures asked { OnOk result (AsksAll F.asks F.failed (name.now ∷ []) files.old files.new) }
-    ensures asked_until { IfErr result (λ stop. OnEnded stop (StopsIn F.asks F.failed (name.now ∷ []) files.old files.new)) }
+    ensures asked_until { IfErr result (λ stop. OnEnded stop (FailsIn F.asks F.failed (name.now ∷ []) files.old files.new)) }
 {
     let bytes = read_below(alloc, files, name, MOST)?;
     match read_spec(alloc, bytes.as_slice()) {
@@ -45,7 +45,7 @@ fn spec<F: Files>(alloc: Global, files: &mut F, name: &str) -> Result<Spec, Stop
             let words = member_words(alloc, member.as_slice())?;
             Err(refused(alloc, name.as_bytes(), words.as_slice()))
         }
-        Err(JsonFault::NoMemory) => Err(Stop::NoMemory),
+        Err(JsonFault::NoMemory) => Err(CallFault::NoMemory),
     }
 }
 
@@ -61,7 +61,7 @@ fn written(alloc: Global, spec: &Spec) -> Result<Vec<u8>, NoMemory>
 }
 
 /// Reads the SPEC, and tells its configuration's bytes.
-pub fn pack<F: Files>(alloc: Global, files: &mut F, name: &str) -> Result<Ending, Stop>
+pub fn pack<F: Files>(alloc: Global, files: &mut F, name: &str) -> Result<Ending, CallFault>
     ensures ends { OnEnding result (Packs (F.contents files.old) name.now) }
     ensures counted { OnEnding result (IsCounted (F.faults files.old) (F.faults files.new) (F.failed files.new)) }
     ensures asked { OnEnding result (ReadsIn F.asks F.failed (name.now ∷ []) files.old files.new) }

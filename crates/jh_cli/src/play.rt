@@ -5,10 +5,10 @@ ghost use Rattle.jh_history.specs.Lives.{is_on_board};
 ghost use Rattle.jh_run.specs.Ends.{is_full};
 ghost use Rattle.jh_cli.specs.Order.{ReadsIn, ReadsBoard};
 ghost use Rattle.jh_cli.specs.Play.{IsPlayed, played_status, PlaysBy, Plays};
-ghost use Rattle.jh_cli.specs.Stopped.{said_of, OnEnding, IsCounted};
+ghost use Rattle.jh_cli.specs.Endings.{said_of, OnEnding, IsCounted};
 
 use crate::boards::open;
-use crate::ending::{Ending, Stop};
+use crate::ending::{Ending, CallFault};
 use crate::schedule::schedule;
 use crate::status::Status;
 use jh_num::NoMemory;
@@ -48,7 +48,7 @@ fn play_by<F: Files>(
     files: &mut F,
     image: Image,
     items: &str,
-) -> Result<Ending, Stop>
+) -> Result<Ending, CallFault>
     requires admitted { IsAdmitted image }
     ensures ends { OnEnding result (PlaysBy (F.contents files.old) items.now image) }
     ensures counted { OnEnding result (IsCounted (F.faults files.old) (F.faults files.new) (F.failed files.new)) }
@@ -64,7 +64,7 @@ pub fn play<F: Files>(
     files: &mut F,
     board: &str,
     items: &str,
-) -> Result<Ending, Stop>
+) -> Result<Ending, CallFault>
     ensures ends { OnEnding result (Plays (F.contents files.old) board.now items.now) }
     ensures counted { OnEnding result (IsCounted (F.faults files.old) (F.faults files.new) (F.failed files.new)) }
     ensures asked { OnEnding result (ReadsBoard F.asks F.failed (F.contents files.old) board.now (items.now ∷ []) files.old files.new) }

@@ -3,10 +3,10 @@ ghost use Rattle.std.specs.Prelude.{◌≡◌, IfOk, []};
 ghost use Rattle.jh_history.specs.Admitted.{IsAdmitted};
 ghost use Rattle.jh_cli.specs.Order.{ReadsBoard};
 ghost use Rattle.jh_cli.specs.Run.{IsRan, Runs};
-ghost use Rattle.jh_cli.specs.Stopped.{said_of, OnEnding, IsCounted};
+ghost use Rattle.jh_cli.specs.Endings.{said_of, OnEnding, IsCounted};
 
 use crate::boards::open;
-use crate::ending::{Ending, Stop};
+use crate::ending::{Ending, CallFault};
 use crate::play::status_of;
 use jh_num::NoMemory;
 use jh_outside::{Files, Gate};
@@ -42,7 +42,7 @@ pub fn run<R: Threads + Wait + Sync, F: Files, G: Gate + Sync>(
     files: &mut F,
     board: &str,
     gate: &G,
-) -> Result<Ending, Stop>
+) -> Result<Ending, CallFault>
     ensures ends { OnEnding result (Runs (F.contents files.old) board.now) }
     ensures counted { OnEnding result (IsCounted (F.faults files.old) (F.faults files.new) (F.failed files.new)) }
     ensures asked { OnEnding result (ReadsBoard F.asks F.failed (F.contents files.old) board.now [] files.old files.new) }

@@ -2,12 +2,12 @@
 ghost use Rattle.std.specs.Prelude.{◌≡◌, ◌≤◌, ◌<◌, ℕ, All, IsTrue, IfOk, IfErr, ◌∷◌, [], OnOk};
 ghost use Rattle.jh_history.specs.Lives.{is_on_board};
 ghost use Rattle.jh_outside.specs.Trail.{AsksAll};
-ghost use Rattle.jh_cli.specs.Order.{StopsIn};
-ghost use Rattle.jh_cli.specs.Reading.{Spells, StopsAtFile};
+ghost use Rattle.jh_cli.specs.Order.{FailsIn};
+ghost use Rattle.jh_cli.specs.Reading.{Spells, FailsAtFile};
 ghost use Rattle.jh_cli.specs.Play.{AreCpus, IsSchedule, ScheduleRefusal};
-ghost use Rattle.jh_cli.specs.Stopped.{OnEnded, IsCounted};
+ghost use Rattle.jh_cli.specs.Endings.{OnEnded, IsCounted};
 
-use crate::ending::{Stop, read_below, refused_for};
+use crate::ending::{CallFault, read_below, refused_for};
 use crate::limits::MOST;
 use jh_history::is_on_board;
 use jh_num::Seq;
@@ -34,20 +34,20 @@ pub fn schedule<F: Files>(
     files: &mut F,
     name: &str,
     image: &Image,
-) -> Result<Seq<u8>, Stop>
+) -> Result<Seq<u8>, CallFault>
     ensures ok { IfOk result (Spells (F.contents files.old) name.now (IsSchedule image.now)) }
     ensures present { IfOk result (All (λ cpu. IsTrue (is_on_board image.now cpu))) }
-    ensures err { IfErr result (λ stop. OnEnded stop (StopsAtFile (F.contents files.old) name.now (ScheduleRefusal image.now))) }
+    ensures err { IfErr result (λ stop. OnEnded stop (FailsAtFile (F.contents files.old) name.now (ScheduleRefusal image.now))) }
     ensures counted { IfErr result (λ stop. OnEnded stop (IsCounted (F.faults files.old) (F.faults files.new) (F.failed files.new))) }
     ensures never_falls { F.faults files.old ≤ F.faults files.new }
     ensures kept { F.contents files.new ≡ F.contents files.old }
     ensures asked { OnOk result (AsksAll F.asks F.failed (name.now ∷ []) files.old files.new) }
-    ensures asked_until { IfErr result (λ stop. OnEnded stop (StopsIn F.asks F.failed (name.now ∷ []) files.old files.new)) }
+    ensures asked_until { IfErr result (λ stop. OnEnded stop (FailsIn F.asks F.failed (name.now ∷ []) files.old files.new)) }
 {
     let bytes = read_below(alloc, files, name, MOST)?;
     match read_schedule(alloc, bytes.as_slice(), cpus_of(image)) {
         Ok(items) => Ok(items),
-        Err(ScheduleFault::NoMemory) => Err(Stop::NoMemory),
+        Err(ScheduleFault::NoMemory) => Err(CallFault::NoMemory),
         Err(fault) => Err(refused_for(alloc, name, &fault)),
     }
 }

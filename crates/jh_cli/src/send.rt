@@ -2,9 +2,9 @@
 ghost use Rattle.std.specs.Prelude.{◌≡◌, ◌≢◌, Err};
 ghost use Rattle.jh_outside.specs.Count.{Rose};
 ghost use Rattle.jh_cli.specs.Outcome.{Sent};
-ghost use Rattle.jh_cli.specs.Stopped.{said_of, OnEnding};
+ghost use Rattle.jh_cli.specs.Endings.{said_of, OnEnding};
 
-use crate::ending::{Ending, Stop};
+use crate::ending::{Ending, CallFault};
 use crate::status::Status;
 use jh_outside::{Sink, write_all};
 
@@ -20,13 +20,13 @@ fn send<K: Sink>(out: &mut K, told: &Ending) -> Status
 }
 
 /// Writes what a command told, or where it ended; for want of memory nothing.
-pub fn finish<K: Sink>(out: &mut K, told: Result<Ending, Stop>) -> Status
+pub fn finish<K: Sink>(out: &mut K, told: Result<Ending, CallFault>) -> Status
     ensures sent { OnEnding told (λ said. Sent (K.written out.old) (K.written out.new) said result) }
     ensures fault { OnEnding told (λ said. result ≡ Status.WriteFault → said.status ≢ Status.WriteFault → Rose (K.faults out.old) (K.faults out.new)) }
-    ensures memory { told ≡ Err Stop.NoMemory → (result ≡ Status.NoMemory) × (K.written out.new ≡ K.written out.old) }
+    ensures memory { told ≡ Err CallFault.NoMemory → (result ≡ Status.NoMemory) × (K.written out.new ≡ K.written out.old) }
 {
     match told {
-        Ok(told) | Err(Stop::Ended(told)) => send(out, &told),
-        Err(Stop::NoMemory) => Status::NoMemory,
+        Ok(told) | Err(CallFault::Ended(told)) => send(out, &told),
+        Err(CallFault::NoMemory) => Status::NoMemory,
     }
 }

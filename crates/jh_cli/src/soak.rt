@@ -1,9 +1,9 @@
 //! Running the board of so many rounds.
 ghost use Rattle.std.specs.Prelude.{◌≡◌, ◌≤◌, ◌&&◌, nat_le, Some, None, if◌then◌else◌, IfOk};
-ghost use Rattle.jh_cli.specs.Soak.{TellsRounds, summary_line, IsSoaked, Soaks};
-ghost use Rattle.jh_cli.specs.Stopped.{said_of, OnEnding};
+ghost use Rattle.jh_cli.specs.Soak.{ParsesRounds, summary_line, IsSoaked, Soaks};
+ghost use Rattle.jh_cli.specs.Endings.{said_of, OnEnding};
 
-use crate::ending::{Ending, Stop};
+use crate::ending::{Ending, CallFault};
 use crate::lines::rounds_line;
 use crate::play::status_of;
 use crate::status::Status;
@@ -18,21 +18,21 @@ use std::thread::Threads;
 /// The number of rounds that the word tells, if it does: 1 to [`MAX_ROUNDS`] in decimal, without a sign or a leading
 /// zero.
 fn read_rounds(alloc: Global, word: &str) -> Result<Option<u32>, NoMemory>
-    ensures { IfOk result (TellsRounds word.now) }
+    ensures { IfOk result (ParsesRounds word.now) }
 {
     let Ok(rounds) = word.parse::<u32>() else {
         return Ok(None);
     };
     let written = format!(in alloc; "{rounds}")?;
-    let plain = written.as_str() == word;
-    Ok(rounds_if(plain, rounds))
+    let canonical = written.as_str() == word;
+    Ok(rounds_if(canonical, rounds))
 }
 
 /// The rounds, if they are as the word has them and there may be so many.
-fn rounds_if(plain: bool, rounds: u32) -> Option<u32>
-    ensures { result ≡ (if plain && (nat_le 1 rounds && nat_le rounds 400) then Some rounds else None) }
+fn rounds_if(canonical: bool, rounds: u32) -> Option<u32>
+    ensures { result ≡ (if canonical && (nat_le 1 rounds && nat_le rounds 400) then Some rounds else None) }
 {
-    if plain && 1 <= rounds && rounds <= MAX_ROUNDS {
+    if canonical && 1 <= rounds && rounds <= MAX_ROUNDS {
         Some(rounds)
     } else {
         None
@@ -82,7 +82,7 @@ pub fn soak<R: Threads + Wait + Sync, G: Gate + Sync>(
     alloc: Global,
     word: &str,
     gate: &G,
-) -> Result<Ending, Stop>
+) -> Result<Ending, CallFault>
     ensures { OnEnding result (Soaks word.now) }
 {
     match read_rounds(alloc, word)? {

@@ -9,7 +9,7 @@ use crate::run::run;
 use crate::send::finish;
 use crate::soak::soak;
 use crate::status::Status;
-use crate::tell::tell;
+use crate::reply::reply_to;
 use jh_outside::{Files, Gate, Sink};
 use std::alloc::Global;
 use std::sync::Wait;
@@ -29,7 +29,7 @@ pub fn serial<F: Files, K: Sink>(
     ensures { IsCall F.contents F.failed F.faults F.asks K.written K.faults (command_of (map string_bytes words.now)) files.old files.new out.old out.new result }
 {
     good_inputs_are_answered();
-    let told = tell(alloc, words, files);
+    let told = reply_to(alloc, words, files);
     finish(out, told)
 }
 

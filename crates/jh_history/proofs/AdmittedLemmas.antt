@@ -38,8 +38,8 @@ unfolding program_of
 program_of_all P image name cpu all = All-from_recursion P (program_of image name cpu) (found P (is_program_of name cpu) image.programs (recursion_from_All (λ (x : Program). All P x.ops) image.programs all))
 
 -- the operations of each CPU are plain
-pub program_of_plain : (image : Image) (name : List ℕ) (cpu : ℕ) → IsAdmitted image → All IsWellFormed (program_of image name cpu)
-program_of_plain image name cpu admitted = program_of_all IsWellFormed image name cpu (λ i d lt. (admitted.programs i d lt).plain)
+pub program_of_well_formed : (image : Image) (name : List ℕ) (cpu : ℕ) → IsAdmitted image → All IsWellFormed (program_of image name cpu)
+program_of_well_formed image name cpu admitted = program_of_all IsWellFormed image name cpu (λ i d lt. (admitted.programs i d lt).well_formed)
 
 few_at : (b : Bool) (x : Program) (o : Option Program) → IsSoundProgram x → length (option_map_or (λ (p : Program). p.ops) o []) ≤ 4096 → length (option_map_or (λ (p : Program). p.ops) (cond b (Some x) o) []) ≤ 4096
 few_at true x o fine rest = fine.few

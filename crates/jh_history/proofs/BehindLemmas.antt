@@ -19,7 +19,7 @@ use Rattle.jh_history.specs.declared.access.Reach.{Reach}
 use Rattle.jh_history.specs.declared.access.Reach.TheVariants.{Subpage, Nothing}
 use Rattle.jh_history.specs.Places.{places_in_row}
 use Rattle.jh_history.specs.Access.{place_in_cell}
-use Rattle.jh_history.specs.Behind.{ecam_start, ecam_end, window_found, behind_regions, answer_by, answer_to, answer}
+use Rattle.jh_history.specs.Behind.{ecam_start, ecam_end, window_of_access, behind_regions, answer_by, answer_to, answer}
 use Rattle.jh_history.specs.Devices.{Devices}
 use Rattle.jh_history.specs.Grants.{is_kept}
 
@@ -86,10 +86,10 @@ region_having regions kept at width = find (takes_all (λ p. kept (Physical p)) 
 -- what answers within the addresses
 abbrev answering : List Region → Devices → (Place → Bool) → SystemConfig → Access → ℕ → ℕ → Reach
 answering regions devices kept system access at width =
-    answer_to devices.cell (region_having regions kept at width) (ecam_start system) (ecam_end system) (window_found devices at width) access at width
+    answer_to devices.cell (region_having regions kept at width) (ecam_start system) (ecam_end system) (window_of_access devices at width) access at width
 
 pub answer_within : (regions : List Region) (devices : Devices) (kept : Place → Bool) (system : SystemConfig) (access : Access) (at width : ℕ) → at + width ≤ ADDRESS_END
-    → answer regions devices kept system access at width ≡ answer_to devices.cell (find (takes_all (λ p. kept (Physical p)) at width) regions) (ecam_start system) (ecam_end system) (window_found devices at width) access at width
+    → answer regions devices kept system access at width ≡ answer_to devices.cell (find (takes_all (λ p. kept (Physical p)) at width) regions) (ecam_start system) (ecam_end system) (window_of_access devices at width) access at width
 unfolding answer
 answer_within regions devices kept system access at width h =
     ap (λ (b : Bool). cond b (answering regions devices kept system access at width) Nothing) (le-leb (at + width) ADDRESS_END h)
@@ -124,4 +124,4 @@ pub answer_no_bytes : (regions : List Region) (devices : Devices) (kept : Place 
 unfolding answer
 answer_no_bytes regions devices kept system access at width none =
     let P : ℕ → Type 0 = λ n. cond (leb (at + n) ADDRESS_END) (answering regions devices kept system access at n) Nothing ≡ Nothing in
-    subst P (sym none) (no_bytes_within devices.cell (region_having regions kept at 0) (ecam_start system) (ecam_end system) (window_found devices at 0) access at (leb (at + 0) ADDRESS_END))
+    subst P (sym none) (no_bytes_within devices.cell (region_having regions kept at 0) (ecam_start system) (ecam_end system) (window_of_access devices at 0) access at (leb (at + 0) ADDRESS_END))

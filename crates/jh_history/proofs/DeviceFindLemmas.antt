@@ -8,7 +8,7 @@ use Rattle.jh_cellcfg.specs.declared.config.PciDevice.{PciDevice}
 use Rattle.jh_ivshmem.specs.declared.endpoint.Endpoint.{Endpoint}
 use Rattle.jh_mmio.specs.declared.hitting.Window.{Window}
 use Rattle.jh_mmio.specs.Dispatch.{window_has}
-use Rattle.jh_history.specs.Behind.{window_found}
+use Rattle.jh_history.specs.Behind.{window_of_access}
 use Rattle.jh_history.specs.Devices.{Devices, device_windows, windows_from, windows_of}
 
 abbrev first_from : (Window → Bool) → ℕ → List Endpoint → ℕ → List PciDevice → Option Window
@@ -25,6 +25,6 @@ window_here p cell endpoints ds n past w lt h =
 pub window_end : (p : Window → Bool) (cell : ℕ) (endpoints : List Endpoint) (ds : List PciDevice) (n : ℕ) → length ds ≤ n → find p (windows_from cell endpoints n (drop n ds)) ≡ None
 window_end p cell endpoints ds n le = ap (first_from p cell endpoints n) (drop_all n ds le)
 
-pub window_found_all : (devices : Devices) (at width : ℕ) → window_found devices at width ≡ find (window_has at width) (windows_from devices.cell devices.endpoints 0 devices.list)
+pub window_found_all : (devices : Devices) (at width : ℕ) → window_of_access devices at width ≡ find (window_has at width) (windows_from devices.cell devices.endpoints 0 devices.list)
 unfolding windows_of
 window_found_all devices at width = refl

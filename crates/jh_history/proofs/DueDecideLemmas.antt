@@ -11,7 +11,7 @@ use Rattle.jh_shape.specs.Pages.{pages_of}
 use Rattle.jh_script.specs.declared.image.Image.{Image}
 use Rattle.jh_history.specs.declared.call.OpenCall.{OpenCall}
 use Rattle.jh_history.specs.declared.call.Creation.{Creation}
-use Rattle.jh_history.specs.declared.call.Creation.TheVariants.{Refused, Comes}
+use Rattle.jh_history.specs.declared.call.Creation.TheVariants.{Refused, Accepted}
 use Rattle.jh_history.specs.declared.call.Phase.{Phase}
 use Rattle.jh_history.specs.declared.call.Phase.TheVariants.{ToDecide, ToSettle, ToCreate, ToCommit, ToNote, ToNoted, ToFinish}
 use Rattle.jh_history.specs.declared.entry.Entry.{Entry}
@@ -30,17 +30,17 @@ use Rattle.jh_history.proofs.DuePhaseLemmas.{IsLater, IsActIn, IsOfOpen, later_o
 -- ---- what comes of a create is what it read
 
 abbrev came : Creation → Option CellConfig
-came (Comes config) = Some config
+came (Accepted config) = Some config
 came (Refused number) = None
 
-not_refused : (number : ℤ) (config : CellConfig) {X : Type 0} → Refused number ≡ Comes config → X
+not_refused : (number : ℤ) (config : CellConfig) {X : Type 0} → Refused number ≡ Accepted config → X
 not_refused number config e = absurd (none-some config (ap came e))
 
-unless_read : (c : CellConfig) (o : Option ℤ) (config : CellConfig) → unless_refused c o ≡ Comes config → c ≡ config
+unless_read : (c : CellConfig) (o : Option ℤ) (config : CellConfig) → unless_refused c o ≡ Accepted config → c ≡ config
 unless_read c None config e = same_Some c config (ap came e)
 unless_read c (Some number) config e = not_refused number config e
 
-by_read : (image : Image) (f : Facts) (caller : ℕ) (read : ReadCell) (config : CellConfig) → creation_by image f caller read ≡ Comes config → read ≡ Reads config
+by_read : (image : Image) (f : Facts) (caller : ℕ) (read : ReadCell) (config : CellConfig) → creation_by image f caller read ≡ Accepted config → read ≡ Reads config
 by_read image f caller (Refuses number) config e = not_refused number config e
 by_read image f caller (Reads c) config e =
     ap Reads
@@ -48,17 +48,17 @@ by_read image f caller (Reads c) config e =
     (refusal_of image.system (configs_of f.cells) c (may_give image f caller) (pages_of image.system.root.memory_regions (configs_of f.cells ++ c ∷ [])) (pool_pages image.system))
     config e)
 
-by_lock : (image : Image) (f : Facts) (caller : ℕ) (locked : Bool) (read : ReadCell) (config : CellConfig) → cond locked (Refused EPERM) (creation_by image f caller read) ≡ Comes config → read ≡ Reads config
+by_lock : (image : Image) (f : Facts) (caller : ℕ) (locked : Bool) (read : ReadCell) (config : CellConfig) → cond locked (Refused EPERM) (creation_by image f caller read) ≡ Accepted config → read ≡ Reads config
 by_lock image f caller true read config e = not_refused EPERM config e
 by_lock image f caller false read config e = by_read image f caller read config e
 
-pub read_from_comes : (image : Image) (f : Facts) (caller at : ℕ) (config : CellConfig) → creation_of image f caller at ≡ Comes config → read_at image f at ≡ Reads config
+pub read_from_comes : (image : Image) (f : Facts) (caller at : ℕ) (config : CellConfig) → creation_of image f caller at ≡ Accepted config → read_at image f at ≡ Reads config
 unfolding creation_of
 read_from_comes image f caller at config e = by_lock image f caller (list_any (is_locked f) f.cells) (read_at image f at) config e
 
 read_by : (image : Image) (f : Facts) (caller at : ℕ) (c : Creation) → creation_of image f caller at ≡ c → refused_by c ≡ None → HasRead image f caller at
 read_by image f caller at (Refused number) e none = absurd (none-some number (sym none))
-read_by image f caller at (Comes config) e none = record { config = config; comes = e; read = read_from_comes image f caller at config e }
+read_by image f caller at (Accepted config) e none = record { config = config; comes = e; read = read_from_comes image f caller at config e }
 
 -- ---- the call
 

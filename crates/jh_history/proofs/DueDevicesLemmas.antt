@@ -24,7 +24,7 @@ use Rattle.jh_history.specs.declared.access.Access.TheVariants.{Read as ToRead}
 use Rattle.jh_history.specs.declared.access.Reach.{Reach}
 use Rattle.jh_history.specs.declared.access.Reach.TheVariants.{Memory, Subpage, Config, Window, Nothing}
 use Rattle.jh_history.specs.declared.call.OpenCall.{OpenCall}
-use Rattle.jh_history.specs.declared.call.Creation.TheVariants.{Comes as Coming}
+use Rattle.jh_history.specs.declared.call.Creation.TheVariants.{Accepted as Coming}
 use Rattle.jh_history.specs.declared.call.Phase.{Phase}
 use Rattle.jh_history.specs.declared.call.Phase.TheVariants.{ToDecide, ToSettle, ToCreate, ToCommit, ToNote, ToNoted, ToFinish}
 use Rattle.jh_history.specs.declared.device_change.DeviceChange.{DeviceChange}
@@ -48,7 +48,7 @@ use Rattle.jh_history.specs.DueFacts.{IsWordOf}
 use Rattle.jh_history.proofs.SoundDueLemmas.{next_from_due, IsOfProgram, IsOfState}
 use Rattle.jh_history.proofs.SpecsLemmas.{All_from_held, devices_good, specs_within, specs_apart, specs_apart_new, held_numbered}
 use Rattle.jh_history.proofs.DuePhaseLemmas.{IsOf, IsActIn, due_parts, phase_act_holds}
-use Rattle.jh_history.proofs.DueComesLemmas.{comes_clean}
+use Rattle.jh_history.proofs.DueCreateLemmas.{comes_clean}
 
 -- ---- at opening
 

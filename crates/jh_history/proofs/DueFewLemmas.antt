@@ -23,7 +23,7 @@ use Rattle.jh_history.specs.DueFacts.{NamesCpu}
 use Rattle.jh_history.proofs.SoundCellsLemmas.{cells_joined}
 use Rattle.jh_history.proofs.SoundDecideLemmas.{board_few}
 use Rattle.jh_history.proofs.SoundCommitLemmas.{cell_lent, owned_lent}
-use Rattle.jh_history.proofs.DueComesLemmas.{call_open, to_come}
+use Rattle.jh_history.proofs.DueCreateLemmas.{call_open, to_come}
 
 -- ---- a CPU of each
 

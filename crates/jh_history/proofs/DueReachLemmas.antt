@@ -31,7 +31,7 @@ use Rattle.jh_history.specs.declared.entry.Entry.{Entry}
 use Rattle.jh_history.specs.declared.entry.Act.{Act}
 use Rattle.jh_history.specs.declared.entry.Act.TheVariants.{Read, Write, Fetch, Await, Irq, Hvc, Begin, Stop, Decide, Settle, Commit, Note, Noted, Finish}
 use Rattle.jh_history.specs.Access.{gives, region_of, place_in_cell, place_of, places_from, memory_or_nothing, reach_by, or_behind}
-use Rattle.jh_history.specs.Behind.{ecam_start, ecam_end, in_window, asked_windows, by_device, window_found, answer_by, answer_to, answer}
+use Rattle.jh_history.specs.Behind.{ecam_start, ecam_end, in_window, asked_windows, by_device, window_of_access, answer_by, answer_to, answer}
 use Rattle.jh_history.specs.Devices.{devices_in}
 use Rattle.jh_history.specs.Places.{places_in_row}
 use Rattle.jh_history.specs.Facts.{Facts}
@@ -44,7 +44,7 @@ use Rattle.jh_history.specs.DueFacts.{IsLive, IsOfCells, ReachesCells, WritesCel
 use Rattle.jh_history.proofs.BehindLemmas.{takes_all_size, takes_all_subpage}
 use Rattle.jh_history.proofs.GrantLemmas.{gives_has}
 use Rattle.jh_history.proofs.SoundDecideLemmas.{found_live}
-use Rattle.jh_history.proofs.DueComesLemmas.{numbered}
+use Rattle.jh_history.proofs.DueCreateLemmas.{numbered}
 
 -- ---- the places of an access, one by one
 
@@ -197,7 +197,7 @@ behind_cells : (image : Image) (lives : List Live) (endpoints : List Endpoint) (
 unfolding answer
 behind_cells image lives endpoints id access at width clean =
     let closed : ℕ → Bool = λ p. is_kept image lives id (Physical p) in
-    let window = window_found (devices_in image lives endpoints id) at width in
+    let window = window_of_access (devices_in image lives endpoints id) at width in
     answer_or_not lives (leb (at + width) ADDRESS_END) (answer_to id (find (takes_all closed at width) (regions_in image lives id)) (ecam_start image.system) (ecam_end image.system) window access at width)
     (access_answers image lives id closed (ecam_start image.system) (ecam_end image.system) window access at width clean)
 

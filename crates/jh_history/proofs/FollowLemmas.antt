@@ -19,7 +19,7 @@ use Rattle.jh_history.specs.DueFacts.{IsWordOf}
 use Rattle.jh_history.specs.Endpoints.{change_by, changing_at, changing_by, specs_changing, IsNextOf, MayChange}
 use Rattle.jh_history.specs.Facts.{Facts}
 use Rattle.jh_history.specs.Grants.{devices_of}
-use Rattle.jh_history.specs.PlainView.{PlainView, StandsFor, IsSameBut, MayCommit, MayBeFollowed}
+use Rattle.jh_history.specs.Private.PlainView.{PlainView, Represents, IsSameBut, MayCommit, MayBeFollowed}
 use Rattle.jh_history.proofs.PlainStepLemmas.{commit_or}
 
 -- ---- words of state tables
@@ -84,7 +84,7 @@ specs_changing_holds f cells call act o alive opened is =
 -- ---- an entry
 
 -- what holds of sound facts lets the entry be followed
-pub may_follow : (i : Image) (f : Facts) (plain : PlainView) (entry : Entry) → StandsFor plain i f
+pub may_follow : (i : Image) (f : Facts) (plain : PlainView) (entry : Entry) → Represents plain i f
     → ((id value : ℕ) (found : Reach) → IfSome (slot_of_reach (devices_of i f id) found value) (IsWordOf f.endpoints))
     → IfSome (changing_by f.cells f.call entry.act) (MayChange (change_by f.call) f.endpoints)
     → IsNextOf entry.cell f.endpoints entry.act → MayBeFollowed plain entry

@@ -23,7 +23,7 @@ use Rattle.jh_history.specs.Cpus.{cpu_after}
 use Rattle.jh_history.specs.Endpoints.{endpoints_put, endpoints_after}
 use Rattle.jh_history.specs.History.{after, cells_after, call_after}
 use Rattle.jh_history.specs.Wants.{reach_of}
-use Rattle.jh_history.specs.PlainView.{PlainView, overwritten, last_byte, StandsFor}
+use Rattle.jh_history.specs.Private.PlainView.{PlainView, overwritten, last_byte, Represents}
 use Rattle.std.proofs.lemmas.List.{append-nil}
 use Rattle.jh_history.proofs.PlaceLemmas.{row_next, written_over}
 
@@ -58,15 +58,15 @@ no_put devices (Window register) value is = absurd (both_ways true is refl)
 no_put devices Nothing value is = refl
 
 -- a write where it reaches memory, or a subpage region
-written_at : (i : Image) (f : Facts) (places : List Place) (value : ℕ) (q : Place) (old : PlainView) → StandsFor old i f → over places value q (last_byte i old.bytes q) ≡ written f.byte places value q
+written_at : (i : Image) (f : Facts) (places : List Place) (value : ℕ) (q : Place) (old : PlainView) → Represents old i f → over places value q (last_byte i old.bytes q) ≡ written f.byte places value q
 written_at i f places value q old stands = ap (over places value q) (sym (stands.bytes q)) ∙ sym (written_over f.byte places value q)
 
-pub kept_write : (i : Image) (f : Facts) (cell : ℕ) (wanted : Wanted) (found : Reach) (places : List Place) (value : ℕ) (q : Place) (old : PlainView) → StandsFor old i f → found ≡ reach_of i f cell wanted → found ≡ Memory places
+pub kept_write : (i : Image) (f : Facts) (cell : ℕ) (wanted : Wanted) (found : Reach) (places : List Place) (value : ℕ) (q : Place) (old : PlainView) → Represents old i f → found ≡ reach_of i f cell wanted → found ≡ Memory places
     → over places value q (last_byte i old.bytes q) ≡ write_of f.byte (devices_of i f cell) (reach_of i f cell wanted) value q
 kept_write i f cell wanted found places value q old stands is_found is =
     written_at i f places value q old stands ∙ ap (λ (r : Reach). write_of f.byte (devices_of i f cell) r value q) (sym is ∙ is_found)
 
-pub kept_write_subpage : (i : Image) (f : Facts) (cell : ℕ) (wanted : Wanted) (found : Reach) (places : List Place) (value : ℕ) (q : Place) (old : PlainView) → StandsFor old i f → found ≡ reach_of i f cell wanted → found ≡ Subpage places
+pub kept_write_subpage : (i : Image) (f : Facts) (cell : ℕ) (wanted : Wanted) (found : Reach) (places : List Place) (value : ℕ) (q : Place) (old : PlainView) → Represents old i f → found ≡ reach_of i f cell wanted → found ≡ Subpage places
     → over places value q (last_byte i old.bytes q) ≡ write_of f.byte (devices_of i f cell) (reach_of i f cell wanted) value q
 kept_write_subpage i f cell wanted found places value q old stands is_found is =
     written_at i f places value q old stands ∙ ap (λ (r : Reach). write_of f.byte (devices_of i f cell) r value q) (sym is ∙ is_found)
@@ -106,11 +106,11 @@ device_write byte devices (Window register) value q is = refl
 device_write byte devices Nothing value q is = absurd (both_ways true (sym is) refl)
 
 -- one entry more
-pub Stands_after : (i : Image) (f : Facts) (entry : Entry) (old new : PlainView) → StandsFor old i f → new.image ≡ old.image
+pub Stands_after : (i : Image) (f : Facts) (entry : Entry) (old new : PlainView) → Represents old i f → new.image ≡ old.image
     → new.cells ≡ cells_after f entry → new.endpoints ≡ endpoints_after i f entry → new.call ≡ call_after i f entry
     → ((k : ℕ) → k < 16 → slice_get new.cpus k ≡ Some (cpu_after i f entry k))
     → ((q : Place) → last_byte i new.bytes q ≡ byte_after i f entry q)
-    → StandsFor new i (after i f entry)
+    → Represents new i (after i f entry)
 unfolding after
 Stands_after i f entry old new stands same cells endpoints call cpus bytes = record {
   same = stands.same ∙ sym same;

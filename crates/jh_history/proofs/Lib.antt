@@ -6,7 +6,7 @@ mod GrantLemmas
 mod FactsLemmas
 mod DueLemmas
 mod AdmittedLemmas
-mod PlainLemmas
+mod WellFormedLemmas
 mod ValueLemmas
 mod KeptLemmas
 mod ItemsLemmas
@@ -27,7 +27,7 @@ mod SoundEndpointsLemmas
 mod SoundLemmas
 mod DuePhaseLemmas
 mod DueDecideLemmas
-mod DueComesLemmas
+mod DueCreateLemmas
 mod DuePageLemmas
 mod DueReachLemmas
 mod DueFewLemmas

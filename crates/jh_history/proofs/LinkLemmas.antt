@@ -5,7 +5,7 @@ use Rattle.std.proofs.lemmas.List.Elements.{All-cons, All-head, All-tail, All-co
 use Rattle.std.proofs.lemmas.List.Kept.{AllPairs-cons, AllPairs-filter}
 use Rattle.jh_num.proofs.Public.{Contains_head, Contains_tail, Contains_cases, IsFound_from_filter, Contains_filter}
 use Rattle.jh_ivshmem.specs.declared.spec.EndpointSpec.{EndpointSpec}
-use Rattle.jh_ivshmem.specs.Specs.{AreEndpointsApart, ComesBefore, is_device, is_before}
+use Rattle.jh_ivshmem.specs.Specs.{AreEndpointsApart, IsBefore, is_device, is_before}
 use Rattle.jh_ivshmem.proofs.Public.{apart_turned}
 use Rattle.jh_history.proofs.EndpointLemmas.{placed, without}
 
@@ -15,7 +15,7 @@ use Rattle.jh_history.proofs.EndpointLemmas.{placed, without}
 abbrev IsLower : EndpointSpec → EndpointSpec → Type 0
 IsLower a b = (a.cell < b.cell) ⊎ ((a.cell ≡ b.cell) × (a.device < b.device))
 
-before_lower : (a b : EndpointSpec) → ComesBefore a b → IsLower a b
+before_lower : (a b : EndpointSpec) → IsBefore a b → IsLower a b
 before_lower a b h =
     ⊎_elim
     (λ (cells : nat_lt a.cell b.cell ≡ true). inl (ltb-true a.cell b.cell cells))
@@ -24,7 +24,7 @@ before_lower a b h =
     inr (eqb-true a.cell b.cell parts.0, ltb-true a.device b.device parts.1))
     (or_cases (nat_lt a.cell b.cell) (eqb a.cell b.cell && nat_lt a.device b.device) h)
 
-lower_before : (a b : EndpointSpec) → IsLower a b → ComesBefore a b
+lower_before : (a b : EndpointSpec) → IsLower a b → IsBefore a b
 lower_before a b h =
     ⊎_elim
     (λ (cells : a.cell < b.cell). or_left (nat_lt a.cell b.cell) (eqb a.cell b.cell && nat_lt a.device b.device) (lt-ltb a.cell b.cell cells))
@@ -39,7 +39,7 @@ lower_both a b c d e f (inl h) (inr (g, i)) = inl (omega arith)
 lower_both a b c d e f (inr (h, j)) (inl g) = inl (omega arith)
 lower_both a b c d e f (inr (h, j)) (inr (g, i)) = inr (omega arith, omega arith)
 
-before_both : (a b c : EndpointSpec) → ComesBefore a b → ComesBefore b c → ComesBefore a c
+before_both : (a b c : EndpointSpec) → IsBefore a b → IsBefore b c → IsBefore a c
 before_both a b c h g = lower_before a c (lower_both a.cell a.device b.cell b.device c.cell c.device (before_lower a b h) (before_lower b c g))
 
 -- of two devices the one comes first, or the other
@@ -61,7 +61,7 @@ lower_other a b c d fails differ =
       ]
     ]
 
-comes_before : (a s : EndpointSpec) → AreEndpointsApart s a → is_before s.cell s.device a ≡ false → ComesBefore s a
+comes_before : (a s : EndpointSpec) → AreEndpointsApart s a → is_before s.cell s.device a ≡ false → IsBefore s a
 comes_before a s apart fails =
     lower_before s a (lower_other a.cell a.device s.cell s.device
     (λ lower. both_ways (is_before s.cell s.device a) fails (lower_before a s lower))
@@ -140,28 +140,28 @@ placed_apart (x ∷ xs) s pairs new =
       | false ↦ AllPairs-cons AreEndpointsApart s (x ∷ xs) new pairs
     ]
 
-order_by : (x : EndpointSpec) (xs : List EndpointSpec) (s : EndpointSpec) (b : Bool) → is_before s.cell s.device x ≡ b → AllPairs ComesBefore (x ∷ xs) → AreEndpointsApart s x → AllPairs ComesBefore (placed xs s)
-    → AllPairs ComesBefore (cond b (x ∷ placed xs s) (s ∷ x ∷ xs))
-order_by x xs s true before pairs apart rest = AllPairs-cons ComesBefore x (placed xs s) (all_placed (ComesBefore x) xs s (pairs_first ComesBefore x xs pairs) before) rest
+order_by : (x : EndpointSpec) (xs : List EndpointSpec) (s : EndpointSpec) (b : Bool) → is_before s.cell s.device x ≡ b → AllPairs IsBefore (x ∷ xs) → AreEndpointsApart s x → AllPairs IsBefore (placed xs s)
+    → AllPairs IsBefore (cond b (x ∷ placed xs s) (s ∷ x ∷ xs))
+order_by x xs s true before pairs apart rest = AllPairs-cons IsBefore x (placed xs s) (all_placed (IsBefore x) xs s (pairs_first IsBefore x xs pairs) before) rest
 order_by x xs s false behind pairs apart rest =
-    let first : ComesBefore s x = comes_before x s apart behind in
-    let ahead = pairs_first ComesBefore x xs pairs in
-    AllPairs-cons ComesBefore s (x ∷ xs)
-    (All-cons (ComesBefore s) x xs first (λ k d lt. before_both s x (get_or xs k d) first (ahead k d lt)))
+    let first : IsBefore s x = comes_before x s apart behind in
+    let ahead = pairs_first IsBefore x xs pairs in
+    AllPairs-cons IsBefore s (x ∷ xs)
+    (All-cons (IsBefore s) x xs first (λ k d lt. before_both s x (get_or xs k d) first (ahead k d lt)))
     pairs
 
-placed_order : (xs : List EndpointSpec) (s : EndpointSpec) → AllPairs ComesBefore xs → All (AreEndpointsApart s) xs → AllPairs ComesBefore (placed xs s)
-placed_order [] s pairs new = AllPairs-cons ComesBefore s [] (λ k d lt. absurd (let no : ⊥ = omega arith in no)) pairs
+placed_order : (xs : List EndpointSpec) (s : EndpointSpec) → AllPairs IsBefore xs → All (AreEndpointsApart s) xs → AllPairs IsBefore (placed xs s)
+placed_order [] s pairs new = AllPairs-cons IsBefore s [] (λ k d lt. absurd (let no : ⊥ = omega arith in no)) pairs
 placed_order (x ∷ xs) s pairs new =
     order_by x xs s (is_before s.cell s.device x) refl pairs (All-head (AreEndpointsApart s) x xs new)
-    (placed_order xs s (pairs_rest ComesBefore x xs pairs) (All-tail (AreEndpointsApart s) x xs new))
+    (placed_order xs s (pairs_rest IsBefore x xs pairs) (All-tail (AreEndpointsApart s) x xs new))
 
 -- ---- those of a cell
 
 -- all are apart, and in order
 pub record AreRow (specs : List EndpointSpec) : Type 0 where
   pub apart : AllPairs AreEndpointsApart specs
-  pub order : AllPairs ComesBefore specs
+  pub order : AllPairs IsBefore specs
 
 row_placed : (xs : List EndpointSpec) (s : EndpointSpec) → AreRow xs → All (AreEndpointsApart s) xs → AreRow (placed xs s)
 row_placed xs s row new = record { apart = placed_apart xs s row.apart new; order = placed_order xs s row.order new }
@@ -237,5 +237,5 @@ unfolding IsBeside
 all_leave specs [] row = record { row = row; from = λ x h. h; beside = λ x h t held. (let below : held.0 < 0 = held.1 in absurd (omega arith)); stay = λ x h beside. h }
 all_leave specs (s ∷ gone) row =
     let other : EndpointSpec → Bool = λ x. not (is_device s.cell s.device x) in
-    let next : AreRow (without specs s) = record { apart = AllPairs-filter AreEndpointsApart other specs row.apart; order = AllPairs-filter ComesBefore other specs row.order } in
+    let next : AreRow (without specs s) = record { apart = AllPairs-filter AreEndpointsApart other specs row.apart; order = AllPairs-filter IsBefore other specs row.order } in
     left_more specs s gone (fold without (without specs s) gone) (all_leave (without specs s) gone next)

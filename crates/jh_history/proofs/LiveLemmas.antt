@@ -10,7 +10,7 @@ use Rattle.jh_cellcfg.specs.Lives.{has_id, id_of}
 use Rattle.jh_history.specs.Lives.{live_in}
 use Rattle.jh_shape.specs.Lives.{configs_of, with_marks, marked}
 use Rattle.jh_shape.proofs.Public.{length_joined, joined_remove, live_of}
-use Rattle.jh_history.specs.Calls.{is_told, is_told_by, first_told, behind}
+use Rattle.jh_history.specs.Calls.{is_recipient, is_recipient_by, first_recipient, behind}
 use Rattle.jh_history.specs.Commits.{is_other}
 
 abbrev config : Live → CellConfig
@@ -28,16 +28,16 @@ live_in_is lives cells id e = ap (find (has_number id)) (sym e) ∙ find_map con
 
 -- the first cell that is told
 abbrev pub told_of : ℕ → List CellConfig → Option ℕ
-told_of about cells = option_map number (find (is_told_by about) cells)
+told_of about cells = option_map number (find (is_recipient_by about) cells)
 
 both_maps : (o : Option Live) → option_map number (option_map config o) ≡ option_map id_of o
 both_maps (Some live) = refl
 both_maps None = refl
 
-told_of_is : (about : ℕ) (lives : List Live) → told_of about (configs_of lives) ≡ first_told about lives
-told_of_is about lives = ap (option_map number) (find_map config (is_told_by about) lives) ∙ both_maps (find (is_told about) lives)
+told_of_is : (about : ℕ) (lives : List Live) → told_of about (configs_of lives) ≡ first_recipient about lives
+told_of_is about lives = ap (option_map number) (find_map config (is_recipient_by about) lives) ∙ both_maps (find (is_recipient about) lives)
 
-pub first_told_is : (about : ℕ) (lives : List Live) (cells : List CellConfig) → configs_of lives ≡ cells → told_of about cells ≡ first_told about lives
+pub first_told_is : (about : ℕ) (lives : List Live) (cells : List CellConfig) → configs_of lives ≡ cells → told_of about cells ≡ first_recipient about lives
 first_told_is about lives cells e = ap (told_of about) (sym e) ∙ told_of_is about lives
 
 -- those behind the one with the id
@@ -58,7 +58,7 @@ abbrev pub told_from : Bool → ℕ → ℕ → List CellConfig → Option ℕ
 told_from true about id cells = told_of about cells
 told_from false about id cells = told_of about (behind_of id cells)
 
-pub next_told_is : (about id : ℕ) (lives : List Live) (cells : List CellConfig) → configs_of lives ≡ cells → told_from false about id cells ≡ first_told about (behind id lives)
+pub next_told_is : (about id : ℕ) (lives : List Live) (cells : List CellConfig) → configs_of lives ≡ cells → told_from false about id cells ≡ first_recipient about (behind id lives)
 next_told_is about id lives cells e =
     ap (λ (cs : List CellConfig). told_of about (behind_of id cs)) (sym e)
     ∙ ap (told_of about) (behind_of_is id lives)
@@ -68,14 +68,14 @@ pub told_from_end : (b : Bool) (about id : ℕ) → told_from b about id [] ≡ 
 told_from_end true about id = refl
 told_from_end false about id = refl
 
-pub told_from_here : (b : Bool) (about id : ℕ) (c : CellConfig) (cs : List CellConfig) → b ≡ true → is_told_by about c ≡ true → told_from b about id (c ∷ cs) ≡ Some c.id
+pub told_from_here : (b : Bool) (about id : ℕ) (c : CellConfig) (cs : List CellConfig) → b ≡ true → is_recipient_by about c ≡ true → told_from b about id (c ∷ cs) ≡ Some c.id
 told_from_here b about id c cs e told = rw (e, told) refl
 
 told_from_pass : (about id : ℕ) (c : CellConfig) (cs : List CellConfig) (b : Bool) → told_of about (cond b cs (behind_of id cs)) ≡ told_from b about id cs
 told_from_pass about id c cs true = refl
 told_from_pass about id c cs false = refl
 
-pub told_from_skip : (b : Bool) (about id : ℕ) (c : CellConfig) (cs : List CellConfig) → (b && is_told_by about c) ≡ false → told_from b about id (c ∷ cs) ≡ told_from (b || has_number id c) about id cs
+pub told_from_skip : (b : Bool) (about id : ℕ) (c : CellConfig) (cs : List CellConfig) → (b && is_recipient_by about c) ≡ false → told_from b about id (c ∷ cs) ≡ told_from (b || has_number id c) about id cs
 told_from_skip true about id c cs fails = rw fails refl
 told_from_skip false about id c cs fails = told_from_pass about id c cs (has_number id c)
 
@@ -86,14 +86,14 @@ found_here p cells k c lt is passes = ap (find p) (drop_more cells k c lt) ∙ r
 pub nothing_left : {X : Type 0} (xs : List X) (k : ℕ) → length xs ≤ k → drop k xs ≡ []
 nothing_left xs k le = drop_all k xs le
 
-pub told_from_found : (b : Bool) (about id : ℕ) (cells : List CellConfig) (k : ℕ) (c : CellConfig) → k < length cells → c ≡ get_or cells k c → b ≡ true → is_told_by about c ≡ true
+pub told_from_found : (b : Bool) (about id : ℕ) (cells : List CellConfig) (k : ℕ) (c : CellConfig) → k < length cells → c ≡ get_or cells k c → b ≡ true → is_recipient_by about c ≡ true
     → told_from b about id (drop k cells) ≡ Some c.id
 told_from_found b about id cells k c lt is behind told =
     ap (told_from b about id) (drop_more cells k c lt)
     ∙ ap (λ (d : CellConfig). told_from b about id (d ∷ drop (k + 1) cells)) (sym is)
     ∙ told_from_here b about id c (drop (k + 1) cells) behind told
 
-pub told_from_next : (b after : Bool) (about id : ℕ) (cells : List CellConfig) (k : ℕ) (c : CellConfig) → k < length cells → c ≡ get_or cells k c → (b && is_told_by about c) ≡ false → after ≡ (b || has_number id c)
+pub told_from_next : (b after : Bool) (about id : ℕ) (cells : List CellConfig) (k : ℕ) (c : CellConfig) → k < length cells → c ≡ get_or cells k c → (b && is_recipient_by about c) ≡ false → after ≡ (b || has_number id c)
     → told_from after about id (drop (k + 1) cells) ≡ told_from b about id (drop k cells)
 told_from_next b after about id cells k c lt is fails passed =
     sym

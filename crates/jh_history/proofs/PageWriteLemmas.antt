@@ -15,7 +15,7 @@ use Rattle.jh_history.specs.declared.written.WrittenByte.{WrittenByte}
 use Rattle.jh_history.specs.declared.comm.PageChange.TheVariants.{State, Message, Fresh}
 use Rattle.jh_history.specs.Places.{is_same}
 use Rattle.jh_history.specs.Pages.{with_page}
-use Rattle.jh_history.specs.PlainView.{last_byte, put_in_page}
+use Rattle.jh_history.specs.Private.PlainView.{last_byte, put_in_page}
 use Rattle.jh_history.proofs.FactsLemmas.{same_function}
 use Rattle.jh_history.proofs.KeptLemmas.{last_byte_push}
 

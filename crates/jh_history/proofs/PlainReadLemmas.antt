@@ -9,7 +9,7 @@ use Rattle.jh_history.specs.Access.{reach_by, memory_read}
 use Rattle.jh_history.specs.Facts.{Facts}
 use Rattle.jh_history.specs.Grants.{granted_in, granted, is_kept}
 use Rattle.jh_history.specs.Lives.{regions_in}
-use Rattle.jh_history.specs.PlainView.{PlainView, StandsFor, HasSoundCells, last_byte}
+use Rattle.jh_history.specs.Private.PlainView.{PlainView, Represents, HasSoundCells, last_byte}
 use Rattle.jh_history.proofs.FactsLemmas.{same_function}
 use Rattle.jh_history.proofs.GrantedLemmas.{regions_within}
 use Rattle.jh_history.proofs.ReadLemmas.{read_one, granted_beyond}
@@ -18,7 +18,7 @@ use Rattle.jh_history.proofs.ReadLemmas.{read_one, granted_beyond}
 abbrev pub read_in : PlainView → ℕ → Option ℕ
 read_in p at = memory_read (last_byte p.image p.bytes) (reach_by (granted_in p.image p.cells p.image.system.root.id Read) at 1)
 
-pub plain_reads : (p : PlainView) (i : Image) (f : Facts) (at : ℕ) → HasSoundCells p.image p.cells → StandsFor p i f → read_in p at ≡ option_map f.byte (granted i f i.system.root.id Read at)
+pub plain_reads : (p : PlainView) (i : Image) (f : Facts) (at : ℕ) → HasSoundCells p.image p.cells → Represents p i f → read_in p at ≡ option_map f.byte (granted i f i.system.root.id Read at)
 plain_reads p i f at fit stands =
     let id = p.image.system.root.id in
     read_one (last_byte p.image p.bytes) (granted_in p.image p.cells id Read) at (λ a le. granted_beyond id (regions_in p.image p.cells id) (is_kept p.image p.cells id) a (regions_within p.image p.cells id fit.sound.clean) le)

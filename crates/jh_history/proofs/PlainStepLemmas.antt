@@ -8,7 +8,7 @@ use Rattle.jh_history.specs.Facts.{Facts}
 use Rattle.jh_history.specs.History.{after, coming_of}
 use Rattle.jh_shape.specs.Lives.{configs_of}
 use Rattle.jh_history.specs.Sound.{AreSoundCells, IsSound}
-use Rattle.jh_history.specs.PlainView.{HasSoundCells}
+use Rattle.jh_history.specs.Private.PlainView.{HasSoundCells}
 use Rattle.jh_history.proofs.FewLemmas.{few_sound}
 use Rattle.jh_cellcfg.specs.declared.config.CellConfig.{CellConfig}
 use Rattle.jh_cellcfg.specs.declared.live.Live.{Live}

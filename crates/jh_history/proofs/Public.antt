@@ -5,7 +5,7 @@ pub use Rattle.jh_history.proofs.BehindLemmas.{answer_beyond, answer_no_bytes, a
 pub use Rattle.jh_history.proofs.GrantLemmas.{gives_from, gives_has, place_in_cell_further}
 pub use Rattle.jh_history.proofs.FactsLemmas.{IsLegal_nil, facts_nil, facts_push, same_function}
 pub use Rattle.jh_history.proofs.DueLemmas.{IsLegal_made, by_cpu, due_at_absent, due_at_beyond, due_at_present, is_some_entry}
-pub use Rattle.jh_history.proofs.AdmittedLemmas.{few_operations, program_of_all, program_of_plain, sound_root, width_le, within}
+pub use Rattle.jh_history.proofs.AdmittedLemmas.{few_operations, program_of_all, program_of_well_formed, sound_root, width_le, within}
 pub use Rattle.jh_history.proofs.ValueLemmas.{row_length}
 unfoldable pub use Rattle.jh_history.proofs.ItemsLemmas.{reached}
 pub use Rattle.jh_history.proofs.LegalLemmas.{IsLegal_begin, due_split}
@@ -24,7 +24,7 @@ pub use Rattle.jh_history.proofs.SoundLemmas.{legal_sound, sound_after, sound_st
 unfoldable pub use Rattle.jh_history.proofs.SoundLemmas.{opened_call}
 pub use Rattle.jh_history.proofs.DuePhaseLemmas.{later_open, noted_act, phase_act_holds, settle_act, unless}
 unfoldable pub use Rattle.jh_history.proofs.DuePhaseLemmas.{IsActIn, IsLater}
-pub use Rattle.jh_history.proofs.DueComesLemmas.{call_open}
+pub use Rattle.jh_history.proofs.DueCreateLemmas.{call_open}
 pub use Rattle.jh_history.proofs.DueDevicesLemmas.{interrupt_next}
 pub use Rattle.jh_history.proofs.GrantedLemmas.{numbered_cell}
 unfoldable pub use Rattle.jh_history.proofs.GrantedLemmas.{unless_kept}

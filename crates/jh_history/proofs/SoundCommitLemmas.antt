@@ -17,12 +17,12 @@ use Rattle.jh_call.specs.declared.call.Call.TheVariants.{Create, Destroy}
 use Rattle.jh_script.specs.declared.image.Image.{Image}
 use Rattle.jh_history.specs.declared.call.Phase.TheVariants.{ToCreate, ToCommit, ToNote, ToNoted, ToFinish}
 use Rattle.jh_history.specs.Lives.{is_on_board}
-use Rattle.jh_history.specs.Calls.{is_named, is_told, first_told, telling, behind}
+use Rattle.jh_history.specs.Calls.{is_named, is_recipient, first_recipient, telling, behind}
 use Rattle.jh_history.specs.Commits.{is_other}
 use Rattle.jh_history.specs.Cpus.{end_in_root}
 use Rattle.jh_history.specs.Phases.{keeps_commit}
 use Rattle.jh_shape.specs.Lives.{configs_of}
-use Rattle.jh_history.specs.Sound.{AreSoundCells, HasItsCpus, IsOwner, AreOwned, IsCalm, IsHalted, IsAsked, IsHalting, IsCaller, IsAboutLive, MayCome, IsNews, IsInPhase, IsOpen}
+use Rattle.jh_history.specs.Sound.{AreSoundCells, HasItsCpus, IsOwner, AreOwned, IsCalm, IsHalted, IsAsked, IsHalting, IsCaller, IsAboutLive, MayBeCreated, IsNews, IsInPhase, IsOpen}
 use Rattle.jh_history.proofs.SoundCpusLemmas.{owned_kept, other_root, named_same, root_unnamed}
 use Rattle.jh_history.proofs.SoundDecideLemmas.{IsLate, open_late, board_few, absent_unnamed}
 use Rattle.jh_history.proofs.SpecsLemmas.{other_id}
@@ -176,20 +176,20 @@ owned_returned image configs cpu id sound owned = record {
 -- ---- who is told
 
 -- behind a Commit or a note the first that is to be told is, or the call ends
-told_by : (image : Image) (configs : List CellConfig) (cpu : ℕ → Cpu) (caller about : ℕ) (call : Call) (answer : ℤ) (cells : List Live) (o : Option Live) → find (is_told about) cells ≡ o
+told_by : (image : Image) (configs : List CellConfig) (cpu : ℕ → Cpu) (caller about : ℕ) (call : Call) (answer : ℤ) (cells : List Live) (o : Option Live) → find (is_recipient about) cells ≡ o
     → ((live : Live) → Contains cells live → live.config.id ≢ about → Contains configs live.config) → IsNews configs call about answer
     → IsLate (telling about answer (option_map id_of o)) × IsInPhase image configs cpu caller call (telling about answer (option_map id_of o))
 told_by image configs cpu caller about call answer cells None e held news = (tt, tt)
 told_by image configs cpu caller about call answer cells (Some live) e held news =
-    let found = IsFound_from_find (is_told about) cells live e in
+    let found = IsFound_from_find (is_recipient about) cells live e in
     let parts = and_parts (not (has_id about live)) (not (is_passive live.config)) found.passes in
     let other : live.config.id ≢ about = λ is. both_ways (eqb live.config.id about) (not-true (eqb live.config.id about) parts.0) (eq-eqb live.config.id about is) in
     (tt, (record { config = live.config; held = held live found.held other; named = refl; other = other; active = not-true (is_passive live.config) parts.1 }, news))
 
 pub told_first : (image : Image) (configs : List CellConfig) (cpu : ℕ → Cpu) (caller about : ℕ) (call : Call) (answer : ℤ) (cells : List Live)
     → ((live : Live) → Contains cells live → live.config.id ≢ about → Contains configs live.config) → IsNews configs call about answer
-    → IsLate (telling about answer (first_told about cells)) × IsInPhase image configs cpu caller call (telling about answer (first_told about cells))
-told_first image configs cpu caller about call answer cells held news = told_by image configs cpu caller about call answer cells (find (is_told about) cells) refl held news
+    → IsLate (telling about answer (first_recipient about cells)) × IsInPhase image configs cpu caller call (telling about answer (first_recipient about cells))
+told_first image configs cpu caller about call answer cells held news = told_by image configs cpu caller about call answer cells (find (is_recipient about) cells) refl held news
 
 behind_by : (id : ℕ) (live : Live) (cells : List Live) (x : Live) (b : Bool) → (Contains (behind id cells) x → Contains cells x) → Contains (cond b cells (behind id cells)) x → Contains (live ∷ cells) x
 behind_by id live cells x true rest h = Contains_tail live cells x h
@@ -202,7 +202,7 @@ behind_held id (live ∷ cells) x h = behind_by id live cells x (has_id id live)
 
 pub open_destroyed : (image : Image) (cells : List Live) (cpu : ℕ → Cpu) (caller id : ℕ) → AreSoundCells image.system (configs_of cells) → AreOwned image (configs_of cells) cpu
     → IsOpen image (configs_of cells) cpu (record { caller = caller; call = Destroy id; phase = ToCommit }) → any_below (λ k. keeps_commit image (Destroy id) k (cpu k)) 16 ≡ false
-    → IsOpen image (filter (is_other_config id) (configs_of cells)) (cell_returned image id cpu) (record { caller = caller; call = Destroy id; phase = telling id (pos 0) (first_told id cells) })
+    → IsOpen image (filter (is_other_config id) (configs_of cells)) (cell_returned image id cpu) (record { caller = caller; call = Destroy id; phase = telling id (pos 0) (first_recipient id cells) })
 open_destroyed image cells cpu caller id sound owned opens none =
     let root : ℕ = image.system.root.id in
     let configs : List CellConfig = configs_of cells in
@@ -216,7 +216,7 @@ open_destroyed image cells cpu caller id sound owned opens none =
     let next = told_first image rest (cell_returned image id cpu) caller id (Destroy id) (pos 0) cells
     (λ live held other. Contains_filter (is_other_config id) configs live.config (Contains_map (λ (l : Live). l.config) cells live held) (is_other_from id live.config other))
     (refl, λ config held. other_config id config (IsFound_from_filter (is_other_config id) configs config held).passes, refl) in
-    open_late image rest (cell_returned image id cpu) caller (Destroy id) (telling id (pos 0) (first_told id cells)) next.0
+    open_late image rest (cell_returned image id cpu) caller (Destroy id) (telling id (pos 0) (first_recipient id cells)) next.0
     (subst (IsCaller image caller (Destroy id)) (sym caller_same) opens.caller)
     (λ i on other.
     cond_both (eqb (cpu i).owner id) (returned root (end_in_root image i) (cpu i)) (cpu i) (λ (c : Cpu). c.owner ≡ root → IsHalted c)
@@ -248,7 +248,7 @@ lent_or_kept config cpu i =
     cond_both (is_cpu_set config.cpu_set i) (lent config.id (cpu i)) (cpu i) (IsLentOrKept config cpu i) (λ yes. inl (yes, refl)) (λ no. inr (no, refl))
 
 -- a cell that lived has the CPUs that it had
-lent_has : (image : Image) (configs : List CellConfig) (cpu : ℕ → Cpu) (caller : ℕ) (new config : CellConfig) → AreSoundCells image.system configs → AreOwned image configs cpu → MayCome image configs cpu caller new
+lent_has : (image : Image) (configs : List CellConfig) (cpu : ℕ → Cpu) (caller : ℕ) (new config : CellConfig) → AreSoundCells image.system configs → AreOwned image configs cpu → MayBeCreated image configs cpu caller new
     → Contains configs config → HasItsCpus image (cell_lent new cpu) config
 lent_has image configs cpu caller new config sound owned may held =
     let has = owned.cells config held in
@@ -275,7 +275,7 @@ not_yet image configs cpu new i owned unknown is =
     (owned.others i)
 
 -- and the new one has those of its set
-new_has : (image : Image) (configs : List CellConfig) (cpu : ℕ → Cpu) (caller : ℕ) (new : CellConfig) → AreOwned image configs cpu → MayCome image configs cpu caller new → HasItsCpus image (cell_lent new cpu) new
+new_has : (image : Image) (configs : List CellConfig) (cpu : ℕ → Cpu) (caller : ℕ) (new : CellConfig) → AreOwned image configs cpu → MayBeCreated image configs cpu caller new → HasItsCpus image (cell_lent new cpu) new
 new_has image configs cpu caller new owned may = record {
   owned = λ i set. ⊎_elim (λ lent. lent.1) (λ kept. absurd (both_ways (is_cpu_set new.cpu_set i) kept.0 set)) (lent_or_kept new cpu i);
   named = λ i is.
@@ -290,7 +290,7 @@ lent_owner : (image : Image) (configs : List CellConfig) (new : CellConfig) (own
 lent_owner image configs new owner h =
     ⊎_elim (λ root. inl root) (λ cell. inr (cell.0, Contains-append_left configs (new ∷ []) cell.0 cell.1, cell.2)) h
 
-pub owned_lent : (image : Image) (configs : List CellConfig) (cpu : ℕ → Cpu) (caller : ℕ) (new : CellConfig) → AreSoundCells image.system configs → AreOwned image configs cpu → MayCome image configs cpu caller new → AreOwned image (configs ++ new ∷ []) (cell_lent new cpu)
+pub owned_lent : (image : Image) (configs : List CellConfig) (cpu : ℕ → Cpu) (caller : ℕ) (new : CellConfig) → AreSoundCells image.system configs → AreOwned image configs cpu → MayBeCreated image configs cpu caller new → AreOwned image (configs ++ new ∷ []) (cell_lent new cpu)
 owned_lent image configs cpu caller new sound owned may = record {
   cells = λ config held.
       let P : CellConfig → Type 0 = HasItsCpus image (cell_lent new cpu) in
@@ -308,17 +308,17 @@ owned_lent image configs cpu caller new sound owned may = record {
 
 pub open_created : (image : Image) (cells : List Live) (cpu : ℕ → Cpu) (caller at : ℕ) (new : CellConfig) → AreSoundCells image.system (configs_of cells) → AreOwned image (configs_of cells) cpu
     → IsOpen image (configs_of cells) cpu (record { caller = caller; call = Create at; phase = ToCreate new })
-    → IsOpen image (configs_of cells ++ new ∷ []) (cell_lent new cpu) (record { caller = caller; call = Create at; phase = telling new.id (pos new.id) (first_told new.id cells) })
+    → IsOpen image (configs_of cells ++ new ∷ []) (cell_lent new cpu) (record { caller = caller; call = Create at; phase = telling new.id (pos new.id) (first_recipient new.id cells) })
 open_created image cells cpu caller at new sound owned opens =
     let root : ℕ = image.system.root.id in
     let configs : List CellConfig = configs_of cells in
     let all : List CellConfig = configs ++ new ∷ [] in
-    let may : MayCome image configs cpu caller new = opens.phase.1 in
+    let may : MayBeCreated image configs cpu caller new = opens.phase.1 in
     let apart : root ≢ new.id = other_id (image.system.root ∷ configs) new image.system.root may.unknown (Contains_head image.system.root configs) in
     let next = told_first image all (cell_lent new cpu) caller new.id (Create at) (pos new.id) cells
     (λ live held _. Contains-append_left configs (new ∷ []) live.config (Contains_map (λ (l : Live). l.config) cells live held))
     (new, Contains-push configs new, refl, refl) in
-    open_late image all (cell_lent new cpu) caller (Create at) (telling new.id (pos new.id) (first_told new.id cells)) next.0
+    open_late image all (cell_lent new cpu) caller (Create at) (telling new.id (pos new.id) (first_recipient new.id cells)) next.0
     (⊎_elim
     (λ lent. absurd (may.other caller lent.0 refl))
     (λ kept. subst (IsCaller image caller (Create at)) (sym kept.1) opens.caller)
@@ -343,11 +343,11 @@ open_created image cells cpu caller at new sound owned opens =
 -- ---- notes
 
 pub open_noted : (image : Image) (cells : List Live) (cpu : ℕ → Cpu) (caller id about waited : ℕ) (call : Call) (answer : ℤ) → IsOpen image (configs_of cells) cpu (record { caller = caller; call = call; phase = ToNoted id about answer waited })
-    → IsOpen image (configs_of cells) cpu (record { caller = caller; call = call; phase = telling about answer (first_told about (behind id cells)) })
+    → IsOpen image (configs_of cells) cpu (record { caller = caller; call = call; phase = telling about answer (first_recipient about (behind id cells)) })
 open_noted image cells cpu caller id about waited call answer opens =
     let next = told_first image (configs_of cells) cpu caller about call answer (behind id cells)
     (λ live held _. Contains_map (λ (l : Live). l.config) cells live (behind_held id cells live held)) opens.phase.1 in
-    open_late image (configs_of cells) cpu caller call (telling about answer (first_told about (behind id cells))) next.0 opens.caller opens.roots opens.cells opens.absent next.1
+    open_late image (configs_of cells) cpu caller call (telling about answer (first_recipient about (behind id cells))) next.0 opens.caller opens.roots opens.cells opens.absent next.1
 
 pub open_note : (image : Image) (configs : List CellConfig) (cpu : ℕ → Cpu) (caller id about : ℕ) (call : Call) (answer : ℤ) → IsOpen image configs cpu (record { caller = caller; call = call; phase = ToNote id about answer })
     → IsOpen image configs cpu (record { caller = caller; call = call; phase = ToNoted id about answer 0 })

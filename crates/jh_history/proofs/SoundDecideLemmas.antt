@@ -34,7 +34,7 @@ use Rattle.jh_history.specs.Cpus.{is_running, settled, is_agreed}
 use Rattle.jh_history.specs.History.{coming_by}
 use Rattle.jh_history.specs.Phases.{keeps_decide, may_give, is_locked, is_other_locked, unless_refused, creation_by, creation_of, refused_by, id_refusal, first_refusal, decision}
 use Rattle.jh_shape.specs.Lives.{configs_of}
-use Rattle.jh_history.specs.Sound.{AreSoundCells, AreOwned, IsCalm, IsHalted, IsAsked, IsHalting, HasCome, GoesOn, IsCaller, IsAboutLive, MayCome, IsInPhase, IsOpen}
+use Rattle.jh_history.specs.Sound.{AreSoundCells, AreOwned, IsCalm, IsHalted, IsAsked, IsHalting, HasHalted, GoesOn, IsCaller, IsAboutLive, MayBeCreated, IsInPhase, IsOpen}
 use Rattle.jh_history.proofs.SoundCpusLemmas.{owned_kept, named_same, root_unnamed, running_mode}
 
 -- the board's CPUs are below 16
@@ -57,7 +57,7 @@ IsLate (ToNote id about answer) = Unit {0}
 IsLate (ToNoted id about answer waited) = Unit {0}
 IsLate (ToFinish answer) = Unit {0}
 
-late_come : (phase : Phase) (cpu : Cpu) → IsLate phase → IsHalted cpu → HasCome phase cpu
+late_come : (phase : Phase) (cpu : Cpu) → IsLate phase → IsHalted cpu → HasHalted phase cpu
 late_come ToDecide cpu late h = absurd late
 late_come (ToSettle waited) cpu late h = h
 late_come (ToCreate config) cpu late h = h
@@ -149,7 +149,7 @@ coming_from_decision image f caller at h = coming_by_lock image f caller at (lis
 
 may_come : (image : Image) (f : Facts) (caller : ℕ) (config : CellConfig) → IsClean image.system (configs_of f.cells)
     → IsAccepted image.system (configs_of f.cells) config (may_give image f caller) (pages_of image.system.root.memory_regions (configs_of f.cells ++ config ∷ [])) (pool_pages image.system)
-    → MayCome image (configs_of f.cells) f.cpu caller config
+    → MayBeCreated image (configs_of f.cells) f.cpu caller config
 may_come image f caller config clean accepted =
     let root : ℕ = image.system.root.id in
     let gives : (i : ℕ) → is_cpu_set config.cpu_set i ≡ true → (is_on_board image i && not (eqb i caller) && eqb (f.cpu i).owner root) ≡ true = accepted.cpus in

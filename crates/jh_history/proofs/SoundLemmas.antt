@@ -32,7 +32,7 @@ use Rattle.jh_history.specs.Facts.{Facts}
 use Rattle.jh_history.specs.Lives.{is_on_board, program_of, ops_in}
 use Rattle.jh_history.specs.Admitted.{IsAdmitted}
 use Rattle.jh_history.specs.Bytes.{byte_after}
-use Rattle.jh_history.specs.Calls.{call_by, counted, decided, first_told, telling, behind, is_named}
+use Rattle.jh_history.specs.Calls.{call_by, counted, decided, first_recipient, telling, behind, is_named}
 use Rattle.jh_history.specs.Commits.{cells_by, is_other}
 use Rattle.jh_history.specs.Cpus.{acted, change_if, is_agreed}
 use Rattle.jh_history.specs.History.{start, after, facts, coming_of, coming_by}
@@ -228,7 +228,7 @@ create_sound image rest rest' cpu cells caller (Create at) new coming cell sound
     let configs : List CellConfig = configs_of cells in
     let may = sound.call.phase.1 in
     sound_by image rest' (λ i. acted image (Some (opened_call caller (Create at) (ToCreate new))) Commit caller i (cpu i)) (cells ++ (record { config = new; loadable = false }) ∷ []) (configs ++ new ∷ [])
-    (opened_call caller (Create at) (telling new.id (pos new.id) (first_told new.id cells)))
+    (opened_call caller (Create at) (telling new.id (pos new.id) (first_recipient new.id cells)))
     (configs_joined cells new)
     (cells_joined image.system configs new sound.cells may.unknown may.clean may.room)
     (owned_lent image configs cpu caller new sound.cells sound.cpus may)
@@ -273,7 +273,7 @@ commit_sound image rest rest' cpu cells caller (Loadable id) coming cell sound n
 commit_sound image rest rest' cpu cells caller (Destroy id) coming cell sound none =
     let configs : List CellConfig = configs_of cells in
     sound_by image rest' (λ i. acted image (Some (opened_call caller (Destroy id) ToCommit)) Commit caller i (cpu i)) (filter (is_other id) cells) (filter (is_other_config id) configs)
-    (opened_call caller (Destroy id) (telling id (pos 0) (first_told id cells)))
+    (opened_call caller (Destroy id) (telling id (pos 0) (first_recipient id cells)))
     (configs_others id cells)
     (cells_fewer image.system (is_other_config id) configs sound.cells)
     (owned_returned image configs cpu id sound.cells sound.cpus)
@@ -299,7 +299,7 @@ noted_sound image rest rest' cpu cells caller id about waited call answer coming
 noted_sound image rest rest' cpu cells caller id about waited call answer coming cell act (Some how) sound h =
     let P : Act → Type 0 = λ x. IsSoundBut image (behind_act image rest' cpu cells (Some (opened_call caller call (ToNoted id about answer waited))) coming caller cell x) in
     subst P (same_Some (Noted id how) act h)
-    (phase_only image rest' cpu cells caller (opened_call caller call (telling about answer (first_told about (behind id cells))))
+    (phase_only image rest' cpu cells caller (opened_call caller call (telling about answer (first_recipient about (behind id cells))))
     (record { cells = sound.cells; cpus = sound.cpus; call = open_noted image cells cpu caller id about waited call answer sound.call }))
 
 -- each phase of a call

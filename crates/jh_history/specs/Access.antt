@@ -72,21 +72,21 @@ memory_read byte (Memory places) = Some (spelled (map byte places))
 memory_read byte _ = None
 
 -- what the cell reads of configuration space: of a function that is present its bytes, of an absent one all ones
-abbrev pub config_told : Devices → InConfig → ℕ
-config_told devices bytes =
+abbrev pub config_value : Devices → InConfig → ℕ
+config_value devices bytes =
     option_map_or (λ (e : Endpoint). config_read e.space (bytes.at % 4096) bytes.width) (function_at devices bytes.at) (256 ^ bytes.width - 1)
 
 -- what the cell reads of a register of its device
-abbrev pub register_told : Devices → InWindow → ℕ
-register_told devices register =
+abbrev pub register_value : Devices → InWindow → ℕ
+register_value devices register =
     option_map_or (λ (e : Endpoint). register_of e register.bar register.at) (endpoint_at devices.cell register.device devices.endpoints) 0
 
 -- the number that an access of a cell with these devices reads where it reaches, from these bytes of memory
 abbrev pub read_of : (Place → ℕ) → Devices → Reach → Option ℕ
 read_of byte devices (Memory places) = Some (spelled (map byte places))
 read_of byte devices (Subpage places) = Some (spelled (map byte places))
-read_of byte devices (Config bytes) = Some (config_told devices bytes)
-read_of byte devices (Window register) = Some (register_told devices register)
+read_of byte devices (Config bytes) = Some (config_value devices bytes)
+read_of byte devices (Window register) = Some (register_value devices register)
 read_of byte devices Nothing = None
 
 -- the access reaches something

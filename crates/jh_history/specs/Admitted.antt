@@ -34,7 +34,7 @@ pub record IsAdmittedSystem (system : SystemConfig) : Type 0 where
 -- a program has at most 4,096 operations, each within its limits
 pub record IsSoundProgram (program : Program) : Type 0 where
   pub few : length program.ops ≤ most_ops
-  pub plain : All IsWellFormed program.ops
+  pub well_formed : All IsWellFormed program.ops
 
 -- two programs are of different cells or CPUs
 abbrev pub IsOtherProgram : Program → Program → Type 0

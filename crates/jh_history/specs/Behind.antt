@@ -52,8 +52,8 @@ asked_windows None = []
 asked_windows (Some window) = window ∷ []
 
 -- the first enabled window of the cell's devices that has the whole access
-abbrev pub window_found : Devices → ℕ → ℕ → Option TheWindow
-window_found devices at width = find (window_has at width) (windows_of devices)
+abbrev pub window_of_access : Devices → ℕ → ℕ → Option TheWindow
+window_of_access devices at width = find (window_has at width) (windows_of devices)
 
 -- what answers where no subpage region has the access
 abbrev pub behind_regions : ℕ → ℕ → Option TheWindow → ℕ → ℕ → Reach
@@ -75,5 +75,5 @@ answer_to id region start end window Fetch at width = Nothing
 unfoldable pub answer : List Region → Devices → (Place → Bool) → SystemConfig → Access → ℕ → ℕ → Reach
 answer regions devices kept system access at width =
     if nat_le (at + width) ADDRESS_END
-    then answer_to devices.cell (find (takes_all (λ p. kept (Physical p)) at width) regions) (ecam_start system) (ecam_end system) (window_found devices at width) access at width
+    then answer_to devices.cell (find (takes_all (λ p. kept (Physical p)) at width) regions) (ecam_start system) (ecam_end system) (window_of_access devices at width) access at width
     else Nothing

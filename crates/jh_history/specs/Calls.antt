@@ -26,12 +26,12 @@ is_named (Destroy cell) id = cell == id
 is_named _ id = false
 
 -- a cell is told that another was created or destroyed, unless it is passive
-abbrev pub is_told : ℕ → Live → Bool
-is_told about live = not (has_id about live) && not (is_passive live.config)
+abbrev pub is_recipient : ℕ → Live → Bool
+is_recipient about live = not (has_id about live) && not (is_passive live.config)
 
 -- a cell of the configuration is told that another was created or destroyed, unless it is passive
-abbrev pub is_told_by : ℕ → CellConfig → Bool
-is_told_by about config = not (config.id == about) && not (is_passive config)
+abbrev pub is_recipient_by : ℕ → CellConfig → Bool
+is_recipient_by about config = not (config.id == about) && not (is_passive config)
 
 -- the cells behind the one with the id
 abbrev pub behind : ℕ → List Live → List Live
@@ -44,8 +44,8 @@ telling about answer None = ToFinish answer
 telling about answer (Some id) = ToNote id about answer
 
 -- the first of the cells that is told
-abbrev pub first_told : ℕ → List Live → Option ℕ
-first_told about cells = option_map id_of (find (is_told about) cells)
+abbrev pub first_recipient : ℕ → List Live → Option ℕ
+first_recipient about cells = option_map id_of (find (is_recipient about) cells)
 
 -- the phase after a Decide: the end where it refuses; else a create goes on with the configuration that was read, and
 -- any other call asks its cell
@@ -64,8 +64,8 @@ after_settle Timeout = ToCommit
 -- the phase after the Commit: a create and a destroy are told to the other cells, which live before it as after it;
 -- else the end with 0
 abbrev pub after_commit : Call → Phase → List Live → Phase
-after_commit (Create at) (ToCreate config) cells = telling config.id (pos config.id) (first_told config.id cells)
-after_commit (Destroy id) phase cells = telling id (pos 0) (first_told id cells)
+after_commit (Create at) (ToCreate config) cells = telling config.id (pos config.id) (first_recipient config.id cells)
+after_commit (Destroy id) phase cells = telling id (pos 0) (first_recipient id cells)
 after_commit call phase cells = ToFinish (pos 0)
 
 -- the phase after a Note: the cell that was told is waited for
@@ -75,7 +75,7 @@ after_note phase = phase
 
 -- the phase after a Noted: the next cell is told, or the call ends where there is none
 abbrev pub after_noted : Phase → List Live → Phase
-after_noted (ToNoted id about answer waited) cells = telling about answer (first_told about (behind id cells))
+after_noted (ToNoted id about answer waited) cells = telling about answer (first_recipient about (behind id cells))
 after_noted phase cells = phase
 
 -- the phase waits for an answer of the cell with the id

@@ -17,7 +17,7 @@ use Rattle.jh_history.specs.declared.place.Place.TheVariants.{Physical, Page}
 use Rattle.jh_history.specs.declared.access.Reach.{Reach}
 use Rattle.jh_history.specs.declared.access.Reach.TheVariants.{Memory, Subpage, Config, Window, Nothing}
 use Rattle.jh_history.specs.declared.call.OpenCall.{OpenCall}
-use Rattle.jh_history.specs.declared.call.Creation.TheVariants.{Comes}
+use Rattle.jh_history.specs.declared.call.Creation.TheVariants.{Accepted}
 use Rattle.jh_history.specs.declared.call.Phase.TheVariants.{ToCreate}
 use Rattle.jh_history.specs.declared.entry.Act.{Act}
 use Rattle.jh_history.specs.declared.entry.Act.TheVariants.{Write, Commit}
@@ -29,7 +29,7 @@ use Rattle.jh_shape.specs.Lives.{configs_of}
 -- the caller's create goes on with the configuration that it read at the address
 pub record HasRead (image : Image) (facts : Facts) (caller at : ℕ) : Type 0 where
   pub config : CellConfig
-  pub comes : creation_of image facts caller at ≡ Comes config
+  pub comes : creation_of image facts caller at ≡ Accepted config
   pub read : read_at image facts at ≡ Reads config
 
 -- the cell's set names a CPU

@@ -21,12 +21,12 @@ use Rattle.jh_history.specs.Phases.{state_word}
 use Rattle.jh_shape.specs.Lives.{configs_of}
 
 -- the state word of the live cell with the id, 0 for root
-abbrev pub state_told : Image → Facts → ℕ → Option ℕ
-state_told image facts id = if id == image.system.root.id then Some 0 else option_map (λ (c : CellConfig). state_word facts c.id) (live_in facts.cells id)
+abbrev pub state_of_cell : Image → Facts → ℕ → Option ℕ
+state_of_cell image facts id = if id == image.system.root.id then Some 0 else option_map (λ (c : CellConfig). state_word facts c.id) (live_in facts.cells id)
 
 -- the state word that the call asks for, if it asks for one and a live cell has the id
 abbrev pub state_seen : Image → Facts → Call → Option ℕ
-state_seen image facts (State id) = state_told image facts id
+state_seen image facts (State id) = state_of_cell image facts id
 state_seen image facts call = None
 
 -- what is seen of a CPU that may be seen: whether it has failed
@@ -34,15 +34,15 @@ abbrev pub mode_seen : Cpu → CpuSeen
 mode_seen cpu = if is_failed cpu.mode then Failed else Fine
 
 -- what the cell sees of the CPU: a cell besides root sees its own CPUs alone
-abbrev pub cpu_told : Image → Facts → ℕ → ℕ → CpuSeen
-cpu_told image facts cell cpu =
+abbrev pub cpu_seen_by : Image → Facts → ℕ → ℕ → CpuSeen
+cpu_seen_by image facts cell cpu =
     if is_on_board image cpu
     then (if (cell == image.system.root.id) || ((facts.cpu cpu).owner == cell) then mode_seen (facts.cpu cpu) else Foreign)
     else Absent
 
 -- what the cell sees of the CPU that the call asks for, if it asks for one
 abbrev pub cpu_seen : Image → Facts → ℕ → Call → CpuSeen
-cpu_seen image facts cell (CpuInfo cpu kind) = cpu_told image facts cell cpu
+cpu_seen image facts cell (CpuInfo cpu kind) = cpu_seen_by image facts cell cpu
 cpu_seen image facts cell call = Absent
 
 -- what is seen where the cell makes the call: the pages used are those of the live cells

@@ -25,5 +25,4 @@ pub mod Items
 pub mod Admitted
 pub mod LiveView
 pub mod ReadView
-pub mod PlainView
 pub mod Private

@@ -17,7 +17,7 @@ use Rattle.jh_call.specs.declared.call.Call.TheVariants.{Create, Start, Loadable
 use Rattle.jh_script.specs.declared.image.Image.{Image}
 use Rattle.jh_history.specs.declared.place.Place.TheVariants.{Page}
 use Rattle.jh_history.specs.declared.call.Creation.{Creation}
-use Rattle.jh_history.specs.declared.call.Creation.TheVariants.{Refused, Comes}
+use Rattle.jh_history.specs.declared.call.Creation.TheVariants.{Refused, Accepted}
 use Rattle.jh_history.specs.declared.call.Phase.{Phase}
 use Rattle.jh_history.specs.declared.call.Phase.TheVariants.{ToDecide, ToSettle, ToCreate, ToCommit, ToNote, ToNoted, ToFinish}
 use Rattle.jh_history.specs.declared.entry.Settled.{Settled}
@@ -64,7 +64,7 @@ may_give image facts caller cpu = is_on_board image cpu && not (cpu == caller) &
 
 -- the cell comes, unless it is refused
 abbrev pub unless_refused : CellConfig → Option ℤ → Creation
-unless_refused config None = Comes config
+unless_refused config None = Accepted config
 unless_refused config (Some number) = Refused number
 
 -- a configuration that was read is refused by its own order of causes, in which the pages are those of all cells
@@ -83,7 +83,7 @@ creation_of image facts caller at =
 -- the number that a create is refused with, if it is refused
 abbrev pub refused_by : Creation → Option ℤ
 refused_by (Refused number) = Some number
-refused_by (Comes config) = None
+refused_by (Accepted config) = None
 
 -- the number that an id is refused with: one that no live cell has, and root's
 abbrev pub id_refusal : Image → Facts → ℕ → Option ℤ

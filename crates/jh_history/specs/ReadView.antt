@@ -8,7 +8,7 @@ use Rattle.jh_script.specs.declared.image.Image.{Image}
 use Rattle.jh_history.specs.Admitted.{pool_pages}
 use Rattle.jh_history.specs.Lives.{is_on_board}
 use Rattle.jh_history.specs.declared.call.Creation.{Creation}
-use Rattle.jh_history.specs.declared.call.Creation.TheVariants.{Refused, Comes}
+use Rattle.jh_history.specs.declared.call.Creation.TheVariants.{Refused, Accepted}
 use Rattle.jh_history.specs.Configs.{ReadCell, Reads, Refuses, read_cell}
 
 -- the bytes from the address on, so many of them, where each may be read
@@ -23,7 +23,7 @@ read_by byte at = read_cell (bytes_by byte at)
 -- what was read, by what comes of a create: a configuration, or the number that the create is refused with
 abbrev pub as_read : Creation → ReadCell
 as_read (Refused number) = Refuses number
-as_read (Comes config) = Reads config
+as_read (Accepted config) = Reads config
 
 -- the caller may give the CPU away, which is in this state
 abbrev pub gives_by : Image → ℕ → ℕ → Cpu → Bool

@@ -15,7 +15,7 @@ use Rattle.jh_call.specs.Calls.{decoded, is_management}
 use Rattle.jh_vpci.specs.Windows.{AreWindows}
 use Rattle.jh_ivshmem.specs.declared.endpoint.Endpoint.{Endpoint}
 use Rattle.jh_ivshmem.specs.declared.spec.EndpointSpec.{EndpointSpec}
-use Rattle.jh_ivshmem.specs.Specs.{IsInItsLimits, AreEndpointsApart, ComesBefore}
+use Rattle.jh_ivshmem.specs.Specs.{IsInItsLimits, AreEndpointsApart, IsBefore}
 use Rattle.jh_ivshmem.specs.Links.{endpoint_at}
 use Rattle.jh_script.specs.declared.image.Image.{Image}
 use Rattle.jh_script.specs.declared.image.Preload.{Preload}
@@ -96,9 +96,9 @@ pub record IsCaller (image : Image) (caller : ℕ) (call : Call) (cpu : Cpu) : T
   pub management : is_management call ≡ true
 
 -- another CPU of root on the board has come: up to the Decide it is halting, from then on it is halted
-abbrev pub HasCome : Phase → Cpu → Type 0
-HasCome ToDecide cpu = IsHalting cpu
-HasCome _ cpu = IsHalted cpu
+abbrev pub HasHalted : Phase → Cpu → Type 0
+HasHalted ToDecide cpu = IsHalting cpu
+HasHalted _ cpu = IsHalted cpu
 
 -- a CPU of a cell goes on: it is calm; but before the Commit, once the cell that the call is about has agreed, a CPU of
 -- that cell is halting
@@ -112,7 +112,7 @@ IsAboutLive configs call = (config : CellConfig) × Contains configs config × (
 
 -- the cell with the configuration may come: no cell has its name or its id, each CPU that it names is another one of
 -- root's, and with it the check finds nothing and the pages are there
-pub record MayCome (image : Image) (configs : List CellConfig) (cpu : ℕ → Cpu) (caller : ℕ) (config : CellConfig) : Type 0 where
+pub record MayBeCreated (image : Image) (configs : List CellConfig) (cpu : ℕ → Cpu) (caller : ℕ) (config : CellConfig) : Type 0 where
   pub unknown : is_known (image.system.root ∷ configs) config ≡ false
   pub board : (i : ℕ) → is_cpu_set config.cpu_set i ≡ true → is_on_board image i ≡ true
   pub other : (i : ℕ) → is_cpu_set config.cpu_set i ≡ true → i ≢ caller
@@ -121,7 +121,7 @@ pub record MayCome (image : Image) (configs : List CellConfig) (cpu : ℕ → Cp
   pub room : pages_of image.system.root.memory_regions (configs ++ config ∷ []) ≤ pool_pages image.system
 
 -- the cell with the id is told of another: it lives, isn't passive, and isn't the one that it is told of
-pub record IsTold (configs : List CellConfig) (id about : ℕ) : Type 0 where
+pub record IsNoteRecipient (configs : List CellConfig) (id about : ℕ) : Type 0 where
   pub config : CellConfig
   pub held : Contains configs config
   pub named : config.id ≡ id
@@ -144,16 +144,16 @@ IsCreate _ = ⊥
 abbrev pub IsInPhase : Image → List CellConfig → (ℕ → Cpu) → ℕ → Call → Phase → Type 0
 IsInPhase image configs cpu caller call ToDecide = Unit {0}
 IsInPhase image configs cpu caller call (ToSettle waited) = IsAboutLive configs call
-IsInPhase image configs cpu caller call (ToCreate config) = IsCreate call × MayCome image configs cpu caller config
+IsInPhase image configs cpu caller call (ToCreate config) = IsCreate call × MayBeCreated image configs cpu caller config
 IsInPhase image configs cpu caller call ToCommit = IsAboutLive configs call
-IsInPhase image configs cpu caller call (ToNote id about answer) = IsTold configs id about × IsNews configs call about answer
-IsInPhase image configs cpu caller call (ToNoted id about answer waited) = IsTold configs id about × IsNews configs call about answer
+IsInPhase image configs cpu caller call (ToNote id about answer) = IsNoteRecipient configs id about × IsNews configs call about answer
+IsInPhase image configs cpu caller call (ToNoted id about answer waited) = IsNoteRecipient configs id about × IsNews configs call about answer
 IsInPhase image configs cpu caller call (ToFinish answer) = Unit {0}
 
 -- the call is open, beside these cells and CPUs
 pub record IsOpen (image : Image) (configs : List CellConfig) (cpu : ℕ → Cpu) (o : OpenCall) : Type 0 where
   pub caller : IsCaller image o.caller o.call (cpu o.caller)
-  pub roots : (i : ℕ) → is_on_board image i ≡ true → i ≢ o.caller → (cpu i).owner ≡ image.system.root.id → HasCome o.phase (cpu i)
+  pub roots : (i : ℕ) → is_on_board image i ≡ true → i ≢ o.caller → (cpu i).owner ≡ image.system.root.id → HasHalted o.phase (cpu i)
   pub cells : (i : ℕ) → (cpu i).owner ≢ image.system.root.id → GoesOn o.call o.phase (cpu i)
   pub absent : (i : ℕ) → is_on_board image i ≡ false → IsCalm (cpu i)
   pub phase : IsInPhase image configs cpu o.caller o.call o.phase
@@ -188,7 +188,7 @@ pub record AreEndpoints (image : Image) (configs : List CellConfig) (endpoints :
   pub own : All (λ (e : Endpoint). IsOfDevice image configs e.spec) endpoints
   pub whole : (config : CellConfig) → Contains (image.system.root ∷ configs) config → All (HasEndpoint endpoints) (specs_of config)
   pub apart : AllPairs AreEndpointsApart (map (λ (e : Endpoint). e.spec) endpoints)
-  pub order : AllPairs ComesBefore (map (λ (e : Endpoint). e.spec) endpoints)
+  pub order : AllPairs IsBefore (map (λ (e : Endpoint). e.spec) endpoints)
   pub sound : All IsSoundEndpoint endpoints
 
 -- ---- all of it

@@ -6,7 +6,7 @@ ghost use Rattle.jh_cellcfg.specs.Regions.{has_address, IsInRange};
 ghost use Rattle.jh_history.specs.Places.{places_in_row};
 ghost use Rattle.jh_history.specs.Access.{place_in_cell};
 ghost use Rattle.jh_mmio.specs.Dispatch.{behind_between};
-ghost use Rattle.jh_history.specs.Behind.{ecam_start, ecam_end, by_region, in_window, asked_windows, by_device, behind_regions, window_found, answer_by, answer_to};
+ghost use Rattle.jh_history.specs.Behind.{ecam_start, ecam_end, by_region, in_window, asked_windows, by_device, behind_regions, window_of_access, answer_by, answer_to};
 ghost use Rattle.jh_history.specs.Devices.{IsGoodWindow};
 
 use crate::access::{Access, ConfigBytes, Reach, Register, Wanted};
@@ -131,7 +131,7 @@ fn answer_by(
     requires few { wanted.now.width ≤ 8 }
     requires within { IfSome region IsInRange }
     requires has { IfSome region (λ (r : TheRegion). IsTrue (has_address r wanted.now.at)) }
-    ensures { result ≡ answer_by devices.now.cell region ecam.start ecam.end (window_found devices.now wanted.now.at wanted.now.width) write wanted.now.at wanted.now.width }
+    ensures { result ≡ answer_by devices.now.cell region ecam.start ecam.end (window_of_access devices.now wanted.now.at wanted.now.width) write wanted.now.at wanted.now.width }
 {
     match region {
         Some(region) => by_region(devices.cell(), &region, wanted, write),
@@ -146,7 +146,7 @@ pub fn answer_of(devices: &Devices, region: Option<Region>, ecam: Range, wanted:
     requires few { wanted.now.width ≤ 8 }
     requires within { IfSome region IsInRange }
     requires has { IfSome region (λ (r : TheRegion). IsTrue (has_address r wanted.now.at)) }
-    ensures { result ≡ answer_to devices.now.cell region ecam.start ecam.end (window_found devices.now wanted.now.at wanted.now.width) wanted.now.access wanted.now.at wanted.now.width }
+    ensures { result ≡ answer_to devices.now.cell region ecam.start ecam.end (window_of_access devices.now wanted.now.at wanted.now.width) wanted.now.access wanted.now.at wanted.now.width }
 {
     match wanted.access {
         Access::Read => answer_by(devices, region, ecam, wanted, false),

@@ -52,7 +52,7 @@ pub enum Phase {
 pub enum Creation {
     Refused { number: i64 },
     /// The new cell has this configuration.
-    Comes { config: BoxedCell },
+    Accepted { config: BoxedCell },
 }
 
 impl Creation {
@@ -62,7 +62,7 @@ impl Creation {
     {
         match self {
             Creation::Refused { number } => Some(*number),
-            Creation::Comes { .. } => None,
+            Creation::Accepted { .. } => None,
         }
     }
 }

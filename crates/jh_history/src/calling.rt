@@ -5,7 +5,7 @@ ghost use Rattle.jh_cellcfg.specs.declared.config.CellConfig.{CellConfig as TheC
 ghost use Rattle.jh_cellcfg.specs.declared.live.Live.{Live as TheLive};
 ghost use Rattle.jh_shape.specs.Lives.{configs_of};
 ghost use Rattle.jh_history.specs.Commits.{created, created_at, created_by};
-ghost use Rattle.jh_history.specs.Calls.{is_told_by, first_told, behind, telling, decided, after_settle, after_commit, after_note, after_noted, counted, phase_after, call_by, is_call, waits_for};
+ghost use Rattle.jh_history.specs.Calls.{is_recipient_by, first_recipient, behind, telling, decided, after_settle, after_commit, after_note, after_noted, counted, phase_after, call_by, is_call, waits_for};
 
 use crate::boxed::BoxedCell;
 use crate::call::{OpenCall, Phase};
@@ -30,18 +30,18 @@ struct Next {
 }
 
 /// Whether the cell is told that another, `about`, was created or destroyed.
-fn is_told(about: u64, cell: &CellConfig) -> bool
-    ensures { result ≡ is_told_by about cell.now }
+fn is_recipient(about: u64, cell: &CellConfig) -> bool
+    ensures { result ≡ is_recipient_by about cell.now }
 {
     u64::from(cell.id) != about && !cell.is_passive()
 }
 
 /// The id of the first of the cells that is told that the cell `about` was created or destroyed.
-fn first_told(about: u64, cells: &[CellConfig]) -> Option<u32>
-    ensures { (lives : List TheLive) → configs_of lives ≡ cells.now → result ≡ first_told about lives }
+fn first_recipient(about: u64, cells: &[CellConfig]) -> Option<u32>
+    ensures { (lives : List TheLive) → configs_of lives ≡ cells.now → result ≡ first_recipient about lives }
 {
     for cell in cells {
-        if is_told(about, cell) {
+        if is_recipient(about, cell) {
             return Some(cell.id);
         }
     }
@@ -49,12 +49,12 @@ fn first_told(about: u64, cells: &[CellConfig]) -> Option<u32>
 }
 
 /// The id of the first cell that is told, of those behind the cell with the id `id`.
-fn next_told(about: u64, cells: &[CellConfig], id: u32) -> Option<u32>
-    ensures { (lives : List TheLive) → configs_of lives ≡ cells.now → result ≡ first_told about (behind id lives) }
+fn next_recipient(about: u64, cells: &[CellConfig], id: u32) -> Option<u32>
+    ensures { (lives : List TheLive) → configs_of lives ≡ cells.now → result ≡ first_recipient about (behind id lives) }
 {
     let mut is_behind = false;
     for cell in cells {
-        if is_behind && is_told(about, cell) {
+        if is_behind && is_recipient(about, cell) {
             return Some(cell.id);
         }
         is_behind = is_behind || cell.id == id;
@@ -114,7 +114,7 @@ fn after_create(phase: Phase, cells: &[CellConfig]) -> Next
         Phase::ToCreate { config } => {
             let id = config.get().id;
             let about = u64::from(id);
-            let told = first_told(about, cells);
+            let told = first_recipient(about, cells);
             Next {
                 phase: telling(about, i64::from(id), told),
                 created: Some(config),
@@ -135,7 +135,7 @@ fn after_commit(call: &Call, phase: Phase, cells: &[CellConfig]) -> Next
     match *call {
         Call::Create { .. } => after_create(phase, cells),
         Call::Destroy { id } => Next {
-            phase: telling(id, 0, first_told(id, cells)),
+            phase: telling(id, 0, first_recipient(id, cells)),
             created: None,
         },
         _ => Next {
@@ -170,7 +170,7 @@ fn after_noted(phase: Phase, cells: &[CellConfig]) -> Phase
             about,
             answer,
             ..
-        } => telling(about, answer, next_told(about, cells, id)),
+        } => telling(about, answer, next_recipient(about, cells, id)),
         phase => phase,
     }
 }

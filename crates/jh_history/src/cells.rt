@@ -133,7 +133,7 @@ pub(crate) fn devices_in<'a>(image: &'a Image, cells: &'a [CellConfig], id: u32)
 fn ops_in<'a>(image: &'a Image, cells: &[CellConfig], id: u32, cpu: u8) -> &'a [Op]
     requires { IsAdmitted image.now }
     ensures ops { (lives : List TheLive) → configs_of lives ≡ cells.now → result.now ≡ ops_in image.now lives id cpu }
-    ensures plain { All IsWellFormed result.now }
+    ensures well_formed { All IsWellFormed result.now }
 {
     match config_in(image, cells, u64::from(id)) {
         Some(cell) => program_of(image, cell.name(), cpu),
@@ -145,7 +145,7 @@ fn ops_in<'a>(image: &'a Image, cells: &[CellConfig], id: u32, cpu: u8) -> &'a [
 pub(crate) fn op_at(image: &Image, cells: &[CellConfig], state: Cpu, cpu: u8) -> Option<Op>
     requires { IsAdmitted image.now }
     ensures op { (f : Facts) → configs_of f.cells ≡ cells.now → result ≡ op_at image.now f state cpu }
-    ensures plain { IfSome result IsWellFormed }
+    ensures well_formed { IfSome result IsWellFormed }
 {
     ops_in(image, cells, state.owner, cpu)
         .get(state.position as usize)

@@ -89,7 +89,7 @@ pub fn unless_refused(config: BoxedCell, refusal: Option<i64>) -> Creation
 {
     match refusal {
         Some(number) => Creation::Refused { number },
-        None => Creation::Comes { config },
+        None => Creation::Accepted { config },
     }
 }
 
@@ -112,7 +112,7 @@ pub(crate) fn judged(
     ensures untold { IfOk result (λ told. IfNone told (length cells.now ≡ 15)) }
 {
     match read {
-        Creation::Comes { config } => {
+        Creation::Accepted { config } => {
             let may = given(image, cpus, caller);
             if cells.len() == MOST_CELLS && may != 0 {
                 return Ok(None);

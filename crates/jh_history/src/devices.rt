@@ -1,8 +1,8 @@
 //! The devices of a cell, as its accesses find them.
 ghost use Rattle.std.specs.Prelude.{◌≡◌, ◌<◌, ◌++◌, find, IfSome};
 ghost use Rattle.jh_mmio.specs.Dispatch.{window_has};
-ghost use Rattle.jh_history.specs.Access.{config_told, register_told};
-ghost use Rattle.jh_history.specs.Behind.{window_found};
+ghost use Rattle.jh_history.specs.Access.{config_value, register_value};
+ghost use Rattle.jh_history.specs.Behind.{window_of_access};
 ghost use Rattle.jh_history.specs.Devices.{Devices as TheDevices, IsGoodWindow, number_from, number_at, space_window, device_windows};
 
 use crate::access::{ConfigBytes, Register, Wanted};
@@ -115,7 +115,7 @@ impl<'a> Devices<'a> {
 
     /// What the cell reads of configuration space: of an absent function a number of which all bits are set.
     pub(crate) fn read_config(&self, bytes: &ConfigBytes) -> u32
-        ensures { result ≡ config_told self.now bytes.now }
+        ensures { result ≡ config_value self.now bytes.now }
     {
         match function_number(self.list, bytes) {
             Some(number) => {
@@ -132,7 +132,7 @@ impl<'a> Devices<'a> {
 
     /// What the cell reads of the register.
     pub(crate) fn read_register(&self, register: &Register) -> u32
-        ensures { result ≡ register_told self.now register.now }
+        ensures { result ≡ register_value self.now register.now }
     {
         let device = register.device();
         if self.endpoints.has(self.cell, device) {
@@ -160,7 +160,7 @@ impl<'a> Devices<'a> {
     /// The first enabled window of the cell's devices that has the whole access.
     pub(crate) fn window(&self, wanted: &Wanted) -> Option<Window>
         requires { 0 < wanted.now.width }
-        ensures found { result ≡ window_found self.now wanted.now.at wanted.now.width }
+        ensures found { result ≡ window_of_access self.now wanted.now.at wanted.now.width }
         ensures good { IfSome result IsGoodWindow }
     {
         for (number, device) in self.list.iter().enumerate() {

@@ -9,7 +9,7 @@ ghost use Rattle.jh_script.specs.declared.image.Image.{Image as TheImage};
 ghost use Rattle.jh_history.specs.declared.access.Access.{Access as TheAccess};
 ghost use Rattle.jh_history.specs.declared.access.Reach.{Reach as TheReach};
 ghost use Rattle.jh_history.specs.declared.call.OpenCall.{OpenCall as TheCall};
-ghost use Rattle.jh_history.specs.declared.call.Creation.TheVariants.{Comes};
+ghost use Rattle.jh_history.specs.declared.call.Creation.TheVariants.{Accepted};
 ghost use Rattle.jh_history.specs.declared.call.Phase.TheVariants.{ToDecide, ToCreate};
 ghost use Rattle.jh_history.specs.declared.comm.PageWrite.{PageWrite as ThePageWrite};
 ghost use Rattle.jh_history.specs.declared.entry.Entry.{Entry as TheEntry};
@@ -42,12 +42,12 @@ pub fn decides_are_of_the_open_call()
         entry.act ≡ Decide refused → f.call ≡ Some o → o.phase ≡ ToDecide }
     ensures goes_on { (image : TheImage) (f : Facts) (entry : TheEntry) (o : TheCall) (at : ℕ) → IsSound image f → due_at image f entry.cpu ≡ Some entry →
         entry.act ≡ Decide None → f.call ≡ Some o → o.call ≡ Create at → HasRead image f o.caller at }
-    ensures read { (image : TheImage) (f : Facts) (caller at : ℕ) (config : TheConfig) → creation_of image f caller at ≡ Comes config → read_at image f at ≡ Reads config }
+    ensures read { (image : TheImage) (f : Facts) (caller at : ℕ) (config : TheConfig) → creation_of image f caller at ≡ Accepted config → read_at image f at ≡ Reads config }
 {}
 
 /// A cell whose create isn't refused may live beside those that do, at the Decide and until it comes.
 pub fn a_cell_that_comes_may_live()
-    ensures decided { (image : TheImage) (f : Facts) (caller at : ℕ) (config : TheConfig) → IsSound image f → creation_of image f caller at ≡ Comes config → MayLive image f.cells config }
+    ensures decided { (image : TheImage) (f : Facts) (caller at : ℕ) (config : TheConfig) → IsSound image f → creation_of image f caller at ≡ Accepted config → MayLive image f.cells config }
     ensures comes { (image : TheImage) (f : Facts) (o : TheCall) (config : TheConfig) → IsSound image f → f.call ≡ Some o → o.phase ≡ ToCreate config → MayLive image f.cells config }
 {}
 
@@ -88,7 +88,7 @@ pub fn devices_may_change()
     ensures opening { (image : TheImage) → IsAdmitted image → MayChange Joins [] image.system.root }
     ensures commit { (image : TheImage) (f : Facts) (entry : TheEntry) → IsSound image f → due_at image f entry.cpu ≡ Some entry →
         IfSome (changing_by f.cells f.call entry.act) (MayChange (change_by f.call) f.endpoints) }
-    ensures comes { (image : TheImage) (f : Facts) (caller at : ℕ) (config : TheConfig) → IsSound image f → creation_of image f caller at ≡ Comes config → HasGoodDevices config }
+    ensures comes { (image : TheImage) (f : Facts) (caller at : ℕ) (config : TheConfig) → IsSound image f → creation_of image f caller at ≡ Accepted config → HasGoodDevices config }
     ensures interrupt { (image : TheImage) (f : Facts) (entry : TheEntry) → IsSound image f → due_at image f entry.cpu ≡ Some entry → IsNextOf entry.cell f.endpoints entry.act }
     ensures word { (image : TheImage) (f : Facts) (id value : ℕ) (found : TheReach) → IsSound image f → IfSome (slot_of_reach (devices_of image f id) found value) (IsWordOf f.endpoints) }
 {}

@@ -5,7 +5,7 @@ ghost use Rattle.jh_history.specs.declared.access.Reach.{Reach as TheReach};
 ghost use Rattle.jh_history.specs.Admitted.{IsWellFormedAct};
 ghost use Rattle.jh_history.specs.Wants.{IsReachOfAct};
 ghost use Rattle.jh_history.specs.Facts.{Facts};
-ghost use Rattle.jh_history.specs.Hypercalls.{state_told, state_seen, mode_seen, cpu_told, cpu_seen, seen_of, hvc_act};
+ghost use Rattle.jh_history.specs.Hypercalls.{state_of_cell, state_seen, mode_seen, cpu_seen_by, cpu_seen, seen_of, hvc_act};
 ghost use Rattle.jh_call.specs.Calls.{is_management};
 
 use crate::entry::Act;
@@ -15,8 +15,8 @@ use jh_call::{Call, CpuSeen, Seen, answer, decode};
 use jh_cpu::{Cpu, Mode};
 
 /// The state word of the live cell with the id, 0 for root; `None` where no live cell has it.
-fn state_told<K: Known>(known: &K, id: u64) -> Option<u32>
-    ensures { (i : TheImage) (f : Facts) → K.Knows known.now i f → result ≡ state_told i f id }
+fn state_of_cell<K: Known>(known: &K, id: u64) -> Option<u32>
+    ensures { (i : TheImage) (f : Facts) → K.Knows known.now i f → result ≡ state_of_cell i f id }
 {
     if id == u64::from(known.root()) {
         return Some(0);
@@ -32,7 +32,7 @@ fn state_seen<K: Known>(known: &K, call: &Call) -> Option<u32>
     ensures { (i : TheImage) (f : Facts) → K.Knows known.now i f → result ≡ state_seen i f call.now }
 {
     match *call {
-        Call::State { id } => state_told(known, id),
+        Call::State { id } => state_of_cell(known, id),
         _ => None,
     }
 }
@@ -48,8 +48,8 @@ fn mode_seen(state: Cpu) -> CpuSeen
 }
 
 /// What the cell sees of the CPU; `root` says whether it is root, which sees all of the board's.
-fn cpu_told<K: Known>(known: &K, cell: u32, root: bool, cpu: u64) -> CpuSeen
-    ensures told { (i : TheImage) (f : Facts) → K.Knows known.now i f → root ≡ nat_eq cell i.system.root.id → result ≡ cpu_told i f cell cpu }
+fn cpu_seen_by<K: Known>(known: &K, cell: u32, root: bool, cpu: u64) -> CpuSeen
+    ensures told { (i : TheImage) (f : Facts) → K.Knows known.now i f → root ≡ nat_eq cell i.system.root.id → result ≡ cpu_seen_by i f cell cpu }
     ensures own { root ≡ true → result ≢ CpuSeen.Foreign }
 {
     known.has_few_cpus();
@@ -70,7 +70,7 @@ fn cpu_seen<K: Known>(known: &K, cell: u32, root: bool, call: &Call) -> CpuSeen
     ensures own { root ≡ true → result ≢ CpuSeen.Foreign }
 {
     match *call {
-        Call::CpuInfo { cpu, .. } => cpu_told(known, cell, root, cpu),
+        Call::CpuInfo { cpu, .. } => cpu_seen_by(known, cell, root, cpu),
         _ => CpuSeen::Absent,
     }
 }
@@ -105,7 +105,7 @@ fn is_management(call: &Call) -> bool
 pub(crate) fn hvc_act<K: Known>(known: &K, cell: u32, code: u64, a: u64, b: u64) -> Act
     ensures act { (i : TheImage) (f : Facts) → K.Knows known.now i f → result ≡ hvc_act i f cell code a b }
     ensures reached { (i : TheImage) (f : Facts) (own : ℕ) (found : TheReach) → IsReachOfAct i f own result found }
-    ensures plain { IsWellFormedAct result }
+    ensures well_formed { IsWellFormedAct result }
 {
     let call = decode(code, a, b);
     let root = cell == known.root();

@@ -84,7 +84,7 @@ pub trait Known {
     fn operation(&self, cpu: u8, state: Cpu) -> Option<Op>
         requires { cpu < 16 }
         ensures told { (i : Image) (f : Facts) → Knows self.now i f → result ≡ op_at i f state cpu }
-        ensures plain { IfSome result IsWellFormed };
+        ensures well_formed { IfSome result IsWellFormed };
 
     /// What the cell's access reaches. For a CPU whose entry isn't made it is asked only where the CPU is at an await.
     fn reach(&self, cell: u32, wanted: &Wanted) -> Reach

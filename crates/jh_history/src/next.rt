@@ -61,7 +61,7 @@ fn goes_on(state: Cpu) -> bool
 fn pending_op<K: Known>(known: &K, cpu: u8, state: Cpu) -> Option<Op>
     requires { cpu < 16 }
     ensures op { (i : TheImage) (f : Facts) → K.Knows known.now i f → result ≡ pending_op i f state cpu }
-    ensures plain { IfSome result IsWellFormed }
+    ensures well_formed { IfSome result IsWellFormed }
 {
     if goes_on(state) {
         known.operation(cpu, state)
@@ -153,7 +153,7 @@ fn await_of(width: u8, at: u64, value: u64, got: Option<u64>) -> Option<Act>
 fn irq_of<K: Known>(known: &K, cell: u32) -> Option<Act>
     ensures act { (i : TheImage) (f : Facts) → K.Knows known.now i f → result ≡ irq_of cell f.endpoints }
     ensures reached { (i : TheImage) (f : Facts) (found : TheReach) → IfSome result (λ act. IsReachOfAct i f cell act found) }
-    ensures plain { IfSome result IsWellFormedAct }
+    ensures well_formed { IfSome result IsWellFormedAct }
 {
     match known.endpoints().pending(cell) {
         Some((device, vector)) => Some(Act::Irq { device, vector }),
@@ -166,7 +166,7 @@ fn act_of<K: Known>(known: &K, cell: u32, op: Op, reach: &Reach) -> Option<Act>
     requires { IsWellFormed op }
     ensures act { (i : TheImage) (f : Facts) → K.Knows known.now i f → IsReachOf i f cell op reach.now → result ≡ act_of i f cell op }
     ensures reached { (i : TheImage) (f : Facts) → IsReachOf i f cell op reach.now → IfSome result (λ act. IsReachOfAct i f cell act reach.now) }
-    ensures plain { IfSome result IsWellFormedAct }
+    ensures well_formed { IfSome result IsWellFormedAct }
 {
     match op {
         Op::Read { width, at } => {
@@ -200,7 +200,7 @@ fn entry_by(cpu: u8, cell: u32, act: Option<Act>) -> Option<Entry>
     ensures entry { result ≡ option_map (entry_by cpu cell) act }
     ensures reached { (i : TheImage) (f : Facts) (found : TheReach) → IfSome act (λ act. IsReachOfAct i f cell act found) → IfSome result (λ entry. IsReachOfEntry i f entry found) }
     ensures cpu { IfSome result (λ entry. entry.cpu ≡ cpu) }
-    ensures plain { IfSome act IsWellFormedAct → IfSome result (λ entry. IsWellFormedAct entry.act) }
+    ensures well_formed { IfSome act IsWellFormedAct → IfSome result (λ entry. IsWellFormedAct entry.act) }
 {
     match act {
         None => None,
@@ -213,7 +213,7 @@ fn state_due<K: Known>(known: &K, cpu: u8, state: Cpu, reach: &mut Reach) -> Opt
     requires { cpu < 16 }
     ensures act { (i : TheImage) (f : Facts) → K.Knows known.now i f → result ≡ state_act i f state cpu }
     ensures reached { (i : TheImage) (f : Facts) → K.Knows known.now i f → IfSome result (λ act. IsReachOfAct i f state.owner act reach.new) }
-    ensures plain { IfSome result IsWellFormedAct }
+    ensures well_formed { IfSome result IsWellFormedAct }
 {
     if state.asked {
         return Some(Act::Stop);
@@ -315,7 +315,7 @@ pub(crate) fn is_idle_but<K: Known>(known: &K, caller: u8) -> bool
 fn caller_act<K: Known>(known: &K, state: Cpu, begun: &OpenCall) -> Result<Option<Act>, NoMemory>
     ensures act { (i : TheImage) (f : Facts) → K.Knows known.now i f → IfOk result (λ act. act ≡ caller_act i f state begun.now) }
     ensures reached { (i : TheImage) (f : Facts) (cell : ℕ) (found : TheReach) → IfOk result (λ act. IfSome act (λ act. IsReachOfAct i f cell act found)) }
-    ensures plain { IfOk result (λ act. IfSome act IsWellFormedAct) }
+    ensures well_formed { IfOk result (λ act. IfSome act IsWellFormedAct) }
 {
     if state.asked {
         return Ok(Some(Act::Stop));
@@ -346,7 +346,7 @@ fn next_due<K: Known>(
     requires { cpu < 16 }
     ensures act { (i : TheImage) (f : Facts) → K.Knows known.now i f → IfOk result (λ act. act ≡ next_act i f state cpu) }
     ensures reached { (i : TheImage) (f : Facts) → K.Knows known.now i f → IfOk result (λ act. IfSome act (λ act. IsReachOfAct i f state.owner act reach.new)) }
-    ensures plain { IfOk result (λ act. IfSome act IsWellFormedAct) }
+    ensures well_formed { IfOk result (λ act. IfSome act IsWellFormedAct) }
 {
     match call_of(known, cpu) {
         Some(begun) => caller_act(known, state, begun),
@@ -372,7 +372,7 @@ pub fn next_of<K: Known>(known: &K, cpu: u8, reach: &mut Reach) -> Result<Option
     ensures due { (i : TheImage) (f : Facts) → K.Knows known.now i f → IfOk result (λ entry. entry ≡ due_at i f cpu) }
     ensures reached { (i : TheImage) (f : Facts) → K.Knows known.now i f → IfOk result (λ entry. IfSome entry (λ entry. IsReachOfEntry i f entry reach.new)) }
     ensures cpu { IfOk result (λ entry. IfSome entry (λ entry. entry.cpu ≡ cpu)) }
-    ensures plain { IfOk result (λ entry. IfSome entry (λ entry. IsWellFormedAct entry.act)) }
+    ensures well_formed { IfOk result (λ entry. IfSome entry (λ entry. IsWellFormedAct entry.act)) }
 {
     if !known.has_cpu(cpu) {
         return Ok(None);

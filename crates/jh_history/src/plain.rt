@@ -26,7 +26,7 @@ ghost use Rattle.jh_history.specs.Bytes.{byte_written, byte_after};
 ghost use Rattle.jh_history.specs.History.{facts, after, start, coming_by, coming_of};
 ghost use Rattle.jh_history.specs.Due.{due, IsLegal, IsQuiet};
 ghost use Rattle.jh_history.specs.Admitted.{IsAdmitted, IsWellFormedAct, IsWellFormedEntry};
-ghost use Rattle.jh_history.specs.PlainView.{last_byte, StandsFor, IsSameBut, IsDueBeside, HasWords, MayCommit, MayBeFollowed};
+ghost use Rattle.jh_history.specs.Private.PlainView.{last_byte, Represents, IsSameBut, IsDueBeside, HasWords, MayCommit, MayBeFollowed};
 
 use crate::access::{Access, Reach, Wanted};
 use crate::boxed::BoxedCell;
@@ -72,7 +72,7 @@ pub(crate) struct Plain<'a> {
 }
 
 impl<'a> Model for Plain<'a> {
-    ghost use Rattle.jh_history.specs.PlainView.{PlainView, HasSoundCells};
+    ghost use Rattle.jh_history.specs.Private.PlainView.{PlainView, HasSoundCells};
 
     ghost Value = { PlainView };
 
@@ -96,7 +96,7 @@ fn comes(creation: Creation) -> Option<BoxedCell>
     ensures { result ≡ config_read (as_read creation) }
 {
     match creation {
-        Creation::Comes { config } => Some(config),
+        Creation::Accepted { config } => Some(config),
         Creation::Refused { .. } => None,
     }
 }
@@ -177,7 +177,7 @@ impl<'a> Plain<'a> {
     /// What holds at opening.
     fn open(alloc: Global, image: &'a Image) -> Result<Self, NoMemory>
         requires { IsAdmitted image.now }
-        ensures { IfOk result (λ plain. StandsFor plain image.now (start image.now)) }
+        ensures { IfOk result (λ plain. Represents plain image.now (start image.now)) }
     {
         legal_journals_are_sound();
         devices_may_change();
@@ -203,8 +203,8 @@ impl<'a> Plain<'a> {
     /// Writes the value where the cell's access reaches, which is a device.
     fn write_device(&mut self, cell: u32, reach: &Reach, value: u64) -> Result<(), NoMemory>
         requires { HasWords self.old }
-        ensures bytes { OnOk result ((i : TheImage) (f : Facts) → StandsFor self.old i f → (q : ThePlace) → last_byte i self.new.bytes q ≡ with_slot_if (slot_of_reach (devices_of i f cell) reach.now value) f.byte q) }
-        ensures endpoints { OnOk result ((i : TheImage) (f : Facts) → StandsFor self.old i f → self.new.endpoints ≡ endpoints_put (devices_of i f cell) reach.now value) }
+        ensures bytes { OnOk result ((i : TheImage) (f : Facts) → Represents self.old i f → (q : ThePlace) → last_byte i self.new.bytes q ≡ with_slot_if (slot_of_reach (devices_of i f cell) reach.now value) f.byte q) }
+        ensures endpoints { OnOk result ((i : TheImage) (f : Facts) → Represents self.old i f → self.new.endpoints ≡ endpoints_put (devices_of i f cell) reach.now value) }
         ensures others { IsSameBut self.old self.new }
     {
         let list = devices_in(self.image, self.cells.configs(), cell);
@@ -217,8 +217,8 @@ impl<'a> Plain<'a> {
     fn write_at(&mut self, cell: u32, wanted: &Wanted, value: u64) -> Result<(), NoMemory>
         requires few { wanted.now.width ≤ 8 }
         requires words { HasWords self.old }
-        ensures bytes { OnOk result ((i : TheImage) (f : Facts) → StandsFor self.old i f → (q : ThePlace) → last_byte i self.new.bytes q ≡ write_of f.byte (devices_of i f cell) (reach_of i f cell wanted.now) value q) }
-        ensures endpoints { OnOk result ((i : TheImage) (f : Facts) → StandsFor self.old i f → self.new.endpoints ≡ endpoints_put (devices_of i f cell) (reach_of i f cell wanted.now) value) }
+        ensures bytes { OnOk result ((i : TheImage) (f : Facts) → Represents self.old i f → (q : ThePlace) → last_byte i self.new.bytes q ≡ write_of f.byte (devices_of i f cell) (reach_of i f cell wanted.now) value q) }
+        ensures endpoints { OnOk result ((i : TheImage) (f : Facts) → Represents self.old i f → self.new.endpoints ≡ endpoints_put (devices_of i f cell) (reach_of i f cell wanted.now) value) }
         ensures others { IsSameBut self.old self.new }
     {
         let reach = reach_in(self.image, &self.cells, &self.endpoints, cell, wanted);
@@ -247,10 +247,10 @@ impl<'a> Plain<'a> {
 
     /// Changes bytes and endpoints as the act of the cell does itself.
     fn write(&mut self, cell: u32, act: &Act) -> Result<(), NoMemory>
-        requires plain { IsWellFormedAct act.now }
+        requires well_formed { IsWellFormedAct act.now }
         requires words { HasWords self.old }
-        ensures bytes { OnOk result ((i : TheImage) (f : Facts) → StandsFor self.old i f → (q : ThePlace) → last_byte i self.new.bytes q ≡ byte_written i f cell act.now q) }
-        ensures endpoints { OnOk result ((i : TheImage) (f : Facts) → StandsFor self.old i f → IsNextOf cell f.endpoints act.now → self.new.endpoints ≡ endpoints_acted i f cell act.now) }
+        ensures bytes { OnOk result ((i : TheImage) (f : Facts) → Represents self.old i f → (q : ThePlace) → last_byte i self.new.bytes q ≡ byte_written i f cell act.now q) }
+        ensures endpoints { OnOk result ((i : TheImage) (f : Facts) → Represents self.old i f → IsNextOf cell f.endpoints act.now → self.new.endpoints ≡ endpoints_acted i f cell act.now) }
         ensures commit { OnOk result (act.now ≡ Commits → self.new.endpoints ≡ self.old.endpoints) }
         ensures others { IsSameBut self.old self.new }
     {
@@ -298,11 +298,11 @@ impl<'a> Plain<'a> {
 
     /// Changes CPUs, endpoints and bytes as the entry does.
     fn change(&mut self, entry: &Entry) -> Result<(), NoMemory>
-        requires plain { IsWellFormedEntry entry.now }
+        requires well_formed { IsWellFormedEntry entry.now }
         requires may { MayBeFollowed self.old entry.now }
-        ensures cpus { OnOk result ((i : TheImage) (f : Facts) → StandsFor self.old i f → (k : ℕ) → k < 16 → slice_get self.new.cpus k ≡ Some (cpu_after i f entry.now k)) }
-        ensures bytes { OnOk result ((i : TheImage) (f : Facts) → StandsFor self.old i f → (q : ThePlace) → last_byte i self.new.bytes q ≡ byte_after i f entry.now q) }
-        ensures endpoints { OnOk result ((i : TheImage) (f : Facts) → StandsFor self.old i f → self.new.endpoints ≡ endpoints_after i f entry.now) }
+        ensures cpus { OnOk result ((i : TheImage) (f : Facts) → Represents self.old i f → (k : ℕ) → k < 16 → slice_get self.new.cpus k ≡ Some (cpu_after i f entry.now k)) }
+        ensures bytes { OnOk result ((i : TheImage) (f : Facts) → Represents self.old i f → (q : ThePlace) → last_byte i self.new.bytes q ≡ byte_after i f entry.now q) }
+        ensures endpoints { OnOk result ((i : TheImage) (f : Facts) → Represents self.old i f → self.new.endpoints ≡ endpoints_after i f entry.now) }
         ensures image { self.new.image ≡ self.old.image }
         ensures cells { self.new.cells ≡ self.old.cells }
         ensures call { self.new.call ≡ self.old.call }
@@ -323,7 +323,7 @@ impl<'a> Plain<'a> {
 
     /// The configuration that the call reads, where it is a create.
     fn read_for(&self, call: &Call) -> Result<Option<BoxedCell>, NoMemory>
-        ensures { IfOk result (λ coming. (i : TheImage) (f : Facts) → StandsFor self.now i f → coming ≡ coming_by i f call.now) }
+        ensures { IfOk result (λ coming. (i : TheImage) (f : Facts) → Represents self.now i f → coming ≡ coming_by i f call.now) }
     {
         match *call {
             Call::Create { at } => {
@@ -336,7 +336,7 @@ impl<'a> Plain<'a> {
 
     /// The configuration that the open call reads, where it is a create.
     fn read_coming(&self) -> Result<Option<BoxedCell>, NoMemory>
-        ensures { IfOk result (λ coming. (i : TheImage) (f : Facts) → StandsFor self.now i f → coming ≡ coming_of i f) }
+        ensures { IfOk result (λ coming. (i : TheImage) (f : Facts) → Represents self.now i f → coming ≡ coming_of i f) }
     {
         match self.call.as_ref() {
             Some(begun) => self.read_for(&begun.call),
@@ -346,7 +346,7 @@ impl<'a> Plain<'a> {
 
     /// The configuration that the open call reads at the entry, where that is a Decide.
     fn coming(&self, entry: &Entry) -> Result<Option<BoxedCell>, NoMemory>
-        ensures { IfOk result (λ coming. (i : TheImage) (f : Facts) → StandsFor self.now i f → (lives : List TheLive) → call_by lives coming f.call entry.now entry.now.act ≡ call_by lives (coming_of i f) f.call entry.now entry.now.act) }
+        ensures { IfOk result (λ coming. (i : TheImage) (f : Facts) → Represents self.now i f → (lives : List TheLive) → call_by lives coming f.call entry.now entry.now.act ≡ call_by lives (coming_of i f) f.call entry.now entry.now.act) }
     {
         match entry.act {
             Act::Decide { .. } => self.read_coming(),
@@ -376,10 +376,10 @@ impl<'a> Plain<'a> {
 
     /// Goes on by an entry that is due.
     fn follow(&mut self, entry: &Entry) -> Result<(), NoMemory>
-        requires plain { IsWellFormedEntry entry.now }
+        requires well_formed { IsWellFormedEntry entry.now }
         requires due { IsDueBeside self.old.image self.old.cells self.old.call entry.now }
         requires may { MayBeFollowed self.old entry.now }
-        ensures { OnOk result ((i : TheImage) (f : Facts) → StandsFor self.old i f → StandsFor self.new i (after i f entry.now)) }
+        ensures { OnOk result ((i : TheImage) (f : Facts) → Represents self.old i f → Represents self.new i (after i f entry.now)) }
     {
         let coming = self.coming(entry)?;
         self.change(entry)?;
@@ -391,7 +391,7 @@ impl<'a> Plain<'a> {
     fn after(alloc: Global, image: &'a Image, entries: &[Entry]) -> Result<Self, NoMemory>
         requires admitted { IsAdmitted image.now }
         requires legal { IsLegal image.now entries.now }
-        ensures { IfOk result (λ plain. StandsFor plain image.now (facts image.now entries.now)) }
+        ensures { IfOk result (λ plain. Represents plain image.now (facts image.now entries.now)) }
     {
         legal_journals_are_sound();
         devices_may_change();

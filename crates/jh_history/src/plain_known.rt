@@ -3,7 +3,7 @@ ghost use Rattle.std.specs.Prelude.{◌≡◌, ◌≤◌, ℕ, length, IsTrue, I
 ghost use Rattle.jh_script.specs.declared.image.Image.{Image as TheImage};
 ghost use Rattle.jh_history.specs.Facts.{Facts};
 ghost use Rattle.jh_history.specs.Phases.{creation_of};
-ghost use Rattle.jh_history.specs.PlainView.{root_byte, StandsFor};
+ghost use Rattle.jh_history.specs.Private.PlainView.{root_byte, Represents};
 ghost use Rattle.jh_history.specs.Sound.{IsSound};
 
 use crate::access::{Access, Reach, Wanted};
@@ -30,7 +30,7 @@ use jh_script::Op;
 use jh_shape::pages_of;
 
 impl<'a> Bytes for Plain<'a> {
-    ghost use Rattle.jh_history.specs.PlainView.{last_byte};
+    ghost use Rattle.jh_history.specs.Private.PlainView.{last_byte};
 
     ghost byte_of = { λ p. last_byte p.image p.bytes };
 
@@ -46,7 +46,7 @@ impl<'a> Bytes for Plain<'a> {
 }
 
 impl<'a> RootBytes for Plain<'a> {
-    ghost use Rattle.jh_history.specs.PlainView.{root_byte};
+    ghost use Rattle.jh_history.specs.Private.PlainView.{root_byte};
 
     ghost readable = { root_byte };
 
@@ -82,7 +82,7 @@ impl<'a> Plain<'a> {
 
     /// What comes of a create by the caller, of the configuration at the address.
     fn creation(&self, caller: u8, at: u64) -> Result<Creation, NoMemory>
-        ensures { (i : TheImage) (f : Facts) → StandsFor self.now i f × IsSound i f → IfOk result (λ creation. creation ≡ creation_of i f caller at) }
+        ensures { (i : TheImage) (f : Facts) → Represents self.now i f × IsSound i f → IfOk result (λ creation. creation ≡ creation_of i f caller at) }
     {
         if is_any_locked(self, self.cells.configs()) {
             return Ok(Creation::Refused { number: EPERM });
@@ -97,10 +97,10 @@ impl<'a> Plain<'a> {
 }
 
 impl<'a> Known for Plain<'a> {
-    ghost use Rattle.jh_history.specs.PlainView.{StandsFor};
+    ghost use Rattle.jh_history.specs.Private.PlainView.{Represents};
     ghost use Rattle.jh_history.specs.Sound.{IsSound};
 
-    ghost Knows = { λ p i f. StandsFor p i f × IsSound i f };
+    ghost Knows = { λ p i f. Represents p i f × IsSound i f };
 
     fn root(&self) -> u32 {
         self.image.system.root.id

@@ -96,7 +96,7 @@ fn told(alloc: Global, bytes: &[u8]) -> Result<Creation, NoMemory>
     match read_cell(alloc, bytes) {
         Ok(config) => {
             let config = BoxedCell::new(alloc, config)?;
-            Ok(Creation::Comes { config })
+            Ok(Creation::Accepted { config })
         }
         Err(_) => Err(NoMemory),
     }

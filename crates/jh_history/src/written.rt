@@ -9,7 +9,7 @@ ghost use Rattle.jh_history.specs.Bytes.{preloaded, loaded_byte};
 ghost use Rattle.jh_history.specs.declared.comm.PageChange.TheVariants.{State, Message, Fresh};
 ghost use Rattle.jh_history.specs.Pages.{with_page, with_page_write};
 ghost use Rattle.jh_history.specs.Admitted.{IsAdmitted};
-ghost use Rattle.jh_history.specs.PlainView.{last_byte, put_in_page};
+ghost use Rattle.jh_history.specs.Private.PlainView.{last_byte, put_in_page};
 
 use crate::comm::{PageChange, PageWrite};
 use crate::device_write::slot_places;

@@ -27,8 +27,8 @@ use Rattle.jh_image.specs.Boards.{board_told, IsListingAnswer}
 use Rattle.jh_image.specs.Opening.{IsFaultless}
 use Rattle.jh_image.specs.Files.{Contents, HasBytes, IsOversize, Lists, SpellsSystem, IsPreloadOf, IsProgramOf}
 use Rattle.jh_image.specs.Images.{SoFar, Stage, nothing, with_listing, with_system, IsNextPreload, IsComplete, IsNextProgram, IsNextFile, the_board, the_system, a_preload, a_program, ReadsNext, reads_board, reads_system, reads_preload, reads_program, IsImage}
-use Rattle.jh_image.specs.Causes.{Stops, cannot_be_read, is_too_large, is_no_object, has_bad_member, is_no_system, has_findings, has_small_pool, is_bad_preload, is_bad_program, StopsReading}
-use Rattle.jh_image.specs.Laws.{AreTold}
+use Rattle.jh_image.specs.Causes.{HasCause, cannot_be_read, is_too_large, is_no_object, has_bad_member, is_no_system, has_findings, has_small_pool, is_bad_preload, is_bad_program, IsCauseOf}
+use Rattle.jh_image.specs.Laws.{AreKnown}
 use Rattle.jh_image.proofs.OneLemmas.{OneSpelling, bytes_one, text_one, listing_told, spelled_one, preload_one}
 use Rattle.jh_image.proofs.ReadLemmas.{same_preload, same_program, no_preload, one_so_far, one_listing, complete_preload, complete_program, IsLast, last_one, read_for, image_last}
 
@@ -42,7 +42,7 @@ pub record IsOne (file other : List ℕ) (cause more : ImageCause) : Type 0 wher
   pub same_file : file ≡ other
 
 -- a file's bytes aren't too many
-not_oversize : (contents : Contents) (name bytes : List ℕ) → AreTold contents → HasBytes contents name bytes → IsOversize contents name → ⊥
+not_oversize : (contents : Contents) (name bytes : List ℕ) → AreKnown contents → HasBytes contents name bytes → IsOversize contents name → ⊥
 not_oversize contents name bytes told has over =
     let same : bytes ≡ over.bytes = bytes_one contents name bytes over.bytes told has.handed over.handed in
     omega (arith, ap length same)
@@ -77,7 +77,7 @@ err_one bytes (boards.Member one) (boards.Member other) is more h k =
 err_one bytes boards.NoMemory other is more h k = absurd is
 err_one bytes one boards.NoMemory is more h k = absurd more
 
-board_same : (contents : Contents) (board file other : List ℕ) (cause more : ImageCause) → AreTold contents → AtBoard contents board file cause → AtBoard contents board other more → IsOne file other cause more
+board_same : (contents : Contents) (board file other : List ℕ) (cause more : ImageCause) → AreKnown contents → AtBoard contents board file cause → AtBoard contents board other more → IsOne file other cause more
 board_same contents board file other cause more told (large_board is over) (large_board is_other over_other) = record { same_cause = refl; same_file = is ∙ sym is_other }
 board_same contents board file other cause more told (large_board is over) (bad_board fault bytes faulty named has bad) = absurd (not_oversize contents board bytes told has over)
 board_same contents board file other cause more told (bad_board fault bytes faulty named has bad) (large_board is over) = absurd (not_oversize contents board bytes told has over)
@@ -92,7 +92,7 @@ told_faultless bytes listing h boards.Json k = absurd (ok_err (board_told h.0) l
 told_faultless bytes listing h (boards.Member name) k = absurd (ok_err (board_told k.0) listing (boards.Member name) (listing_told bytes listing h k.0 k.1) k.2)
 told_faultless bytes listing h boards.NoMemory k = refl
 
-not_board : (contents : Contents) (board file : List ℕ) (cause : ImageCause) (listing : Listing) → AreTold contents → AtBoard contents board file cause → Lists contents board listing → ⊥
+not_board : (contents : Contents) (board file : List ℕ) (cause : ImageCause) (listing : Listing) → AreKnown contents → AtBoard contents board file cause → Lists contents board listing → ⊥
 not_board contents board file cause listing told (large_board is over) lists = not_oversize contents board lists.bytes told lists.has over
 not_board contents board file cause listing told (bad_board fault bytes faulty named has bad) lists =
     let same : lists.bytes ≡ bytes = bytes_one contents board lists.bytes bytes told lists.has.handed has.handed in
@@ -125,13 +125,13 @@ data AtSystem (contents : Contents) (board name file : List ℕ) : ImageCause �
   unsound_system : (system : SystemConfig) (cause : ImageCause) → SpellsSystem contents name system → AtVerdict board name file system cause → AtSystem contents board name file cause
 
 -- what spells a system has no fault
-spelled_faultless : SpellingsAreFaultless → (contents : Contents) (name bytes : List ℕ) (system : SystemConfig) (fault : ConfigFault) → AreTold contents → SpellsSystem contents name system → HasBytes contents name bytes → system_fault bytes ≡ Some fault → ⊥
+spelled_faultless : SpellingsAreFaultless → (contents : Contents) (name bytes : List ℕ) (system : SystemConfig) (fault : ConfigFault) → AreKnown contents → SpellsSystem contents name system → HasBytes contents name bytes → system_fault bytes ≡ Some fault → ⊥
 spelled_faultless faultless contents name bytes system fault told spells has first =
     let same : spells.bytes ≡ bytes = bytes_one contents name spells.bytes bytes told spells.has.handed has.handed in
     let none : system_fault (system_spelling system) ≡ None = faultless system spells.typed spells.limits in
     none-some fault (sym none ∙ ap system_fault (sym spells.spelled ∙ same) ∙ first)
 
-module _ (spelling : OneSpelling) (faultless : SpellingsAreFaultless) (contents : Contents) (told : AreTold contents) (board : List ℕ) where
+module _ (spelling : OneSpelling) (faultless : SpellingsAreFaultless) (contents : Contents) (told : AreKnown contents) (board : List ℕ) where
   system_same : (name file other : List ℕ) (cause more : ImageCause) → AtSystem contents board name file cause → AtSystem contents board name other more → IsOne file other cause more
   system_same name file other cause more (large_system is over) (large_system is_too over_too) = record { same_cause = refl; same_file = is ∙ sym is_too }
   system_same name file other cause more (large_system is over) (bad_system bytes fault is_too has first) = absurd (not_oversize contents name bytes told has over)
@@ -160,14 +160,14 @@ data StopsPreload (contents : Contents) (board file : List ℕ) (hypervisor : Re
   unfit_preload : (preload : Preload) → IsPreloadOf contents entry preload → ¬ IsFaultless hypervisor before preload → file ≡ board → StopsPreload contents board file hypervisor before entry (BadPreload (length before))
 
 -- one that is read and has no fault doesn't
-preload_goes_on : (contents : Contents) (board file : List ℕ) (cause : ImageCause) (hypervisor : Region) (before : List Preload) (entry : PreloadFile) (preload : Preload) → AreTold contents
+preload_goes_on : (contents : Contents) (board file : List ℕ) (cause : ImageCause) (hypervisor : Region) (before : List Preload) (entry : PreloadFile) (preload : Preload) → AreKnown contents
     → StopsPreload contents board file hypervisor before entry cause → IsPreloadOf contents entry preload → IsFaultless hypervisor before preload → ⊥
 preload_goes_on contents board file cause hypervisor before entry preload told (large_preload is over) read fit =
     not_oversize contents entry.file preload.bytes told read.has over
 preload_goes_on contents board file cause hypervisor before entry preload told (unfit_preload bad is unfit named) read fit =
     unfit (subst (IsFaultless hypervisor before) (preload_one contents entry preload bad told read is) fit)
 
-preload_here : (contents : Contents) (board file other : List ℕ) (cause more : ImageCause) (hypervisor : Region) (before : List Preload) (entry : PreloadFile) → AreTold contents
+preload_here : (contents : Contents) (board file other : List ℕ) (cause more : ImageCause) (hypervisor : Region) (before : List Preload) (entry : PreloadFile) → AreKnown contents
     → StopsPreload contents board file hypervisor before entry cause → StopsPreload contents board other hypervisor before entry more → IsOne file other cause more
 preload_here contents board file other cause more hypervisor before entry told (large_preload is over) (large_preload is_too over_too) = record { same_cause = refl; same_file = is ∙ sym is_too }
 preload_here contents board file other cause more hypervisor before entry told (large_preload is over) (unfit_preload bad read unfit named) = absurd (not_oversize contents entry.file bad.bytes told read.has over)
@@ -180,14 +180,14 @@ data StopsProgram (contents : Contents) (file : List ℕ) (entry : ProgramFile) 
   large_program : file ≡ entry.file → IsOversize contents entry.file → StopsProgram contents file entry Oversize
   bad_program : (fault : ScriptFault) (bytes : List ℕ) → HasBytes contents entry.file bytes → program_of bytes ≡ Err fault → file ≡ entry.file → StopsProgram contents file entry (BadProgram fault)
 
-program_goes_on : (contents : Contents) (file : List ℕ) (cause : ImageCause) (entry : ProgramFile) (program : Program) → AreTold contents
+program_goes_on : (contents : Contents) (file : List ℕ) (cause : ImageCause) (entry : ProgramFile) (program : Program) → AreKnown contents
     → StopsProgram contents file entry cause → IsProgramOf contents entry program → ⊥
 program_goes_on contents file cause entry program told (large_program is over) read = not_oversize contents entry.file read.bytes told read.has over
 program_goes_on contents file cause entry program told (bad_program fault bytes has bad is) read =
     let same : read.bytes ≡ bytes = bytes_one contents entry.file read.bytes bytes told read.has.handed has.handed in
     ok_err (program_of bytes) program.ops fault (ap program_of (sym same) ∙ read.told) bad
 
-program_here : (contents : Contents) (file other : List ℕ) (cause more : ImageCause) (entry : ProgramFile) → AreTold contents
+program_here : (contents : Contents) (file other : List ℕ) (cause more : ImageCause) (entry : ProgramFile) → AreKnown contents
     → StopsProgram contents file entry cause → StopsProgram contents other entry more → IsOne file other cause more
 program_here contents file other cause more entry told (large_program is over) (large_program is_too over_too) = record { same_cause = refl; same_file = is ∙ sym is_too }
 program_here contents file other cause more entry told (large_program is over) (bad_program fault bytes has bad named) = absurd (not_oversize contents entry.file bytes told has over)
@@ -200,21 +200,21 @@ program_here contents file other cause more entry told (bad_program one bytes ha
 
 -- ---- a stop at a stage
 
-data IsStop (contents : Contents) (board : List ℕ) : Stage → List ℕ → ImageCause → Type 0 where
-  at_board : (file : List ℕ) (cause : ImageCause) → AtBoard contents board file cause → IsStop contents board nothing file cause
-  at_system : (listing : Listing) (file : List ℕ) (cause : ImageCause) → AtSystem contents board listing.system file cause → IsStop contents board (with_listing listing) file cause
+data IsCause (contents : Contents) (board : List ℕ) : Stage → List ℕ → ImageCause → Type 0 where
+  at_board : (file : List ℕ) (cause : ImageCause) → AtBoard contents board file cause → IsCause contents board nothing file cause
+  at_system : (listing : Listing) (file : List ℕ) (cause : ImageCause) → AtSystem contents board listing.system file cause → IsCause contents board (with_listing listing) file cause
   at_preload : (so_far : SoFar) (entry : PreloadFile) (file : List ℕ) (cause : ImageCause) → IsNextPreload so_far entry
-      → StopsPreload contents board file so_far.system.hypervisor_memory so_far.preloads entry cause → IsStop contents board (with_system so_far) file cause
+      → StopsPreload contents board file so_far.system.hypervisor_memory so_far.preloads entry cause → IsCause contents board (with_system so_far) file cause
   at_program : (so_far : SoFar) (entry : ProgramFile) (file : List ℕ) (cause : ImageCause) → IsNextProgram so_far entry → StopsProgram contents file entry cause
-      → IsStop contents board (with_system so_far) file cause
+      → IsCause contents board (with_system so_far) file cause
 
-large_stop : (contents : Contents) (board : List ℕ) (stage : Stage) (file : List ℕ) → IsNextFile board stage file → IsOversize contents file → IsStop contents board stage file Oversize
+large_stop : (contents : Contents) (board : List ℕ) (stage : Stage) (file : List ℕ) → IsNextFile board stage file → IsOversize contents file → IsCause contents board stage file Oversize
 large_stop contents board stage file the_board over = at_board board Oversize (large_board refl over)
 large_stop contents board stage file (the_system listing) over = at_system listing listing.system Oversize (large_system refl over)
 large_stop contents board stage file (a_preload so_far entry next) over = at_preload so_far entry entry.file Oversize next (large_preload refl over)
 large_stop contents board stage file (a_program so_far entry next) over = at_program so_far entry entry.file Oversize next (large_program refl over)
 
-stop_of : (contents : Contents) (board : List ℕ) (stage : Stage) (file : List ℕ) (cause : ImageCause) → Stops contents board stage file cause → (cause ≡ ReadFault) ⊎ IsStop contents board stage file cause
+stop_of : (contents : Contents) (board : List ℕ) (stage : Stage) (file : List ℕ) (cause : ImageCause) → HasCause contents board stage file cause → (cause ≡ ReadFault) ⊎ IsCause contents board stage file cause
 stop_of contents board stage file cause (cannot_be_read at name next) = inl refl
 stop_of contents board stage file cause (is_too_large at name next over) = inr (large_stop contents board at name next over)
 stop_of contents board stage file cause (is_no_object bytes has bad) = inr (at_board board Json (bad_board boards.Json bytes tt refl has bad))
@@ -229,13 +229,13 @@ stop_of contents board stage file cause (is_bad_preload so_far entry preload nex
 stop_of contents board stage file cause (is_bad_program so_far entry bytes fault next has bad) =
     inr (at_program so_far entry entry.file (BadProgram fault) next (bad_program fault bytes has bad refl))
 
-complete_stop : (contents : Contents) (board : List ℕ) (stage : Stage) (file : List ℕ) (cause : ImageCause) → IsStop contents board stage file cause → (so_far : SoFar) → IsComplete so_far → stage ≡ with_system so_far → ⊥
+complete_stop : (contents : Contents) (board : List ℕ) (stage : Stage) (file : List ℕ) (cause : ImageCause) → IsCause contents board stage file cause → (so_far : SoFar) → IsComplete so_far → stage ≡ with_system so_far → ⊥
 complete_stop contents board stage file cause (at_preload one entry _ _ next stop) so_far all e = complete_preload one so_far entry next all e
 complete_stop contents board stage file cause (at_program one entry _ _ next stop) so_far all e = complete_program one so_far entry next all e
 complete_stop contents board stage file cause stop so_far all e = cc
 
-module _ (spelling : OneSpelling) (faultless : SpellingsAreFaultless) (contents : Contents) (told : AreTold contents) (board : List ℕ) where
-  stop_one : (s r : Stage) (file other : List ℕ) (cause more : ImageCause) → IsStop contents board s file cause → IsStop contents board r other more → s ≡ r → IsOne file other cause more
+module _ (spelling : OneSpelling) (faultless : SpellingsAreFaultless) (contents : Contents) (told : AreKnown contents) (board : List ℕ) where
+  stop_one : (s r : Stage) (file other : List ℕ) (cause more : ImageCause) → IsCause contents board s file cause → IsCause contents board r other more → s ≡ r → IsOne file other cause more
   stop_one s r file other cause more (at_board _ _ one) (at_board _ _ two) e = board_same contents board file other cause more told one two
   stop_one s r file other cause more (at_system listing _ _ one) (at_system listing_too _ _ two) e =
       system_same spelling faultless contents told board listing_too.system file other cause more
@@ -254,7 +254,7 @@ module _ (spelling : OneSpelling) (faultless : SpellingsAreFaultless) (contents 
   stop_one s r file other cause more (at_program a entry _ _ next one) (at_preload b entry_too _ _ next_too two) e = absurd (no_preload b a entry_too next_too next.preloads (sym (one_so_far a b e)))
   stop_one s r file other cause more one two e = absurd cc
 
-  stop_last : (s r t : Stage) (file : List ℕ) (cause : ImageCause) → IsStop contents board s file cause → ReadsNext contents board r t → s ≡ r → ⊥
+  stop_last : (s r t : Stage) (file : List ℕ) (cause : ImageCause) → IsCause contents board s file cause → ReadsNext contents board r t → s ≡ r → ⊥
   stop_last s r t file cause (at_board _ _ stop) (reads_board listing lists) e = not_board contents board file cause listing told stop lists
   stop_last s r t file cause (at_system listing _ _ stop) (reads_system more system spells sound) e =
       not_system spelling faultless contents told board more.system file cause system (subst (λ (l : Listing). AtSystem contents board l.system file cause) (one_listing listing more e) stop) spells sound
@@ -272,16 +272,16 @@ module _ (spelling : OneSpelling) (faultless : SpellingsAreFaultless) (contents 
   stop_last s r t file cause (at_program a entry _ _ next stop) (reads_preload b file_too preload next_too is fit) e = no_preload b a file_too next_too next.preloads (sym (one_so_far a b e))
   stop_last s r t file cause stop reads e = cc
 
-  stopped : (file : List ℕ) (cause : ImageCause) → (h : StopsReading contents board file cause) → cause ≢ ReadFault → IsStop contents board h.stage file cause
+  stopped : (file : List ℕ) (cause : ImageCause) → (h : IsCauseOf contents board file cause) → cause ≢ ReadFault → IsCause contents board h.stage file cause
   stopped file cause h ne = elim (stop_of contents board h.stage file cause h.stops) [ inl e ↦ absurd (ne e) | inr stop ↦ stop ]
 
-  last_at : (stage : Stage) (file : List ℕ) (cause : ImageCause) → IsStop contents board stage file cause → IsLast contents board stage
+  last_at : (stage : Stage) (file : List ℕ) (cause : ImageCause) → IsCause contents board stage file cause → IsLast contents board stage
   last_at stage file cause stop t reads = stop_last stage stage t file cause stop reads refl
 
 -- ---- two stops, and a stop beside an image
 
-pub causes_one : OneSpelling → SpellingsAreFaultless → (contents : Contents) (board file other : List ℕ) (cause more : ImageCause) → AreTold contents
-    → StopsReading contents board file cause → cause ≢ ReadFault → StopsReading contents board other more → more ≢ ReadFault → (cause ≡ more) × (file ≡ other)
+pub causes_one : OneSpelling → SpellingsAreFaultless → (contents : Contents) (board file other : List ℕ) (cause more : ImageCause) → AreKnown contents
+    → IsCauseOf contents board file cause → cause ≢ ReadFault → IsCauseOf contents board other more → more ≢ ReadFault → (cause ≡ more) × (file ≡ other)
 causes_one spelling faultless contents board file other cause more told h ne k ne_too =
     let one = stopped spelling faultless contents told board file cause h ne in
     let two = stopped spelling faultless contents told board other more k ne_too in
@@ -290,7 +290,7 @@ causes_one spelling faultless contents board file other cause more told h ne k n
     let both = stop_one spelling faultless contents told board h.stage k.stage file other cause more one two same in
     (both.same_cause, both.same_file)
 
-pub unrefused : OneSpelling → SpellingsAreFaultless → (contents : Contents) (board file : List ℕ) (image : Image) (cause : ImageCause) → AreTold contents → IsImage contents board image → StopsReading contents board file cause → cause ≡ ReadFault
+pub unrefused : OneSpelling → SpellingsAreFaultless → (contents : Contents) (board file : List ℕ) (image : Image) (cause : ImageCause) → AreKnown contents → IsImage contents board image → IsCauseOf contents board file cause → cause ≡ ReadFault
 unrefused spelling faultless contents board file image cause told is h =
     let whole = read_for contents board image is in
     elim (stop_of contents board h.stage file cause h.stops) [

@@ -14,7 +14,7 @@ use Rattle.jh_image.specs.declared.board.ProgramFile.{ProgramFile}
 use Rattle.jh_spec.specs.Json.{IsText}
 use Rattle.jh_image.specs.Boards.{board_told, IsListingAnswer}
 use Rattle.jh_image.specs.Files.{max_file_size, Contents, Hands, Lists, SpellsSystem, IsPreloadOf, IsProgramOf}
-use Rattle.jh_image.specs.Laws.{AreTold}
+use Rattle.jh_image.specs.Laws.{AreKnown}
 
 -- two systems with one spelling are one
 abbrev pub OneSpelling : Type 0
@@ -27,7 +27,7 @@ hands_one None most one other tells h k = absurd (tells refl)
 hands_one (Some None) most one other tells h k = absurd h
 hands_one (Some (Some held)) most one other tells h k = h ∙ sym k
 
-pub bytes_one : (contents : Contents) (name one other : List ℕ) → AreTold contents → Hands contents name one → Hands contents name other → one ≡ other
+pub bytes_one : (contents : Contents) (name one other : List ℕ) → AreKnown contents → Hands contents name one → Hands contents name other → one ≡ other
 bytes_one contents name one other told h k = hands_one (contents name) (max_file_size + 1) one other (told name) h k
 
 -- ---- the board's listing
@@ -41,21 +41,21 @@ listing_told bytes listing h d text = ap board_told (text_one bytes d h.0 text h
 tells_one : (bytes : List ℕ) (one other : Listing) → IsListingAnswer bytes (Ok one) → IsListingAnswer bytes (Ok other) → one ≡ other
 tells_one bytes one other h k = ok_one (board_told k.0) one other (listing_told bytes one h k.0 k.1) k.2
 
-pub listing_one : (contents : Contents) (board : List ℕ) (one other : Listing) → AreTold contents → Lists contents board one → Lists contents board other → one ≡ other
+pub listing_one : (contents : Contents) (board : List ℕ) (one other : Listing) → AreKnown contents → Lists contents board one → Lists contents board other → one ≡ other
 listing_one contents board one other told h k =
     let same : h.bytes ≡ k.bytes = bytes_one contents board h.bytes k.bytes told h.has.handed k.has.handed in
     tells_one k.bytes one other (subst (λ bytes. IsListingAnswer bytes (Ok one)) same h.told) k.told
 
 -- ---- the system
 
-pub spelled_one : (contents : Contents) (name : List ℕ) (one other : SystemConfig) → OneSpelling → AreTold contents → SpellsSystem contents name one → SpellsSystem contents name other → one ≡ other
+pub spelled_one : (contents : Contents) (name : List ℕ) (one other : SystemConfig) → OneSpelling → AreKnown contents → SpellsSystem contents name one → SpellsSystem contents name other → one ≡ other
 spelled_one contents name one other spelling told h k =
     let same : h.bytes ≡ k.bytes = bytes_one contents name h.bytes k.bytes told h.has.handed k.has.handed in
     spelling one other h.typed k.typed h.limits k.limits (sym h.spelled ∙ same ∙ k.spelled)
 
 -- ---- preloads
 
-pub preload_one : (contents : Contents) (file : PreloadFile) (one other : Preload) → AreTold contents → IsPreloadOf contents file one → IsPreloadOf contents file other → one ≡ other
+pub preload_one : (contents : Contents) (file : PreloadFile) (one other : Preload) → AreKnown contents → IsPreloadOf contents file one → IsPreloadOf contents file other → one ≡ other
 preload_one contents file one other told h k =
     let at : one.at ≡ other.at = h.at ∙ sym k.at in
     let bytes : one.bytes ≡ other.bytes = bytes_one contents file.file one.bytes other.bytes told h.has.handed k.has.handed in
@@ -63,7 +63,7 @@ preload_one contents file one other told h k =
 
 -- ---- programs
 
-pub program_one : (contents : Contents) (file : ProgramFile) (one other : Program) → AreTold contents → IsProgramOf contents file one → IsProgramOf contents file other → one ≡ other
+pub program_one : (contents : Contents) (file : ProgramFile) (one other : Program) → AreKnown contents → IsProgramOf contents file one → IsProgramOf contents file other → one ≡ other
 program_one contents file one other told h k =
     let bytes : h.bytes ≡ k.bytes = bytes_one contents file.file h.bytes k.bytes told h.has.handed k.has.handed in
     let cell : one.cell ≡ other.cell = h.cell ∙ sym k.cell in

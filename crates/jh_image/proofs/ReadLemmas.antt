@@ -7,7 +7,7 @@ use Rattle.jh_image.specs.declared.board.PreloadFile.{PreloadFile}
 use Rattle.jh_image.specs.declared.board.ProgramFile.{ProgramFile}
 use Rattle.jh_image.specs.Files.{Contents, SpellsSystem, IsPreloadOf, IsProgramOf}
 use Rattle.jh_image.specs.Images.{SoFar, Stage, nothing, with_listing, with_system, so_far_of, with_preload, with_program, IsNextPreload, HasPreloads, IsComplete, IsNextProgram, ReadsNext, reads_board, reads_system, reads_preload, reads_program, ReadsTo, nothing_read, one_more_read, IsImage}
-use Rattle.jh_image.specs.Laws.{AreTold}
+use Rattle.jh_image.specs.Laws.{AreKnown}
 use Rattle.jh_image.proofs.OneLemmas.{OneSpelling, listing_one, spelled_one, preload_one, program_one}
 
 -- ---- the next file
@@ -50,7 +50,7 @@ complete_program one other file next all same = no_program one other file next a
 
 -- ---- one read
 
-module _ (contents : Contents) (board : List ℕ) (told : AreTold contents) (spelling : OneSpelling) where
+module _ (contents : Contents) (board : List ℕ) (told : AreKnown contents) (spelling : OneSpelling) where
   reads_one : (s r t u : Stage) → ReadsNext contents board s t → ReadsNext contents board r u → s ≡ r → t ≡ u
   reads_one s r t u (reads_board one lists) (reads_board other more) e = ap with_listing (listing_one contents board one other told lists more)
   reads_one s r t u (reads_system one system spells sound) (reads_system other more spelled sound_too) e =
@@ -98,7 +98,7 @@ leads_last : (contents : Contents) (board : List ℕ) (s u : Stage) → Leads co
 leads_last contents board s u (here x) last = refl
 leads_last contents board s u (step x y z first rest) last = absurd (last y first)
 
-module _ (contents : Contents) (board : List ℕ) (told : AreTold contents) (spelling : OneSpelling) where
+module _ (contents : Contents) (board : List ℕ) (told : AreKnown contents) (spelling : OneSpelling) where
   leads_both : (s t u : Stage) → Leads contents board s t → Leads contents board s u → Leads contents board t u ⊎ Leads contents board u t
   leads_both s t u (here x) other = inl other
   leads_both s t u (step x y z first rest) (here w) = inr (step x y z first rest)
@@ -130,7 +130,7 @@ image_last contents board image h t reads = complete_last contents board (with_s
 abbrev image_of : SoFar → Image
 image_of so_far = record { system = so_far.system; preloads = so_far.preloads; programs = so_far.programs }
 
-pub image_one : OneSpelling → (contents : Contents) (board : List ℕ) (one other : Image) → AreTold contents → IsImage contents board one → IsImage contents board other → one ≡ other
+pub image_one : OneSpelling → (contents : Contents) (board : List ℕ) (one other : Image) → AreKnown contents → IsImage contents board one → IsImage contents board other → one ≡ other
 image_one spelling contents board one other told h k =
     let a = read_for contents board one h in
     let b = read_for contents board other k in

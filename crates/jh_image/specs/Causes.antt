@@ -26,32 +26,32 @@ use Rattle.jh_image.specs.Files.{Contents, HasBytes, IsOversize, SpellsSystem, I
 use Rattle.jh_image.specs.Images.{SoFar, Stage, nothing, with_listing, with_system, IsNextPreload, IsNextProgram, IsNextFile, ReadsTo, IsImage}
 
 -- why the reading stops at the stage: the file that is named, and the cause
-pub data Stops (contents : Contents) (board : List ℕ) : Stage → List ℕ → ImageCause → Type 0 where
+pub data HasCause (contents : Contents) (board : List ℕ) : Stage → List ℕ → ImageCause → Type 0 where
   -- which of the files that are next could not be read only the files know
-  cannot_be_read : (stage : Stage) (file : List ℕ) → IsNextFile board stage file → Stops contents board stage file ReadFault
-  is_too_large : (stage : Stage) (file : List ℕ) → IsNextFile board stage file → IsOversize contents file → Stops contents board stage file Oversize
-  is_no_object : (bytes : List ℕ) → HasBytes contents board bytes → IsListingAnswer bytes (Err boards.Json) → Stops contents board nothing board Json
+  cannot_be_read : (stage : Stage) (file : List ℕ) → IsNextFile board stage file → HasCause contents board stage file ReadFault
+  is_too_large : (stage : Stage) (file : List ℕ) → IsNextFile board stage file → IsOversize contents file → HasCause contents board stage file Oversize
+  is_no_object : (bytes : List ℕ) → HasBytes contents board bytes → IsListingAnswer bytes (Err boards.Json) → HasCause contents board nothing board Json
   has_bad_member : (bytes name : List ℕ) → HasBytes contents board bytes → IsListingAnswer bytes (Err (boards.Member name))
-      → Stops contents board nothing board (Member name)
+      → HasCause contents board nothing board (Member name)
   is_no_system : (listing : Listing) (bytes : List ℕ) (fault : ConfigFault) → HasBytes contents listing.system bytes → system_fault bytes ≡ Some fault
-      → Stops contents board (with_listing listing) listing.system (System fault)
+      → HasCause contents board (with_listing listing) listing.system (System fault)
   -- the check finds something in the system alone; the first thousand are told
   has_findings : (listing : Listing) (system : SystemConfig) → SpellsSystem contents listing.system system → findings system [] ≢ []
-      → Stops contents board (with_listing listing) listing.system (Findings (capped (findings system [])))
+      → HasCause contents board (with_listing listing) listing.system (Findings (capped (findings system [])))
   -- the pool has fewer pages than root takes, which is the board's fault
   has_small_pool : (listing : Listing) (system : SystemConfig) → SpellsSystem contents listing.system system → findings system [] ≡ []
-      → pool_pages system < root_pages system → Stops contents board (with_listing listing) board (PoolSmall (root_pages system) (pool_pages system))
+      → pool_pages system < root_pages system → HasCause contents board (with_listing listing) board (PoolSmall (root_pages system) (pool_pages system))
   -- preloads are told by their numbers, from 0; where one comes to stand is the board's fault
   is_bad_preload : (so_far : SoFar) (file : PreloadFile) (preload : Preload) → IsNextPreload so_far file → IsPreloadOf contents file preload
-      → ¬ IsFaultless so_far.system.hypervisor_memory so_far.preloads preload → Stops contents board (with_system so_far) board (BadPreload (length so_far.preloads))
+      → ¬ IsFaultless so_far.system.hypervisor_memory so_far.preloads preload → HasCause contents board (with_system so_far) board (BadPreload (length so_far.preloads))
   is_bad_program : (so_far : SoFar) (file : ProgramFile) (bytes : List ℕ) (fault : ScriptFault) → IsNextProgram so_far file → HasBytes contents file.file bytes
-      → program_of bytes ≡ Err fault → Stops contents board (with_system so_far) file.file (BadProgram fault)
+      → program_of bytes ≡ Err fault → HasCause contents board (with_system so_far) file.file (BadProgram fault)
 
 -- the reading of the board stops, names this file, and has this cause
-pub record StopsReading (contents : Contents) (board file : List ℕ) (cause : ImageCause) : Type 0 where
+pub record IsCauseOf (contents : Contents) (board file : List ℕ) (cause : ImageCause) : Type 0 where
   pub stage : Stage
   pub read : ReadsTo contents board stage
-  pub stops : Stops contents board stage file cause
+  pub stops : HasCause contents board stage file cause
 
 -- P holds of the file and the cause, unless memory ran out
 abbrev pub OnRefused : (List ℕ → ImageCause → Type 0) → ImageFault → Type 0
@@ -61,7 +61,7 @@ OnRefused P NoMemory = ⊤
 -- what is answered: the image that the files make, or the first cause why there is none
 abbrev pub IsImageAnswer : Contents → List ℕ → Result Image ImageFault → Type 0
 IsImageAnswer contents board (Ok image) = IsImage contents board image
-IsImageAnswer contents board (Err fault) = OnRefused (StopsReading contents board) fault
+IsImageAnswer contents board (Err fault) = OnRefused (IsCauseOf contents board) fault
 
 -- the cause is that a file can't be read only where the count of faults rose, and the file is that of the last read
 -- that failed
@@ -104,11 +104,11 @@ pub record IsNoProgram (contents : Contents) (name file : List ℕ) (fault : Scr
   pub told : program_of bytes ≡ Err fault
 
 -- why a program's file gives no program: it can't be read, is too large, or its text has a fault
-abbrev pub IsProgramUnread : Contents → List ℕ → List ℕ → ImageCause → Type 0
-IsProgramUnread contents name file ReadFault = file ≡ name
-IsProgramUnread contents name file Oversize = (file ≡ name) × IsOversize contents name
-IsProgramUnread contents name file (BadProgram fault) = IsNoProgram contents name file fault
-IsProgramUnread contents name file _ = ⊥
+abbrev pub IsProgramCause : Contents → List ℕ → List ℕ → ImageCause → Type 0
+IsProgramCause contents name file ReadFault = file ≡ name
+IsProgramCause contents name file Oversize = (file ≡ name) × IsOversize contents name
+IsProgramCause contents name file (BadProgram fault) = IsNoProgram contents name file fault
+IsProgramCause contents name file _ = ⊥
 
 -- the pool has fewer pages than root takes, which is the board's fault
 abbrev pub IsPoolSmall : List ℕ → SystemConfig → List ℕ → ImageCause → Type 0

@@ -1,6 +1,6 @@
 //! Why a board makes no image.
 ghost use Rattle.std.specs.Prelude.{◌≡◌};
-ghost use Rattle.jh_image.specs.declared.fault.ImageFault.TheVariants.{NoMemory as OutOfMemory};
+ghost use Rattle.jh_image.specs.declared.fault.ImageFault.TheVariants.{NoMemory as WantOfMemory};
 
 use jh_cellcfg::ConfigFault;
 use jh_check::Finding;
@@ -41,7 +41,7 @@ pub enum ImageCause {
 }
 
 impl From<NoMemory> for ImageFault {
-    ghost from_gives = { λ _ e. e ≡ OutOfMemory };
+    ghost from_gives = { λ _ e. e ≡ WantOfMemory };
 
     fn from(_e: NoMemory) -> ImageFault {
         ImageFault::NoMemory

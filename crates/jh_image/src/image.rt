@@ -8,7 +8,7 @@ ghost use Rattle.jh_image.specs.Files.{IsPreloadOf};
 ghost use Rattle.jh_outside.specs.Trail.{Asks, AsksAll, AsksUntil, handed};
 ghost use Rattle.jh_image.specs.Order.{ask_for, preload_name, program_name, AsksBoard, AsksBoardUntil};
 ghost use Rattle.jh_image.specs.Images.{with_listing, with_system, so_far_of, IsNextPreload, IsComplete, ReadsTo};
-ghost use Rattle.jh_image.specs.Causes.{StopsReading, OnRefused, IsImageAnswer, IsCounted};
+ghost use Rattle.jh_image.specs.Causes.{IsCauseOf, OnRefused, IsImageAnswer, IsCounted};
 
 use crate::admission::check_system;
 use crate::board::{Listing, PreloadFile};
@@ -32,7 +32,7 @@ fn read_ready<F: Files>(
     requires { ReadsTo (F.contents files.old) board.now (with_listing listing.now) }
     ensures ok { IfOk result (λ system. ReadsTo (F.contents files.old) board.now (with_system (so_far_of listing.now system [] []))) }
     ensures admitted { IfOk result IsAdmittedSystem }
-    ensures err { IfErr result (OnRefused (StopsReading (F.contents files.old) board.now)) }
+    ensures err { IfErr result (OnRefused (IsCauseOf (F.contents files.old) board.now)) }
     ensures counted { IfErr result (IsCounted (F.faults files.old) (F.faults files.new) (F.failed files.new)) }
     ensures never_falls { F.faults files.old ≤ F.faults files.new }
     ensures kept { F.contents files.new ≡ F.contents files.old }
@@ -57,7 +57,7 @@ fn next_preload<F: Files>(
     requires few { length preloads.now < 64 }
     ensures ok { IfOk result (IsPreloadOf (F.contents files.old) file.now) }
     ensures fit { IfOk result (IsFaultless system.now.hypervisor_memory preloads.now) }
-    ensures err { IfErr result (OnRefused (StopsReading (F.contents files.old) board.now)) }
+    ensures err { IfErr result (OnRefused (IsCauseOf (F.contents files.old) board.now)) }
     ensures counted { IfErr result (IsCounted (F.faults files.old) (F.faults files.new) (F.failed files.new)) }
     ensures never_falls { F.faults files.old ≤ F.faults files.new }
     ensures kept { F.contents files.new ≡ F.contents files.old }
@@ -86,7 +86,7 @@ fn read_preloads<F: Files>(
     ensures all { IfOk result (λ preloads. length preloads ≡ length listing.now.preloads) }
     ensures sound { IfOk result (All (IsSoundPreload system.now.hypervisor_memory)) }
     ensures apart { IfOk result (AllPairs IsOtherPreload) }
-    ensures err { IfErr result (OnRefused (StopsReading (F.contents files.old) board.now)) }
+    ensures err { IfErr result (OnRefused (IsCauseOf (F.contents files.old) board.now)) }
     ensures counted { IfErr result (IsCounted (F.faults files.old) (F.faults files.new) (F.failed files.new)) }
     ensures never_falls { F.faults files.old ≤ F.faults files.new }
     ensures kept { F.contents files.new ≡ F.contents files.old }
@@ -118,7 +118,7 @@ fn read_programs<F: Files>(
     ensures complete { IfOk result (λ programs. IsComplete (so_far_of listing.now system.now preloads.now programs)) }
     ensures sound { IfOk result (All IsSoundProgram) }
     ensures owned { IfOk result (AllPairs IsOtherProgram) }
-    ensures err { IfErr result (OnRefused (StopsReading (F.contents files.old) board.now)) }
+    ensures err { IfErr result (OnRefused (IsCauseOf (F.contents files.old) board.now)) }
     ensures counted { IfErr result (IsCounted (F.faults files.old) (F.faults files.new) (F.failed files.new)) }
     ensures never_falls { F.faults files.old ≤ F.faults files.new }
     ensures kept { F.contents files.new ≡ F.contents files.old }

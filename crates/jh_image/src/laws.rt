@@ -5,15 +5,15 @@ ghost use Rattle.jh_image.specs.declared.fault.ImageCause.{ImageCause as TheCaus
 ghost use Rattle.jh_image.specs.declared.fault.ImageCause.TheVariants.{ReadFault};
 ghost use Rattle.jh_image.specs.Files.{Contents};
 ghost use Rattle.jh_image.specs.Images.{IsImage};
-ghost use Rattle.jh_image.specs.Causes.{StopsReading};
-ghost use Rattle.jh_image.specs.Laws.{AreTold};
+ghost use Rattle.jh_image.specs.Causes.{IsCauseOf};
+ghost use Rattle.jh_image.specs.Laws.{AreKnown};
 
 use jh_script::Image;
 use jh_syscfg::{one_system_spelling, system_has_no_fault};
 
 /// Where files tell what they hold, a board makes one image at most.
 pub fn boards_make_one_image()
-    ensures { (contents : Contents) (board : List ℕ) (one other : TheImage) → AreTold contents → IsImage contents board one → IsImage contents board other → one ≡ other }
+    ensures { (contents : Contents) (board : List ℕ) (one other : TheImage) → AreKnown contents → IsImage contents board one → IsImage contents board other → one ≡ other }
 {
     one_system_spelling();
 }
@@ -21,8 +21,8 @@ pub fn boards_make_one_image()
 /// Where files tell what they hold and a board makes an image, nothing stops its reading but a file that can't be
 /// read.
 pub fn boards_that_make_an_image_are_not_refused()
-    ensures { (contents : Contents) (board file : List ℕ) (image : TheImage) (cause : TheCause) → AreTold contents
-        → IsImage contents board image → StopsReading contents board file cause → cause ≡ ReadFault }
+    ensures { (contents : Contents) (board file : List ℕ) (image : TheImage) (cause : TheCause) → AreKnown contents
+        → IsImage contents board image → IsCauseOf contents board file cause → cause ≡ ReadFault }
 {
     one_system_spelling();
     system_has_no_fault();
@@ -31,8 +31,8 @@ pub fn boards_that_make_an_image_are_not_refused()
 /// Where files tell what they hold, one cause at most stops the reading of a board, besides a file that can't be read,
 /// and it names one file.
 pub fn boards_have_one_cause()
-    ensures { (contents : Contents) (board file other : List ℕ) (cause more : TheCause) → AreTold contents
-        → StopsReading contents board file cause → cause ≢ ReadFault → StopsReading contents board other more → more ≢ ReadFault
+    ensures { (contents : Contents) (board file other : List ℕ) (cause more : TheCause) → AreKnown contents
+        → IsCauseOf contents board file cause → cause ≢ ReadFault → IsCauseOf contents board other more → more ≢ ReadFault
         → (cause ≡ more) × (file ≡ other) }
 {
     one_system_spelling();

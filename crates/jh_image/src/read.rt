@@ -6,7 +6,7 @@ ghost use Rattle.jh_image.specs.Files.{HasBytes, Lists, SpellsSystem, IsPreloadO
 ghost use Rattle.jh_outside.specs.Trail.{Asks, handed};
 ghost use Rattle.jh_image.specs.Images.{with_listing, ReadsTo};
 ghost use Rattle.jh_image.specs.Order.{ask_for};
-ghost use Rattle.jh_image.specs.Causes.{OnRefused, HandsOutNothing, IsCounted, StopsReading, IsProgramUnread};
+ghost use Rattle.jh_image.specs.Causes.{OnRefused, HandsOutNothing, IsCounted, IsCauseOf, IsProgramCause};
 
 use crate::board::{Listing, PreloadFile, ProgramFile, read_board};
 use crate::fault::{ImageCause, ImageFault};
@@ -56,7 +56,7 @@ pub(crate) fn read_listing<F: Files>(
     ensures ok { IfOk result (Lists (F.contents files.old) board.now) }
     ensures few { IfOk result (λ listing. length listing.preloads ≤ 64) }
     ensures distinct { IfOk result (λ listing. are_distinct (map seat_of listing.programs) ≡ true) }
-    ensures err { IfErr result (OnRefused (StopsReading (F.contents files.old) board.now)) }
+    ensures err { IfErr result (OnRefused (IsCauseOf (F.contents files.old) board.now)) }
     ensures counted { IfErr result (IsCounted (F.faults files.old) (F.faults files.new) (F.failed files.new)) }
     ensures never_falls { F.faults files.old ≤ F.faults files.new }
     ensures kept { F.contents files.new ≡ F.contents files.old }
@@ -79,7 +79,7 @@ pub(crate) fn read_system_file<F: Files>(
 ) -> Result<SystemConfig, ImageFault>
     requires { ReadsTo (F.contents files.old) board.now (with_listing listing.now) }
     ensures ok { IfOk result (SpellsSystem (F.contents files.old) listing.now.system) }
-    ensures err { IfErr result (OnRefused (StopsReading (F.contents files.old) board.now)) }
+    ensures err { IfErr result (OnRefused (IsCauseOf (F.contents files.old) board.now)) }
     ensures counted { IfErr result (IsCounted (F.faults files.old) (F.faults files.new) (F.failed files.new)) }
     ensures never_falls { F.faults files.old ≤ F.faults files.new }
     ensures kept { F.contents files.new ≡ F.contents files.old }
@@ -121,7 +121,7 @@ pub(crate) fn read_program_file<F: Files>(
 ) -> Result<Program, ImageFault>
     ensures ok { IfOk result (IsProgramOf (F.contents files.old) file.now) }
     ensures sound { IfOk result IsSoundProgram }
-    ensures err { IfErr result (OnRefused (IsProgramUnread (F.contents files.old) file.now.file)) }
+    ensures err { IfErr result (OnRefused (IsProgramCause (F.contents files.old) file.now.file)) }
     ensures counted { IfErr result (IsCounted (F.faults files.old) (F.faults files.new) (F.failed files.new)) }
     ensures never_falls { F.faults files.old ≤ F.faults files.new }
     ensures kept { F.contents files.new ≡ F.contents files.old }

@@ -15,7 +15,7 @@ use Rattle.jh_ivshmem.specs.declared.change.Whom.TheVariants.{Device, Peer, Othe
 use Rattle.jh_ivshmem.specs.declared.endpoint.Endpoint.{Endpoint}
 use Rattle.jh_ivshmem.specs.declared.spec.EndpointSpec.{EndpointSpec}
 use Rattle.jh_ivshmem.specs.declared.key.Key.{Key}
-use Rattle.jh_ivshmem.specs.Specs.{AreEndpointsApart, ComesBefore}
+use Rattle.jh_ivshmem.specs.Specs.{AreEndpointsApart, IsBefore}
 use Rattle.jh_ivshmem.specs.Changes.{is_meant}
 use Rattle.jh_ivshmem.specs.Keys.{key_of, is_key_meant, IsWholeEndpoint, AreKept}
 
@@ -97,7 +97,7 @@ kept_space es ks i e space kept sound read = record {
       subst P (sym (map-set_same (λ (o : Endpoint). o.spec) es i (record e { space = space }) e (ap (λ (o : Endpoint). o.spec) read)))
       kept.apart;
   order =
-      let P : List EndpointSpec → Type 0 = λ specs. AllPairs ComesBefore specs in
+      let P : List EndpointSpec → Type 0 = λ specs. AllPairs IsBefore specs in
       subst P (sym (map-set_same (λ (o : Endpoint). o.spec) es i (record e { space = space }) e (ap (λ (o : Endpoint). o.spec) read)))
       kept.order;
 }
@@ -112,7 +112,7 @@ kept_set es ks i e old kept read sound same = record {
       let P : List EndpointSpec → Type 0 = λ specs. AllPairs AreEndpointsApart specs in
       subst P (sym (map-set_same (λ (o : Endpoint). o.spec) es i e old (same ∙ ap (λ (o : Endpoint). o.spec) read))) kept.apart;
   order =
-      let P : List EndpointSpec → Type 0 = λ specs. AllPairs ComesBefore specs in
+      let P : List EndpointSpec → Type 0 = λ specs. AllPairs IsBefore specs in
       subst P (sym (map-set_same (λ (o : Endpoint). o.spec) es i e old (same ∙ ap (λ (o : Endpoint). o.spec) read))) kept.order;
 }
 
@@ -134,6 +134,6 @@ kept_filter es ks p q r same by_spec kept = record {
   sound = All-filter p IsWholeEndpoint es kept.sound;
   apart = subst (AllPairs AreEndpointsApart) (sym (map_filter (λ (o : Endpoint). o.spec) p r by_spec es))
       (AllPairs-filter AreEndpointsApart r (map (λ (o : Endpoint). o.spec) es) kept.apart);
-  order = subst (AllPairs ComesBefore) (sym (map_filter (λ (o : Endpoint). o.spec) p r by_spec es))
-      (AllPairs-filter ComesBefore r (map (λ (o : Endpoint). o.spec) es) kept.order);
+  order = subst (AllPairs IsBefore) (sym (map_filter (λ (o : Endpoint). o.spec) p r by_spec es))
+      (AllPairs-filter IsBefore r (map (λ (o : Endpoint). o.spec) es) kept.order);
 }

@@ -13,7 +13,7 @@ use Rattle.jh_ivshmem.specs.declared.change.Whom.TheVariants.{Device}
 use Rattle.jh_ivshmem.specs.declared.endpoint.Endpoint.{Endpoint}
 use Rattle.jh_ivshmem.specs.declared.spec.EndpointSpec.{EndpointSpec}
 use Rattle.jh_ivshmem.specs.declared.key.Key.{Key}
-use Rattle.jh_ivshmem.specs.Specs.{AreEndpointsApart, ComesBefore, is_device, is_before}
+use Rattle.jh_ivshmem.specs.Specs.{AreEndpointsApart, IsBefore, is_device, is_before}
 use Rattle.jh_ivshmem.specs.Endpoint.{fresh}
 use Rattle.jh_ivshmem.specs.Links.{joined, earlier}
 use Rattle.jh_ivshmem.specs.Keys.{AreKept, AreInOrder, IsWholeEndpoint, key_of, is_key_before, is_key_meant, is_search_end, pending_by}
@@ -159,7 +159,7 @@ unfolding lower
 keys_in_order es ks kept =
     subst AreInOrder (sym kept.keys)
     (pairs_map key_of (λ (one other : Key). is_key_before other.cell other.device one ≡ true) es
-    (pairs_of (λ (o : Endpoint). o.spec) ComesBefore es kept.order))
+    (pairs_of (λ (o : Endpoint). o.spec) IsBefore es kept.order))
 
 -- those before a device come first
 pub keys_partitioned : (cell device : ℕ) (ks : List Key) → AreInOrder ks → IsPartitionedBy (is_key_before cell device) ks
@@ -258,7 +258,7 @@ pub apart_turned : (a b : EndpointSpec) → AreEndpointsApart a b → AreEndpoin
 apart_turned a b apart = record { devices = sym (device_turned a b) ∙ apart.devices; peers = sym (peer_turned a b) ∙ apart.peers }
 
 -- of two that are apart the one comes before the other that the other doesn't come before
-comes_before : (a s : EndpointSpec) → AreEndpointsApart a s → is_before s.cell s.device a ≡ false → ComesBefore s a
+comes_before : (a s : EndpointSpec) → AreEndpointsApart a s → is_before s.cell s.device a ≡ false → IsBefore s a
 unfolding lower
 comes_before a s apart fails = lower_other a.cell a.device s.cell s.device fails (λ cells devices.
     both_ways (is_device a.cell a.device s) apart.devices
@@ -292,8 +292,8 @@ kept_insert s es i bound kept split sound new = record {
       (pairs_insert (λ (a b : Endpoint). AreEndpointsApart a.spec b.spec) es i (fresh s) bound (pairs_of (λ (o : Endpoint). o.spec) AreEndpointsApart es kept.apart)
       (λ k d before. let inside : k < length es = omega arith in new k d inside)
       (λ k d past inside. apart_turned (get_or es k d).spec s (new k d inside)));
-  order = pairs_map (λ (o : Endpoint). o.spec) ComesBefore (insert es i (fresh s))
-      (pairs_insert (λ (a b : Endpoint). ComesBefore a.spec b.spec) es i (fresh s) bound (pairs_of (λ (o : Endpoint). o.spec) ComesBefore es kept.order)
+  order = pairs_map (λ (o : Endpoint). o.spec) IsBefore (insert es i (fresh s))
+      (pairs_insert (λ (a b : Endpoint). IsBefore a.spec b.spec) es i (fresh s) bound (pairs_of (λ (o : Endpoint). o.spec) IsBefore es kept.order)
       (λ k d before. split.0 k d (omega arith) before)
       (λ k d past inside. comes_before (get_or es k d).spec s (new k d inside) (split.1 k d past inside)));
 }

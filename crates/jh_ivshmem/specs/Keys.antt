@@ -5,7 +5,7 @@ use Rattle.jh_ivshmem.specs.declared.spec.EndpointSpec.{EndpointSpec}
 use Rattle.jh_ivshmem.specs.declared.key.Key.{Key}
 use Rattle.jh_ivshmem.specs.declared.change.Whom.{Whom}
 use Rattle.jh_ivshmem.specs.declared.change.Whom.TheVariants.{Device, Peer, Others}
-use Rattle.jh_ivshmem.specs.Specs.{IsInItsLimits, AreEndpointsApart, ComesBefore}
+use Rattle.jh_ivshmem.specs.Specs.{IsInItsLimits, AreEndpointsApart, IsBefore}
 use Rattle.jh_ivshmem.specs.Endpoint.{pending_in}
 
 -- the key of the endpoint: its cell, its device, its bdf, its number, and its lowest pending vector
@@ -28,7 +28,7 @@ pub record AreKept (endpoints : List Endpoint) (kept : List Key) : Type 0 where
   pub keys : kept ≡ map key_of endpoints
   pub sound : All IsWholeEndpoint endpoints
   pub apart : AllPairs AreEndpointsApart (map (λ (e : Endpoint). e.spec) endpoints)
-  pub order : AllPairs ComesBefore (map (λ (e : Endpoint). e.spec) endpoints)
+  pub order : AllPairs IsBefore (map (λ (e : Endpoint). e.spec) endpoints)
 
 -- the key's endpoint is of a lower cell, or of a lower device of this cell
 abbrev pub is_key_before : ℕ → ℕ → Key → Bool

@@ -5,16 +5,16 @@ use Rattle.jh_vpci.specs.Space.{Space}
 use Rattle.jh_vpci.specs.contracts.config.ConfigSpace as config
 use Rattle.jh_ivshmem.specs.declared.endpoint.Endpoint.{Endpoint}
 use Rattle.jh_ivshmem.specs.contracts.endpoints.Endpoints as endpoints
-use Rattle.jh_ivshmem.specs.Seen.{Seen}
+use Rattle.jh_ivshmem.specs.EndpointsView.{EndpointsView}
 use Rattle.jh_ivshmem.specs.Specs.{is_device}
 use Rattle.jh_ivshmem.specs.Changes.{changed}
 
 -- the endpoint of this device of this cell has this configuration space, all else is as it was
-abbrev pub with_space : ℕ → ℕ → Space → Seen → Seen
+abbrev pub with_space : ℕ → ℕ → Space → EndpointsView → EndpointsView
 with_space cell device space seen =
     record seen { list = changed (is_device cell device) (λ (e : Endpoint). record e { space = space }) seen.list }
 
 -- what is last written through r is the configuration space of the endpoint
-abbrev pub LendsSpace : MutBor Seen → ℕ → ℕ → MutBor Space → Fml
+abbrev pub LendsSpace : MutBor EndpointsView → ℕ → ℕ → MutBor Space → Fml
 LendsSpace links cell device r =
     Lends endpoints.the_row config.the_row links r (λ space. with_space cell device space links.now)

@@ -1,4 +1,4 @@
-pub mod Seen
+pub mod EndpointsView
 pub mod Specs
 pub mod Endpoint
 pub mod Registers

@@ -20,8 +20,8 @@ abbrev pub is_before : ℕ → ℕ → EndpointSpec → Bool
 is_before cell device spec = nat_lt spec.cell cell || ((spec.cell == cell) && nat_lt spec.device device)
 
 -- the first has the lower cell, or in one cell the lower device
-abbrev pub ComesBefore : EndpointSpec → EndpointSpec → Type 0
-ComesBefore one other = is_before other.cell other.device one ≡ true
+abbrev pub IsBefore : EndpointSpec → EndpointSpec → Type 0
+IsBefore one other = is_before other.cell other.device one ≡ true
 
 -- the other endpoint is the one itself, or another of its link
 abbrev pub is_concerned : EndpointSpec → EndpointSpec → Bool

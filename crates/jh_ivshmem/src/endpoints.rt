@@ -35,10 +35,10 @@ pub struct Endpoints {
 
 impl Model for Endpoints {
     ghost use Rattle.std.specs.Prelude.{◌-◌, min, vec_len, vec_capacity};
-    ghost use Rattle.jh_ivshmem.specs.Seen.{Seen};
+    ghost use Rattle.jh_ivshmem.specs.EndpointsView.{EndpointsView};
     ghost use Rattle.jh_ivshmem.specs.Keys.{AreKept};
 
-    ghost Value = { Seen };
+    ghost Value = { EndpointsView };
 
     ghost view = { λ s. record {
       list = s.endpoints.items;

@@ -31,7 +31,7 @@ use Rattle.jh_laws.specs.Writes.{Writes, WritesNot}
 use Rattle.jh_laws.specs.Written.{IsByteBy}
 use Rattle.jh_laws.specs.Ends.{IsAnsweredByRegister}
 use Rattle.jh_laws.specs.RootAlone.{HasNoDevice}
-use Rattle.jh_laws.proofs.RootLemmas.{op_plain}
+use Rattle.jh_laws.proofs.RootLemmas.{op_well_formed}
 use Rattle.jh_laws.proofs.EndsLemmas.{IsSmallAct, op_small_holds}
 use Rattle.jh_laws.proofs.WordLemmas.{words_page}
 use Rattle.jh_laws.proofs.WrittenLemmas.{write_puts, write_kept}
@@ -66,7 +66,7 @@ byte_kept image f _ place admitted roots small none = refl
 -- the value fits its width
 made_small : (image : Image) (f : Facts) (entry : Entry) → IsSilent image → IsNext image f entry → IsSmallAct entry.act
 made_small image f entry admitted made =
-    op_small_holds image f image.system.root.id made.op entry.act (op_plain image (name_of image.system.root) entry.cpu (f.cpu entry.cpu).position made.op admitted.admitted made.at) made.act
+    op_small_holds image f image.system.root.id made.op entry.act (op_well_formed image (name_of image.system.root) entry.cpu (f.cpu entry.cpu).position made.op admitted.admitted made.at) made.act
 
 -- one entry
 after_at_root : (image : Image) (f : Facts) (entry : Entry) (place : Place) → IsSilent image → AllRoots image f → IsNext image f entry → (after image f entry).byte place ≡ byte_written image f image.system.root.id entry.act place

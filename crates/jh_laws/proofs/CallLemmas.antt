@@ -26,7 +26,7 @@ use Rattle.jh_history.specs.declared.entry.Heard.{Heard}
 use Rattle.jh_history.specs.declared.entry.Act.{Act}
 use Rattle.jh_history.specs.declared.entry.Act.TheVariants.{Read, Write, Fetch, Await, Irq, Hvc, Begin, Stop, Decide, Settle, Commit, Note, Noted, Finish}
 use Rattle.jh_history.specs.Facts.{Facts}
-use Rattle.jh_history.specs.Calls.{is_named, counted, telling, first_told, behind, decided, after_settle, after_commit, phase_after, call_by, is_call}
+use Rattle.jh_history.specs.Calls.{is_named, counted, telling, first_recipient, behind, decided, after_settle, after_commit, phase_after, call_by, is_call}
 use Rattle.jh_num.specs.Numbers.{counted_up}
 use Rattle.jh_history.specs.Configs.{ReadCell, config_read}
 use Rattle.jh_history.specs.History.{start, after, facts, coming_of, coming_by}
@@ -34,8 +34,8 @@ use Rattle.jh_history.specs.Phases.{phase_act, settled_of, heard_of, decision, k
 use Rattle.jh_shape.specs.Lives.{configs_of}
 use Rattle.jh_history.specs.Due.{due_at, due, is_idle_but, IsLegal, IsLegalFrom}
 use Rattle.jh_history.proofs.Public.{facts_push, due_split, IsLegal_begin, come_rests, halting_rests, root_unnamed, IsNext, next_from_due, IsOutcomeOf, IsOfProgram, state_parts, IsOfCall, call_parts, coming_from_decision, sound_after, legal_sound, noted_act, settle_act, unless, after_call, call_open}
-use Rattle.jh_history.specs.Sound.{HasCome, IsAboutLive, IsCreate, IsNews, IsOpen, IsSound}
-use Rattle.jh_laws.specs.Ways.{is_phase, is_decide, is_finish, is_agreement, call_begun, begun_by, begun, IsBegun, IsNoteOr, IsTelling, IsBehindGo, IsBehindCommit, MayFollow}
+use Rattle.jh_history.specs.Sound.{HasHalted, IsAboutLive, IsCreate, IsNews, IsOpen, IsSound}
+use Rattle.jh_laws.specs.Ways.{is_phase, is_decide, is_finish, is_agreement, call_begun, begun_by, begun, IsBegun, IsNoteOr, IsNoteOrEnd, IsBehindGo, IsBehindCommit, MayFollow}
 use Rattle.jh_laws.proofs.LegalLemmas.{IsLegal_rest}
 use Rattle.jh_history.specs.Commits.{is_commit}
 
@@ -188,7 +188,7 @@ settle_follows call Denied next h = h
 settle_follows call Timeout next h = h
 
 create_follows : (call : Call) (config : CellConfig) (cells : List Live) (next : Act) → IsCreate call → Expects (after_commit call (ToCreate config) cells) next → MayFollow call Commit next
-create_follows (Create at) config cells next is h = telling_follows config.id (pos config.id) (λ (answer : ℤ). (id : ℕ) × (answer ≡ pos id)) (first_told config.id cells) next (config.id, refl) h
+create_follows (Create at) config cells next is h = telling_follows config.id (pos config.id) (λ (answer : ℤ). (id : ℕ) × (answer ≡ pos id)) (first_recipient config.id cells) next (config.id, refl) h
 create_follows (Start id) config cells next is h = absurd is
 create_follows (Loadable id) config cells next is h = absurd is
 create_follows (Destroy id) config cells next is h = absurd is
@@ -201,7 +201,7 @@ commit_follows : (call : Call) (configs : List CellConfig) (cells : List Live) (
 commit_follows (Create at) configs cells next about h = absurd (both_ways false refl about.2)
 commit_follows (Start id) configs cells next about h = h
 commit_follows (Loadable id) configs cells next about h = h
-commit_follows (Destroy id) configs cells next about h = telling_follows id (pos 0) (λ (answer : ℤ). answer ≡ pos 0) (first_told id cells) next refl h
+commit_follows (Destroy id) configs cells next about h = telling_follows id (pos 0) (λ (answer : ℤ). answer ≡ pos 0) (first_recipient id cells) next refl h
 commit_follows (Info kind) configs cells next about h = absurd (both_ways false refl about.2)
 commit_follows (State id) configs cells next about h = absurd (both_ways false refl about.2)
 commit_follows (CpuInfo cpu kind) configs cells next about h = absurd (both_ways false refl about.2)
@@ -249,7 +249,7 @@ phase_follows image f entry caller call (ToNoted id about answer waited) idle op
     let o : OpenCall = record { caller = caller; call = call; phase = ToNoted id about answer waited } in
     let P : Act → Type 0 = λ act. GoesOnWith (call_by f.cells (coming_by image f call) (Some o) entry act) caller act in
     let how = noted_act id (heard_of f idle id waited) entry.act h in
-    let told : Option ℕ = first_told about (behind id f.cells) in
+    let told : Option ℕ = first_recipient about (behind id f.cells) in
     subst P (sym how.1) (record { caller = caller; call = call; phase = telling about answer told }, refl, refl, λ next e. noted_follows call (configs_of f.cells) id about how.0 answer told next opens.phase.1 e)
 phase_follows image f entry caller call (ToFinish answer) idle opens h more =
     absurd (both_ways (is_finish entry.act) more (ap is_finish (sym (same_Some (Finish answer) entry.act h))))
@@ -443,7 +443,7 @@ IsPast _ = Unit {0}
 abbrev IsSuspending : ℕ → Facts → Type 0
 IsSuspending caller f = (o : OpenCall) × (f.call ≡ Some o) × (o.caller ≡ caller) × IsPast o.phase
 
-halted_past : (phase : Phase) (cpu : Cpu) → IsPast phase → HasCome phase cpu → cpu.asked ≡ false
+halted_past : (phase : Phase) (cpu : Cpu) → IsPast phase → HasHalted phase cpu → cpu.asked ≡ false
 halted_past ToDecide cpu past h = absurd past
 halted_past (ToSettle waited) cpu past h = h.asked
 halted_past (ToCreate config) cpu past h = h.asked
@@ -457,7 +457,7 @@ pub past_other : (image : Image) (f : Facts) (o : OpenCall) (entry : Entry) → 
 past_other image f o entry sound is past due other root =
     let next = next_from_due image f entry due in
     let opens = call_open image f o sound is in
-    let come : HasCome o.phase (f.cpu entry.cpu) = opens.roots entry.cpu next.board other (sym next.cell ∙ root) in
+    let come : HasHalted o.phase (f.cpu entry.cpu) = opens.roots entry.cpu next.board other (sym next.cell ∙ root) in
     ⊎_elim
     (λ made. other (sym made.0))
     (λ (beside : IsBeside image f o entry).
@@ -484,7 +484,7 @@ never_behind_go Unknown h = not_same is_decide (Decide None) (Settle h.0) refl r
 never_note : (answers : ℤ → Type 0) → IsNoteOr answers (Decide None) → ⊥
 never_note answers h = ⊎_elim (λ note. not_same is_decide (Decide None) (Note note.0) refl refl note.1) (λ ends. not_same is_decide (Decide None) (Finish ends.0) refl refl ends.2) h
 
-never_telling : (call : Call) → IsTelling call (Decide None) → ⊥
+never_telling : (call : Call) → IsNoteOrEnd call (Decide None) → ⊥
 never_telling (Create at) h = never_note (λ (answer : ℤ). (id : ℕ) × (answer ≡ pos id)) h
 never_telling (Destroy id) h = never_note (λ (answer : ℤ). answer ≡ pos 0) h
 never_telling (Start id) h = h

@@ -38,7 +38,7 @@ use Rattle.jh_history.specs.Due.{due_at, is_idle_but}
 use Rattle.jh_laws.specs.Ways.{is_phase}
 use Rattle.jh_laws.proofs.HeldLemmas.{found_by_id}
 use Rattle.jh_laws.proofs.DevicesLemmas.{endpoint_held, endpoint_sound, cell_named}
-use Rattle.jh_laws.proofs.LinkedLemmas.{IsClearing, IsQuietAt, quiet_all, is_told, told_in, HaveLinks, AreTwoOfCell, cleared_all, joined_all}
+use Rattle.jh_laws.proofs.LinkedLemmas.{IsClearing, IsQuietAt, quiet_all, is_notified, told_in, HaveLinks, AreTwoOfCell, cleared_all, joined_all}
 use Rattle.jh_laws.proofs.PendingLemmas.{one_endpoint, endpoint_found}
 use Rattle.jh_laws.proofs.RaiseLemmas.{Calls, IsDropped, HasBecome, IsNow, become_raised, stays_so}
 use Rattle.jh_laws.proofs.WindowLemmas.{spec_is}
@@ -218,13 +218,13 @@ among_specs image f entry e h sound held cell =
     let P : CellConfig → Type 0 = λ c. Contains (specs_of c) e.spec in
     subst P same own.2
 
-told_at : (image : Image) (f : Facts) (e : Endpoint) (s : EndpointSpec) (q : Option Endpoint) → endpoint_at s.cell s.device f.endpoints ≡ q → option_map_or (λ (x : Endpoint). is_told x 0 e) q false ≡ true → (x : Endpoint) × (endpoint_at s.cell s.device f.endpoints ≡ Some x) × (is_told x 0 e ≡ true)
+told_at : (image : Image) (f : Facts) (e : Endpoint) (s : EndpointSpec) (q : Option Endpoint) → endpoint_at s.cell s.device f.endpoints ≡ q → option_map_or (λ (x : Endpoint). is_notified x 0 e) q false ≡ true → (x : Endpoint) × (endpoint_at s.cell s.device f.endpoints ≡ Some x) × (is_notified x 0 e ≡ true)
 told_at image f e s None is told = absurd (false≢true told)
 told_at image f e s (Some x) is told = (x, is, told)
 
 told_calls : (image : Image) (f : Facts) (entry : Entry) (e : Endpoint) (h : IsClear image f entry) → IsSound image f → told_in (specs_of h.config) f.endpoints e ≡ true → Calls image f entry e 0
 told_calls image f entry e h sound told =
-    let found = IsFound_from_list_any (λ (s : EndpointSpec). option_map_or (λ (x : Endpoint). is_told x 0 e) (endpoint_at s.cell s.device f.endpoints) false) (specs_of h.config) told in
+    let found = IsFound_from_list_any (λ (s : EndpointSpec). option_map_or (λ (x : Endpoint). is_notified x 0 e) (endpoint_at s.cell s.device f.endpoints) false) (specs_of h.config) told in
     let s : EndpointSpec = found.0 in
     let at = told_at image f e s (endpoint_at s.cell s.device f.endpoints) refl found.1.passes in
     let x : Endpoint = at.0 in
@@ -249,11 +249,11 @@ calls_told image f entry e v h sound commits call =
     let one : Endpoint = c.1.0 in
     let held = c.1.1 in
     let among = among_specs image f entry one h sound held (h.only one.spec.cell c.1.2) in
-    let told : is_told one 0 e ≡ true = and_from (not (eqb one.state 0)) (is_other one.spec.bdf one.spec.id e.spec) (ap not (ne_eqb one.state 0 c.1.3))
+    let told : is_notified one 0 e ≡ true = and_from (not (eqb one.state 0)) (is_other one.spec.bdf one.spec.id e.spec) (ap not (ne_eqb one.state 0 c.1.3))
     (and_from (eqb e.spec.bdf one.spec.bdf) (not (eqb e.spec.id one.spec.id)) (eq-eqb e.spec.bdf one.spec.bdf (sym c.1.4)) (ap not (ne_eqb e.spec.id one.spec.id (λ same. c.1.5 (sym same))))) in (
       c.0,
-      list_any_from_Contains (λ (s : EndpointSpec). option_map_or (λ (x : Endpoint). is_told x 0 e) (endpoint_at s.cell s.device f.endpoints) false) (specs_of h.config) one.spec among
-          (ap (λ (o : Option Endpoint). option_map_or (λ (x : Endpoint). is_told x 0 e) o false) (endpoint_found image f one sound held) ∙ told),
+      list_any_from_Contains (λ (s : EndpointSpec). option_map_or (λ (x : Endpoint). is_notified x 0 e) (endpoint_at s.cell s.device f.endpoints) false) (specs_of h.config) one.spec among
+          (ap (λ (o : Option Endpoint). option_map_or (λ (x : Endpoint). is_notified x 0 e) o false) (endpoint_found image f one sound held) ∙ told),
     )
 
 clear_become : (image : Image) (f : Facts) (entry : Entry) (e : Endpoint) (h : IsClear image f entry) (told : Bool) → IsSound image f → IsSoundEndpoint e → entry.act ≡ Commit → e.spec.cell ≢ h.id → told_in (specs_of h.config) f.endpoints e ≡ told → HasBecome image f entry e (cond told (raised 0 e) e)

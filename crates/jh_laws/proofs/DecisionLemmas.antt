@@ -38,7 +38,7 @@ use Rattle.jh_history.specs.Due.{due_at, is_idle_but, IsLegal}
 use Rattle.jh_history.proofs.Public.{due_split, IsLegal_begin, other_root, legal_sound, call_open}
 use Rattle.jh_history.specs.Sound.{AreSoundCells}
 use Rattle.jh_laws.specs.Ways.{is_phase, is_decide, call_begun, begun}
-use Rattle.jh_laws.specs.Decisions.{IsLockedBy, NoneIsLocked, NoOtherIsLocked, LivesNot, IsIdDecision, IsDestroyDecision, IsUnreadDecision, IsRefusedOf, IsCreateDecision, IsDecision}
+use Rattle.jh_laws.specs.Decisions.{IsLockedBy, NoneIsLocked, NoOtherIsLocked, LivesNot, IsIdDecision, IsDestroyDecision, IsReadRefusal, IsRefusedOf, IsCreateDecision, IsDecision}
 use Rattle.jh_laws.proofs.CallLemmas.{phase_expects, phase_of_due, begun_of, not_same}
 use Rattle.jh_laws.proofs.HeldLemmas.{live_cell}
 use Rattle.jh_laws.proofs.HvcLemmas.{none_live}
@@ -116,7 +116,7 @@ created_read image f caller at free = ap (λ (b : Bool). refused_by (cond b (Ref
 abbrev by_read : Image → Facts → ℕ → ReadCell → Option ℤ
 by_read image f caller read = refused_by (creation_by image f caller read)
 
-unread : (image : Image) (f : Facts) (caller at : ℕ) → list_any (is_locked f) f.cells ≡ false → IsUnreadDecision image f at (refused_by (creation_of image f caller at))
+unread : (image : Image) (f : Facts) (caller at : ℕ) → list_any (is_locked f) f.cells ≡ false → IsReadRefusal image f at (refused_by (creation_of image f caller at))
 unread image f caller at free =
     let first = created_read image f caller at free in
     record {

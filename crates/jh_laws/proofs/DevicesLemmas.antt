@@ -24,8 +24,8 @@ use Rattle.jh_ivshmem.specs.Specs.{is_device}
 use Rattle.jh_ivshmem.proofs.Public.{named_device}
 use Rattle.jh_script.specs.declared.image.Image.{Image}
 use Rattle.jh_history.specs.declared.access.Access.{Access}
-use Rattle.jh_history.specs.Access.{config_told, register_told}
-use Rattle.jh_history.specs.Behind.{window_found}
+use Rattle.jh_history.specs.Access.{config_value, register_value}
+use Rattle.jh_history.specs.Behind.{window_of_access}
 use Rattle.jh_history.specs.Devices.{is_endpoint, list_in, windows_from, windows_of, number_from, function_at}
 use Rattle.jh_history.specs.Facts.{Facts}
 use Rattle.jh_history.specs.Grants.{devices_of}
@@ -86,7 +86,7 @@ listed_device image f id n device e item passes there = listed_by image f id n d
 
 -- ---- windows
 
-windows_listed : (image : Image) (f : Facts) (id at width : ℕ) → window_found (devices_of image f id) at width ≡ find (window_has at width) (windows_from id f.endpoints 0 (list_in image f.cells id))
+windows_listed : (image : Image) (f : Facts) (id at width : ℕ) → window_of_access (devices_of image f id) at width ≡ find (window_has at width) (windows_from id f.endpoints 0 (list_in image f.cells id))
 unfolding windows_of
 windows_listed image f id at width = refl
 
@@ -124,7 +124,7 @@ lies_has image f id n bar at width e sound h =
       lies_from h.start (h.start + (h.end - h.start)) at width first (omega arith),
     )
 
-pub window_none : (image : Image) (f : Facts) (id at width : ℕ) → IsSound image f → window_found (devices_of image f id) at width ≡ None → (n bar : ℕ) (e : Endpoint) → LiesInBar image f id n bar at width e → ⊥
+pub window_none : (image : Image) (f : Facts) (id at width : ℕ) → IsSound image f → window_of_access (devices_of image f id) at width ≡ None → (n bar : ℕ) (e : Endpoint) → LiesInBar image f id n bar at width e → ⊥
 window_none image f id at width sound none n bar e h =
     let has = lies_has image f id n bar at width e sound h in
     let w : Window = window_at n bar (h.start, h.end) in
@@ -144,7 +144,7 @@ first_lies image f id at width w sound some found m other e lower h =
     not_before (inr less) (inr (inl more)) = (let e : m ≡ w.device = less.0 in omega arith)
     not_before (inr less) (inr (inr both)) = (let lt : other < w.bar = less.1 in let gt : w.bar < other = both.1 in omega arith)
 
-pub window_lies : (image : Image) (f : Facts) (id at width : ℕ) (w : Window) → IsSound image f → 0 < width → window_found (devices_of image f id) at width ≡ Some w → IsTheWindow image f id at width w
+pub window_lies : (image : Image) (f : Facts) (id at width : ℕ) (w : Window) → IsSound image f → 0 < width → window_of_access (devices_of image f id) at width ≡ Some w → IsTheWindow image f id at width w
 window_lies image f id at width w sound some is =
     let found : find (window_has at width) (windows_from id f.endpoints 0 (list_in image f.cells id)) ≡ Some w = sym (windows_listed image f id at width) ∙ is in
     let got = IsFound_from_find (window_has at width) (windows_from id f.endpoints 0 (list_in image f.cells id)) w found in
@@ -175,7 +175,7 @@ window_lies image f id at width w sound some is =
       rounded = λ word. omega arith;
     }
 
-pub found_passes : (image : Image) (f : Facts) (id at width : ℕ) (w : Window) → window_found (devices_of image f id) at width ≡ Some w → window_has at width w ≡ true
+pub found_passes : (image : Image) (f : Facts) (id at width : ℕ) (w : Window) → window_of_access (devices_of image f id) at width ≡ Some w → window_has at width w ≡ true
 found_passes image f id at width w is =
     (IsFound_from_find (window_has at width) (windows_from id f.endpoints 0 (list_in image f.cells id)) w (sym (windows_listed image f id at width) ∙ is)).passes
 
@@ -213,22 +213,22 @@ function_has image f id offset e is = function_by image f id offset e (number_fr
 -- ---- what is told
 
 function_told : (image : Image) (f : Facts) (id offset width : ℕ) (o : Option Endpoint) → function_at (devices_of image f id) offset ≡ o
-    → config_told (devices_of image f id) (record { at = offset; width = width }) ≡ option_map_or (λ (e : Endpoint). config_read e.space (offset % 4096) width) o (256 ^ width - 1)
+    → config_value (devices_of image f id) (record { at = offset; width = width }) ≡ option_map_or (λ (e : Endpoint). config_read e.space (offset % 4096) width) o (256 ^ width - 1)
 function_told image f id offset width o is = ap (λ (p : Option Endpoint). option_map_or (λ (e : Endpoint). config_read e.space (offset % 4096) width) p (256 ^ width - 1)) is
 
 pub told_function : (image : Image) (f : Facts) (id offset width : ℕ) (e : Endpoint) → IsSound image f → HasFunction image f id offset e
-    → config_told (devices_of image f id) (record { at = offset; width = width }) ≡ config_read e.space (offset % 4096) width
+    → config_value (devices_of image f id) (record { at = offset; width = width }) ≡ config_read e.space (offset % 4096) width
 told_function image f id offset width e sound has = function_told image f id offset width (Some e) (function_is image f id offset e sound has)
 
 ones_by : (image : Image) (f : Facts) (id offset width : ℕ) (o : Option Endpoint) → function_at (devices_of image f id) offset ≡ o → ((e : Endpoint) → HasFunction image f id offset e → ⊥)
-    → config_told (devices_of image f id) (record { at = offset; width = width }) ≡ 256 ^ width - 1
+    → config_value (devices_of image f id) (record { at = offset; width = width }) ≡ 256 ^ width - 1
 ones_by image f id offset width None is none = function_told image f id offset width None is
 ones_by image f id offset width (Some e) is none = absurd (none e (function_has image f id offset e is))
 
-pub told_ones : (image : Image) (f : Facts) (id offset width : ℕ) → ((e : Endpoint) → HasFunction image f id offset e → ⊥) → config_told (devices_of image f id) (record { at = offset; width = width }) ≡ 256 ^ width - 1
+pub told_ones : (image : Image) (f : Facts) (id offset width : ℕ) → ((e : Endpoint) → HasFunction image f id offset e → ⊥) → config_value (devices_of image f id) (record { at = offset; width = width }) ≡ 256 ^ width - 1
 told_ones image f id offset width none = ones_by image f id offset width (function_at (devices_of image f id) offset) refl none
 
-pub told_register : (image : Image) (f : Facts) (id n bar offset : ℕ) (e : Endpoint) → endpoint_at id n f.endpoints ≡ Some e → register_told (devices_of image f id) (record { device = n; bar = bar; at = offset }) ≡ register_of e bar offset
+pub told_register : (image : Image) (f : Facts) (id n bar offset : ℕ) (e : Endpoint) → endpoint_at id n f.endpoints ≡ Some e → register_value (devices_of image f id) (record { device = n; bar = bar; at = offset }) ≡ register_of e bar offset
 told_register image f id n bar offset e there = ap (λ (o : Option Endpoint). option_map_or (λ (p : Endpoint). register_of p bar offset) o 0) there
 
 -- ---- one register answers

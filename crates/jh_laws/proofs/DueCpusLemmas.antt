@@ -47,7 +47,7 @@ use Rattle.jh_laws.specs.Ready.{IsDueIn, NothingElse, HasHeard, RootHasStopped, 
 use Rattle.jh_history.proofs.Public.{goes_calm, goes_running, running_mode, root_unnamed, board_few, halted_to_decide, halted_to_commit, named_board, IsOfProgram, state_parts, call_open, is_some_entry}
 use Rattle.jh_laws.proofs.HeldLemmas.{found_by_id, live_found}
 use Rattle.jh_laws.proofs.PendingLemmas.{next_some_holds, next_is}
-use Rattle.jh_laws.proofs.EndsLemmas.{got_of_cell, one_value, width_some, ops_plain}
+use Rattle.jh_laws.proofs.EndsLemmas.{got_of_cell, one_value, width_some, ops_well_formed}
 
 -- ---- what an operation comes to
 
@@ -112,8 +112,8 @@ some_of : {X : Type 0} (o : Option X) → is_some o ≡ true → (x : X) × (o �
 some_of None h = absurd (false≢true h)
 some_of (Some x) h = (x, refl)
 
-plain_at : (image : Image) (f : Facts) (cpu : ℕ) (op : Op) → IsAdmitted image → op_at image f (f.cpu cpu) cpu ≡ Some op → IsWellFormed op
-plain_at image f cpu op admitted at = ops_plain image cpu (cell_in image f.cells (f.cpu cpu).owner) (f.cpu cpu).position op admitted at
+well_formed_at : (image : Image) (f : Facts) (cpu : ℕ) (op : Op) → IsAdmitted image → op_at image f (f.cpu cpu) cpu ≡ Some op → IsWellFormed op
+well_formed_at image f cpu op admitted at = ops_well_formed image cpu (cell_in image f.cells (f.cpu cpu).owner) (f.cpu cpu).position op admitted at
 
 -- a calm CPU that runs goes on with its program
 calm_goes : (cpu : Cpu) → IsCalm cpu → cpu.mode ≡ Running → goes_on cpu ≡ true
@@ -133,7 +133,7 @@ state_ready image f cpu admitted sound none due =
       calm = goes_calm (f.cpu cpu) program.goes;
       op = program.op;
       at = program.at;
-      due = op_due image f (f.cpu cpu).owner program.op sound (plain_at image f cpu program.op admitted program.at) (ap (λ (o : Option Act). is_some o) program.is);
+      due = op_due image f (f.cpu cpu).owner program.op sound (well_formed_at image f cpu program.op admitted program.at) (ap (λ (o : Option Act). is_some o) program.is);
     }))
     (state_parts image f (f.cpu cpu) cpu act.0 act.1)
 
@@ -147,7 +147,7 @@ program_state image f cpu admitted sound ready =
     ap (λ (b : Bool). is_some (cond b (Some Stop) (option_and_then (act_of image f state.owner) (pending_op image f state cpu)))) ready.calm.asked
     ∙ ap (λ (b : Bool). is_some (option_and_then (act_of image f state.owner) (cond b (op_at image f state cpu) None))) goes
     ∙ ap (λ (o : Option Op). is_some (option_and_then (act_of image f state.owner) o)) ready.at
-    ∙ due_op image f state.owner ready.op sound (plain_at image f cpu ready.op admitted ready.at) ready.due
+    ∙ due_op image f state.owner ready.op sound (well_formed_at image f cpu ready.op admitted ready.at) ready.due
 
 -- ---- nothing due to any other
 

@@ -27,7 +27,7 @@ use Rattle.jh_history.specs.declared.access.Reach.{Reach}
 use Rattle.jh_history.specs.declared.entry.Entry.{Entry}
 use Rattle.jh_history.specs.declared.entry.Act.{Act}
 use Rattle.jh_history.specs.declared.entry.Act.TheVariants.{Read, Write, Fetch, Await, Irq, Hvc, Begin, Stop, Decide, Settle, Commit, Note, Noted, Finish}
-use Rattle.jh_history.specs.Access.{place_in_cell, config_told, register_told, read_of, is_reached}
+use Rattle.jh_history.specs.Access.{place_in_cell, config_value, register_value, read_of, is_reached}
 use Rattle.jh_history.specs.Devices.{function_at}
 use Rattle.jh_history.specs.Facts.{Facts}
 use Rattle.jh_history.specs.Lives.{cell_in, ops_in, program_of}
@@ -40,7 +40,7 @@ use Rattle.jh_history.specs.Admitted.{IsAdmitted}
 use Rattle.jh_history.proofs.Public.{due_split, IsLegal_begin, next_from_due, legal_sound}
 use Rattle.jh_history.specs.Sound.{AreSoundCells, IsSound}
 use Rattle.jh_laws.specs.Ways.{is_phase}
-use Rattle.jh_laws.proofs.RootLemmas.{op_plain}
+use Rattle.jh_laws.proofs.RootLemmas.{op_well_formed}
 use Rattle.jh_laws.proofs.CallLemmas.{IsMadeBy, Stopping, Running, Calling, made_by}
 use Rattle.jh_laws.specs.Held.{IsGrantedTo, AreGrantedTo}
 use Rattle.jh_laws.proofs.HeldLemmas.{granted_to}
@@ -97,7 +97,7 @@ got_on image f id access at width sound some (OnRegion r answers is) =
 got_on image f id access at width sound some (OnWindow window is) =
     let P : Reach → Type 0 = λ r. IsGotBy image f id access at width (read_of f.byte (devices_of image f id) r) in
     let offset : ℕ = at - image.system.pci_mmconfig_base in
-    let told : ℕ = config_told (devices_of image f id) (record { at = offset; width = width }) in
+    let told : ℕ = config_value (devices_of image f id) (record { at = offset; width = width }) in
     subst P (sym is) (record {
       answered = (λ _. inr (inr (inl window)), λ _. refl);
       reads = λ value e. record {
@@ -109,7 +109,7 @@ got_on image f id access at width sound some (OnWindow window is) =
     })
 got_on image f id access at width sound some (OnRegister n bar offset o register is) =
     let P : Reach → Type 0 = λ r. IsGotBy image f id access at width (read_of f.byte (devices_of image f id) r) in
-    let told : ℕ = register_told (devices_of image f id) (record { device = n; bar = bar; at = offset }) in
+    let told : ℕ = register_value (devices_of image f id) (record { device = n; bar = bar; at = offset }) in
     subst P (sym is) (record {
       answered = (λ _. inr (inr (inr (n, bar, offset, o, register))), λ _. refl);
       reads = λ value e. record {
@@ -228,14 +228,14 @@ ends_by image f id act None h is = absurd (none-some act is)
 ends_by image f id act (Some other) h is = let P : Act → Type 0 = EndsAsGranted image f id in subst P (same_Some other act is) h
 
 -- the operations of a cell are plain
-pub ops_plain : (image : Image) (cpu : ℕ) (o : Option CellConfig) (i : ℕ) (op : Op) → IsAdmitted image → slice_get (option_map_or (λ (c : CellConfig). program_of image (name_of c) cpu) o []) i ≡ Some op → IsWellFormed op
-ops_plain image cpu None i op admitted h = absurd (none-some op h)
-ops_plain image cpu (Some c) i op admitted h = op_plain image (name_of c) cpu i op admitted h
+pub ops_well_formed : (image : Image) (cpu : ℕ) (o : Option CellConfig) (i : ℕ) (op : Op) → IsAdmitted image → slice_get (option_map_or (λ (c : CellConfig). program_of image (name_of c) cpu) o []) i ≡ Some op → IsWellFormed op
+ops_well_formed image cpu None i op admitted h = absurd (none-some op h)
+ops_well_formed image cpu (Some c) i op admitted h = op_well_formed image (name_of c) cpu i op admitted h
 
 pub ends_as_granted : (image : Image) (f : Facts) (state : Cpu) (cpu : ℕ) (op : Op) (act : Act) → IsAdmitted image → IsSound image f → slice_get (ops_in image f.cells state.owner cpu) state.position ≡ Some op
     → act_of image f state.owner op ≡ Some act → EndsAsGranted image f state.owner act
 ends_as_granted image f state cpu op act admitted sound at is =
-    ends_by image f state.owner act (act_of image f state.owner op) (op_ends image f state.owner op sound (ops_plain image cpu (cell_in image f.cells state.owner) state.position op admitted at)) is
+    ends_by image f state.owner act (act_of image f state.owner op) (op_ends image f state.owner op sound (ops_well_formed image cpu (cell_in image f.cells state.owner) state.position op admitted at)) is
 
 -- no other act is an access
 stop_ends : (image : Image) (f : Facts) (id : ℕ) (act : Act) → Stop ≡ act → EndsAsGranted image f id act
@@ -328,7 +328,7 @@ made_small image f entry admitted (Stopping is) = subst IsSmallAct is tt
 made_small image f entry admitted (Calling phase) = phase_small entry.act phase
 made_small image f entry admitted (Running program) =
     let state : Cpu = f.cpu entry.cpu in
-    let plain = ops_plain image entry.cpu (cell_in image f.cells state.owner) state.position program.op admitted program.at in
+    let plain = ops_well_formed image entry.cpu (cell_in image f.cells state.owner) state.position program.op admitted program.at in
     op_small_holds image f state.owner program.op entry.act plain program.is
 
 -- the value that an entry of a legal journal writes has no more bytes than it writes

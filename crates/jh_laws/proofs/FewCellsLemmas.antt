@@ -41,7 +41,7 @@ use Rattle.jh_history.specs.Lives.{is_on_board, live_in}
 use Rattle.jh_history.specs.Grants.{granted, reach, devices_of}
 use Rattle.jh_history.specs.Endpoints.{specs_changing, with_words}
 use Rattle.jh_history.specs.Bytes.{byte_written, byte_after}
-use Rattle.jh_history.specs.Calls.{is_named, counted, telling, first_told, behind, decided, after_settle, after_commit, after_note, after_noted, phase_after, call_by}
+use Rattle.jh_history.specs.Calls.{is_named, counted, telling, first_recipient, behind, decided, after_settle, after_commit, after_note, after_noted, phase_after, call_by}
 use Rattle.jh_num.specs.Numbers.{counted_up}
 use Rattle.jh_history.specs.Commits.{cells_by, committed_cells, is_other, is_commit}
 use Rattle.jh_history.specs.Configs.{bytes_at, read_whole, read_behind, read_from, read_at, config_read}
@@ -147,7 +147,7 @@ telling_typed about answer (Some id) fits = fits
 created_typed : (at : ℕ) (phase : Phase) (cells : List Live) → IsTypedPhase phase → IsTypedPhase (after_commit (Create at) phase cells)
 created_typed at ToDecide cells h = zero_fits
 created_typed at (ToSettle waited) cells h = zero_fits
-created_typed at (ToCreate config) cells h = telling_typed config.id (pos config.id) (first_told config.id cells) (id_fits config.id h.id)
+created_typed at (ToCreate config) cells h = telling_typed config.id (pos config.id) (first_recipient config.id cells) (id_fits config.id h.id)
 created_typed at ToCommit cells h = zero_fits
 created_typed at (ToNote id about answer) cells h = zero_fits
 created_typed at (ToNoted id about answer waited) cells h = zero_fits
@@ -157,7 +157,7 @@ commit_typed : (call : Call) (phase : Phase) (cells : List Live) → IsTypedPhas
 commit_typed (Create at) phase cells h = created_typed at phase cells h
 commit_typed (Start id) phase cells h = zero_fits
 commit_typed (Loadable id) phase cells h = zero_fits
-commit_typed (Destroy id) phase cells h = telling_typed id (pos 0) (first_told id cells) zero_fits
+commit_typed (Destroy id) phase cells h = telling_typed id (pos 0) (first_recipient id cells) zero_fits
 commit_typed (Info kind) phase cells h = zero_fits
 commit_typed (State id) phase cells h = zero_fits
 commit_typed (CpuInfo cpu kind) phase cells h = zero_fits
@@ -178,7 +178,7 @@ noted_typed (ToSettle waited) cells h = h
 noted_typed (ToCreate config) cells h = h
 noted_typed ToCommit cells h = h
 noted_typed (ToNote id about answer) cells h = h
-noted_typed (ToNoted id about answer waited) cells h = telling_typed about answer (first_told about (behind id cells)) h
+noted_typed (ToNoted id about answer waited) cells h = telling_typed about answer (first_recipient about (behind id cells)) h
 noted_typed (ToFinish answer) cells h = h
 
 counted_typed : (cell : ℕ) (call : Call) (phase : Phase) → IsTypedPhase phase → IsTypedPhase (counted cell call phase)

@@ -14,7 +14,7 @@ use Rattle.jh_call.specs.declared.call.Call.{Call}
 use Rattle.jh_call.specs.declared.call.Call.TheVariants.{Create, Start, Loadable, Destroy, Info, State, CpuInfo, Unknown}
 use Rattle.jh_call.specs.declared.seen.CpuSeen.TheVariants.{Fine, Failed as FailedSeen}
 use Rattle.jh_call.specs.Calls.{decoded, is_management}
-use Rattle.jh_call.specs.Answers.{answer_of, info_of, cpu_told as cpu_answer}
+use Rattle.jh_call.specs.Answers.{answer_of, info_of, cpu_seen_by as cpu_answer}
 use Rattle.jh_ivshmem.specs.Links.{pending_of}
 use Rattle.jh_script.specs.declared.image.Image.{Image}
 use Rattle.jh_script.specs.declared.op.Op.{Op}
@@ -26,7 +26,7 @@ use Rattle.jh_history.specs.declared.entry.Act.TheVariants.{Read, Write, Fetch, 
 use Rattle.jh_history.specs.Facts.{Facts}
 use Rattle.jh_history.specs.Lives.{is_on_board, live_in}
 use Rattle.jh_history.specs.History.{facts}
-use Rattle.jh_history.specs.Hypercalls.{state_told, mode_seen, cpu_told, seen_of}
+use Rattle.jh_history.specs.Hypercalls.{state_of_cell, mode_seen, cpu_seen_by, seen_of}
 use Rattle.jh_history.specs.Phases.{state_word}
 use Rattle.jh_shape.specs.Lives.{configs_of}
 use Rattle.jh_history.specs.Due.{due_at, act_of, await_of, got_by, IsLegal}
@@ -34,13 +34,13 @@ use Rattle.jh_history.specs.Admitted.{IsAdmitted}
 use Rattle.jh_history.proofs.Public.{due_split, IsLegal_begin, other_root, found_live, next_from_due, legal_sound}
 use Rattle.jh_history.specs.Sound.{AreSoundCells}
 use Rattle.jh_laws.specs.Ways.{is_phase}
-use Rattle.jh_laws.specs.Hypercalls.{IsInfo, IsStateTold, IsCpuTold, IsAnswer}
+use Rattle.jh_laws.specs.Hypercalls.{IsInfoAnswer, IsStateAnswer, IsCpuAnswer, IsAnswer}
 use Rattle.jh_laws.proofs.CallLemmas.{IsMadeBy, Stopping, Running as Runs, Calling, made_by}
 use Rattle.jh_laws.proofs.HeldLemmas.{live_cell}
 
 -- ---- the answers
 
-info_by : (image : Image) (f : Facts) (cell kind : ℕ) (call : Call) → IsInfo image f kind (info_of kind (seen_of image f cell call))
+info_by : (image : Image) (f : Facts) (cell kind : ℕ) (call : Call) → IsInfoAnswer image f kind (info_of kind (seen_of image f cell call))
 info_by image f cell kind call = record {
   size = λ is. rw is refl;
   used = λ is. rw is refl;
@@ -49,10 +49,10 @@ info_by image f cell kind call = record {
 }
 
 -- the state of a live cell
-told_live : (image : Image) (f : Facts) (id : ℕ) (config : CellConfig) → AreSoundCells image.system (configs_of f.cells) → Contains (configs_of f.cells) config → config.id ≡ id → state_told image f id ≡ Some (state_word f id)
+told_live : (image : Image) (f : Facts) (id : ℕ) (config : CellConfig) → AreSoundCells image.system (configs_of f.cells) → Contains (configs_of f.cells) config → config.id ≡ id → state_of_cell image f id ≡ Some (state_word f id)
 told_live image f id config sound held is =
     let other : id ≢ image.system.root.id = λ e. other_root image.system (configs_of f.cells) config sound held (is ∙ e) in
-    let apart : state_told image f id ≡ option_map (λ (c : CellConfig). state_word f c.id) (live_in f.cells id) = rw (ne_eqb id image.system.root.id other) refl in
+    let apart : state_of_cell image f id ≡ option_map (λ (c : CellConfig). state_word f c.id) (live_in f.cells id) = rw (ne_eqb id image.system.root.id other) refl in
     let P : ℕ → Type 0 = λ k. k ≢ image.system.root.id → cond (eqb k image.system.root.id) (Some image.system.root) (live_in f.cells k) ≡ Some config → live_in f.cells k ≡ Some config in
     let found : live_in f.cells id ≡ Some config = subst P is (λ o h. let e : cond (eqb config.id image.system.root.id) (Some image.system.root) (live_in f.cells config.id) ≡ live_in f.cells config.id = rw (ne_eqb config.id image.system.root.id o) refl in sym e ∙ h) other (rw (← is) (live_cell image f.cells config sound (inr held))) in
     apart ∙ ap (option_map (λ (c : CellConfig). state_word f c.id)) found ∙ ap (λ (k : ℕ). Some (state_word f k)) is
@@ -61,7 +61,7 @@ pub none_live : (cells : List Live) (id : ℕ) (o : Option Live) → find (has_i
 none_live cells id None e none = refl
 none_live cells id (Some live) e none = let found = found_live cells id live e in absurd (none live.config found.0 found.1)
 
-state_by : (image : Image) (f : Facts) (cell id : ℕ) → AreSoundCells image.system (configs_of f.cells) → IsStateTold image f cell id (answer_of (State id) (seen_of image f cell (State id)))
+state_by : (image : Image) (f : Facts) (cell id : ℕ) → AreSoundCells image.system (configs_of f.cells) → IsStateAnswer image f cell id (answer_of (State id) (seen_of image f cell (State id)))
 state_by image f cell id sound = record {
   others = λ other. rw (ne_eqb cell image.system.root.id other) refl;
   root = λ own is. rw (eq-eqb cell image.system.root.id own, eq-eqb id image.system.root.id is) refl;
@@ -80,7 +80,7 @@ not_failed Parked other = refl
 not_failed Failed other = absurd (other refl)
 
 -- a CPU that the cell sees
-seen_by : (image : Image) (f : Facts) (cell cpu : ℕ) → is_on_board image cpu ≡ true → (cell ≡ image.system.root.id) ⊎ ((f.cpu cpu).owner ≡ cell) → cpu_told image f cell cpu ≡ mode_seen (f.cpu cpu)
+seen_by : (image : Image) (f : Facts) (cell cpu : ℕ) → is_on_board image cpu ≡ true → (cell ≡ image.system.root.id) ⊎ ((f.cpu cpu).owner ≡ cell) → cpu_seen_by image f cell cpu ≡ mode_seen (f.cpu cpu)
 seen_by image f cell cpu on h =
     let sees : (eqb cell image.system.root.id || eqb (f.cpu cpu).owner cell) ≡ true =
     ⊎_elim
@@ -93,7 +93,7 @@ mode_kind : (failed : Bool) (kind : ℕ) → kind ≢ 0 → cpu_answer kind (con
 mode_kind true kind other = rw (ne_eqb kind 0 other) refl
 mode_kind false kind other = rw (ne_eqb kind 0 other) refl
 
-cpu_by : (image : Image) (f : Facts) (cell cpu kind : ℕ) → IsCpuTold image f cell cpu kind (answer_of (CpuInfo cpu kind) (seen_of image f cell (CpuInfo cpu kind)))
+cpu_by : (image : Image) (f : Facts) (cell cpu kind : ℕ) → IsCpuAnswer image f cell cpu kind (answer_of (CpuInfo cpu kind) (seen_of image f cell (CpuInfo cpu kind)))
 cpu_by image f cell cpu kind = record {
   absent = λ off. rw off refl;
   foreign = λ on other owner. rw (on, ne_eqb cell image.system.root.id other, ne_eqb (f.cpu cpu).owner cell owner) refl;

@@ -44,15 +44,15 @@ none_changed id n t g list keeps there = endpoint_changed_holds id n t g keeps l
 -- ---- peers are told
 
 -- the endpoint o is told where the state of the endpoint becomes the value
-abbrev pub is_told : Endpoint → ℕ → Endpoint → Bool
-is_told e value o = not (eqb e.state value) && is_other e.spec.bdf e.spec.id o.spec
+abbrev pub is_notified : Endpoint → ℕ → Endpoint → Bool
+is_notified e value o = not (eqb e.state value) && is_other e.spec.bdf e.spec.id o.spec
 
 told_by : (e o : Endpoint) (value : ℕ) (list : List Endpoint) (id n : ℕ) (same : Bool) → eqb e.state value ≡ same → endpoint_at id n list ≡ Some o
     → endpoint_at id n (cond same list (others_raised e.spec list)) ≡ Some (cond (not same && is_other e.spec.bdf e.spec.id o.spec) (raised 0 o) o)
 told_by e o value list id n true is there = there
 told_by e o value list id n false is there = found_changed id n (is_other e.spec.bdf e.spec.id) (raised 0) list o (raised_spec 0) there
 
-pub found_told : (e o : Endpoint) (value : ℕ) (list : List Endpoint) (id n : ℕ) → endpoint_at id n list ≡ Some o → endpoint_at id n (told_of e value list) ≡ Some (cond (is_told e value o) (raised 0 o) o)
+pub found_told : (e o : Endpoint) (value : ℕ) (list : List Endpoint) (id n : ℕ) → endpoint_at id n list ≡ Some o → endpoint_at id n (told_of e value list) ≡ Some (cond (is_notified e value o) (raised 0 o) o)
 found_told e o value list id n there = told_by e o value list id n (eqb e.state value) refl there
 
 untold_by : (e : Endpoint) (list : List Endpoint) (id n : ℕ) (same : Bool) → endpoint_at id n list ≡ None → endpoint_at id n (cond same list (others_raised e.spec list)) ≡ None
@@ -80,15 +80,15 @@ pub told_spec : (b : Bool) (o : Endpoint) → (cond b (raised 0 o) o).spec ≡ o
 told_spec true o = raised_spec 0 o
 told_spec false o = refl
 
-found_reset : (e o : Endpoint) (list : List Endpoint) (id n : ℕ) → Differs id n e → endpoint_at id n list ≡ Some o → endpoint_at id n (reset_of e list) ≡ Some (cond (is_told e 0 o) (raised 0 o) o)
+found_reset : (e o : Endpoint) (list : List Endpoint) (id n : ℕ) → Differs id n e → endpoint_at id n list ≡ Some o → endpoint_at id n (reset_of e list) ≡ Some (cond (is_notified e 0 o) (raised 0 o) o)
 found_reset e o list id n differs there =
-    let after : Endpoint = cond (is_told e 0 o) (raised 0 o) o in
+    let after : Endpoint = cond (is_notified e 0 o) (raised 0 o) o in
     let named : is_device id n o.spec ≡ true = (IsFound_from_find (λ (x : Endpoint). is_device id n x.spec) list o there).passes in
-    let other : is_device e.spec.cell e.spec.device after.spec ≡ false = ap (is_device e.spec.cell e.spec.device) (told_spec (is_told e 0 o) o) ∙ not_device id n e o differs named in
+    let other : is_device e.spec.cell e.spec.device after.spec ≡ false = ap (is_device e.spec.cell e.spec.device) (told_spec (is_notified e 0 o) o) ∙ not_device id n e o differs named in
     found_changed id n (is_device e.spec.cell e.spec.device) cleared (told_of e 0 list) after cleared_spec (found_told e o 0 list id n there)
     ∙ ap (λ (b : Bool). Some (cond b (cleared after) after)) other
 
-found_left : (e o : Endpoint) (list : List Endpoint) (id n : ℕ) → Differs id n e → endpoint_at id n list ≡ Some o → endpoint_at id n (left_by e list) ≡ Some (cond (is_told e 0 o) (raised 0 o) o)
+found_left : (e o : Endpoint) (list : List Endpoint) (id n : ℕ) → Differs id n e → endpoint_at id n list ≡ Some o → endpoint_at id n (left_by e list) ≡ Some (cond (is_notified e 0 o) (raised 0 o) o)
 found_left e o list id n differs there =
     find_kept (λ (x : Endpoint). is_device id n x.spec) (λ (x : Endpoint). not (is_device e.spec.cell e.spec.device x.spec)) (told_of e 0 list) (λ x named. not_from_false (is_device e.spec.cell e.spec.device x.spec) (not_device id n e x differs named))
     ∙ found_told e o 0 list id n there
@@ -104,7 +104,7 @@ cleared_by Join e list = list
 cleared_by Reset e list = reset_of e list
 cleared_by Leave e list = left_by e list
 
-pub found_cleared : (change : DeviceChange) (e o : Endpoint) (list : List Endpoint) (id n : ℕ) → IsClearing change → Differs id n e → endpoint_at id n list ≡ Some o → endpoint_at id n (cleared_by change e list) ≡ Some (cond (is_told e 0 o) (raised 0 o) o)
+pub found_cleared : (change : DeviceChange) (e o : Endpoint) (list : List Endpoint) (id n : ℕ) → IsClearing change → Differs id n e → endpoint_at id n list ≡ Some o → endpoint_at id n (cleared_by change e list) ≡ Some (cond (is_notified e 0 o) (raised 0 o) o)
 found_cleared Join e o list id n clears differs there = absurd clears
 found_cleared Reset e o list id n clears differs there = found_reset e o list id n differs there
 found_cleared Leave e o list id n clears differs there = found_left e o list id n differs there
@@ -156,7 +156,7 @@ quiet_told false o quiet = quiet
 quiet_by : (change : DeviceChange) (e : Endpoint) (list : List Endpoint) (id n : ℕ) (q : Option Endpoint) → IsClearing change → endpoint_at id n list ≡ q → Differs id n e → IsQuietAt id n list → IsQuietAt id n (cleared_by change e list)
 quiet_by change e list id n None clears is differs quiet o there = absurd (none-some o (sym (none_cleared change e list id n is) ∙ there))
 quiet_by change e list id n (Some x) clears is differs quiet o there =
-    subst IsQuiet (same_Some (cond (is_told e 0 x) (raised 0 x) x) o (sym (found_cleared change e x list id n clears differs is) ∙ there)) (quiet_told (is_told e 0 x) x (quiet x is))
+    subst IsQuiet (same_Some (cond (is_notified e 0 x) (raised 0 x) x) o (sym (found_cleared change e x list id n clears differs is) ∙ there)) (quiet_told (is_notified e 0 x) x (quiet x is))
 
 -- it is so behind a step of its own device, and stays so over those of others
 pub quiet_step : (change : DeviceChange) (e : Endpoint) (list : List Endpoint) (id n : ℕ) → IsClearing change → ((id ≡ e.spec.cell) × (n ≡ e.spec.device)) ⊎ IsQuietAt id n list → IsQuietAt id n (cleared_by change e list)
@@ -230,7 +230,7 @@ AreTwoOfCell s t = (s.bdf ≢ t.bdf) × (s.device ≢ t.device)
 
 -- one of these endpoints tells the peer
 abbrev pub told_in : List EndpointSpec → List Endpoint → Endpoint → Bool
-told_in specs list o = list_any (λ (s : EndpointSpec). option_map_or (λ (e : Endpoint). is_told e 0 o) (endpoint_at s.cell s.device list) false) specs
+told_in specs list o = list_any (λ (s : EndpointSpec). option_map_or (λ (e : Endpoint). is_notified e 0 o) (endpoint_at s.cell s.device list) false) specs
 
 -- each of these endpoints that is there is of its device's link
 abbrev pub HaveLinks : List EndpointSpec → List Endpoint → Type 0
@@ -245,7 +245,7 @@ pairs_first s specs x h held =
     subst (AreTwoOfCell s) held.2 (h 0 (suc held.0) x (omega arith) (omega arith))
 
 -- an endpoint of another link isn't told
-not_told : (e o : Endpoint) (value : ℕ) → o.spec.bdf ≢ e.spec.bdf → is_told e value o ≡ false
+not_told : (e o : Endpoint) (value : ℕ) → o.spec.bdf ≢ e.spec.bdf → is_notified e value o ≡ false
 not_told e o value other = and_right (not (eqb e.state value)) (is_other e.spec.bdf e.spec.id o.spec) (and_left (eqb o.spec.bdf e.spec.bdf) (not (eqb o.spec.id e.spec.id)) (ne_eqb o.spec.bdf e.spec.bdf other))
 
 -- a step of one device leaves another one of the cell
@@ -255,20 +255,20 @@ rest_by change e list t None clears differs links is = none_cleared change e lis
 rest_by change e list t (Some x) clears differs links is =
     found_cleared change e x list t.cell t.device clears differs is ∙ ap (λ (b : Bool). Some (cond b (raised 0 x) x)) (not_told e x 0 (links x is))
 
-told_same : (b : Bool) (o e : Endpoint) (value : ℕ) → is_told e value (cond b (raised 0 o) o) ≡ is_told e value o
+told_same : (b : Bool) (o e : Endpoint) (value : ℕ) → is_notified e value (cond b (raised 0 o) o) ≡ is_notified e value o
 told_same b o e value = ap (λ (s : EndpointSpec). not (eqb e.state value) && is_other e.spec.bdf e.spec.id s) (told_spec b o)
 
-told_agree : (f g : Option Endpoint) (one o : Endpoint) → f ≡ g → ((e : Endpoint) → is_told e 0 one ≡ is_told e 0 o) → option_map_or (λ (e : Endpoint). is_told e 0 one) f false ≡ option_map_or (λ (e : Endpoint). is_told e 0 o) g false
-told_agree None g one o is same = ap (λ (q : Option Endpoint). option_map_or (λ (e : Endpoint). is_told e 0 o) q false) is
-told_agree (Some e) g one o is same = same e ∙ ap (λ (q : Option Endpoint). option_map_or (λ (x : Endpoint). is_told x 0 o) q false) is
+told_agree : (f g : Option Endpoint) (one o : Endpoint) → f ≡ g → ((e : Endpoint) → is_notified e 0 one ≡ is_notified e 0 o) → option_map_or (λ (e : Endpoint). is_notified e 0 one) f false ≡ option_map_or (λ (e : Endpoint). is_notified e 0 o) g false
+told_agree None g one o is same = ap (λ (q : Option Endpoint). option_map_or (λ (e : Endpoint). is_notified e 0 o) q false) is
+told_agree (Some e) g one o is same = same e ∙ ap (λ (q : Option Endpoint). option_map_or (λ (x : Endpoint). is_notified x 0 o) q false) is
 
 -- nobody of another link tells
 none_told_in : (specs : List EndpointSpec) (list : List Endpoint) (o : Endpoint) → HaveLinks specs list → ((s : EndpointSpec) → Contains specs s → o.spec.bdf ≢ s.bdf) → told_in specs list o ≡ false
 none_told_in specs list o links other =
-    list_any_nothing (λ (s : EndpointSpec). option_map_or (λ (e : Endpoint). is_told e 0 o) (endpoint_at s.cell s.device list) false) specs
+    list_any_nothing (λ (s : EndpointSpec). option_map_or (λ (e : Endpoint). is_notified e 0 o) (endpoint_at s.cell s.device list) false) specs
     (λ s held. one_not s held (endpoint_at s.cell s.device list) refl)
   where
-    one_not : (s : EndpointSpec) → Contains specs s → (q : Option Endpoint) → endpoint_at s.cell s.device list ≡ q → option_map_or (λ (e : Endpoint). is_told e 0 o) q false ≡ false
+    one_not : (s : EndpointSpec) → Contains specs s → (q : Option Endpoint) → endpoint_at s.cell s.device list ≡ q → option_map_or (λ (e : Endpoint). is_notified e 0 o) q false ≡ false
     one_not s held None is = refl
     one_not s held (Some e) is = not_told e o 0 (λ same. other s held (same ∙ links s e held is))
 
@@ -285,10 +285,10 @@ cleared_first : (change : DeviceChange) (s : EndpointSpec) (specs : List Endpoin
 cleared_first change s specs list id n o None clears others pairs links there ih is =
     ap (λ (l : List Endpoint). endpoint_at id n (endpoints_changed change specs l)) (one_cleared change list s None clears is)
     ∙ ih list o (λ t e held at. links t e (Contains_tail s specs t held) at) there
-    ∙ ap (λ (x : Option Endpoint). Some (cond (option_map_or (λ (e : Endpoint). is_told e 0 o) x false || told_in specs list o) (raised 0 o) o)) (sym is)
+    ∙ ap (λ (x : Option Endpoint). Some (cond (option_map_or (λ (e : Endpoint). is_notified e 0 o) x false || told_in specs list o) (raised 0 o) o)) (sym is)
 cleared_first change s specs list id n o (Some e) clears others pairs links there ih is =
     let next : List Endpoint = cleared_by change e list in
-    let told_first : Bool = is_told e 0 o in
+    let told_first : Bool = is_notified e 0 o in
     let o1 : Endpoint = cond told_first (raised 0 o) o in
     let own = own_named s list e is in
     let bdf : e.spec.bdf ≡ s.bdf = links s e (Contains_head s specs) is in
@@ -299,7 +299,7 @@ cleared_first change s specs list id n o (Some e) clears others pairs links ther
     λ t held. rest_by change e list t (endpoint_at t.cell t.device list) clears (differs t held) (other_links t held) refl in
     let here : endpoint_at id n next ≡ Some o1 = found_cleared change e o list id n clears (λ a b. others s (Contains_head s specs) (own.0 ∙ sym a)) there in
     let agree : told_in specs next o1 ≡ told_in specs list o =
-    list_any_agree (λ (t : EndpointSpec). option_map_or (λ (x : Endpoint). is_told x 0 o1) (endpoint_at t.cell t.device next) false) (λ (t : EndpointSpec). option_map_or (λ (x : Endpoint). is_told x 0 o) (endpoint_at t.cell t.device list) false) specs
+    list_any_agree (λ (t : EndpointSpec). option_map_or (λ (x : Endpoint). is_notified x 0 o1) (endpoint_at t.cell t.device next) false) (λ (t : EndpointSpec). option_map_or (λ (x : Endpoint). is_notified x 0 o) (endpoint_at t.cell t.device list) false) specs
     (λ t held. told_agree (endpoint_at t.cell t.device next) (endpoint_at t.cell t.device list) o1 o (rest t held) (λ x. told_same told_first o x 0)) in
     let once : told_first ≡ true → told_in specs list o ≡ false = λ told_e.
     let parts = and_parts (not (eqb e.state 0)) (is_other e.spec.bdf e.spec.id o.spec) told_e in
@@ -310,7 +310,7 @@ cleared_first change s specs list id n o (Some e) clears others pairs links ther
     ∙ ih next o1 (λ t x held at. links t x (Contains_tail s specs t held) (sym (rest t held) ∙ at)) here
     ∙ ap (λ (b : Bool). Some (cond b (raised 0 o1) o1)) agree
     ∙ ap Some (told_twice told_first (told_in specs list o) o once)
-    ∙ ap (λ (x : Option Endpoint). Some (cond (option_map_or (λ (y : Endpoint). is_told y 0 o) x false || told_in specs list o) (raised 0 o) o)) (sym is)
+    ∙ ap (λ (x : Option Endpoint). Some (cond (option_map_or (λ (y : Endpoint). is_notified y 0 o) x false || told_in specs list o) (raised 0 o) o)) (sym is)
 
 pub cleared_all : (change : DeviceChange) (specs : List EndpointSpec) (list : List Endpoint) (id n : ℕ) (o : Endpoint) → IsClearing change → ((s : EndpointSpec) → Contains specs s → s.cell ≢ id) → AllPairs AreTwoOfCell specs → HaveLinks specs list
     → endpoint_at id n list ≡ Some o → endpoint_at id n (endpoints_changed change specs list) ≡ Some (cond (told_in specs list o) (raised 0 o) o)

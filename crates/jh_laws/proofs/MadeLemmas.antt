@@ -50,7 +50,7 @@ use Rattle.jh_laws.specs.RootAlone.{HasNoDevice}
 use Rattle.jh_laws.specs.Moves.{stepped, ended}
 use Rattle.jh_laws.specs.Outcomes.{is_violation}
 use Rattle.jh_laws.specs.Operations.{op_of, program_in}
-use Rattle.jh_laws.proofs.RootLemmas.{op_plain}
+use Rattle.jh_laws.proofs.RootLemmas.{op_well_formed}
 use Rattle.jh_laws.proofs.FactsLemmas.{cpu_after_holds}
 
 -- the image may be opened, root has no ivshmem device, and no program has a hypercall
@@ -200,7 +200,7 @@ act_access image f cell (HvcOp code a b) act bare plain silent h = absurd silent
 -- the act of an entry is such an access
 pub made_access : (image : Image) (f : Facts) (cpu : ℕ) (entry : Entry) (made : IsMade image f cpu entry) → IsSilent image → IsAccessOf image f image.system.root.id made.op entry.act
 made_access image f cpu entry made admitted =
-    act_access image f image.system.root.id made.op entry.act made.bare (op_plain image (name_of image.system.root) cpu (f.cpu cpu).position made.op admitted.admitted made.at)
+    act_access image f image.system.root.id made.op entry.act made.bare (op_well_formed image (name_of image.system.root) cpu (f.cpu cpu).position made.op admitted.admitted made.at)
     (op_silent image (name_of image.system.root) cpu (f.cpu cpu).position made.op admitted made.at) made.act
 
 -- an access moves its CPU on, and fails it where it is a violation

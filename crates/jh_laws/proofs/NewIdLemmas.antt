@@ -17,7 +17,7 @@ use Rattle.jh_history.specs.declared.entry.Entry.{Entry}
 use Rattle.jh_history.specs.declared.entry.Act.{Act}
 use Rattle.jh_history.specs.declared.entry.Act.TheVariants.{Decide, Settle, Commit, Note, Noted, Finish}
 use Rattle.jh_history.specs.Admitted.{IsAdmitted}
-use Rattle.jh_history.specs.Calls.{counted, telling, first_told, behind, call_by, is_call}
+use Rattle.jh_history.specs.Calls.{counted, telling, first_recipient, behind, call_by, is_call}
 use Rattle.jh_num.specs.Numbers.{counted_up}
 use Rattle.jh_history.specs.Commits.{committed_cells, cells_by, is_commit}
 use Rattle.jh_history.specs.Due.{due_at, is_idle_but, IsLegal}
@@ -66,7 +66,7 @@ answers_next answer cells coming entry caller call (ToNote id about a) act h e m
     subst P (sym e) (record { caller = caller; call = call; phase = ToNoted id about a 0 }, refl, h)
 answers_next answer cells coming entry caller call (ToNoted id about a waited) act h e more =
     let P : Act → Type 0 = λ x. WillAnswer answer (call_by cells coming (Some (record { caller = caller; call = call; phase = ToNoted id about a waited })) entry x) in
-    let told : Option ℕ = first_told about (behind id cells) in
+    let told : Option ℕ = first_recipient about (behind id cells) in
     subst P (sym e.1) (record { caller = caller; call = call; phase = telling about a told }, refl, answers_telling answer a about told h)
 answers_next answer cells coming entry caller call (ToFinish a) act h e more = absurd (both_ways (is_finish act) more (ap is_finish e))
 
@@ -101,7 +101,7 @@ answers_from image configs cpu cells coming entry caller at (ToSettle waited) li
 answers_from image configs cpu cells coming entry caller at (ToCreate config) live e holds made =
     let one : Live = record { config = config; loadable = false } in
     let same : config.id ≡ live.config.id = ap first_id (append_cancel_left cells (one ∷ []) (live ∷ []) made) in
-    let told : Option ℕ = first_told config.id cells in (
+    let told : Option ℕ = first_recipient config.id cells in (
       record { caller = caller; call = Create at; phase = telling config.id (pos config.id) told },
       refl,
       answers_telling (pos live.config.id) (pos config.id) config.id told (ap pos same),

@@ -311,7 +311,7 @@ table_has image configs config spec value k place clean held own there =
       number = at;
       region = table;
       item = item;
-      no_comm = (good.plain 0 table section).no_comm;
+      no_comm = (good.sections 0 table section).no_comm;
       has = and_from (nat_le table.phys_start place) (nat_lt place (phys_end table)) (le-leb table.phys_start place (omega arith)) (lt-ltb place (phys_end table) (omega arith));
     }
 

@@ -34,7 +34,7 @@ use Rattle.jh_history.specs.Phases.{phase_act, keeps_decide, keeps_commit, decis
 use Rattle.jh_shape.specs.Lives.{configs_of}
 use Rattle.jh_history.specs.Due.{due_at, entry_of, entry_by, next_act, state_act, caller_act, is_idle_but, IsLegal, IsQuiet}
 use Rattle.jh_history.specs.Admitted.{IsAdmitted}
-use Rattle.jh_history.specs.Sound.{IsHalted, IsAsked, IsHalting, IsAboutLive, IsTold, IsCaller, IsOpen, IsSound}
+use Rattle.jh_history.specs.Sound.{IsHalted, IsAsked, IsHalting, IsAboutLive, IsNoteRecipient, IsCaller, IsOpen, IsSound}
 use Rattle.jh_history.proofs.Public.{root_unnamed, legal_sound}
 use Rattle.jh_laws.proofs.DueCpusLemmas.{some_later, keeps_a_decide, keeps_a_commit}
 
@@ -143,7 +143,7 @@ settles f call waited about =
     ap (λ (s : Option Settled). is_some s) (e ∙ ap (by named.0) (over_idle named.0.msg_reply_timeout waited))
     ∙ settled_idle (is_passive named.0) (state_word f named.0.id) (reply_word f named.0.id)
 
-hears : (f : Facts) (id about waited : ℕ) → IsTold (configs_of f.cells) id about → is_some (heard_of f true id waited) ≡ true
+hears : (f : Facts) (id about waited : ℕ) → IsNoteRecipient (configs_of f.cells) id about → is_some (heard_of f true id waited) ≡ true
 hears f id about waited told =
     let live = live_some f.cells told.config id told.held told.named in
     let by : Bool → Option Heard = λ over. heard_by (state_word f id) (reply_word f id) over in

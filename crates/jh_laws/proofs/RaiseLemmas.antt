@@ -30,7 +30,7 @@ use Rattle.jh_laws.specs.Ends.{IsAnsweredByRegister}
 use Rattle.jh_laws.specs.Vectors.{PutsRegister, Rings, Clears, NotifiesPeer, Drops}
 use Rattle.jh_laws.proofs.DevicesLemmas.{endpoint_held, endpoint_sound, same_register}
 use Rattle.jh_laws.proofs.EndsLemmas.{IsSmallAct}
-use Rattle.jh_laws.proofs.LinkedLemmas.{found_changed, found_told, is_told, told_spec}
+use Rattle.jh_laws.proofs.LinkedLemmas.{found_changed, found_told, is_notified, told_spec}
 use Rattle.jh_laws.proofs.ReachedLemmas.{Way, OnMemory, OnRegion, OnWindow, OnRegister, OnNothing, way}
 use Rattle.jh_laws.proofs.WordLemmas.{value_fits}
 use Rattle.jh_laws.proofs.WrittenLemmas.{IsWrite, register_write}
@@ -384,7 +384,7 @@ rung_become image f entry w m bar offset x e false sound put zero_is place is =
 
 -- ---- the state register
 
-state_calls : (image : Image) (f : Facts) (entry : Entry) (w : IsWrite entry.act) (m bar offset : ℕ) (x e : Endpoint) (v : ℕ) → IsPut image f entry w m bar offset x → offset ≡ 0x10 → Calls image f entry e v → (v ≡ 0) × (is_told x w.value e ≡ true)
+state_calls : (image : Image) (f : Facts) (entry : Entry) (w : IsWrite entry.act) (m bar offset : ℕ) (x e : Endpoint) (v : ℕ) → IsPut image f entry w m bar offset x → offset ≡ 0x10 → Calls image f entry e v → (v ≡ 0) × (is_notified x w.value e ≡ true)
 state_calls image f entry w m bar offset x e v put place (inl rings) =
     let same : 0x0c ≡ offset = same_put image f entry w m bar offset 0x0c rings.value x rings.bell (λ b o y. o) put rings.puts in
     absurd (let no : ⊥ = omega arith in no)
@@ -411,7 +411,7 @@ state_spec : (own : Bool) (value : ℕ) (o : Endpoint) → (cond own (record o {
 state_spec true value o = refl
 state_spec false value o = refl
 
-state_become : (image : Image) (f : Facts) (entry : Entry) (w : IsWrite entry.act) (m bar offset : ℕ) (x e : Endpoint) (told own : Bool) → IsSoundEndpoint e → IsPut image f entry w m bar offset x → bar ≡ 0 → offset ≡ 0x10 → is_told x w.value e ≡ told
+state_become : (image : Image) (f : Facts) (entry : Entry) (w : IsWrite entry.act) (m bar offset : ℕ) (x e : Endpoint) (told own : Bool) → IsSoundEndpoint e → IsPut image f entry w m bar offset x → bar ≡ 0 → offset ≡ 0x10 → is_notified x w.value e ≡ told
     → (entry.cell ≢ e.spec.cell → own ≡ false) → HasBecome image f entry e (cond own (record (cond told (raised 0 e) e) { state = w.value }) (cond told (raised 0 e) e))
 state_become image f entry w m bar offset x e true own sound put zero_is place is other =
     let parts = and_parts (not (eqb x.state w.value)) (is_other x.spec.bdf x.spec.id e.spec) is in
@@ -431,7 +431,7 @@ state_become image f entry w m bar offset x e true own sound put zero_is place i
     (λ foreign. ap (λ (b : Bool). cond b (record (raised 0 e) { state = w.value }) (raised 0 e)) (other foreign))
 state_become image f entry w m bar offset x e false own sound put zero_is place is other =
     become_same image f entry e (cond own (record e { state = w.value }) e) (state_spec own w.value e) (state_pending own w.value e)
-    (λ v call. both_ways (is_told x w.value e) is (state_calls image f entry w m bar offset x e v put place call).1) (no_drop f entry e (write_commits entry.act w) (write_irq entry.act w))
+    (λ v call. both_ways (is_notified x w.value e) is (state_calls image f entry w m bar offset x e v put place call).1) (no_drop f entry e (write_commits entry.act w) (write_irq entry.act w))
     (λ foreign. ap (λ (b : Bool). cond b (record e { state = w.value }) e) (other foreign))
 
 -- ---- another register
@@ -530,7 +530,7 @@ written_now image f entry w m bar offset id n x e true state sound put there is_
     }
 written_now image f entry w m bar offset id n x e false true sound put there is_bell is_state =
     let parts = and_parts (eqb bar 0) (eqb offset 0x10) is_state in
-    let told : Bool = is_told x w.value e in
+    let told : Bool = is_notified x w.value e in
     let o : Endpoint = cond told (raised 0 e) e in
     let own : Bool = is_device x.spec.cell x.spec.device o.spec in
     record {

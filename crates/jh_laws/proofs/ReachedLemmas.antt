@@ -29,7 +29,7 @@ use Rattle.jh_history.specs.declared.access.Reach.{Reach}
 use Rattle.jh_history.specs.declared.access.Reach.TheVariants.{Memory, Subpage, Config, Window, Nothing}
 use Rattle.jh_history.specs.Places.{further, places_in_row}
 use Rattle.jh_history.specs.Access.{place_in_cell, places_from, memory_or_nothing, reach_by, or_behind}
-use Rattle.jh_history.specs.Behind.{ecam_start, ecam_end, by_device, asked_windows, window_found, answer_by, answer_to}
+use Rattle.jh_history.specs.Behind.{ecam_start, ecam_end, by_device, asked_windows, window_of_access, answer_by, answer_to}
 use Rattle.jh_history.specs.Facts.{Facts}
 use Rattle.jh_history.specs.Grants.{is_kept, granted, behind_in, reach, devices_of}
 use Rattle.jh_history.specs.Lives.{cell_in, regions_in}
@@ -324,7 +324,7 @@ is_word at width = eqb width 4 && eqb (at % 4) 0
 
 -- a window of a device has it, and it is a word or not
 word_way : (image : Image) (f : Facts) (id : ℕ) (access : Access) (at width : ℕ) (w : TheWindow) (b : Bool) → IsSound image f → 0 < width → Behind image f id access at width → NoRegion image f id at width → Outside image at width
-    → window_found (devices_of image f id) at width ≡ Some w → is_word at width ≡ b → reach image f id access at width ≡ by_device image.system.pci_mmconfig_base (Some w) at width (cond b (Bar (item_number 0)) HitsNothing)
+    → window_of_access (devices_of image f id) at width ≡ Some w → is_word at width ≡ b → reach image f id access at width ≡ by_device image.system.pci_mmconfig_base (Some w) at width (cond b (Bar (item_number 0)) HitsNothing)
     → Way image f id access at width
 word_way image f id access at width w true sound some behind none outside found is e =
     let parts = and_parts (eqb width 4) (eqb (at % 4) 0) is in
@@ -349,7 +349,7 @@ word_way image f id access at width w false sound some behind none outside found
     e
 
 bar_way : (image : Image) (f : Facts) (id : ℕ) (access : Access) (at width : ℕ) (o : Option TheWindow) → IsSound image f → 0 < width → Behind image f id access at width → NoRegion image f id at width → Outside image at width
-    → window_found (devices_of image f id) at width ≡ o
+    → window_of_access (devices_of image f id) at width ≡ o
     → reach image f id access at width ≡ by_device image.system.pci_mmconfig_base o at width (option_map_or (by_window at width) (position (window_has at width) (asked_windows o)) HitsNothing) → Way image f id access at width
 bar_way image f id access at width None sound some behind none outside found e =
     OnNothing
@@ -360,7 +360,7 @@ bar_way image f id access at width (Some w) sound some behind none outside found
     (e ∙ ap (λ (p : Option ℕ). by_device image.system.pci_mmconfig_base (Some w) at width (option_map_or (by_window at width) p HitsNothing)) (position_single (window_has at width) w (found_passes image f id at width w found)))
 
 window_way : (image : Image) (f : Facts) (id : ℕ) (access : Access) (at width : ℕ) (o : Option TheWindow) (b : Bool) → IsSound image f → 0 < width → Behind image f id access at width → NoRegion image f id at width
-    → window_found (devices_of image f id) at width ≡ o → lies_between (ecam_start image.system) (ecam_end image.system) at width ≡ b
+    → window_of_access (devices_of image f id) at width ≡ o → lies_between (ecam_start image.system) (ecam_end image.system) at width ≡ b
     → reach image f id access at width
     ≡ by_device image.system.pci_mmconfig_base o at width (cond b (by_ecam_at image.system.pci_mmconfig_base at width) (option_map_or (by_window at width) (position (window_has at width) (asked_windows o)) HitsNothing))
     → Way image f id access at width
@@ -375,12 +375,12 @@ abbrev answer_with : Image → Facts → ℕ → Option Region → Option TheWin
 answer_with image f id o window write at width = answer_by id o (ecam_start image.system) (ecam_end image.system) window write at width
 
 found_way : (image : Image) (f : Facts) (id : ℕ) (access : Access) (at width : ℕ) (o : Option Region) → IsSound image f → 0 < width → Behind image f id access at width
-    → find (takes_all (kept_of image f.cells id) at width) (regions_in image f.cells id) ≡ o → reach image f id access at width ≡ answer_with image f id o (window_found (devices_of image f id) at width) (is_write access) at width → Way image f id access at width
+    → find (takes_all (kept_of image f.cells id) at width) (regions_in image f.cells id) ≡ o → reach image f id access at width ≡ answer_with image f id o (window_of_access (devices_of image f id) at width) (is_write access) at width → Way image f id access at width
 found_way image f id access at width (Some r) sound some behind is e =
     let found = IsFound_from_find (takes_all (kept_of image f.cells id) at width) (regions_in image f.cells id) r is in
     region_way image f id access at width r (lets_through at width (is_write access) r) sound.cells some behind (takes_has image f.cells id at width r some found.held found.passes) refl e
 found_way image f id access at width None sound some behind is e =
-    window_way image f id access at width (window_found (devices_of image f id) at width) (lies_between (ecam_start image.system) (ecam_end image.system) at width) sound some behind
+    window_way image f id access at width (window_of_access (devices_of image f id) at width) (lies_between (ecam_start image.system) (ecam_end image.system) at width) sound some behind
     (λ r has.
     let takes = has_takes image f.cells id at width r sound.cells some has in
     both_ways (takes_all (kept_of image f.cells id) at width r) (find_None (takes_all (kept_of image f.cells id) at width) (regions_in image f.cells id) r is takes.0) takes.1)
@@ -398,7 +398,7 @@ register_way image f id access at width sound some other lacks by e = elim (case
   | inr within ↦
       found_way image f id access at width (find (takes_all (kept_of image f.cells id) at width) (regions_in image f.cells id)) sound some (record { no_fetch = other; below = within; lacks = lacks }) refl
       (e ∙ answer_within (regions_in image f.cells id) (devices_of image f id) (is_kept image f.cells id) image.system access at width within
-      ∙ by (find (takes_all (kept_of image f.cells id) at width) (regions_in image f.cells id)) (window_found (devices_of image f id) at width))
+      ∙ by (find (takes_all (kept_of image f.cells id) at width) (regions_in image f.cells id)) (window_of_access (devices_of image f id) at width))
 ]
 
 fetch_way : (image : Image) (f : Facts) (id at width : ℕ) → (AreGrantedTo image f.cells id ToFetch at width → ⊥) → reach image f id ToFetch at width ≡ behind_in image f.cells f.endpoints id ToFetch at width → Way image f id ToFetch at width

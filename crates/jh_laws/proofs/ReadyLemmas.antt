@@ -24,7 +24,7 @@ use Rattle.jh_history.proofs.Public.{legal_sound}
 use Rattle.jh_laws.specs.Ends.{IsAnswered, IsReadBy, IsGotBy, IsAwaitedBy}
 use Rattle.jh_laws.specs.Outcomes.{HasItsOutcome}
 use Rattle.jh_laws.specs.Operations.{op_of, IsDueOp, IsReady, IsOwn}
-use Rattle.jh_laws.proofs.RootLemmas.{op_plain}
+use Rattle.jh_laws.proofs.RootLemmas.{op_well_formed}
 use Rattle.jh_laws.proofs.MadeLemmas.{IsSilent, op_silent, IsMade, due_at_made, due_at_running, made_access, roots_at}
 use Rattle.jh_laws.proofs.OutcomeLemmas.{got_of, reached_of, value_of, outcome}
 use Rattle.jh_laws.proofs.EndsLemmas.{width_some}
@@ -78,7 +78,7 @@ ready_by image entries cpu (Some entry) admitted legal h some =
     let roots = all.cpus cpu in
     let made : IsMade image (facts image entries) cpu entry = due_at_made image (facts image entries) cpu entry all.endpoints all.alone.call roots h in
     let silent = op_silent image (name_of image.system.root) cpu ((facts image entries).cpu cpu).position made.op admitted made.at in
-    let plain = op_plain image (name_of image.system.root) cpu ((facts image entries).cpu cpu).position made.op admitted.admitted made.at in
+    let plain = op_well_formed image (name_of image.system.root) cpu ((facts image entries).cpu cpu).position made.op admitted.admitted made.at in
     record { board = made.board; running = made.running; asked = roots.asked; stopped = roots.stopped; op = made.op; at = made.at; due = op_due image entries made.op entry.act all.endpoints (legal_sound image entries admitted.admitted legal) plain silent made.act }
 
 -- a CPU with an entry due is ready
@@ -89,7 +89,7 @@ ready_from_due image entries cpu admitted legal some = ready_by image entries cp
 pub due_from_ready : (image : Image) (entries : List Entry) (cpu : ℕ) → IsSilent image → IsLegal image entries → IsReady image entries image.system.root cpu → IsSome (due image entries cpu)
 due_from_ready image entries cpu admitted legal ready =
     let f = facts image entries in
-    let plain = op_plain image (name_of image.system.root) cpu (f.cpu cpu).position ready.op admitted.admitted ready.at in
+    let plain = op_well_formed image (name_of image.system.root) cpu (f.cpu cpu).position ready.op admitted.admitted ready.at in
     let act = due_act image entries ready.op (legal_sound image entries admitted.admitted legal) plain ready.due in
     let made : due image entries cpu ≡ Some (entry_by cpu (f.cpu cpu).owner act.0)
     = due_at_running image f cpu ready.op (roots_at image entries admitted legal).alone.call ready.board ((roots_at image entries admitted legal).cpus cpu) ready.running ready.at ∙ ap (option_map (entry_by cpu (f.cpu cpu).owner)) act.1 in
@@ -164,7 +164,7 @@ act_from image entries op _ sound plain is h = absurd h
 pub due_from_own : (image : Image) (entries : List Entry) (cpu : ℕ) (entry : Entry) → IsSilent image → IsLegal image entries → IsReady image entries image.system.root cpu → IsOwn image entries image.system.root cpu entry → due image entries cpu ≡ Some entry
 due_from_own image entries cpu entry admitted legal ready own =
     let f = facts image entries in
-    let plain = op_plain image (name_of image.system.root) cpu (f.cpu cpu).position ready.op admitted.admitted ready.at in
+    let plain = op_well_formed image (name_of image.system.root) cpu (f.cpu cpu).position ready.op admitted.admitted ready.at in
     let act : act_of image f image.system.root.id ready.op ≡ Some entry.act = act_from image entries ready.op entry.act (legal_sound image entries admitted.admitted legal) plain (own.operation ∙ ready.at) own.outcome in
     let same : entry_by cpu (f.cpu cpu).owner entry.act ≡ entry =
     ap (λ (c : ℕ). entry_by c (f.cpu cpu).owner entry.act) (sym own.cpu_is) ∙ ap (λ (c : ℕ). entry_by entry.cpu c entry.act) (sym own.cell_is) in

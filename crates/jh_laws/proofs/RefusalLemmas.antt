@@ -21,7 +21,7 @@ use Rattle.jh_call.specs.declared.call.Call.{Call}
 use Rattle.jh_call.specs.declared.call.Call.TheVariants.{Create, Start, Loadable, Destroy, Info, State, CpuInfo, Unknown}
 use Rattle.jh_script.specs.declared.image.Image.{Image}
 use Rattle.jh_history.specs.declared.call.Creation.{Creation}
-use Rattle.jh_history.specs.declared.call.Creation.TheVariants.{Refused, Comes}
+use Rattle.jh_history.specs.declared.call.Creation.TheVariants.{Refused, Accepted}
 use Rattle.jh_history.specs.declared.call.Phase.{Phase}
 use Rattle.jh_history.specs.declared.call.Phase.TheVariants.{ToDecide, ToSettle, ToCreate, ToCommit, ToNote, ToNoted, ToFinish}
 use Rattle.jh_history.specs.declared.entry.Entry.{Entry}
@@ -118,7 +118,7 @@ cause_fits system live new may pages pool =
 
 abbrev FitsCreation : Creation → Type 0
 FitsCreation (Refused number) = FitsSigned w64 number
-FitsCreation (Comes config) = Unit {0}
+FitsCreation (Accepted config) = Unit {0}
 
 unless_fits : (config : CellConfig) (o : Option ℤ) → Fits o → FitsCreation (unless_refused config o)
 unless_fits config None h = tt
@@ -137,7 +137,7 @@ creation_fits image f caller at =
 
 refused_fits : (creation : Creation) → FitsCreation creation → Fits (refused_by creation)
 refused_fits (Refused number) h = h
-refused_fits (Comes config) h = tt
+refused_fits (Accepted config) h = tt
 
 -- ---- what the other calls are
 

@@ -18,7 +18,7 @@ use Rattle.jh_script.specs.declared.op.Op.{Op}
 use Rattle.jh_script.specs.Operations.{IsWellFormed}
 use Rattle.jh_history.specs.Admitted.{IsAdmitted}
 use Rattle.jh_history.specs.Lives.{is_program_of, program_of, is_on_board}
-use Rattle.jh_history.proofs.Public.{sound_root, program_of_plain}
+use Rattle.jh_history.proofs.Public.{sound_root, program_of_well_formed}
 use Rattle.jh_laws.proofs.FindLemmas.{IsOnly, find_only}
 
 abbrev pub regions : Image → List Region
@@ -56,8 +56,8 @@ at_op ops i op all e =
     let P : Op → Type 0 = IsWellFormed in
     subst P (get_or_from_slice_get ops i op op e) (all i op within)
 
-pub op_plain : (image : Image) (name : List ℕ) (cpu i : ℕ) (op : Op) → IsAdmitted image → slice_get (program_of image name cpu) i ≡ Some op → IsWellFormed op
-op_plain image name cpu i op admitted e = at_op (program_of image name cpu) i op (program_of_plain image name cpu admitted) e
+pub op_well_formed : (image : Image) (name : List ℕ) (cpu i : ℕ) (op : Op) → IsAdmitted image → slice_get (program_of image name cpu) i ≡ Some op → IsWellFormed op
+op_well_formed image name cpu i op admitted e = at_op (program_of image name cpu) i op (program_of_well_formed image name cpu admitted) e
 
 -- the program is that of the name and CPU which it has
 named : (name : List ℕ) (cpu : ℕ) (p : Program) → is_program_of name cpu p ≡ true → (p.cell ≡ name) × (p.cpu ≡ cpu)

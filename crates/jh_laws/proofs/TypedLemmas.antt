@@ -18,7 +18,7 @@ use Rattle.jh_call.specs.declared.seen.Seen.{Seen}
 use Rattle.jh_call.specs.declared.seen.CpuSeen.{CpuSeen}
 use Rattle.jh_call.specs.declared.seen.CpuSeen.TheVariants.{Absent, Foreign, Fine, Failed}
 use Rattle.jh_call.specs.Calls.{decoded, is_management}
-use Rattle.jh_call.specs.Answers.{info_of, state_told, cpu_told, answer_of}
+use Rattle.jh_call.specs.Answers.{info_of, state_of_cell, cpu_seen_by, answer_of}
 use Rattle.jh_ivshmem.specs.declared.endpoint.Endpoint.{Endpoint}
 use Rattle.jh_ivshmem.specs.declared.vector.Vector.{Vector}
 use Rattle.jh_ivshmem.specs.declared.spec.EndpointSpec.{EndpointSpec}
@@ -50,10 +50,10 @@ use Rattle.jh_history.proofs.Public.{IsActIn, phase_act_holds, due_split, IsLega
 use Rattle.jh_laws.specs.Grants.{place_behind}
 use Rattle.jh_laws.specs.Held.{IsGrantedTo}
 use Rattle.jh_laws.specs.Ends.{IsAnswered, IsAnsweredByWindow, IsReadBy, IsGotBy}
-use Rattle.jh_laws.specs.Typed.{OpensTyped, TellsTyped}
+use Rattle.jh_laws.specs.Typed.{IsTypedImage, HasTypedAct}
 use Rattle.jh_laws.proofs.CallLemmas.{IsMadeBy, Stopping, Running, Calling, made_by, phase_of_due}
 use Rattle.jh_laws.proofs.DevicesLemmas.{endpoint_held}
-use Rattle.jh_laws.proofs.EndsLemmas.{got_of_cell, ops_plain, width_some}
+use Rattle.jh_laws.proofs.EndsLemmas.{got_of_cell, ops_well_formed, width_some}
 use Rattle.jh_laws.proofs.FewCellsLemmas.{AreTyped, IsTypedPhase, IsTypedBoard, few_typed, legal_typed, typed_phase}
 use Rattle.jh_laws.proofs.FewLemmas.{length_map}
 use Rattle.jh_laws.proofs.PendingLemmas.{endpoint_of_pending, next_is}
@@ -152,11 +152,11 @@ info_fits kind seen few =
     (λ _. cond_both (eqb kind 1) _ _ Fits (λ _. number_fits seen.used few.used)
     (λ _. cond_both (eqb kind 4) _ _ Fits (λ _. number_fits seen.cells few.cells) (λ _. invalid_fits)))
 
-state_fits : (state : Option ℕ) → Fits (state_told state)
+state_fits : (state : Option ℕ) → Fits (state_of_cell state)
 state_fits None = missing_fits
 state_fits (Some state) = cond_both (nat_le state 4) (pos state) EINVAL Fits (λ few. number_fits state (omega (arith, leb-true state 4 few))) (λ _. invalid_fits)
 
-cpu_fits : (kind : ℕ) (cpu : CpuSeen) → Fits (cpu_told kind cpu)
+cpu_fits : (kind : ℕ) (cpu : CpuSeen) → Fits (cpu_seen_by kind cpu)
 cpu_fits kind Absent = invalid_fits
 cpu_fits kind Foreign = permission_fits
 cpu_fits kind Fine = cond_both (eqb kind 0) (pos 0) EINVAL Fits (λ _. number_fits 0 (omega arith)) (λ _. invalid_fits)
@@ -168,7 +168,7 @@ answer_fits (Start id) seen few = permission_fits
 answer_fits (Loadable id) seen few = permission_fits
 answer_fits (Destroy id) seen few = permission_fits
 answer_fits (Info kind) seen few = info_fits kind seen few
-answer_fits (State id) seen few = cond_both seen.root (state_told seen.state) EPERM Fits (λ _. state_fits seen.state) (λ _. permission_fits)
+answer_fits (State id) seen few = cond_both seen.root (state_of_cell seen.state) EPERM Fits (λ _. state_fits seen.state) (λ _. permission_fits)
 answer_fits (CpuInfo cpu kind) seen few = cpu_fits kind seen.cpu
 answer_fits Unknown seen few = unknown_fits
 
@@ -203,7 +203,7 @@ pending_fits image f id n v sound is =
 -- ---- operations
 
 abbrev IsTypedAct : Option Act → Type 0
-IsTypedAct o = IfSome o TellsTyped
+IsTypedAct o = IfSome o HasTypedAct
 
 await_told : (width at value : ℕ) (o : Option ℕ) → IsTypedAct (await_of width at value o)
 await_told width at value None = tt
@@ -221,33 +221,33 @@ op_told image f id (AwaitOp width at value) sound typed plain = await_told width
 op_told image f id IrqOp sound typed plain = irq_told (pending_of id f.endpoints) (λ n v is. pending_fits image f id n v sound is)
 op_told image f id (HvcOp code a b) sound typed plain =
     let call : Call = decoded code a b in
-    cond_both (eqb id image.system.root.id && is_management call) (Begin code a b) (Hvc code a b (answer_of call (seen_of image f id call))) TellsTyped
+    cond_both (eqb id image.system.root.id && is_management call) (Begin code a b) (Hvc code a b (answer_of call (seen_of image f id call))) HasTypedAct
     (λ _. tt) (λ _. answer_fits call (seen_of image f id call) (few_seen image f id call sound typed))
 
-told_by : (act : Act) (o : Option Act) → IsTypedAct o → o ≡ Some act → TellsTyped act
+told_by : (act : Act) (o : Option Act) → IsTypedAct o → o ≡ Some act → HasTypedAct act
 told_by act None h is = absurd (none-some act is)
-told_by act (Some other) h is = subst TellsTyped (same_Some other act is) h
+told_by act (Some other) h is = subst HasTypedAct (same_Some other act is) h
 
 -- ---- phases
 
 in_phase : (image : Image) (f : Facts) (caller : ℕ) (call : Call) (phase : Phase) (act : Act) → IsActIn image f caller call phase act → IsInPhase image (configs_of f.cells) f.cpu caller call phase
-    → AreTyped (configs_of f.cells) → IsTypedPhase phase → FitsRefusal act → TellsTyped act
-in_phase image f caller call ToDecide act is holds cells typed refusal = subst TellsTyped (sym is) (subst FitsRefusal is refusal)
-in_phase image f caller call (ToSettle waited) act is holds cells typed refusal = subst TellsTyped (sym is.1) tt
-in_phase image f caller call (ToCreate config) act is holds cells typed refusal = subst TellsTyped (sym is) tt
-in_phase image f caller call ToCommit act is holds cells typed refusal = subst TellsTyped (sym is) tt
+    → AreTyped (configs_of f.cells) → IsTypedPhase phase → FitsRefusal act → HasTypedAct act
+in_phase image f caller call ToDecide act is holds cells typed refusal = subst HasTypedAct (sym is) (subst FitsRefusal is refusal)
+in_phase image f caller call (ToSettle waited) act is holds cells typed refusal = subst HasTypedAct (sym is.1) tt
+in_phase image f caller call (ToCreate config) act is holds cells typed refusal = subst HasTypedAct (sym is) tt
+in_phase image f caller call ToCommit act is holds cells typed refusal = subst HasTypedAct (sym is) tt
 in_phase image f caller call (ToNote id about answer) act is holds cells typed refusal =
     let small : id < 2 ^ 32 = subst (λ n. n < 2 ^ 32) holds.0.named (cells holds.0.config holds.0.held).id in
-    subst TellsTyped (sym is) small
+    subst HasTypedAct (sym is) small
 in_phase image f caller call (ToNoted id about answer waited) act is holds cells typed refusal =
     let small : id < 2 ^ 32 = subst (λ n. n < 2 ^ 32) holds.0.named (cells holds.0.config holds.0.held).id in
-    subst TellsTyped (sym is.1) small
-in_phase image f caller call (ToFinish answer) act is holds cells typed refusal = subst TellsTyped (sym is) typed
+    subst HasTypedAct (sym is.1) small
+in_phase image f caller call (ToFinish answer) act is holds cells typed refusal = subst HasTypedAct (sym is) typed
 
 -- ---- entries
 
-made_told : (image : Image) (f : Facts) (entry : Entry) → IsAdmitted image → IsSound image f → IsTypedBoard f → due_at image f entry.cpu ≡ Some entry → IsMadeBy image f entry → TellsTyped entry.act
-made_told image f entry admitted sound typed due (Stopping is) = subst TellsTyped is tt
+made_told : (image : Image) (f : Facts) (entry : Entry) → IsAdmitted image → IsSound image f → IsTypedBoard f → due_at image f entry.cpu ≡ Some entry → IsMadeBy image f entry → HasTypedAct entry.act
+made_told image f entry admitted sound typed due (Stopping is) = subst HasTypedAct is tt
 made_told image f entry admitted sound typed due (Calling phase) =
     let of = phase_of_due image f entry sound due phase in
     let o = of.o in
@@ -255,10 +255,10 @@ made_told image f entry admitted sound typed due (Calling phase) =
     in_phase image f o.caller o.call o.phase entry.act act (call_open image f o sound of.opens).phase typed.cells (typed_phase f.call o of.opens typed.call) (refusal_fits image f entry sound due)
 made_told image f entry admitted sound typed due (Running program) =
     let state : Cpu = f.cpu entry.cpu in
-    let plain = ops_plain image entry.cpu (cell_in image f.cells state.owner) state.position program.op admitted program.at in
+    let plain = ops_well_formed image entry.cpu (cell_in image f.cells state.owner) state.position program.op admitted program.at in
     told_by entry.act (act_of image f state.owner program.op) (op_told image f state.owner program.op sound typed plain) program.is
 
-pub told_at : (image : Image) (before rest : List Entry) (entry : Entry) → IsAdmitted image → OpensTyped image → IsLegal image (before ++ entry ∷ rest) → TellsTyped entry.act
+pub told_at : (image : Image) (before rest : List Entry) (entry : Entry) → IsAdmitted image → IsTypedImage image → IsLegal image (before ++ entry ∷ rest) → HasTypedAct entry.act
 told_at image before rest entry admitted opens legal =
     let f : Facts = facts image before in
     let early : IsLegal image before = IsLegal_begin image before (entry ∷ rest) legal in
@@ -266,7 +266,7 @@ told_at image before rest entry admitted opens legal =
     let due : due_at image f entry.cpu ≡ Some entry = due_split image before rest entry legal in
     made_told image f entry admitted sound (legal_typed image before admitted opens.bytes early) due (made_by image f entry sound due)
 
-pub cell_small : (image : Image) (before rest : List Entry) (entry : Entry) → IsAdmitted image → OpensTyped image → IsLegal image (before ++ entry ∷ rest) → entry.cell < 2 ^ 32
+pub cell_small : (image : Image) (before rest : List Entry) (entry : Entry) → IsAdmitted image → IsTypedImage image → IsLegal image (before ++ entry ∷ rest) → entry.cell < 2 ^ 32
 cell_small image before rest entry admitted opens legal =
     let f : Facts = facts image before in
     let early : IsLegal image before = IsLegal_begin image before (entry ∷ rest) legal in

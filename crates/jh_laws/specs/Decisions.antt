@@ -50,7 +50,7 @@ pub record IsDestroyDecision (image : Image) (f : Facts) (id : ℕ) (refused : O
 
 -- what a create is refused for where no configuration is read: root may not read its 132 bytes of header, the header
 -- has a fault, or root may not read all of it
-pub record IsUnreadDecision (image : Image) (f : Facts) (at : ℕ) (refused : Option ℤ) : Type 0 where
+pub record IsReadRefusal (image : Image) (f : Facts) (at : ℕ) (refused : Option ℤ) : Type 0 where
   pub header : bytes_at image f at 132 ≡ None → refused ≡ Some EINVAL
   pub fault : (header : List ℕ) (fault : ConfigFault) → bytes_at image f at 132 ≡ Some header → header_fault header ≡ Some fault → refused ≡ Some (refused_for fault)
   pub rest : (header : List ℕ) → bytes_at image f at 132 ≡ Some header → header_fault header ≡ None → bytes_at image f at (header_size header) ≡ None → refused ≡ Some EINVAL
@@ -65,7 +65,7 @@ pub record IsRefusedOf (image : Image) (f : Facts) (caller : ℕ) (config : Cell
 -- that was read
 pub record IsCreateDecision (image : Image) (f : Facts) (caller at : ℕ) (refused : Option ℤ) : Type 0 where
   pub locked : (live : Live) → IsLockedBy f live → refused ≡ Some EPERM
-  pub unread : NoneIsLocked f → IsUnreadDecision image f at refused
+  pub unread : NoneIsLocked f → IsReadRefusal image f at refused
   pub read : NoneIsLocked f → (header bytes : List ℕ) → bytes_at image f at 132 ≡ Some header → header_fault header ≡ None
       → bytes_at image f at (header_size header) ≡ Some bytes → IsRefusedOf image f caller (config_of bytes) refused
 

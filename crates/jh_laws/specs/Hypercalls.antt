@@ -14,7 +14,7 @@ use Rattle.jh_history.specs.Phases.{state_word}
 use Rattle.jh_shape.specs.Lives.{configs_of}
 
 -- the answer to a request for information about the hypervisor: the pool's pages, those used, the live cells with root
-pub record IsInfo (image : Image) (f : Facts) (kind : ℕ) (answer : ℤ) : Type 0 where
+pub record IsInfoAnswer (image : Image) (f : Facts) (kind : ℕ) (answer : ℤ) : Type 0 where
   pub size : kind ≡ 0 → answer ≡ pos (pool_pages image.system)
   pub used : kind ≡ 1 → answer ≡ pos (pages_of image.system.root.memory_regions (configs_of f.cells))
   pub cells : kind ≡ 4 → answer ≡ pos (length f.cells + 1)
@@ -22,7 +22,7 @@ pub record IsInfo (image : Image) (f : Facts) (kind : ℕ) (answer : ℤ) : Type
 
 -- the answer to a request for the state of a cell, which root alone is told: 0 for root, and the state word of another
 -- live cell where that is one of the five states
-pub record IsStateTold (image : Image) (f : Facts) (cell id : ℕ) (answer : ℤ) : Type 0 where
+pub record IsStateAnswer (image : Image) (f : Facts) (cell id : ℕ) (answer : ℤ) : Type 0 where
   pub others : cell ≢ image.system.root.id → answer ≡ EPERM
   pub root : cell ≡ image.system.root.id → id ≡ image.system.root.id → answer ≡ pos 0
   pub state : (config : CellConfig) → cell ≡ image.system.root.id → Contains (configs_of f.cells) config → config.id ≡ id → state_word f id ≤ 4 → answer ≡ pos (state_word f id)
@@ -31,7 +31,7 @@ pub record IsStateTold (image : Image) (f : Facts) (cell id : ℕ) (answer : ℤ
 
 -- the answer to a request for information about a CPU, by the first of these: the board lacks it, it is another cell's
 -- and root doesn't ask, the kind isn't 0, it has failed
-pub record IsCpuTold (image : Image) (f : Facts) (cell cpu kind : ℕ) (answer : ℤ) : Type 0 where
+pub record IsCpuAnswer (image : Image) (f : Facts) (cell cpu kind : ℕ) (answer : ℤ) : Type 0 where
   pub absent : is_on_board image cpu ≡ false → answer ≡ EINVAL
   pub foreign : is_on_board image cpu ≡ true → cell ≢ image.system.root.id → (f.cpu cpu).owner ≢ cell → answer ≡ EPERM
   pub wrong : is_on_board image cpu ≡ true → (cell ≡ image.system.root.id) ⊎ ((f.cpu cpu).owner ≡ cell) → kind ≢ 0 → answer ≡ EINVAL
@@ -44,7 +44,7 @@ IsAnswer image f cell (Create at) answer = (cell ≢ image.system.root.id) × (a
 IsAnswer image f cell (Start id) answer = (cell ≢ image.system.root.id) × (answer ≡ EPERM)
 IsAnswer image f cell (Loadable id) answer = (cell ≢ image.system.root.id) × (answer ≡ EPERM)
 IsAnswer image f cell (Destroy id) answer = (cell ≢ image.system.root.id) × (answer ≡ EPERM)
-IsAnswer image f cell (Info kind) answer = IsInfo image f kind answer
-IsAnswer image f cell (State id) answer = IsStateTold image f cell id answer
-IsAnswer image f cell (CpuInfo cpu kind) answer = IsCpuTold image f cell cpu kind answer
+IsAnswer image f cell (Info kind) answer = IsInfoAnswer image f kind answer
+IsAnswer image f cell (State id) answer = IsStateAnswer image f cell id answer
+IsAnswer image f cell (CpuInfo cpu kind) answer = IsCpuAnswer image f cell cpu kind answer
 IsAnswer image f cell Unknown answer = answer ≡ ENOSYS

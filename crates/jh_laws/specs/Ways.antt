@@ -72,16 +72,16 @@ IsNoteOr answers next = ((id : ℕ) × (next ≡ Note id)) ⊎ ((answer : ℤ) �
 
 -- what may follow in a call that others are told of: a note, or the end, which has an id for a create and 0 for a
 -- destroy
-abbrev pub IsTelling : Call → Act → Type 0
-IsTelling (Create at) next = IsNoteOr (λ (answer : ℤ). (id : ℕ) × (answer ≡ pos id)) next
-IsTelling (Destroy id) next = IsNoteOr (λ (answer : ℤ). answer ≡ pos 0) next
-IsTelling call next = ⊥
+abbrev pub IsNoteOrEnd : Call → Act → Type 0
+IsNoteOrEnd (Create at) next = IsNoteOr (λ (answer : ℤ). (id : ℕ) × (answer ≡ pos id)) next
+IsNoteOrEnd (Destroy id) next = IsNoteOr (λ (answer : ℤ). answer ≡ pos 0) next
+IsNoteOrEnd call next = ⊥
 
 -- what may follow the Commit of the call: the end with 0 of a start or a set loadable, else a note or the end
 abbrev pub IsBehindCommit : Call → Act → Type 0
 IsBehindCommit (Start id) next = next ≡ Finish (pos 0)
 IsBehindCommit (Loadable id) next = next ≡ Finish (pos 0)
-IsBehindCommit call next = IsTelling call next
+IsBehindCommit call next = IsNoteOrEnd call next
 
 -- what may follow a Decide that refuses nothing: the Commit of a create, and a Settle of any other call
 abbrev pub IsBehindGo : Call → Act → Type 0
@@ -98,5 +98,5 @@ MayFollow call (Settle Timeout) next = next ≡ Commit
 MayFollow call (Settle Denied) next = next ≡ Finish EPERM
 MayFollow call Commit next = IsBehindCommit call next
 MayFollow call (Note id) next = (how : Heard) × (next ≡ Noted id how)
-MayFollow call (Noted id how) next = IsTelling call next
+MayFollow call (Noted id how) next = IsNoteOrEnd call next
 MayFollow call act next = ⊥

@@ -16,7 +16,7 @@ use Rattle.jh_check.specs.Verdicts.{names, is_overlap, is_invalid, is_busy, verd
 use Rattle.jh_check.proofs.Public.{beyond_named, named_beyond, broken_from_listed, listed_from_broken}
 use Rattle.jh_num.specs.Bits.{has_bit}
 use Rattle.jh_shape.specs.Pages.{pages_of}
-use Rattle.jh_life.specs.Seen.{Seen}
+use Rattle.jh_life.specs.CellsView.{CellsView}
 use Rattle.jh_life.specs.Lives.{numbered_cells}
 use Rattle.jh_shape.specs.Lives.{configs_of}
 use Rattle.jh_life.specs.Verdict.{may_have}
@@ -33,11 +33,11 @@ first_of locked known taken broken overlap few =
     if locked then Some EPERM
     else (if known then Some EEXIST else (if taken then Some EBUSY else by_check (verdict_by broken overlap) (if few then Some ENOMEM else None)))
 
-abbrev FirstTold : (Cause → Bool) → Option ℤ → Type 0
-FirstTold test told = (cause : Cause) × IsFirstOf test cause × (told ≡ Some (number_for cause))
+abbrev IsFirstCause : (Cause → Bool) → Option ℤ → Type 0
+IsFirstCause test told = (cause : Cause) × IsFirstOf test cause × (told ≡ Some (number_for cause))
 
-abbrev NoneTold : (Cause → Bool) → Option ℤ → Type 0
-NoneTold test told = ((cause : Cause) → test cause ≡ false) × (told ≡ None)
+abbrev IsNoCause : (Cause → Bool) → Option ℤ → Type 0
+IsNoCause test told = ((cause : Cause) → test cause ≡ false) × (told ≡ None)
 
 -- what fails before a cause
 before : (test : Cause → Bool) (n : ℕ) → n ≤ 5 → (0 < n → test Locked ≡ false) → (1 < n → test Known ≡ false) → (2 < n → test TakenCpu ≡ false) → (3 < n → test BrokenRule ≡ false) → (4 < n → test Overlap ≡ false) → (other : Cause) → place_in_order other < n → test other ≡ false
@@ -56,7 +56,7 @@ all_fail test a b c d e f BrokenRule = d
 all_fail test a b c d e f Overlap = e
 all_fail test a b c d e f FewPages = f
 
-told_by : (test : Cause → Bool) (locked known taken broken overlap few : Bool) → test Locked ≡ locked → test Known ≡ known → test TakenCpu ≡ taken → test BrokenRule ≡ broken → test Overlap ≡ overlap → test FewPages ≡ few → FirstTold test (first_of locked known taken broken overlap few) ⊎ NoneTold test (first_of locked known taken broken overlap few)
+told_by : (test : Cause → Bool) (locked known taken broken overlap few : Bool) → test Locked ≡ locked → test Known ≡ known → test TakenCpu ≡ taken → test BrokenRule ≡ broken → test Overlap ≡ overlap → test FewPages ≡ few → IsFirstCause test (first_of locked known taken broken overlap few) ⊎ IsNoCause test (first_of locked known taken broken overlap few)
 told_by test true known taken broken overlap few a b c d e f =
     inl (Locked, record { passes = a; none = λ other l. absurd (omega arith) }, refl)
 told_by test false true taken broken overlap few a b c d e f =
@@ -108,7 +108,7 @@ one_first test one other first second =
 
 -- ---- each test in words
 
-abbrev test_of : Seen → Create → Cause → Bool
+abbrev test_of : CellsView → Create → Cause → Bool
 test_of seen create Locked = create.locked
 test_of seen create Known = is_known (numbered_cells seen) create.new
 test_of seen create TakenCpu = names_beyond (may_have create.owned create.caller) create.new.cpu_set
@@ -134,12 +134,12 @@ words_namesake : (new cell : CellConfig) → (cell.id ≡ new.id) ⊎ (name_of c
 words_namesake new cell (inl same) = or_left (cell.id == new.id) (pointwise nat_eq (name_of cell) (name_of new)) (eq-eqb cell.id new.id same)
 words_namesake new cell (inr same) = or_right (cell.id == new.id) (pointwise nat_eq (name_of cell) (name_of new)) (named_same (name_of cell) (name_of new) same)
 
-known_words : (seen : Seen) (new : CellConfig) → is_known (numbered_cells seen) new ≡ true → IsKnownTo seen new
+known_words : (seen : CellsView) (new : CellConfig) → is_known (numbered_cells seen) new ≡ true → IsKnownTo seen new
 known_words seen new t =
     let r = IsFound_from_list_any (is_namesake new) (numbered_cells seen) t in
     record { cell = r.0; lives = r.1.held; same = namesake_words new r.0 r.1.passes }
 
-words_known : (seen : Seen) (new : CellConfig) → IsKnownTo seen new → is_known (numbered_cells seen) new ≡ true
+words_known : (seen : CellsView) (new : CellConfig) → IsKnownTo seen new → is_known (numbered_cells seen) new ≡ true
 words_known seen new h = list_any_from_Contains (is_namesake new) (numbered_cells seen) h.cell h.lives (words_namesake new h.cell h.same)
 
 taken_words : (owned caller cpu : ℕ) → may_have owned caller cpu ≡ false → (has_bit owned cpu ≡ false) ⊎ (cpu ≡ caller)
@@ -158,12 +158,12 @@ words_taken owned caller cpu (inl unset) =
 words_taken owned caller cpu (inr same) =
     false_from_ne_true (may_have owned caller cpu) (λ t. false≢true (sym (not-true (cpu == caller) (and_parts (has_bit owned cpu) (not (cpu == caller)) t).1) ∙ eq-eqb cpu caller same))
 
-cpu_words : (seen : Seen) (create : Create) → test_of seen create TakenCpu ≡ true → NamesTakenCpu create
+cpu_words : (seen : CellsView) (create : Create) → test_of seen create TakenCpu ≡ true → NamesTakenCpu create
 cpu_words seen create t =
     let r = beyond_named (may_have create.owned create.caller) create.new.cpu_set t in
     record { cpu = r.0; named = r.1; taken = taken_words create.owned create.caller r.0 r.2 }
 
-words_cpu : (seen : Seen) (create : Create) → NamesTakenCpu create → test_of seen create TakenCpu ≡ true
+words_cpu : (seen : CellsView) (create : Create) → NamesTakenCpu create → test_of seen create TakenCpu ≡ true
 words_cpu seen create h =
     named_beyond (may_have create.owned create.caller) create.new.cpu_set h.cpu h.named (words_taken create.owned create.caller h.cpu h.taken)
 
@@ -195,7 +195,7 @@ busy_kind : (n : ℕ) → TestsKind (is_busy n) n true
 busy_kind n = λ finding.
     (λ t. and_parts (names n finding) (is_overlap finding) t, λ p. and_from (names n finding) (is_overlap finding) p.0 p.1)
 
-found_words : (seen : Seen) (new : CellConfig) (overlaps : Bool) (test : Finding → Bool) → TestsKind test (length (configs_of seen.lives) + 1) overlaps → list_any test (findings seen.system (configs_of seen.lives ++ new ∷ [])) ≡ true → BreaksRule seen new overlaps
+found_words : (seen : CellsView) (new : CellConfig) (overlaps : Bool) (test : Finding → Bool) → TestsKind test (length (configs_of seen.lives) + 1) overlaps → list_any test (findings seen.system (configs_of seen.lives ++ new ∷ [])) ≡ true → BreaksRule seen new overlaps
 found_words seen new overlaps test kind t =
     let cells = configs_of seen.lives ++ new ∷ [] in
     let r = IsFound_from_list_any test (findings seen.system cells) t in
@@ -207,13 +207,13 @@ found_words seen new overlaps test kind t =
       kind = p.1;
     }
 
-words_found : (seen : Seen) (new : CellConfig) (overlaps : Bool) (test : Finding → Bool) → TestsKind test (length (configs_of seen.lives) + 1) overlaps → BreaksRule seen new overlaps → list_any test (findings seen.system (configs_of seen.lives ++ new ∷ [])) ≡ true
+words_found : (seen : CellsView) (new : CellConfig) (overlaps : Bool) (test : Finding → Bool) → TestsKind test (length (configs_of seen.lives) + 1) overlaps → BreaksRule seen new overlaps → list_any test (findings seen.system (configs_of seen.lives ++ new ∷ [])) ≡ true
 words_found seen new overlaps test kind h =
     let cells = configs_of seen.lives ++ new ∷ [] in
     list_any_from_Contains test (findings seen.system cells) h.finding (listed_from_broken seen.system cells h.finding h.broken)
     ((kind h.finding).1 (words_names (length (configs_of seen.lives) + 1) h.finding h.named, h.kind))
 
-holds_from : (seen : Seen) (create : Create) (cause : Cause) → test_of seen create cause ≡ true → SpeaksAgainst seen create cause
+holds_from : (seen : CellsView) (create : Create) (cause : Cause) → test_of seen create cause ≡ true → SpeaksAgainst seen create cause
 holds_from seen create Locked t = t
 holds_from seen create Known t = known_words seen create.new t
 holds_from seen create TakenCpu t = cpu_words seen create t
@@ -221,7 +221,7 @@ holds_from seen create BrokenRule t = found_words seen create.new false (is_inva
 holds_from seen create Overlap t = found_words seen create.new true (is_busy (length (configs_of seen.lives) + 1)) (busy_kind (length (configs_of seen.lives) + 1)) t
 holds_from seen create FewPages t = ltb-true create.pool (pages_of seen.system.root.memory_regions (configs_of seen.lives ++ create.new ∷ [])) t
 
-holds_to : (seen : Seen) (create : Create) (cause : Cause) → SpeaksAgainst seen create cause → test_of seen create cause ≡ true
+holds_to : (seen : CellsView) (create : Create) (cause : Cause) → SpeaksAgainst seen create cause → test_of seen create cause ≡ true
 holds_to seen create Locked h = h
 holds_to seen create Known h = words_known seen create.new h
 holds_to seen create TakenCpu h = words_cpu seen create h
@@ -229,13 +229,13 @@ holds_to seen create BrokenRule h = words_found seen create.new false (is_invali
 holds_to seen create Overlap h = words_found seen create.new true (is_busy (length (configs_of seen.lives) + 1)) (busy_kind (length (configs_of seen.lives) + 1)) h
 holds_to seen create FewPages h = lt-ltb create.pool (pages_of seen.system.root.memory_regions (configs_of seen.lives ++ create.new ∷ [])) h
 
-first_words : (seen : Seen) (create : Create) (cause : Cause) → IsFirstOf (test_of seen create) cause → IsFirst seen create cause
+first_words : (seen : CellsView) (create : Create) (cause : Cause) → IsFirstOf (test_of seen create) cause → IsFirst seen create cause
 first_words seen create cause first = record {
   holds = holds_from seen create cause first.passes;
   none = λ other l h. false≢true (sym (first.none other l) ∙ holds_to seen create other h);
 }
 
-words_first : (seen : Seen) (create : Create) (cause : Cause) → IsFirst seen create cause → IsFirstOf (test_of seen create) cause
+words_first : (seen : CellsView) (create : Create) (cause : Cause) → IsFirst seen create cause → IsFirstOf (test_of seen create) cause
 words_first seen create cause first = record {
   passes = holds_to seen create cause first.holds;
   none = λ other l. false_from_ne_true (test_of seen create other) (λ t. first.none other l (holds_from seen create other t));
@@ -243,20 +243,20 @@ words_first seen create cause first = record {
 
 -- ---- what is told
 
-told : (seen : Seen) (create : Create) → FirstTold (test_of seen create) (verdict_on seen create) ⊎ NoneTold (test_of seen create) (verdict_on seen create)
+told : (seen : CellsView) (create : Create) → IsFirstCause (test_of seen create) (verdict_on seen create) ⊎ IsNoCause (test_of seen create) (verdict_on seen create)
 unfolding refusal_of verdict_of
 told seen create =
     let test = test_of seen create in
     told_by test (test Locked) (test Known) (test TakenCpu) (test BrokenRule) (test Overlap) (test FewPages) refl refl refl refl refl refl
 
-pub cause_from : (seen : Seen) (create : Create) (number : ℤ) → verdict_on seen create ≡ Some number → (cause : Cause) × IsFirst seen create cause × (number ≡ number_for cause)
+pub cause_from : (seen : CellsView) (create : Create) (number : ℤ) → verdict_on seen create ≡ Some number → (cause : Cause) × IsFirst seen create cause × (number ≡ number_for cause)
 cause_from seen create number e =
     elim (told seen create) [
       | inl s ↦ (s.0, first_words seen create s.0 s.1, same_Some number (number_for s.0) (sym e ∙ s.2))
       | inr n ↦ absurd (none-some number (sym n.1 ∙ e))
     ]
 
-pub cause_to : (seen : Seen) (create : Create) (cause : Cause) → IsFirst seen create cause → verdict_on seen create ≡ Some (number_for cause)
+pub cause_to : (seen : CellsView) (create : Create) (cause : Cause) → IsFirst seen create cause → verdict_on seen create ≡ Some (number_for cause)
 cause_to seen create cause first =
     let is = words_first seen create cause first in
     elim (told seen create) [
@@ -264,14 +264,14 @@ cause_to seen create cause first =
       | inr n ↦ absurd (false≢true (sym (n.0 cause) ∙ is.passes))
     ]
 
-pub none_from : (seen : Seen) (create : Create) → verdict_on seen create ≡ None → (cause : Cause) → SpeaksAgainst seen create cause → ⊥
+pub none_from : (seen : CellsView) (create : Create) → verdict_on seen create ≡ None → (cause : Cause) → SpeaksAgainst seen create cause → ⊥
 none_from seen create e cause h =
     elim (told seen create) [
       | inl s ↦ none-some (number_for s.0) (sym e ∙ s.2)
       | inr n ↦ false≢true (sym (n.0 cause) ∙ holds_to seen create cause h)
     ]
 
-pub none_to : (seen : Seen) (create : Create) → ((cause : Cause) → SpeaksAgainst seen create cause → ⊥) → verdict_on seen create ≡ None
+pub none_to : (seen : CellsView) (create : Create) → ((cause : Cause) → SpeaksAgainst seen create cause → ⊥) → verdict_on seen create ≡ None
 none_to seen create h =
     elim (told seen create) [
       | inl s ↦ absurd (h s.0 (holds_from seen create s.0 s.1.passes))
@@ -280,7 +280,7 @@ none_to seen create h =
 
 -- ---- each number
 
-pub first_locked : (seen : Seen) (create : Create) → create.locked ≡ true → IsFirst seen create Locked
+pub first_locked : (seen : CellsView) (create : Create) → create.locked ≡ true → IsFirst seen create Locked
 first_locked seen create h = record { holds = h; none = λ other l. absurd (omega arith) }
 
 pub permission_cause : (cause : Cause) → EPERM ≡ number_for cause → cause ≡ Locked

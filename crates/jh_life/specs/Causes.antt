@@ -8,7 +8,7 @@ use Rattle.jh_check.specs.Broken.{IsBroken}
 use Rattle.jh_check.specs.Verdicts.{is_overlap}
 use Rattle.jh_num.specs.Bits.{has_bit}
 use Rattle.jh_shape.specs.Pages.{pages_of}
-use Rattle.jh_life.specs.Seen.{Seen}
+use Rattle.jh_life.specs.CellsView.{CellsView}
 use Rattle.jh_life.specs.Lives.{numbered_cells}
 use Rattle.jh_shape.specs.Lives.{configs_of}
 use Rattle.jh_life.specs.Verdict.{verdict_of_create}
@@ -23,7 +23,7 @@ pub record Create : Type 0 where
   pub pool : ℕ
 
 -- the number that the create is refused with, if it is refused
-abbrev pub verdict_on : Seen → Create → Option ℤ
+abbrev pub verdict_on : CellsView → Create → Option ℤ
 verdict_on seen create = verdict_of_create seen create.locked create.new create.owned create.caller create.pool
 
 -- what may speak against a create, in the order in which it is told
@@ -54,7 +54,7 @@ number_for Overlap = EBUSY
 number_for FewPages = ENOMEM
 
 -- root or a live cell has the new one's id or its name
-pub record IsKnownTo (seen : Seen) (new : CellConfig) : Type 0 where
+pub record IsKnownTo (seen : CellsView) (new : CellConfig) : Type 0 where
   pub cell : CellConfig
   pub lives : Contains (numbered_cells seen) cell
   pub same : (cell.id ≡ new.id) ⊎ (name_of cell ≡ name_of new)
@@ -67,18 +67,18 @@ pub record NamesTakenCpu (create : Create) : Type 0 where
 
 -- a rule is broken where the new cell, as the last, is beside the live ones, and its finding names the new one; it is
 -- about places that two cells would have exactly where `overlaps` says so
-pub record BreaksRule (seen : Seen) (new : CellConfig) (overlaps : Bool) : Type 0 where
+pub record BreaksRule (seen : CellsView) (new : CellConfig) (overlaps : Bool) : Type 0 where
   pub finding : Finding
   pub broken : IsBroken seen.system (configs_of seen.lives ++ new ∷ []) finding
   pub named : (finding.cell ≡ length (configs_of seen.lives) + 1) ⊎ (finding.other_cell ≡ length (configs_of seen.lives) + 1)
   pub kind : is_overlap finding ≡ overlaps
 
 -- all cells with the new one need more pages than there are
-abbrev pub LacksPages : Seen → Create → Type 0
+abbrev pub LacksPages : CellsView → Create → Type 0
 LacksPages seen create = create.pool < pages_of seen.system.root.memory_regions (configs_of seen.lives ++ create.new ∷ [])
 
 -- the cause speaks against the create
-abbrev pub SpeaksAgainst : Seen → Create → Cause → Type 0
+abbrev pub SpeaksAgainst : CellsView → Create → Cause → Type 0
 SpeaksAgainst seen create Locked = create.locked ≡ true
 SpeaksAgainst seen create Known = IsKnownTo seen create.new
 SpeaksAgainst seen create TakenCpu = NamesTakenCpu create
@@ -87,6 +87,6 @@ SpeaksAgainst seen create Overlap = BreaksRule seen create.new true
 SpeaksAgainst seen create FewPages = LacksPages seen create
 
 -- the cause holds, and none before it
-pub record IsFirst (seen : Seen) (create : Create) (cause : Cause) : Type 0 where
+pub record IsFirst (seen : CellsView) (create : Create) (cause : Cause) : Type 0 where
   pub holds : SpeaksAgainst seen create cause
   pub none : (other : Cause) → place_in_order other < place_in_order cause → SpeaksAgainst seen create other → ⊥

@@ -1,6 +1,6 @@
 pub mod Causes
 pub mod Changes
 pub mod Lives
-pub mod Seen
+pub mod CellsView
 pub mod SoundRecords
 pub mod Verdict

@@ -3,7 +3,7 @@ use Rattle.std.specs.Prelude.{ℕ, Bool, false, ◌==◌, List, ◌∷◌, Optio
 use Rattle.jh_cellcfg.specs.declared.config.CellConfig.{CellConfig}
 use Rattle.jh_cellcfg.specs.declared.live.Live.{Live}
 use Rattle.jh_shape.specs.Lives.{configs_of}
-use Rattle.jh_life.specs.Seen.{Seen}
+use Rattle.jh_life.specs.CellsView.{CellsView}
 
 -- the live cell of the configuration as it is just created: not loadable
 abbrev pub new_live : CellConfig → Live
@@ -14,7 +14,7 @@ abbrev pub marks_of : List Live → List Bool
 marks_of lives = map (λ (live : Live). live.loadable) lives
 
 -- root and then the other live cells: a cell's number is its index here
-abbrev pub numbered_cells : Seen → List CellConfig
+abbrev pub numbered_cells : CellsView → List CellConfig
 numbered_cells seen = seen.system.root ∷ configs_of seen.lives
 
 -- the cell of the configuration has the id
@@ -22,7 +22,7 @@ abbrev pub has_config_id : ℕ → CellConfig → Bool
 has_config_id id config = config.id == id
 
 -- the number of the cell with the id
-abbrev pub number_with_id : Seen → ℕ → Option ℕ
+abbrev pub number_with_id : CellsView → ℕ → Option ℕ
 number_with_id seen id = position (has_config_id id) (numbered_cells seen)
 
 -- the cell at that index of the others is loadable

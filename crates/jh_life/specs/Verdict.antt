@@ -5,7 +5,7 @@ use Rattle.jh_cellcfg.specs.declared.config.CellConfig.{CellConfig}
 use Rattle.jh_check.specs.Refusals.{refusal_of}
 use Rattle.jh_num.specs.Bits.{has_bit}
 use Rattle.jh_shape.specs.Pages.{pages_of}
-use Rattle.jh_life.specs.Seen.{Seen}
+use Rattle.jh_life.specs.CellsView.{CellsView}
 use Rattle.jh_shape.specs.Lives.{configs_of}
 
 -- a CPU that may be given away: root's, and not the caller's
@@ -15,7 +15,7 @@ may_have owned caller cpu = has_bit owned cpu && not (cpu == caller)
 -- A live cell is locked; or else the first of these that holds of the new one beside root and the live ones: it has
 -- the name or the id of one, it names a CPU that mustn't be given away, the check finds something that names it, or
 -- the pages of all with it are more than there are.
-abbrev pub verdict_of_create : Seen → Bool → CellConfig → ℕ → ℕ → ℕ → Option ℤ
+abbrev pub verdict_of_create : CellsView → Bool → CellConfig → ℕ → ℕ → ℕ → Option ℤ
 verdict_of_create seen locked new owned caller pool =
     let live = configs_of seen.lives in
     if locked then Some EPERM

@@ -35,11 +35,11 @@ pub struct Cells {
 
 impl Model for Cells {
     ghost use Rattle.std.specs.Prelude.{◌-◌, min, vec_len, vec_capacity};
-    ghost use Rattle.jh_life.specs.Seen.{Seen};
+    ghost use Rattle.jh_life.specs.CellsView.{CellsView};
     ghost use Rattle.jh_shape.specs.Lives.{with_marks};
     ghost use Rattle.jh_life.specs.SoundRecords.{AreSoundRecords};
 
-    ghost Value = { Seen };
+    ghost Value = { CellsView };
 
     ghost view = { λ c. record {
       system = c.system;

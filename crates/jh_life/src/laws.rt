@@ -4,7 +4,7 @@ ghost use Rattle.std.specs.List.{find};
 ghost use Rattle.jh_num.specs.declared.error.TheConstants.{EBUSY, EEXIST, EINVAL, ENOMEM, EPERM};
 ghost use Rattle.jh_cellcfg.specs.declared.live.Live.{Live};
 ghost use Rattle.jh_cellcfg.specs.Lives.{has_id};
-ghost use Rattle.jh_life.specs.Seen.{Seen};
+ghost use Rattle.jh_life.specs.CellsView.{CellsView};
 ghost use Rattle.jh_life.specs.Lives.{marks_of};
 ghost use Rattle.jh_shape.specs.Lives.{configs_of, marked};
 ghost use Rattle.jh_life.specs.Changes.{CellChange, without, after, live_after, lasting, AreNew};
@@ -46,7 +46,7 @@ pub fn a_cell_is_as_it_was_last_set()
 
 /// Which cells are loadable, and how much room there is, changes no verdict.
 pub fn a_verdict_goes_by_the_listed_cells(_new: &CellConfig)
-    ensures { (one other : Seen) (locked : Bool) (owned caller pool : ℕ) → one.system ≡ other.system
+    ensures { (one other : CellsView) (locked : Bool) (owned caller pool : ℕ) → one.system ≡ other.system
         → configs_of one.lives ≡ configs_of other.lives
         → verdict_of_create one locked _new.now owned caller pool ≡ verdict_of_create other locked _new.now owned caller pool }
 {}
@@ -62,7 +62,7 @@ pub fn a_cell_is_let_in_where_nothing_holds(cells: &Cells, new: &CellConfig)
 
 /// A create is refused with a number exactly where that tells the first cause which speaks against it.
 pub fn a_refusal_tells_its_first_cause()
-    ensures { (seen : Seen) (create : Create) (number : ℤ) → (verdict_on seen create ≡ Some number) ↔ ((cause : Cause) × IsFirst seen create cause × (number ≡ number_for cause)) }
+    ensures { (seen : CellsView) (create : Create) (number : ℤ) → (verdict_on seen create ≡ Some number) ↔ ((cause : Cause) × IsFirst seen create cause × (number ≡ number_for cause)) }
 {}
 
 /// Where each number is told, and none: EPERM where a live cell allows no create; else EEXIST where root or a live cell
@@ -70,10 +70,10 @@ pub fn a_refusal_tells_its_first_cause()
 /// a rule is broken, but by places that two cells would have; else EBUSY where such places are found; else ENOMEM
 /// where the pages are too few; and nothing where none of this holds.
 pub fn each_number_has_its_causes()
-    ensures locked { (seen : Seen) (create : Create) → (verdict_on seen create ≡ Some EPERM) ↔ (create.locked ≡ true) }
-    ensures known { (seen : Seen) (create : Create) → (verdict_on seen create ≡ Some EEXIST) ↔ IsFirst seen create Known }
-    ensures busy { (seen : Seen) (create : Create) → (verdict_on seen create ≡ Some EBUSY) ↔ (IsFirst seen create TakenCpu ⊎ IsFirst seen create Overlap) }
-    ensures invalid { (seen : Seen) (create : Create) → (verdict_on seen create ≡ Some EINVAL) ↔ IsFirst seen create BrokenRule }
-    ensures pages { (seen : Seen) (create : Create) → (verdict_on seen create ≡ Some ENOMEM) ↔ IsFirst seen create FewPages }
-    ensures none { (seen : Seen) (create : Create) → (verdict_on seen create ≡ None) ↔ ((cause : Cause) → SpeaksAgainst seen create cause → ⊥) }
+    ensures locked { (seen : CellsView) (create : Create) → (verdict_on seen create ≡ Some EPERM) ↔ (create.locked ≡ true) }
+    ensures known { (seen : CellsView) (create : Create) → (verdict_on seen create ≡ Some EEXIST) ↔ IsFirst seen create Known }
+    ensures busy { (seen : CellsView) (create : Create) → (verdict_on seen create ≡ Some EBUSY) ↔ (IsFirst seen create TakenCpu ⊎ IsFirst seen create Overlap) }
+    ensures invalid { (seen : CellsView) (create : Create) → (verdict_on seen create ≡ Some EINVAL) ↔ IsFirst seen create BrokenRule }
+    ensures pages { (seen : CellsView) (create : Create) → (verdict_on seen create ≡ Some ENOMEM) ↔ IsFirst seen create FewPages }
+    ensures none { (seen : CellsView) (create : Create) → (verdict_on seen create ≡ None) ↔ ((cause : Cause) → SpeaksAgainst seen create cause → ⊥) }
 {}

@@ -19,7 +19,7 @@ use Rattle.jh_history.specs.Lives.{program_of}
 use Rattle.jh_laws.specs.Held.{IsRootOrLive}
 use Rattle.jh_laws.specs.Moments.{AdmittedMoment, facts_before, state_before}
 use Rattle.jh_laws.specs.Operations.{op_of}
-use Rattle.jh_laws.specs.Typed.{OpensTyped, TellsTyped}
+use Rattle.jh_laws.specs.Typed.{IsTypedImage, HasTypedAct}
 use Rattle.jh_text.specs.declared.fault.JournalFault.{JournalFault}
 use Rattle.jh_text.specs.declared.fault.JournalFault.TheVariants.{Line, TooLong, NoMemory}
 use Rattle.jh_text.specs.Faults.{IsFault, IsFirstBadLine, IsJournalText, IsTooLong, max_entries}
@@ -31,8 +31,8 @@ use Rattle.jh_history.proofs.Public.{program_of_all}
 -- the laws of journals that this stands on
 pub record JournalLaws : Type 0 where
   pub cpu : (m : AdmittedMoment) → m.entry.cpu < 16
-  pub cell : (m : AdmittedMoment) → OpensTyped m.image → m.entry.cell < 2 ^ 32
-  pub told : (m : AdmittedMoment) → OpensTyped m.image → TellsTyped m.entry.act
+  pub cell : (m : AdmittedMoment) → IsTypedImage m.image → m.entry.cell < 2 ^ 32
+  pub told : (m : AdmittedMoment) → IsTypedImage m.image → HasTypedAct m.entry.act
   pub operation : (m : AdmittedMoment) (op : Op) → op_of m.entry.act ≡ Some op
       → (cell : CellConfig) × IsRootOrLive m.image (facts_before m).cells cell × (cell.id ≡ m.entry.cell) × (slice_get (program_of m.image (name_of cell) m.entry.cpu) (state_before m m.entry.cpu).position ≡ Some op)
 
@@ -43,7 +43,7 @@ got_all P xs i x all e = subst P (get_or_from_slice_get xs i x x e) (all i x (sl
 
 -- the operation that the entry makes is within its limits, and its numbers are below the ends of their types
 record IsFitOp (op : Op) : Type 0 where
-  plain : IsWellFormed op
+  well_formed : IsWellFormed op
   typed : IsTypedOp op
 
 fit_op : (laws : JournalLaws) (m : AdmittedMoment) (op : Op) → HasTypedNumbers m.image → op_of m.entry.act ≡ Some op → IsFitOp op
@@ -51,19 +51,19 @@ fit_op laws m op numbers is =
     let own = laws.operation m op is in
     let ops = program_of m.image (name_of own.0) m.entry.cpu in
     let position = (state_before m m.entry.cpu).position in
-    let plain : All (λ (p : Program). All IsWellFormed p.ops) m.image.programs = λ k d lt. (m.admitted.programs k d lt).plain in
+    let plain : All (λ (p : Program). All IsWellFormed p.ops) m.image.programs = λ k d lt. (m.admitted.programs k d lt).well_formed in
     record {
-      plain = got_all IsWellFormed ops position op (program_of_all IsWellFormed m.image (name_of own.0) m.entry.cpu plain) own.3;
+      well_formed = got_all IsWellFormed ops position op (program_of_all IsWellFormed m.image (name_of own.0) m.entry.cpu plain) own.3;
       typed = got_all IsTypedOp ops position op (program_of_all IsTypedOp m.image (name_of own.0) m.entry.cpu numbers.ops) own.3;
     }
 
 -- ---- entries
 
-readable_act : (act : Act) → ((op : Op) → op_of act ≡ Some op → IsFitOp op) → TellsTyped act → IsReadableAct act
-readable_act (Read width at got) fit told = let op = fit (ReadOp width at) refl in (op.plain, op.typed, told)
-readable_act (Write width at value ok) fit told = let op = fit (WriteOp width at value) refl in (op.plain.0, op.typed, op.plain.1)
+readable_act : (act : Act) → ((op : Op) → op_of act ≡ Some op → IsFitOp op) → HasTypedAct act → IsReadableAct act
+readable_act (Read width at got) fit told = let op = fit (ReadOp width at) refl in (op.well_formed, op.typed, told)
+readable_act (Write width at value ok) fit told = let op = fit (WriteOp width at value) refl in (op.well_formed.0, op.typed, op.well_formed.1)
 readable_act (Fetch at got) fit told = let op = fit (FetchOp at) refl in (op.typed, told)
-readable_act (Await width at value ok) fit told = let op = fit (AwaitOp width at value) refl in (op.plain.0, op.typed, op.plain.1)
+readable_act (Await width at value ok) fit told = let op = fit (AwaitOp width at value) refl in (op.well_formed.0, op.typed, op.well_formed.1)
 readable_act (Irq device vector) fit told = told
 readable_act (Hvc code a b answer) fit told = let op = fit (HvcOp code a b) refl in (op.typed.0, op.typed.1, op.typed.2, told)
 readable_act (Begin code a b) fit told = (fit (HvcOp code a b) refl).typed
@@ -77,7 +77,7 @@ readable_act (Finish answer) fit told = told
 
 readable_entry : (laws : JournalLaws) (m : AdmittedMoment) → HasTypedNumbers m.image → IsReadable m.entry
 readable_entry laws m numbers =
-    let opens : OpensTyped m.image = record { root = numbers.root; bytes = numbers.bytes } in
+    let opens : IsTypedImage m.image = record { root = numbers.root; bytes = numbers.bytes } in
     record {
       cpu = laws.cpu m;
       cell = laws.cell m opens;

@@ -16,28 +16,28 @@ use Rattle.jh_run.specs.Soak.{number_writes, number_reads, round_ops, rounds_ops
 one : (op : Op) → IsWellFormed op → All IsWellFormed (op ∷ [])
 one op is = All-cons IsWellFormed op [] is (All-nil IsWellFormed)
 
-writes_plain : (base first n : ℕ) → first + n ≤ 512 → All IsWellFormed (number_writes base first n)
+writes_well_formed : (base first n : ℕ) → first + n ≤ 512 → All IsWellFormed (number_writes base first n)
 unfolding number_writes
-writes_plain base first zero h = All-nil IsWellFormed
-writes_plain base first (suc n) h =
-    All-append IsWellFormed (number_writes base first n) (Write 8 (base + 8 * (first + n)) (first + n) ∷ []) (writes_plain base first n (omega arith))
+writes_well_formed base first zero h = All-nil IsWellFormed
+writes_well_formed base first (suc n) h =
+    All-append IsWellFormed (number_writes base first n) (Write 8 (base + 8 * (first + n)) (first + n) ∷ []) (writes_well_formed base first n (omega arith))
     (one (Write 8 (base + 8 * (first + n)) (first + n)) (refl, omega arith))
 
-reads_plain : (base n : ℕ) → All IsWellFormed (number_reads base n)
+reads_well_formed : (base n : ℕ) → All IsWellFormed (number_reads base n)
 unfolding number_reads
-reads_plain base zero = All-nil IsWellFormed
-reads_plain base (suc n) = All-append IsWellFormed (number_reads base n) (Read 8 (base + 8 * n) ∷ []) (reads_plain base n) (one (Read 8 (base + 8 * n)) refl)
+reads_well_formed base zero = All-nil IsWellFormed
+reads_well_formed base (suc n) = All-append IsWellFormed (number_reads base n) (Read 8 (base + 8 * n) ∷ []) (reads_well_formed base n) (one (Read 8 (base + 8 * n)) refl)
 
-round_plain : (r : ℕ) → r ≤ 400 → All IsWellFormed (round_ops r)
-round_plain r h = All-from_recursion IsWellFormed (round_ops r) (tt, (tt, (tt, ((refl, omega arith), (tt, (tt, (tt, (tt, (refl, tt)))))))))
+round_well_formed : (r : ℕ) → r ≤ 400 → All IsWellFormed (round_ops r)
+round_well_formed r h = All-from_recursion IsWellFormed (round_ops r) (tt, (tt, (tt, ((refl, omega arith), (tt, (tt, (tt, (tt, (refl, tt)))))))))
 
-rounds_plain : (n : ℕ) → n ≤ 400 → All IsWellFormed (rounds_ops n)
+rounds_well_formed : (n : ℕ) → n ≤ 400 → All IsWellFormed (rounds_ops n)
 unfolding rounds_ops
-rounds_plain zero h = All-nil IsWellFormed
-rounds_plain (suc n) h = All-append IsWellFormed (rounds_ops n) (round_ops (n + 1)) (rounds_plain n (omega arith)) (round_plain (n + 1) (omega arith))
+rounds_well_formed zero h = All-nil IsWellFormed
+rounds_well_formed (suc n) h = All-append IsWellFormed (rounds_ops n) (round_ops (n + 1)) (rounds_well_formed n (omega arith)) (round_well_formed (n + 1) (omega arith))
 
-answer_plain : (message reply : ℕ) → message ≤ 16 → reply ≤ 16 → All IsWellFormed (answer_ops message reply)
-answer_plain message reply h k = All-from_recursion IsWellFormed (answer_ops message reply) ((refl, omega arith), ((refl, omega arith), tt))
+answer_well_formed : (message reply : ℕ) → message ≤ 16 → reply ≤ 16 → All IsWellFormed (answer_ops message reply)
+answer_well_formed message reply h k = All-from_recursion IsWellFormed (answer_ops message reply) ((refl, omega arith), ((refl, omega arith), tt))
 
 -- ---- they are few
 
@@ -70,7 +70,7 @@ rounds_few (suc n) =
 first_sound : (n : ℕ) → n ≤ 400 → IsSoundProgram (program (codes "soak") 0 (rounds_ops n))
 first_sound n h =
     let few = rounds_few n in
-    record { few = omega arith; plain = rounds_plain n h }
+    record { few = omega arith; well_formed = rounds_well_formed n h }
 
 beside_sound : IsSoundProgram (program (codes "soak") 1 beside_ops)
 unfolding beside_ops
@@ -80,7 +80,7 @@ beside_sound =
     let reads = reads_few 0x40000000 256 in
     record {
       few = omega arith;
-      plain = All-append IsWellFormed (number_writes 0x40000000 0 256) (number_reads 0x40000000 256) (writes_plain 0x40000000 0 256 (omega arith)) (reads_plain 0x40000000 256);
+      well_formed = All-append IsWellFormed (number_writes 0x40000000 0 256) (number_reads 0x40000000 256) (writes_well_formed 0x40000000 0 256 (omega arith)) (reads_well_formed 0x40000000 256);
     }
 
 a_sound : IsSoundProgram (program (codes "a") 2 ops_a)
@@ -92,8 +92,8 @@ a_sound =
     let writes = writes_few 0 1 16 in
     record {
       few = omega arith;
-      plain = All-append IsWellFormed front (answer_ops 1 3)
-          (All-append IsWellFormed (Read 8 0 ∷ []) (number_writes 0 1 16) (one (Read 8 0) refl) (writes_plain 0 1 16 (omega arith))) (answer_plain 1 3 (omega arith) (omega arith));
+      well_formed = All-append IsWellFormed front (answer_ops 1 3)
+          (All-append IsWellFormed (Read 8 0 ∷ []) (number_writes 0 1 16) (one (Read 8 0) refl) (writes_well_formed 0 1 16 (omega arith))) (answer_well_formed 1 3 (omega arith) (omega arith));
     }
 
 b_sound : IsSoundProgram (program (codes "b") 3 ops_b)
@@ -105,8 +105,8 @@ b_sound =
     let writes = writes_few 0 1 16 in
     record {
       few = omega arith;
-      plain = All-append IsWellFormed front (answer_ops 1 3)
-          (All-append IsWellFormed (number_writes 0 1 16) (answer_ops 2 4) (writes_plain 0 1 16 (omega arith)) (answer_plain 2 4 (omega arith) (omega arith))) (answer_plain 1 3 (omega arith) (omega arith));
+      well_formed = All-append IsWellFormed front (answer_ops 1 3)
+          (All-append IsWellFormed (number_writes 0 1 16) (answer_ops 2 4) (writes_well_formed 0 1 16 (omega arith)) (answer_well_formed 2 4 (omega arith) (omega arith))) (answer_well_formed 1 3 (omega arith) (omega arith));
     }
 
 pub programs_sound : (n : ℕ) → n ≤ 400 → All IsSoundProgram (programs_of n)

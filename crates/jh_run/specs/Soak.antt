@@ -22,8 +22,8 @@ abbrev pub padded : List ℕ → List ℕ
 padded name = name ++ replicate (32 - length name) 0
 
 -- a cell of that name, id and CPUs, all below 8
-abbrev pub plain_cell : List ℕ → ℕ → ℕ → List Region → CellConfig
-plain_cell name id cpus regions = record {
+abbrev pub bare_cell : List ℕ → ℕ → ℕ → List Region → CellConfig
+bare_cell name id cpus regions = record {
   name = name;
   id = id;
   flags = 0;
@@ -44,11 +44,11 @@ plain_cell name id cpus regions = record {
 -- the system, whose root has CPUs 0 to 3
 unfoldable pub soak_system : SystemConfig
 soak_system =
-    bare_system (region 0x7fc00000 0 0x400000 0) (plain_cell (padded (codes "soak")) 0 0xf (region 0x40000000 0x40000000 0x3fc00000 0xf ∷ []))
+    bare_system (region 0x7fc00000 0 0x400000 0) (bare_cell (padded (codes "soak")) 0 0xf (region 0x40000000 0x40000000 0x3fc00000 0xf ∷ []))
 
 -- a cell with memory at address 0, which root may load, and a communication region
 abbrev pub loadable_cell : List ℕ → ℕ → ℕ → ℕ → CellConfig
-loadable_cell name id cpus place = plain_cell name id cpus (region place 0 0x10000 0x4f ∷ region 0 0x80000000 0x1000 0x23 ∷ [])
+loadable_cell name id cpus place = bare_cell name id cpus (region place 0 0x10000 0x4f ∷ region 0 0x80000000 0x1000 0x23 ∷ [])
 
 -- cell a, with CPU 2
 unfoldable pub cell_a : CellConfig

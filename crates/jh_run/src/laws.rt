@@ -8,7 +8,7 @@ ghost use Rattle.jh_history.specs.Due.{IsLegal};
 ghost use Rattle.jh_text.specs.Text.{journal_text};
 ghost use Rattle.jh_text.specs.Ranges.{IsReadable};
 ghost use Rattle.jh_text.specs.declared.fault.JournalFault.{JournalFault as TheFault};
-ghost use Rattle.jh_text.specs.declared.fault.JournalFault.TheVariants.{NoMemory as OutOfMemory};
+ghost use Rattle.jh_text.specs.declared.fault.JournalFault.TheVariants.{NoMemory as WantOfMemory};
 ghost use Rattle.jh_text.specs.Faults.{IsFault, IsJournalText, max_entries};
 ghost use Rattle.jh_script.specs.declared.image.Image.{Image as TheImage};
 ghost use Rattle.jh_run.specs.Maps.{IsMapsText};
@@ -29,7 +29,7 @@ pub fn legal_journals_are_readable(image: &Image)
     ensures read { IsAdmitted image.now → (entries : List Entry) → IsLegal image.now entries → length entries ≤ max_entries
         → (found : List Entry) → IsJournalText (journal_text entries) found → found ≡ entries }
     ensures faultless { IsAdmitted image.now → (entries : List Entry) → IsLegal image.now entries → length entries ≤ max_entries
-        → (fault : TheFault) → IsFault (journal_text entries) fault → fault ≡ OutOfMemory }
+        → (fault : TheFault) → IsFault (journal_text entries) fault → fault ≡ WantOfMemory }
 {
     image_is_typed(image);
     entries_are_their_cpus_own();

@@ -2,7 +2,7 @@
 ghost use Rattle.std.specs.Prelude.{◌≡◌, ◌+◌, ◌*◌, ◌^◌, ◌<◌, ◌≤◌, ◌∷◌, [], ◌++◌, IsTrue, IfOk, OnOk};
 ghost use Rattle.jh_cellcfg.specs.Limits.{is_name};
 ghost use Rattle.jh_history.specs.Admitted.{IsAdmitted};
-ghost use Rattle.jh_run.specs.Soak.{region, plain_cell, loadable_cell, soak_system, cell_a, cell_b, number_writes, number_reads, round_ops, rounds_ops, beside_ops, ops_a, ops_b, answer_ops, program, programs_of, preload, soak_board};
+ghost use Rattle.jh_run.specs.Soak.{region, bare_cell, loadable_cell, soak_system, cell_a, cell_b, number_writes, number_reads, round_ops, rounds_ops, beside_ops, ops_a, ops_b, answer_ops, program, programs_of, preload, soak_board};
 
 use jh_cellcfg::{CellConfig, Region, SystemConfig, write_cell};
 use jh_num::{NoMemory, Seq};
@@ -42,14 +42,14 @@ fn region(phys_start: u64, virt_start: u64, size: u64, flags: u64) -> Region
 }
 
 /// A cell with CPUs below 8, in which all else is 0.
-fn plain_cell(
+fn bare_cell(
     alloc: Global,
     name: [u8; 32],
     id: u32,
     cpus: u8,
     regions: &[Region],
 ) -> Result<CellConfig, NoMemory>
-    ensures { IfOk result (λ cell. cell ≡ plain_cell name id cpus regions.now) }
+    ensures { IfOk result (λ cell. cell ≡ bare_cell name id cpus regions.now) }
 {
     Ok(CellConfig {
         name,
@@ -65,7 +65,7 @@ fn soak_system(alloc: Global) -> Result<SystemConfig, NoMemory>
     ensures { IfOk result (λ system. system ≡ soak_system) }
 {
     let memory = region(0x4000_0000, 0x4000_0000, 0x3fc0_0000, 0xf);
-    let root = plain_cell(alloc, NAME, 0, 0xf, &[memory])?;
+    let root = bare_cell(alloc, NAME, 0, 0xf, &[memory])?;
     Ok(SystemConfig::bare(region(0x7fc0_0000, 0, 0x40_0000, 0), root))
 }
 
@@ -84,7 +84,7 @@ fn loaded_cell(
 {
     let memory = region(place, 0, 0x1_0000, 0x4f);
     let communication = region(0, 0x8000_0000, 0x1000, 0x23);
-    let cell = plain_cell(alloc, name, id, cpus, &[memory, communication])?;
+    let cell = bare_cell(alloc, name, id, cpus, &[memory, communication])?;
     let bytes = Seq::from_vec(write_cell(alloc, &cell)?);
     Ok(Preload { at, bytes })
 }

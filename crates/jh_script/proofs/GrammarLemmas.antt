@@ -20,7 +20,7 @@ use Rattle.jh_script.specs.Numbers.{are_digits, value_of, decimal_of, hexadecima
 use Rattle.jh_script.specs.Words.{words, blanks}
 use Rattle.jh_script.specs.Operations.{none_of, one_of, two_of, three_of, op_of, is_well_formed, IsWellFormed, line_of, line_of_op, line_of_words}
 use Rattle.jh_script.specs.Grammar.{IsDecimal, IsNumber, IsCallOf0, IsCallOf1, IsCallOf2, IsCallOf3, are_ascii, IsSkipped, IsTooWide, Writes}
-use Rattle.jh_script.proofs.OperationLemmas.{plain, plain_from}
+use Rattle.jh_script.proofs.OperationLemmas.{well_formed_by_test, test_from_well_formed}
 
 -- ---- numbers
 
@@ -270,7 +270,7 @@ op_told (Some o) op e = by (is_well_formed o) refl e
   where
     by : (t : Bool) → is_well_formed o ≡ t → cond t (Operation o) Width ≡ Operation op → (Some o ≡ Some op) × IsWellFormed op
     by false h e = cc
-    by true h e = (ap Some (same_op o op e), subst IsWellFormed (same_op o op e) (plain o h))
+    by true h e = (ap Some (same_op o op e), subst IsWellFormed (same_op o op e) (well_formed_by_test o h))
 
 words_told : (ws : List (List ℕ)) (op : Op) → line_of_words ws ≡ Operation op → Writes ws op × IsWellFormed op
 unfolding line_of_words
@@ -293,13 +293,13 @@ line_to text op e = by (are_ascii text) refl e
         let told = words_told (words blanks text) op e in
         (h, told.0, told.1)
 
-plain_line : (op : Op) → IsWellFormed op → line_of_op (Some op) ≡ Operation op
+well_formed_line : (op : Op) → IsWellFormed op → line_of_op (Some op) ≡ Operation op
 unfolding line_of_op
-plain_line op h = rw (plain_from op h) refl
+well_formed_line op h = rw (test_from_well_formed op h) refl
 
 pub line_from : (text : List ℕ) (op : Op) → (are_ascii text ≡ true) × Writes (words blanks text) op × IsWellFormed op → line_of text ≡ Operation op
 unfolding line_of
-line_from text op h = rw (h.0) (op_from (words blanks text) op h.1 ∙ plain_line op h.2)
+line_from text op h = rw (h.0) (op_from (words blanks text) op h.1 ∙ well_formed_line op h.2)
 
 -- the words of an operation that isn't within its limits
 wide_line : (op : Op) → (IsWellFormed op → ⊥) → line_of_op (Some op) ≡ Width
@@ -307,7 +307,7 @@ unfolding line_of_op
 wide_line op h = by (is_well_formed op) refl
   where
     by : (t : Bool) → is_well_formed op ≡ t → cond t (Operation op) Width ≡ Width
-    by true e = absurd (h (plain op e))
+    by true e = absurd (h (well_formed_by_test op e))
     by false e = refl
 
 op_wide : (o : Option Op) → line_of_op o ≡ Width → (op : Op) × (o ≡ Some op) × (IsWellFormed op → ⊥)
@@ -317,7 +317,7 @@ op_wide (Some o) e = by (is_well_formed o) refl e
   where
     by : (t : Bool) → is_well_formed o ≡ t → cond t (Operation o) Width ≡ Width → (op : Op) × (Some o ≡ Some op) × (IsWellFormed op → ⊥)
     by true h e = cc
-    by false h e = (o, refl, λ p. false≢true (sym h ∙ plain_from o p))
+    by false h e = (o, refl, λ p. false≢true (sym h ∙ test_from_well_formed o p))
 
 words_wide : (ws : List (List ℕ)) → line_of_words ws ≡ Width → (op : Op) × Writes ws op × (IsWellFormed op → ⊥)
 unfolding line_of_words

@@ -27,7 +27,7 @@ pub(crate) enum Line {
 #[tactic(auto, unfolding(crate::specs::Operations::line_of, crate::specs::Operations::line_of_words))]
 pub(crate) fn read_line(text: &[u8]) -> Line
     ensures value { result ≡ line_of text.now }
-    ensures plain { IsWellFormedLine result }
+    ensures well_formed { IsWellFormedLine result }
 {
     if !is_ascii(text) {
         return Line::Syntax;

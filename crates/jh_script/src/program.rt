@@ -20,7 +20,7 @@ use std::alloc::Global;
 pub fn read_program(alloc: Global, text: &[u8]) -> Result<Seq<Op>, ScriptFault>
     ensures exact { result ≢ Err ScriptFault.NoMemory → result ≡ program_of text.now }
     ensures few { IfOk result (λ ops. length ops ≤ 4096) }
-    ensures plain { IfOk result (λ ops. All IsWellFormed ops) }
+    ensures well_formed { IfOk result (λ ops. All IsWellFormed ops) }
 {
     let mut ops = Seq::new(alloc);
     let mut number = 0u32;
@@ -48,7 +48,7 @@ pub fn read_program(alloc: Global, text: &[u8]) -> Result<Seq<Op>, ScriptFault>
 fn first_line(text: &[u8]) -> Option<(Line, &[u8])>
     ensures lines { MatchOption result (lines_of text.now ≡ [])
         (λ x. lines_of text.now ≡ x.0 ∷ lines_of x.1.now) }
-    ensures plain { IfSome result (λ x. IsWellFormedLine x.0) }
+    ensures well_formed { IfSome result (λ x. IsWellFormedLine x.0) }
     ensures shorter { IfSome result (λ x. length x.1.now < length text.now) }
 {
     let (front, rest) = next_line(text)?;

@@ -18,7 +18,7 @@ use Rattle.jh_shape.specs.Shapes.{is_mapped, meets_in_part, are_cut, takes, is_c
 use Rattle.jh_num.specs.Levels.{slot_size}
 use Rattle.jh_shape.specs.Suits.{IsFit, IsWhole, AreSoundClaims, IsSlot}
 use Rattle.jh_num.specs.declared.rights.Rights.{Rights}
-use Rattle.jh_shape.specs.Grants.{place_at, IsGranted, TellsGrants}
+use Rattle.jh_shape.specs.Grants.{place_at, IsGranted, DescribesGrants}
 use Rattle.jh_shape.proofs.WantLemmas.{LeafBy, found, leaf_parts, is_none_find}
 use Rattle.jh_num.proofs.Public.{same_test}
 
@@ -179,14 +179,14 @@ out_later claims level start k region h fit bound =
     ∙ sym (ap (λ v. cond v (claims.comm + (start + k - region.virt_start)) later) plain))
     (cases_Bool (is_comm region))
 
-pub leaf_tells : (claims : Claims) (level start : ℕ) (region : Region) → AreSoundClaims claims → IsSlot level start → leaf_region claims level start ≡ Some region → TellsGrants claims level start (leaf_of claims region start)
+pub leaf_tells : (claims : Claims) (level start : ℕ) (region : Region) → AreSoundClaims claims → IsSlot level start → leaf_region claims level start ≡ Some region → DescribesGrants claims level start (leaf_of claims region start)
 leaf_tells claims level start region sound slot e =
     let p : Region → Bool = λ (r : Region). is_leaf_by claims level start r in
     let fit = found p IsFit claims.regions region e sound.fit in
     let listed = found p (λ (r : Region). Contains claims.regions r) claims.regions region e (All-contains_itself claims.regions) in
     let h = leaf_parts claims level start region fit.0 in
     let whole : IsTrue claims.root → IsWhole claims region = λ root. (found p (IsWhole claims) claims.regions region e (sound.whole root)).1 in
-    let W : Want → Type 0 = λ w. TellsGrants claims level start w in
+    let W : Want → Type 0 = λ w. DescribesGrants claims level start w in
     let kept = is_kept_from claims region start in
     let leaf = Leaf (out_of claims region start) (rights_of region) (is_device region) in
     ⊎_elim

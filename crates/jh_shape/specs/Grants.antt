@@ -29,9 +29,9 @@ abbrev pub IsGranted : Claims → ℕ → ℕ → Rights → Bool → Type 0
 IsGranted claims at place rights device = (region : Region) × IsGrantedBy claims region at place rights device
 
 -- a leaf grants each byte of its slot, an invalid descriptor none, and a table stands above the last level
-abbrev pub TellsGrants : Claims → ℕ → ℕ → Want → Type 0
-TellsGrants claims level start Nothing =
+abbrev pub DescribesGrants : Claims → ℕ → ℕ → Want → Type 0
+DescribesGrants claims level start Nothing =
     (k : ℕ) → k < slot_size level → (place : ℕ) (rights : Rights) (device : Bool) → IsGranted claims (start + k) place rights device → ⊥
-TellsGrants claims level start Table = level < LAST_LEVEL
-TellsGrants claims level start (Leaf out rights device) =
+DescribesGrants claims level start Table = level < LAST_LEVEL
+DescribesGrants claims level start (Leaf out rights device) =
     (k : ℕ) → k < slot_size level → IsGranted claims (start + k) (out + k) rights device

@@ -29,7 +29,7 @@ impl<'a> Target<'a> {
     ghost use Rattle.jh_shape.specs.Claims.{held_from, holder_to_come};
     ghost use Rattle.jh_cellcfg.specs.Regions.{is_comm, place_in};
     ghost use Rattle.jh_shape.specs.Shapes.{are_cut, is_closed, may_be_block, is_leaf_by, leaf_region, is_met, leaf_of, want_of};
-    ghost use Rattle.jh_shape.specs.Grants.{TellsGrants};
+    ghost use Rattle.jh_shape.specs.Grants.{DescribesGrants};
     ghost use Rattle.jh_shape.specs.Suits.{AreSoundClaims, IsSlot};
 
     /// Whether an unshared region of a holder has some of those places but not all.
@@ -149,7 +149,7 @@ impl<'a> Target<'a> {
         requires sound { AreSoundClaims (claims_of self.now) }
         requires slot { IsSlot level start }
         ensures value { result ≡ want_of (claims_of self.now) level start }
-        ensures tells { TellsGrants (claims_of self.now) level start result }
+        ensures tells { DescribesGrants (claims_of self.now) level start result }
     {
         match self.leaf_region(level, start) {
             Some(region) => self.leaf_of(&region, start),

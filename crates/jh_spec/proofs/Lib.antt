@@ -1,10 +1,10 @@
 mod Unlisted
 mod Marks
-mod ListsTold
-mod NamesTold
+mod ListPrefixes
+mod PaddedNames
 mod Steps
 mod Roots
-mod KindTold
+mod KindLemmas
 mod FieldLaws
 mod FaultLaws
 mod BitLaws

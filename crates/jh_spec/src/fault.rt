@@ -1,7 +1,7 @@
 //! Faults of texts, by the name of their member.
 ghost use Rattle.std.specs.Prelude.{◌≡◌, IfOk, Some};
 ghost use Rattle.jh_spec.specs.Faults.{member_told, IsAsWanted, IsFaultOf};
-ghost use Rattle.jh_spec.specs.declared.fault.JsonFault.TheVariants.{NoMemory as OutOfMemory};
+ghost use Rattle.jh_spec.specs.declared.fault.JsonFault.TheVariants.{NoMemory as WantOfMemory};
 
 use jh_num::{NoMemory, Seq};
 use std::alloc::Global;
@@ -17,7 +17,7 @@ pub enum JsonFault {
 }
 
 impl From<NoMemory> for JsonFault {
-    ghost from_gives = { λ _ e. e ≡ OutOfMemory };
+    ghost from_gives = { λ _ e. e ≡ WantOfMemory };
 
     fn from(_e: NoMemory) -> JsonFault {
         JsonFault::NoMemory

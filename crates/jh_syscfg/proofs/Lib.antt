@@ -1,3 +1,3 @@
 mod Platforms
 mod Systems
-mod SystemsFound
+mod SpelledSystems

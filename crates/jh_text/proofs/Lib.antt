@@ -4,7 +4,7 @@ mod Digits
 mod EveryText
 mod Lines
 mod Numbers
-mod Plain
+mod WrittenDigits
 mod ReadLines
 mod Spellings
 mod Splits

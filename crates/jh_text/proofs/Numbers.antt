@@ -8,8 +8,8 @@ use Rattle.std.proofs.lemmas.Bool.{lt-ltb, lt-leb, ltb-true, le-leb, ne_eqb, eq-
 use Rattle.std.proofs.lemmas.Fmt.{digits_is_IsNumeral}
 use Rattle.std.proofs.lemmas.Option.{none-some, same_Some}
 use Rattle.std.proofs.Math.Nat.{pow-le-pow_left}
-use Rattle.jh_text.specs.Private.Reading.{◌>>=◌, is_lower, lower_digit, with_digit, with_written_digit, digits_until, begins_plain, number_until}
-use Rattle.jh_text.proofs.Plain.{is_plain, digits_of_plain, plain_digits, several_plain}
+use Rattle.jh_text.specs.Private.Reading.{◌>>=◌, is_lower, lower_digit, with_digit, with_written_digit, digits_until, begins_canonical, number_until}
+use Rattle.jh_text.proofs.WrittenDigits.{is_canonical, digits_of_canonical, canonical_digits, several_canonical}
 use Rattle.jh_text.proofs.Splits.{Lacks, Lacks_cons}
 use Rattle.jh_script.proofs.Public.{value_ge}
 
@@ -83,7 +83,7 @@ on_again radix end n (d ∷ ds) rest some high none all lower small =
     (on_again radix end m ds rest some high none all.1 plain.1 small)
 
 -- the word before the end is plain where the text begins so
-begins_again : (radix end : ℕ) (ds rest : List ℕ) → radix ≤ 16 → digit_value end ≡ 36 → AllDigits radix ds → is_plain ds ≡ true → begins_plain end (ds ++ end ∷ rest) ≡ true
+begins_again : (radix end : ℕ) (ds rest : List ℕ) → radix ≤ 16 → digit_value end ≡ 36 → AllDigits radix ds → is_canonical ds ≡ true → begins_canonical end (ds ++ end ∷ rest) ≡ true
 begins_again radix end [] rest high none all plain = absurd (false≢true plain)
 begins_again radix end (c ∷ []) rest high none all plain = by (eqb c 48)
   where
@@ -91,7 +91,7 @@ begins_again radix end (c ∷ []) rest high none all plain = by (eqb c 48)
     by true = eq-eqb end end refl
     by false = rw (no_digit radix end c high none all.0) refl
 begins_again radix end (c ∷ d ∷ ds) rest high none all plain =
-    let nonzero : eqb c 48 ≡ false = (several_plain (c == 48) (list_all is_lower (c ∷ d ∷ ds)) plain).0 in
+    let nonzero : eqb c 48 ≡ false = (several_canonical (c == 48) (list_all is_lower (c ∷ d ∷ ds)) plain).0 in
     rw (nonzero, no_digit radix end c high none all.0) refl
 
 -- the digits of a number are read again
@@ -100,7 +100,7 @@ pub number_again : (radix end most n : ℕ) (rest : List ℕ) → 2 ≤ radix �
 unfolding number_until
 number_again radix end most n rest low high none some small fits =
     let own = digits_is_IsNumeral radix false low high n some in
-    let plain = plain_digits radix n low some in
+    let plain = canonical_digits radix n low some in
     let value : digits_value_after radix 0 (digits radix false n) ≡ n = own.1 in
     rw (
       begins_again radix end (digits radix false n) rest high none own.0.1 plain,
@@ -109,10 +109,10 @@ number_again radix end most n rest low high none some small fits =
       le-leb n most fits,
     ) refl
   where
-    lower_of : (ds : List ℕ) → is_plain ds ≡ true → list_all is_lower ds ≡ true
+    lower_of : (ds : List ℕ) → is_canonical ds ≡ true → list_all is_lower ds ≡ true
     lower_of [] plain = absurd (false≢true plain)
     lower_of (c ∷ []) plain = plain
-    lower_of (c ∷ d ∷ ds) plain = (several_plain _ _ plain).1
+    lower_of (c ∷ d ∷ ds) plain = (several_canonical _ _ plain).1
 
 -- a number of one digit
 one_digit_until : (end most c : ℕ) (rest : List ℕ) → digit_value end ≡ 36 → 48 ≤ c → c ≤ 57 → number_until 10 end most (c ∷ end ∷ rest) ≡ (if nat_le (c - 48) most then Some (c - 48, rest) else None)
@@ -198,12 +198,12 @@ on_spelled radix end n value (c ∷ text) rest small e = by (λ m below read. on
     by next false h e = more next (is_lower c) (nat_lt (digit_value c) radix) (nat_lt (n * radix + digit_value c) (2 ^ 64)) refl refl refl e
 
 -- a text that begins so has a plain word before the end
-plain_of : (radix end : ℕ) (ds rest : List ℕ) → radix ≤ 16 → digit_value end ≡ 36 → list_all (λ c. is_digit c radix) ds ≡ true → list_all is_lower ds ≡ true → begins_plain end (ds ++ end ∷ rest) ≡ true → is_plain ds ≡ true
-plain_of radix end [] [] high none digits lower begins = absurd (false≢true (rw (eq-eqb end end refl) at begins))
-plain_of radix end [] (r ∷ rest) high none digits lower begins =
+canonical_of : (radix end : ℕ) (ds rest : List ℕ) → radix ≤ 16 → digit_value end ≡ 36 → list_all (λ c. is_digit c radix) ds ≡ true → list_all is_lower ds ≡ true → begins_canonical end (ds ++ end ∷ rest) ≡ true → is_canonical ds ≡ true
+canonical_of radix end [] [] high none digits lower begins = absurd (false≢true (rw (eq-eqb end end refl) at begins))
+canonical_of radix end [] (r ∷ rest) high none digits lower begins =
     absurd (false≢true (rw (ne_eqb end 48 (λ e. omega (arith, none, ap digit_value e)), eq-eqb end end refl) at begins))
-plain_of radix end (c ∷ []) rest high none digits lower begins = lower
-plain_of radix end (c ∷ d ∷ ds) rest high none digits lower begins = by (eqb c 48) begins
+canonical_of radix end (c ∷ []) rest high none digits lower begins = lower
+canonical_of radix end (c ∷ d ∷ ds) rest high none digits lower begins = by (eqb c 48) begins
   where
     by : (t : Bool) → (if t then d == end else not (c == end)) ≡ true → (if t then false else list_all is_lower (c ∷ d ∷ ds)) ≡ true
     by true h =
@@ -223,12 +223,12 @@ bounded most (Some x) n rest e = by (nat_le x.0 most) e
 -- what is read is the text of the number, the end and what is left
 pub number_spelled : (radix end most n : ℕ) (text rest : List ℕ) → 2 ≤ radix → radix ≤ 16 → digit_value end ≡ 36 → number_until radix end most text ≡ Some (n, rest) → text ≡ digits radix false n ++ end ∷ rest
 unfolding number_until
-number_spelled radix end most n text rest low high none e = by (begins_plain end text) refl e
+number_spelled radix end most n text rest low high none e = by (begins_canonical end text) refl e
   where
-    by : (t : Bool) → begins_plain end text ≡ t → (if t then (digits_until radix end 0 text >>= λ x. if nat_le x.0 most then Some x else None) else None) ≡ Some (n, rest) → text ≡ digits radix false n ++ end ∷ rest
+    by : (t : Bool) → begins_canonical end text ≡ t → (if t then (digits_until radix end 0 text >>= λ x. if nat_le x.0 most then Some x else None) else None) ≡ Some (n, rest) → text ≡ digits radix false n ++ end ∷ rest
     by false h e = absurd (none-some _ e)
     by true h e =
         let on = on_spelled radix end 0 n text rest (omega arith) (bounded most (digits_until radix end 0 text) n rest e) in
-        let plain = plain_of radix end on.ds rest high none on.digits on.lower (sym (ap (begins_plain end) on.whole) ∙ h) in
+        let plain = canonical_of radix end on.ds rest high none on.digits on.lower (sym (ap (begins_canonical end) on.whole) ∙ h) in
         let room : digits_value radix on.ds < radix ^ 64 = omega (arith, on.is, on.small, pow-le-pow_left low 64) in
-        on.whole ∙ ap (λ ds. ds ++ end ∷ rest) (sym (digits_of_plain radix on.ds low high on.digits plain room) ∙ ap (digits radix false) on.is)
+        on.whole ∙ ap (λ ds. ds ++ end ∷ rest) (sym (digits_of_canonical radix on.ds low high on.digits plain room) ∙ ap (digits radix false) on.is)

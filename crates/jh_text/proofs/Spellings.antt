@@ -27,10 +27,10 @@ unfolding hexadecimal_until
 hexadecimal_again end most n rest none small fits = number_again 16 end most n rest (omega arith) (omega arith) none (omega arith) small fits
 
 -- digits begin with no sign and no letter above `f`
-plain : (ds rest : List ℕ) (n : ℕ) → AllDigits 10 ds → 0 < length ds → number_until 10 10 (2 ^ 63 - 1) (ds ++ 10 ∷ rest) ≡ Some (n, rest) → answer_of (ds ++ 10 ∷ rest) ≡ Some (pos n, rest)
+unsigned : (ds rest : List ℕ) (n : ℕ) → AllDigits 10 ds → 0 < length ds → number_until 10 10 (2 ^ 63 - 1) (ds ++ 10 ∷ rest) ≡ Some (n, rest) → answer_of (ds ++ 10 ∷ rest) ≡ Some (pos n, rest)
 unfolding answer_of
-plain [] rest n all some read = absurd (omega arith)
-plain (d ∷ ds) rest n all some read = rw (ne_eqb d 45 (λ e. omega (arith, all.0, ap digit_value e)), read) refl
+unsigned [] rest n all some read = absurd (omega arith)
+unsigned (d ∷ ds) rest n all some read = rw (ne_eqb d 45 (λ e. omega (arith, all.0, ap digit_value e)), read) refl
 
 minus : (n : ℕ) → suc n ≤ 2 ^ 63 → negative (suc n) ≡ Some (negsuc n)
 minus n fits = rw (ne_eqb (suc n) 0 (λ e. omega arith), le-leb (suc n) (2 ^ 63) fits) (ap Some (omega (arith, ints)))
@@ -40,7 +40,7 @@ unfolding answer_of
 answer_again (pos n) rest fits =
     let small : n < 2 ^ 63 = omega (arith, ints) in
     let own = decimal_is_IsNumeral n (omega arith) in
-    plain (decimal n) rest n own.0.1 own.0.0 (decimal_again 10 (2 ^ 63 - 1) n rest refl (omega arith) (omega arith))
+    unsigned (decimal n) rest n own.0.1 own.0.0 (decimal_again 10 (2 ^ 63 - 1) n rest refl (omega arith) (omega arith))
 answer_again (negsuc n) rest fits =
     let small : n < 2 ^ 63 = omega (arith, ints) in
     rw (decimal_again 10 max_u64 (suc n) rest refl (omega arith) (omega arith), minus n (omega arith)) refl

@@ -4,7 +4,7 @@ ghost use Rattle.std.specs.Char.{digit_value};
 ghost use Rattle.std.specs.Fmt.{decimal, signed_decimal, digits};
 ghost use Rattle.jh_text.specs.Ranges.{is_width};
 ghost use Rattle.jh_text.specs.Text.{hexadecimal};
-ghost use Rattle.jh_text.specs.Private.Reading.{Finds, Reads, begins, behind, lower_digit, with_digit, with_written_digit, digits_until, begins_plain, number_until, hexadecimal_until, negative, answer_of, width_digit, width_of};
+ghost use Rattle.jh_text.specs.Private.Reading.{Finds, Reads, begins, behind, lower_digit, with_digit, with_written_digit, digits_until, begins_canonical, number_until, hexadecimal_until, negative, answer_of, width_digit, width_of};
 
 use std::marker::Model;
 
@@ -65,8 +65,8 @@ fn with_written_digit(radix: u32, n: u64, byte: u8) -> Option<u64>
 
 /// Whether a word stands before the end and doesn't begin with a 0 that isn't all of it.
 #[inline(always)]
-fn begins_plain(end: u8, text: &[u8]) -> bool
-    ensures { result ≡ begins_plain end text.now }
+fn begins_canonical(end: u8, text: &[u8]) -> bool
+    ensures { result ≡ begins_canonical end text.now }
 {
     match text {
         [b'0', second, ..] => *second == end,
@@ -110,7 +110,7 @@ fn number(radix: u32, end: u8, most: u64, text: &[u8]) -> Option<(u64, &[u8])>
     ensures bound { IfSome result (λ x. x.0 ≤ most) }
     ensures spelled { IfSome result (λ x. text.now ≡ digits radix false x.0 ++ end ∷ x.1.now) }
 {
-    if !begins_plain(end, text) {
+    if !begins_canonical(end, text) {
         return None;
     }
     let (n, rest) = digits(radix, end, text)?;

@@ -7,7 +7,7 @@ use Rattle.jh_check.specs.declared.rule.Rule.{Rule}
 use Rattle.jh_check.specs.declared.spans.Span.{Span}
 use Rattle.jh_check.specs.declared.blocks.Extents.{Extents}
 use Rattle.jh_check.specs.declared.blocks.TheConstants.{BLOCK}
-use Rattle.jh_check.specs.Spans.{takes_part, span_of}
+use Rattle.jh_check.specs.Private.Spans.{takes_part, span_of}
 use Rattle.jh_check.specs.Findings.{between_at}
 use Rattle.jh_check.specs.Lists.{found_from}
 use Rattle.jh_check.specs.Private.Reaches.{passes_shared}

@@ -13,7 +13,7 @@ use Rattle.jh_check.specs.declared.reach.Window.{Window}
 use Rattle.jh_check.specs.declared.gaps.Gap.{Gap}
 use Rattle.jh_check.specs.declared.gaps.Gaps.{Gaps}
 use Rattle.jh_check.specs.Regions.{Spot, pair_breaks}
-use Rattle.jh_check.specs.Spans.{span_of, spans_meet, is_within, LiesWithin}
+use Rattle.jh_check.specs.Private.Spans.{span_of, spans_meet, is_within, LiesWithin}
 use Rattle.jh_check.specs.Findings.{spot}
 
 -- the rule lets the region meet those that are shared
@@ -51,13 +51,13 @@ pub record IsReached (reaches : List Reach) (span : Span) : Type 0 where
   pub ends : span.start < by.end
 
 -- what meets one of the spans is reached by that of its number
-abbrev pub TellsEach : List Span → List Reach → Type 0
-TellsEach spans reaches = (x z : Span) → Contains spans x → spans_meet x z ≡ true → (reached : IsReached reaches z) × (reached.by.item ≡ x.item)
+abbrev pub CoversEach : List Span → List Reach → Type 0
+CoversEach spans reaches = (x z : Span) → Contains spans x → spans_meet x z ≡ true → (reached : IsReached reaches z) × (reached.by.item ≡ x.item)
 
 -- one of the spans that meets another of them is reached, by a number that isn't below the other's, where neither is
 -- empty
-abbrev pub TellsPairs : List Span → List Reach → Type 0
-TellsPairs spans reaches =
+abbrev pub CoversPairs : List Span → List Reach → Type 0
+CoversPairs spans reaches =
     (x y : Span) → Contains spans x → Contains spans y → x.item ≢ y.item → x.start < x.end → y.start < y.end → spans_meet x y ≡ true
     → (reached : IsReached reaches x) × (y.item ≤ reached.by.item)
 
@@ -67,8 +67,8 @@ IsOwn one b other = one.cell ≡ b → (one.item < length other.memory_regions) 
 
 -- a region that breaks the rule with one of the cell is reached, by that one's number, or, where the rule is about one
 -- cell, by a number that isn't below it; where `pass` holds, each region that may meet shared ones
-abbrev pub TellsOthers : Rule → Bool → ℕ → CellConfig → List Reach → Type 0
-TellsOthers rule pass b other reaches =
+abbrev pub CoversOthers : Rule → Bool → ℕ → CellConfig → List Reach → Type 0
+CoversOthers rule pass b other reaches =
     (one : Spot) (s : ℕ) (d : Region) → IsOwn one b other → (pass ≡ true → passes_shared rule one.region ≡ true) → s < length other.memory_regions
     → pair_breaks rule one (spot b other s (slice_index_or other.memory_regions s d)) ≡ true
     → (reached : IsReached reaches (span_of rule one.item one.region)) × (is_within rule ≡ false → reached.by.item ≡ s) × (s ≤ reached.by.item)
@@ -93,9 +93,9 @@ pub record AreGaps (reaches : Reaches) (gaps : Gaps) : Type 0 where
 -- the reaches tell of the regions of the cell, which has that number
 pub record AreOf (rule : Rule) (b : ℕ) (other : CellConfig) (reaches : Reaches) : Type 0 where
   pub any_rises : IsRising reaches.any.items
-  pub any : TellsOthers rule false b other reaches.any.items
+  pub any : CoversOthers rule false b other reaches.any.items
   pub unshared_rises : IsRising (unshared_of reaches)
-  pub unshared : TellsOthers rule true b other (unshared_of reaches)
+  pub unshared : CoversOthers rule true b other (unshared_of reaches)
 
 -- the reaches of each cell tell of its regions
 abbrev pub AreOfEach : Rule → List CellConfig → List Reaches → Type 0

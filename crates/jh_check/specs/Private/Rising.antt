@@ -4,7 +4,7 @@ use Rattle.jh_cellcfg.specs.declared.region.Region.{Region}
 use Rattle.jh_check.specs.declared.rule.Rule.{Rule}
 use Rattle.jh_check.specs.declared.reach.Window.{Window}
 use Rattle.jh_check.specs.declared.rising.Row.{Row}
-use Rattle.jh_check.specs.Spans.{takes_part, span_of}
+use Rattle.jh_check.specs.Private.Spans.{takes_part, span_of}
 
 -- where the region of that number begins, as the rule compares it
 abbrev pub start_at : Rule → List Region → Region → ℕ → ℕ

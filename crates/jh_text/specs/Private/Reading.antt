@@ -74,15 +74,15 @@ digits_until radix end n (c ∷ text) =
     else (lower_digit radix c >>= λ digit. with_digit radix n digit >>= λ m. digits_until radix end m text)
 
 -- a word stands before the end, and doesn't begin with a 0 that isn't all of it
-abbrev pub begins_plain : ℕ → List ℕ → Bool
-begins_plain end [] = false
-begins_plain end (c ∷ []) = not (c == end)
-begins_plain end (c ∷ d ∷ text) = if c == 48 then d == end else not (c == end)
+abbrev pub begins_canonical : ℕ → List ℕ → Bool
+begins_canonical end [] = false
+begins_canonical end (c ∷ []) = not (c == end)
+begins_canonical end (c ∷ d ∷ text) = if c == 48 then d == end else not (c == end)
 
 -- the number that the word before the end is, where it is most at most
 unfoldable pub number_until : ℕ → ℕ → ℕ → List ℕ → Option (ℕ × List ℕ)
 number_until radix end most text =
-    if begins_plain end text then (digits_until radix end 0 text >>= λ x. if nat_le x.0 most then Some x else None) else None
+    if begins_canonical end text then (digits_until radix end 0 text >>= λ x. if nat_le x.0 most then Some x else None) else None
 
 abbrev pub max_u64 : ℕ
 max_u64 = 2 ^ 64 - 1

@@ -1,6 +1,6 @@
 -- Each line that is read stands behind those before it.
 use Rattle.jh_num.proofs.Public.{passed_up}
-use Rattle.jh_audit.specs.Rest.{EndsAtFault}
+use Rattle.jh_audit.specs.Private.Rest.{EndsAtFault}
 use Rattle.jh_audit.proofs.RestLemmas.{reads_on, ends_at}
 use Rattle.jh_audit.proofs.judge.read_rest.Goals as goal
 

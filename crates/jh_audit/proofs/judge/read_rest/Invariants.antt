@@ -1,7 +1,7 @@
 -- So far the lines of some entries are read.
 use Rattle.std.proofs.Common.{◌-◌}
 use Rattle.jh_text.specs.Faults.{max_entries}
-use Rattle.jh_audit.specs.Rest.{ReadsOn}
+use Rattle.jh_audit.specs.Private.Rest.{ReadsOn}
 use Rattle.jh_audit.proofs.judge.read_rest.Given as goal
 
 abbrev pub invariant-loop : goal.invariant-loop

@@ -3,7 +3,7 @@ use Rattle.std.proofs.Common.{List, position, ap, ◌∙◌, arith}
 use Rattle.jh_cellcfg.specs.declared.config.CellConfig.{CellConfig}
 use Rattle.jh_life.specs.Lives.{has_config_id}
 use Rattle.jh_board.proofs.CellsLemmas.{index_found, index_few}
-use Rattle.jh_board.specs.Closed.{IsIndexOf}
+use Rattle.jh_board.specs.Private.Closed.{IsIndexOf}
 use Rattle.jh_board.proofs.cells.index_of.Goals as goal
 use Rattle.jh_board.proofs.cells.index_of.Goals.{After-position_of}
 

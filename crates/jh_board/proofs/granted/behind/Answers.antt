@@ -5,7 +5,7 @@ use Rattle.jh_num.specs.declared.address.TheConstants.{ADDRESS_END}
 use Rattle.jh_cellcfg.specs.declared.config.PciDevice.{PciDevice}
 use Rattle.jh_cellcfg.specs.declared.region.Region.{Region}
 use Rattle.jh_script.specs.declared.image.Image.{Image}
-use Rattle.jh_history.specs.Behind.{answer_to, ecam_start, ecam_end, window_found}
+use Rattle.jh_history.specs.Behind.{answer_to, ecam_start, ecam_end, window_of_access}
 use Rattle.jh_history.specs.Devices.{Devices, devices_in}
 use Rattle.jh_history.specs.Grants.{is_kept}
 use Rattle.jh_history.specs.Lives.{regions_in}
@@ -23,10 +23,10 @@ returns-then-is_within c =
     let region = c.open_whole-region.result in
     let start = c.ecam_of.result.start in
     let end = c.ecam_of.result.end in
-    let window = window_found devices wanted.at wanted.width in
+    let window = window_of_access devices wanted.at wanted.width in
     let same : c.new-devices.result ≡ devices = c.new-devices.ensures ∙ ap (λ (list : List PciDevice). record devices { list = list }) c.devices_of.ensures in
     c.answer_of.ensures
-    ∙ ap (λ (d : Devices). answer_to d.cell region start end (window_found d wanted.at wanted.width) wanted.access wanted.at wanted.width) same
+    ∙ ap (λ (d : Devices). answer_to d.cell region start end (window_of_access d wanted.at wanted.width) wanted.access wanted.at wanted.width) same
     ∙ ap (λ (s : ℕ). answer_to cell region s end window wanted.access wanted.at wanted.width) c.ecam_of.ensures.start
     ∙ ap (λ (e : ℕ). answer_to cell region (ecam_start c.image.result.now.system) e window wanted.access wanted.at wanted.width) c.ecam_of.ensures.end
     ∙ ap (λ (i : Image). answer_to cell region (ecam_start i.system) (ecam_end i.system) window wanted.access wanted.at wanted.width) c.image.ensures.image

@@ -6,7 +6,7 @@ use Rattle.jh_cellcfg.specs.declared.config.SystemConfig.{SystemConfig}
 use Rattle.jh_cellcfg.specs.declared.live.Live.{Live}
 use Rattle.jh_check.specs.Refusals.{refusal_of}
 use Rattle.jh_shape.specs.Pages.{pages_of}
-use Rattle.jh_life.specs.Seen.{Seen}
+use Rattle.jh_life.specs.CellsView.{CellsView}
 use Rattle.jh_life.specs.Verdict.{may_have, verdict_of_create}
 use Rattle.jh_script.specs.declared.image.Image.{Image}
 use Rattle.jh_history.specs.Admitted.{pool_pages}
@@ -26,7 +26,7 @@ given_so true false true = refl
 given_so true false false = refl
 given_so false own other = refl
 
-verdict_is : (image : Image) (f : Facts) (seen : Seen) (new : CellConfig) (mask caller pool : ℕ)
+verdict_is : (image : Image) (f : Facts) (seen : CellsView) (new : CellConfig) (mask caller pool : ℕ)
     → seen.system ≡ image.system → seen.lives ≡ f.cells
     → ((k : ℕ) → has_bit mask k ≡ (is_on_board image k && ((f.cpu k).owner == image.system.root.id)))
     → pool ≡ pool_pages image.system

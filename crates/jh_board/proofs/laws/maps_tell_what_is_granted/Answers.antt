@@ -3,7 +3,7 @@ use Rattle.std.proofs.Common.{refl}
 use Rattle.jh_history.specs.Grants.{is_kept}
 use Rattle.jh_history.specs.History.{facts}
 use Rattle.jh_history.specs.Lives.{regions_in}
-use Rattle.jh_board.proofs.ToldLemmas.{regions_apart, told_is}
+use Rattle.jh_board.proofs.RegionMapLemmas.{regions_apart, told_is}
 use Rattle.jh_board.proofs.laws.maps_tell_what_is_granted.Goals as goal
 
 pub returns : goal.returns

@@ -2,7 +2,7 @@
 use Rattle.std.proofs.Common.{sym, ◌∙◌}
 use Rattle.jh_num.specs.Bytes.{has_byte}
 use Rattle.jh_board.specs.Maps.{is_kept_at}
-use Rattle.jh_board.proofs.ToldLemmas.{kept_root, kept_other, map_of_kept}
+use Rattle.jh_board.proofs.RegionMapLemmas.{kept_root, kept_other, map_of_kept}
 use Rattle.jh_board.proofs.overview.map_with.Goals as goal
 
 pub returns-then-id-root : goal.returns-then-id-root

@@ -15,12 +15,12 @@ use Rattle.jh_history.specs.Facts.{Facts}
 use Rattle.jh_history.specs.Pages.{page_write_by}
 use Rattle.jh_shape.specs.Lives.{configs_of}
 use Rattle.jh_board.specs.declared.held.Held.{Held}
-use Rattle.jh_board.specs.declared.indexed.FoundProgram.{FoundProgram}
-use Rattle.jh_board.specs.Indexed.{AreFound}
-use Rattle.jh_board.specs.LiveView.{LiveView}
+use Rattle.jh_board.specs.declared.indexed.ProgramIndex.{ProgramIndex}
+use Rattle.jh_board.specs.Indexed.{AreProgramIndices}
+use Rattle.jh_board.specs.Private.LiveView.{LiveView}
 use Rattle.jh_board.specs.Means.{Means}
 use Rattle.jh_board.specs.Pages.{byte_of, HoldsComm}
-use Rattle.jh_board.specs.Steps.{MayJoinCells, devices_held, endpoints_acted_by}
+use Rattle.jh_board.specs.Private.Steps.{MayJoinCells, devices_held, endpoints_acted_by}
 use Rattle.jh_board.proofs.ActedLemmas.{entry_bytes, entry_devices}
 use Rattle.jh_board.proofs.AfterLemmas.{if_some, on_err, may_write, page_held, created_is, may_join, join_kept, Means_made}
 use Rattle.jh_board.proofs.CommitLemmas.{same_devices, may_write_slot, may_commit}
@@ -141,7 +141,7 @@ returns-clause-ok c = λ f old due.
     let next = subst P (sym known.means.endpoints ∙ old.endpoints) (c.devices_may_change.ensures.interrupt image known.facts entry known.sound known.due) in
     let called : Held = c.make_call.new.held in
     let new : Held = record { memory = called.memory; cpus = called.cpus; cells = called.cells; programs = c.renew_programs.new.programs; endpoints = called.endpoints; call = called.call; index = called.index; alloc = called.alloc } in
-    let F : List Live → List FoundProgram → Type 0 = AreFound image in
+    let F : List Live → List ProgramIndex → Type 0 = AreProgramIndices image in
     Means_made image held mid new f entry c.in_ok-coming.coming (c.in_ok-coming.ensures.ok f old due) (record {
       bytes = entry_bytes image f entry c.args.reach.now devices c.page_write-write.result (byte_of held.memory) (byte_of c.make_bytes.new.memory) (byte_of c.make_devices.new.held.memory) (byte_of last.memory) (byte_of c.make_page.new.memory)
           reached same write means.bytes c.in_ok-make_bytes.ensures.ok acted.bytes (changed.bytes f acted_cells acted_call) c.make_page.ensures.bytes;

@@ -10,7 +10,7 @@ use Rattle.jh_history.specs.DueFacts.{NamesCpu}
 use Rattle.jh_board.specs.declared.held.Held.{Held}
 use Rattle.jh_board.specs.declared.steps.CellsChange.{CellsChange}
 use Rattle.jh_board.specs.Means.{IsReady}
-use Rattle.jh_board.specs.Steps.{change_of_cells, changed_cells, joined_cells}
+use Rattle.jh_board.specs.Private.Steps.{change_of_cells, changed_cells, joined_cells}
 use Rattle.jh_board.proofs.KeptLemmas.{ready_kept}
 use Rattle.jh_board.proofs.MadeLemmas.{cells_made, nothing_made, ready_made, KeepsCells}
 use Rattle.jh_board.proofs.steps.make_call.Goals as goal

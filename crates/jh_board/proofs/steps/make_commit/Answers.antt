@@ -9,7 +9,7 @@ use Rattle.jh_history.specs.Devices.{specs_of}
 use Rattle.jh_history.specs.Endpoints.{changing_by, with_words}
 use Rattle.jh_shape.specs.Lives.{configs_of}
 use Rattle.jh_board.specs.Pages.{byte_of}
-use Rattle.jh_board.specs.Steps.{MayCommitDevices}
+use Rattle.jh_board.specs.Private.Steps.{MayCommitDevices}
 use Rattle.jh_board.proofs.steps.make_commit.Goals as goal
 
 pub change_devices-requires-clause-held : goal.change_devices-requires-clause-held

@@ -5,7 +5,7 @@ use Rattle.jh_history.specs.declared.entry.Act.{Act}
 use Rattle.jh_history.specs.declared.entry.Act.TheVariants.{Write}
 use Rattle.jh_history.specs.Access.{with_slot_if}
 use Rattle.jh_board.specs.Pages.{byte_of}
-use Rattle.jh_board.specs.Steps.{devices_held, slot_after, endpoints_acted_by}
+use Rattle.jh_board.specs.Private.Steps.{devices_held, slot_after, endpoints_acted_by}
 use Rattle.jh_board.proofs.ActedLemmas.{other_acts}
 use Rattle.jh_board.proofs.steps.make_devices.Goals as goal
 

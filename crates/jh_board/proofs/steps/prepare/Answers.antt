@@ -2,7 +2,7 @@
 use Rattle.std.proofs.Common.{Option, subst}
 use Rattle.jh_cellcfg.specs.declared.config.CellConfig.{CellConfig}
 use Rattle.jh_board.specs.Means.{IsReadyFor}
-use Rattle.jh_board.specs.Steps.{IsFree, IsRead, WillBeReady}
+use Rattle.jh_board.specs.Private.Steps.{IsFree, IsRead, WillBeReady}
 use Rattle.jh_board.proofs.AfterLemmas.{free_same}
 use Rattle.jh_board.proofs.steps.prepare.Goals as goal
 

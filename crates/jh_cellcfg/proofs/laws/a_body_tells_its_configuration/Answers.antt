@@ -1,4 +1,4 @@
-use Rattle.jh_cellcfg.proofs.Told.{body_told}
+use Rattle.jh_cellcfg.proofs.SpelledFields.{body_told}
 use Rattle.jh_cellcfg.proofs.laws.a_body_tells_its_configuration.Goals as goal
 
 pub returns : goal.returns

@@ -1,4 +1,4 @@
-use Rattle.jh_cellcfg.proofs.Told.{spelling_told}
+use Rattle.jh_cellcfg.proofs.SpelledFields.{spelling_told}
 use Rattle.jh_cellcfg.proofs.laws.a_spelling_tells_its_configuration.Goals as goal
 
 pub returns : goal.returns

@@ -1,4 +1,4 @@
-use Rattle.jh_cellcfg.proofs.Found.{body_found, all_bytes}
+use Rattle.jh_cellcfg.proofs.SpelledCells.{body_found, all_bytes}
 use Rattle.jh_cellcfg.proofs.laws.no_fault_is_a_body.Goals as goal
 
 pub returns : goal.returns

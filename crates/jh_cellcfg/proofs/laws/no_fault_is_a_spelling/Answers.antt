@@ -1,4 +1,4 @@
-use Rattle.jh_cellcfg.proofs.Found.{bytes_found}
+use Rattle.jh_cellcfg.proofs.SpelledCells.{bytes_found}
 use Rattle.jh_cellcfg.proofs.laws.no_fault_is_a_spelling.Goals as goal
 
 pub returns : goal.returns

@@ -1,5 +1,5 @@
 use Rattle.jh_cellcfg.proofs.Faultless.{gives}
-use Rattle.jh_cellcfg.proofs.Told.{told}
+use Rattle.jh_cellcfg.proofs.SpelledFields.{told}
 use Rattle.jh_cellcfg.proofs.read.read_cell.Goals as goal
 
 pub returns-clause-only : goal.returns-clause-only

@@ -1,4 +1,4 @@
-use Rattle.jh_check.specs.Cells.{cells_of}
+use Rattle.jh_check.specs.Private.Cells.{cells_of}
 use Rattle.jh_check.specs.Findings.{in_regions, in_hypervisor}
 use Rattle.jh_check.proofs.ListLemmas.{capped_then}
 use Rattle.jh_check.proofs.checking.also_in_hypervisor.Goals as goal

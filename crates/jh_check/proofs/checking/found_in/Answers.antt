@@ -1,6 +1,6 @@
 use Rattle.std.proofs.Common.{◌≡◌, ◌<◌, ◌++◌, length, get_or}
 use Rattle.jh_check.specs.declared.rule.Rule.TheVariants.{VirtOverlap}
-use Rattle.jh_check.specs.Cells.{cells_of}
+use Rattle.jh_check.specs.Private.Cells.{cells_of}
 use Rattle.jh_check.specs.Lists.{capped}
 use Rattle.jh_check.specs.Findings.{found_at, rules_in_order}
 use Rattle.jh_check.proofs.ListLemmas.{found_step, found_done}

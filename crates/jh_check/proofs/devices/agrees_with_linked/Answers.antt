@@ -1,4 +1,4 @@
-use Rattle.jh_check.specs.Cells.{cells_of}
+use Rattle.jh_check.specs.Private.Cells.{cells_of}
 use Rattle.jh_check.proofs.SeatLemmas.{agrees_linked}
 use Rattle.jh_check.proofs.devices.agrees_with_linked.Goals as goal
 

@@ -2,7 +2,7 @@ use Rattle.std.proofs.Common.{◌≡◌, ◌+◌, false, true, ◌&&◌, take, d
 use Rattle.std.specs.List.{list_all}
 use Rattle.jh_cellcfg.specs.declared.config.CellConfig.{CellConfig}
 use Rattle.jh_cellcfg.specs.declared.config.PciDevice.{PciDevice}
-use Rattle.jh_check.specs.Cells.{cells_of}
+use Rattle.jh_check.specs.Private.Cells.{cells_of}
 use Rattle.jh_check.specs.Devices.{agrees_with}
 use Rattle.jh_check.proofs.ListLemmas.{all_drop_take}
 use Rattle.jh_check.proofs.devices.agrees_with_lower.Goals as goal

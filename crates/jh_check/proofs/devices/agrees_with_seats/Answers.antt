@@ -2,7 +2,7 @@ use Rattle.std.proofs.Common.{get_or, inl, inr, sym, subst, arith}
 use Rattle.std.proofs.lemmas.Bool.{cases_eq}
 use Rattle.std.proofs.lemmas.List.{get_or_default}
 use Rattle.jh_check.specs.declared.seats.Seat.{Seat}
-use Rattle.jh_check.specs.Cells.{cells_of}
+use Rattle.jh_check.specs.Private.Cells.{cells_of}
 use Rattle.jh_check.specs.Private.Seats.{AgreesAt}
 use Rattle.jh_check.proofs.devices.agrees_with_seats.Goals as goal
 

@@ -1,6 +1,6 @@
 use Rattle.std.proofs.Common.{ℕ, ◌<◌, get_or}
 use Rattle.jh_check.specs.declared.seats.Seat.{Seat}
-use Rattle.jh_check.specs.Cells.{cells_of}
+use Rattle.jh_check.specs.Private.Cells.{cells_of}
 use Rattle.jh_check.specs.Private.Seats.{AgreesAt}
 use Rattle.jh_check.proofs.devices.agrees_with_seats.Given as goal
 

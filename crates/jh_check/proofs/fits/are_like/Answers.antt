@@ -1,6 +1,6 @@
 use Rattle.std.proofs.Common.{◌∙◌, sym, arith}
 use Rattle.jh_check.specs.declared.seats.Seat.{Seat}
-use Rattle.jh_check.specs.Cells.{cells_of}
+use Rattle.jh_check.specs.Private.Cells.{cells_of}
 use Rattle.jh_check.proofs.FitLemmas.{fit_each, like_more}
 use Rattle.jh_check.proofs.fits.are_like.Goals as goal
 

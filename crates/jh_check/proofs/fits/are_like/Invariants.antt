@@ -1,4 +1,4 @@
-use Rattle.jh_check.specs.Cells.{cells_of}
+use Rattle.jh_check.specs.Private.Cells.{cells_of}
 use Rattle.jh_check.specs.Private.Fits.{AreLike}
 use Rattle.jh_check.proofs.fits.are_like.Given as goal
 

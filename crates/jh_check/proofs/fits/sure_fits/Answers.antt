@@ -1,4 +1,4 @@
-use Rattle.jh_check.specs.Cells.{cells_of}
+use Rattle.jh_check.specs.Private.Cells.{cells_of}
 use Rattle.jh_check.proofs.FitLemmas.{sure_none}
 use Rattle.jh_check.proofs.fits.sure_fits.Goals as goal
 

@@ -1,5 +1,5 @@
 use Rattle.std.proofs.Common.{◌≡◌, false}
-use Rattle.jh_check.specs.Spans.{joins}
+use Rattle.jh_check.specs.Private.Spans.{joins}
 use Rattle.jh_check.specs.Findings.{between}
 use Rattle.jh_check.proofs.BreakLemmas.{between_apart}
 use Rattle.jh_check.proofs.ReachLemmas.{capped_none_more}

@@ -1,6 +1,6 @@
 use Rattle.std.proofs.Common.{◌≡◌, false, get_or, subst, arith}
 use Rattle.jh_cellcfg.specs.declared.region.Region.{Region}
-use Rattle.jh_check.specs.Spans.{takes_part}
+use Rattle.jh_check.specs.Private.Spans.{takes_part}
 use Rattle.jh_check.specs.Findings.{spot, beside}
 use Rattle.jh_check.proofs.BreakLemmas.{beside_idle}
 use Rattle.jh_check.proofs.ReachLemmas.{capped_none_more}

@@ -1,7 +1,7 @@
 use Rattle.std.proofs.Common.{◌+◌, ◌<◌, [], ◌∷◌, ◌++◌, length, get_or, inl, inr, sym, ap, subst, ◌∙◌, arith}
 use Rattle.std.proofs.lemmas.Bool.{cases_eq}
 use Rattle.std.proofs.lemmas.List.{get_or_default, get_or_append_left, get_or_push, length_push}
-use Rattle.jh_check.specs.Cells.{cells_of}
+use Rattle.jh_check.specs.Private.Cells.{cells_of}
 use Rattle.jh_check.specs.Private.Reaches.{AreOf}
 use Rattle.jh_check.proofs.pairing.reaches_of_each.Goals as goal
 

@@ -1,5 +1,5 @@
 use Rattle.std.proofs.Common.{Bool, true, false, sym, subst}
-use Rattle.jh_check.specs.Private.Reaches.{IsRising, TellsOthers}
+use Rattle.jh_check.specs.Private.Reaches.{IsRising, CoversOthers}
 use Rattle.jh_check.proofs.ReachLemmas.{rising_none, others_none, measured}
 use Rattle.jh_check.proofs.reach.measure.Goals as goal
 
@@ -8,7 +8,7 @@ returns-then-not-is_other c =
     let none = sym c.new.ensures.items in
     let apart = c.is_other.ensures c.if-not-is_other.true in
     let rises = subst (λ reaches. IsRising reaches) none rising_none in
-    let tells = λ (pass : Bool). subst (λ reaches. TellsOthers c.args.rule pass c.args.b c.args.cell.now reaches) none (others_none c.args.rule pass c.args.b c.args.cell.now apart) in
+    let tells = λ (pass : Bool). subst (λ reaches. CoversOthers c.args.rule pass c.args.b c.args.cell.now reaches) none (others_none c.args.rule pass c.args.b c.args.cell.now apart) in
     record { any_rises = rises; any = tells false; unshared_rises = rises; unshared = tells true }
 
 pub returns : goal.returns

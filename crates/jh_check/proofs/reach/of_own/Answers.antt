@@ -2,7 +2,7 @@ use Rattle.std.proofs.Common.{List, subst}
 use Rattle.std.proofs.lemmas.Result.{IfOk-weaker}
 use Rattle.jh_cellcfg.specs.declared.region.Region.{Region}
 use Rattle.jh_check.specs.declared.spans.Span.{Span}
-use Rattle.jh_check.specs.Private.Reaches.{HasOthers, TellsPairs, TellsOthers}
+use Rattle.jh_check.specs.Private.Reaches.{HasOthers, CoversPairs, CoversOthers}
 use Rattle.jh_check.proofs.ReachLemmas.{others_pairs}
 use Rattle.jh_check.proofs.reach.of_own.Goals as goal
 
@@ -14,4 +14,4 @@ returns-clause-tells c =
     let P : List Region → List Span → Type 0 = λ regions spans. HasOthers c.args.rule c.args.pass c.args.b regions spans in
     let has : P cell.memory_regions c.in_ok-spans.spans.items = subst (λ regions. P regions c.in_ok-spans.spans.items) c.as_slice.ensures.value c.in_ok-spans.ensures.each in
     let all : P cell.memory_regions spans = rw v has in
-    IfOk-weaker c.of_pairs.result (λ reaches. TellsPairs spans reaches.items) (λ reaches. TellsOthers c.args.rule c.args.pass c.args.b cell reaches.items) (λ reaches tells. others_pairs c.args.rule c.args.pass c.args.b cell spans reaches.items c.requires all tells) c.of_pairs.ensures.tells
+    IfOk-weaker c.of_pairs.result (λ reaches. CoversPairs spans reaches.items) (λ reaches. CoversOthers c.args.rule c.args.pass c.args.b cell reaches.items) (λ reaches tells. others_pairs c.args.rule c.args.pass c.args.b cell spans reaches.items c.requires all tells) c.of_pairs.ensures.tells

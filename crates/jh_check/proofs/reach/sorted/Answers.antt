@@ -5,7 +5,7 @@ use Rattle.std.proofs.lemmas.List.{get_or_default}
 use Rattle.std.proofs.lemmas.List.Sorted.{Contains-permutation, IsNonDecreasingBy-from_sort_by_key}
 use Rattle.jh_cellcfg.specs.declared.region.Region.{Region}
 use Rattle.jh_check.specs.declared.spans.Span.{Span}
-use Rattle.jh_check.specs.Spans.{span_of}
+use Rattle.jh_check.specs.Private.Spans.{span_of}
 use Rattle.jh_check.specs.Private.Reaches.{may_follow}
 use Rattle.jh_check.proofs.reach.sorted.Goals as goal
 

@@ -1,7 +1,7 @@
 use Rattle.std.proofs.Common.{◌≡◌, ℕ, ◌<◌, true, get_or}
 use Rattle.std.specs.List.{Contains}
 use Rattle.jh_cellcfg.specs.declared.region.Region.{Region}
-use Rattle.jh_check.specs.Spans.{span_of}
+use Rattle.jh_check.specs.Private.Spans.{span_of}
 use Rattle.jh_check.specs.Private.Reaches.{may_follow}
 use Rattle.jh_check.proofs.reach.sorted.Given as goal
 

@@ -1,7 +1,7 @@
 use Rattle.std.proofs.Common.{◌≡◌, ◌^◌, ◌<◌, [], ◌++◌, length, get_or, drop, sym, ap, ◌∙◌, arith}
 use Rattle.std.proofs.lemmas.List.{append-nil}
 use Rattle.jh_cellcfg.specs.declared.region.Region.{Region}
-use Rattle.jh_check.specs.Sites.{spot_of}
+use Rattle.jh_check.specs.Private.Sites.{spot_of}
 use Rattle.jh_check.specs.Lists.{capped, found_from}
 use Rattle.jh_check.specs.Findings.{beside, beside_at}
 use Rattle.jh_check.proofs.ListLemmas.{found_step}

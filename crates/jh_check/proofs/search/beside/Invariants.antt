@@ -1,5 +1,5 @@
 use Rattle.std.proofs.Common.{◌≡◌, ◌++◌, drop}
-use Rattle.jh_check.specs.Sites.{spot_of}
+use Rattle.jh_check.specs.Private.Sites.{spot_of}
 use Rattle.jh_check.specs.Lists.{found_from, capped}
 use Rattle.jh_check.specs.Findings.{beside_at, beside}
 use Rattle.jh_check.proofs.search.beside.Given as goal

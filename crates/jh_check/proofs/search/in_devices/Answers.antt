@@ -1,7 +1,7 @@
 use Rattle.std.proofs.Common.{◌≡◌, ◌<◌, ◌++◌, length, get_or, refl, sym, subst, arith}
 use Rattle.jh_check.specs.Private.Seats.{HasSeats, AreByBdf}
 use Rattle.jh_check.specs.Private.Fits.{AreSure}
-use Rattle.jh_check.specs.Cells.{cells_of}
+use Rattle.jh_check.specs.Private.Cells.{cells_of}
 use Rattle.jh_check.specs.Lists.{capped}
 use Rattle.jh_check.specs.Findings.{in_devices, in_devices_at}
 use Rattle.jh_check.proofs.BusLemmas.{bdfs_none, bdfs_more}

@@ -1,5 +1,5 @@
 use Rattle.std.proofs.Common.{◌≡◌, ◌++◌, drop}
-use Rattle.jh_check.specs.Cells.{cells_of}
+use Rattle.jh_check.specs.Private.Cells.{cells_of}
 use Rattle.jh_check.specs.Lists.{found_from, capped}
 use Rattle.jh_check.specs.Findings.{in_regions_at, in_regions}
 use Rattle.jh_check.proofs.search.in_regions.Given as goal

@@ -1,6 +1,6 @@
 use Rattle.std.proofs.Common.{◌≡◌, true, take, subst, sym, ◌∙◌}
 use Rattle.std.proofs.lemmas.Bool.{not-false}
-use Rattle.jh_check.specs.Cells.{cells_of}
+use Rattle.jh_check.specs.Private.Cells.{cells_of}
 use Rattle.jh_check.specs.Devices.{agrees_with_all}
 use Rattle.jh_check.proofs.BusLemmas.{agrees_unmarked}
 use Rattle.jh_check.proofs.FitLemmas.{agrees_sure}

@@ -4,7 +4,7 @@ use Rattle.std.proofs.lemmas.List.{get_or_default}
 use Rattle.std.proofs.lemmas.List.Sorted.{Contains-permutation, IsNonDecreasingBy-from_sort_by_key}
 use Rattle.jh_cellcfg.specs.declared.config.CellConfig.{CellConfig}
 use Rattle.jh_check.specs.declared.seats.Seat.{Seat}
-use Rattle.jh_check.specs.Cells.{cells_of}
+use Rattle.jh_check.specs.Private.Cells.{cells_of}
 use Rattle.jh_check.specs.Private.Seats.{seat_of, HasSeatsOf}
 use Rattle.jh_check.proofs.seats.seats_of.Goals as goal
 

@@ -1,4 +1,4 @@
-use Rattle.jh_check.specs.Spans.{AreApartTo}
+use Rattle.jh_check.specs.Private.Spans.{AreApartTo}
 use Rattle.jh_check.proofs.spans.are_apart.Given as goal
 
 abbrev pub invariant-loop-k : goal.invariant-loop-k

@@ -4,7 +4,7 @@ use Rattle.std.proofs.lemmas.Bool.{cases_eq}
 use Rattle.std.proofs.lemmas.List.{get_or_default}
 use Rattle.std.proofs.lemmas.List.Sorted.{Contains-permutation, IsPermutation-sym}
 use Rattle.jh_cellcfg.specs.declared.region.Region.{Region}
-use Rattle.jh_check.specs.Spans.{takes_part, span_of}
+use Rattle.jh_check.specs.Private.Spans.{takes_part, span_of}
 use Rattle.jh_check.proofs.spans.sorted.Goals as goal
 
 pub loop-item-preserved : goal.loop-item-preserved

@@ -2,7 +2,7 @@ use Rattle.std.proofs.Common.{◌≡◌, ℕ, ◌<◌, true, get_or}
 use Rattle.std.specs.List.{Contains}
 use Rattle.jh_cellcfg.specs.declared.region.Region.{Region}
 use Rattle.jh_check.specs.declared.spans.Span.{Span}
-use Rattle.jh_check.specs.Spans.{takes_part, span_of}
+use Rattle.jh_check.specs.Private.Spans.{takes_part, span_of}
 use Rattle.jh_check.proofs.spans.sorted.Given as goal
 
 abbrev pub invariant-loop-item : goal.invariant-loop-item

@@ -1,8 +1,8 @@
 use Rattle.std.proofs.Common.{◌≡◌, ◌<◌, true, false, length, get_or, refl, sym, ap}
 use Rattle.jh_cellcfg.specs.declared.region.Region.{Region}
-use Rattle.jh_check.specs.Sites.{spot_of}
+use Rattle.jh_check.specs.Private.Sites.{spot_of}
 use Rattle.jh_check.specs.Regions.{pair_breaks}
-use Rattle.jh_check.specs.Spans.{takes_part}
+use Rattle.jh_check.specs.Private.Spans.{takes_part}
 use Rattle.jh_check.specs.Lists.{is_any}
 use Rattle.jh_check.specs.Findings.{beside_at, beside, spot, finding_of}
 use Rattle.jh_check.proofs.ListLemmas.{any_step, any_hit, any_done, any_only}

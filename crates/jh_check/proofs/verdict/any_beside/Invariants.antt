@@ -1,5 +1,5 @@
 use Rattle.std.proofs.Common.{◌≡◌, drop}
-use Rattle.jh_check.specs.Sites.{spot_of}
+use Rattle.jh_check.specs.Private.Sites.{spot_of}
 use Rattle.jh_check.specs.Lists.{found_from, is_any}
 use Rattle.jh_check.specs.Findings.{beside_at, beside}
 use Rattle.jh_check.proofs.verdict.any_beside.Given as goal

@@ -1,5 +1,5 @@
 use Rattle.std.proofs.Common.{◌≡◌, ◌<◌, true, false, take, length, get_or, refl}
-use Rattle.jh_check.specs.Cells.{cells_of}
+use Rattle.jh_check.specs.Private.Cells.{cells_of}
 use Rattle.jh_check.specs.Devices.{device_breaks}
 use Rattle.jh_check.specs.declared.rule.Rule.TheVariants.{Shmem}
 use Rattle.jh_check.specs.Lists.{is_any}

@@ -1,5 +1,5 @@
 use Rattle.std.proofs.Common.{◌≡◌, drop, take}
-use Rattle.jh_check.specs.Cells.{cells_of}
+use Rattle.jh_check.specs.Private.Cells.{cells_of}
 use Rattle.jh_check.specs.Lists.{found_from, is_any}
 use Rattle.jh_check.specs.Findings.{device_at, in_devices_of}
 use Rattle.jh_check.proofs.verdict.any_device.Given as goal

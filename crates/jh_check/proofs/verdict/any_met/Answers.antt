@@ -5,9 +5,9 @@ use Rattle.std.proofs.lemmas.List.{get_or_default}
 use Rattle.jh_cellcfg.specs.declared.region.Region.{Region}
 use Rattle.jh_check.specs.declared.rule.Rule.TheVariants.{CellsOverlap}
 use Rattle.jh_check.specs.declared.spans.Span.{Span}
-use Rattle.jh_check.specs.Sites.{spot_of}
+use Rattle.jh_check.specs.Private.Sites.{spot_of}
 use Rattle.jh_check.specs.Regions.{pair_breaks}
-use Rattle.jh_check.specs.Spans.{span_of, spans_meet, HasOnly}
+use Rattle.jh_check.specs.Private.Spans.{span_of, spans_meet, HasOnly}
 use Rattle.jh_check.specs.Lists.{is_any}
 use Rattle.jh_check.specs.Findings.{spot}
 use Rattle.jh_check.proofs.BreakLemmas.{beside_hit, beside_unmet}

@@ -2,7 +2,7 @@ use Rattle.std.proofs.Common.{◌≡◌, ℕ, ◌<◌, false, get_or}
 use Rattle.jh_cellcfg.specs.declared.region.Region.{Region}
 use Rattle.jh_check.specs.declared.rule.Rule.TheVariants.{CellsOverlap}
 use Rattle.jh_check.specs.declared.spans.Span.{Span}
-use Rattle.jh_check.specs.Sites.{spot_of}
+use Rattle.jh_check.specs.Private.Sites.{spot_of}
 use Rattle.jh_check.specs.Regions.{pair_breaks}
 use Rattle.jh_check.specs.Findings.{spot}
 use Rattle.jh_check.proofs.verdict.any_met.Given as goal

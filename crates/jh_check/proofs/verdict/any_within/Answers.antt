@@ -1,6 +1,6 @@
 use Rattle.std.proofs.Common.{List, sym, ap, subst}
 use Rattle.jh_cellcfg.specs.declared.region.Region.{Region}
-use Rattle.jh_check.specs.Spans.{StandApart, IsIndex}
+use Rattle.jh_check.specs.Private.Spans.{AreDisjoint, IsIndex}
 use Rattle.jh_check.specs.Lists.{is_any}
 use Rattle.jh_check.proofs.BreakLemmas.{between_indexed, between_stand}
 use Rattle.jh_check.proofs.verdict.any_within.Goals as goal
@@ -16,7 +16,7 @@ returns c = elim c.match-branch-2.branch [
   | in-None w ↦ rw w.result-is w.any_between.ensures
 ]
 
-pub returns-then-stand_apart : goal.returns-then-stand_apart
-returns-then-stand_apart c =
-    let stand = subst (λ regions. StandApart c.args.rule regions) c.as_slice.ensures.value (c.stand_apart.ensures c.if-stand_apart.true) in
+pub returns-then-are_disjoint : goal.returns-then-are_disjoint
+returns-then-are_disjoint c =
+    let stand = subst (λ regions. AreDisjoint c.args.rule regions) c.as_slice.ensures.value (c.are_disjoint.ensures c.if-are_disjoint.true) in
     sym (ap is_any (between_stand c.args.rule c.args.number c.args.cell.now c.requires stand))

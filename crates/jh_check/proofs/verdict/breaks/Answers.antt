@@ -1,6 +1,6 @@
 use Rattle.std.proofs.Common.{◌≡◌, ◌<◌, [], ◌∷◌, ◌++◌, ◌∙◌, Bool, ap, subst, arith}
 use Rattle.std.specs.Prelude.{IfOk}
-use Rattle.jh_check.specs.Cells.{cells_of}
+use Rattle.jh_check.specs.Private.Cells.{cells_of}
 use Rattle.jh_check.specs.Devices.{cpus_break}
 use Rattle.jh_check.specs.Lists.{is_any}
 use Rattle.jh_check.specs.Findings.{in_cell}

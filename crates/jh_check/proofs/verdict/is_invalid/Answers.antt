@@ -1,7 +1,7 @@
 use Rattle.std.proofs.Common.{◌≡◌, ◌<◌, ◌++◌, [], ◌∷◌, true, false, length, get_or, refl}
 use Rattle.std.specs.List.{list_any}
 use Rattle.jh_check.specs.declared.rule.Rule.TheVariants.{VirtOverlap}
-use Rattle.jh_check.specs.Cells.{cells_of}
+use Rattle.jh_check.specs.Private.Cells.{cells_of}
 use Rattle.jh_check.specs.Findings.{found_at, rules_in_order}
 use Rattle.jh_check.specs.Verdicts.{is_invalid}
 use Rattle.jh_check.proofs.VerdictLemmas.{list_step, list_hit, list_done}

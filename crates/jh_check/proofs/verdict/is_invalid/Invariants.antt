@@ -1,6 +1,6 @@
 use Rattle.std.proofs.Common.{◌≡◌, ◌++◌, [], ◌∷◌, drop}
 use Rattle.std.specs.List.{list_any}
-use Rattle.jh_check.specs.Cells.{cells_of}
+use Rattle.jh_check.specs.Private.Cells.{cells_of}
 use Rattle.jh_check.specs.Lists.{found_from}
 use Rattle.jh_check.specs.Findings.{found_at, rules_in_order}
 use Rattle.jh_check.specs.Verdicts.{is_invalid}

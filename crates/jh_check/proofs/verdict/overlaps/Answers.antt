@@ -1,7 +1,7 @@
 use Rattle.std.proofs.Common.{◌≡◌, ◌<◌, ◌++◌, [], ◌∷◌, true, false, length, get_or, refl, ◌∙◌, sym, length-append, arith}
 use Rattle.std.specs.List.{list_any}
 use Rattle.jh_check.specs.declared.rule.Rule.TheVariants.{CellsOverlap}
-use Rattle.jh_check.specs.Cells.{cells_of}
+use Rattle.jh_check.specs.Private.Cells.{cells_of}
 use Rattle.jh_check.specs.Findings.{from_cell, in_pairs}
 use Rattle.jh_check.specs.Verdicts.{is_busy}
 use Rattle.jh_check.proofs.VerdictLemmas.{list_step, list_hit, busy_one, busy_end}

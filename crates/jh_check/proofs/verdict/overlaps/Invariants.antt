@@ -1,7 +1,7 @@
 use Rattle.std.proofs.Common.{◌≡◌, ◌++◌, [], ◌∷◌, drop}
 use Rattle.std.specs.List.{list_any}
 use Rattle.jh_check.specs.declared.rule.Rule.TheVariants.{CellsOverlap}
-use Rattle.jh_check.specs.Cells.{cells_of}
+use Rattle.jh_check.specs.Private.Cells.{cells_of}
 use Rattle.jh_check.specs.Lists.{found_from}
 use Rattle.jh_check.specs.Findings.{from_cell, in_pairs}
 use Rattle.jh_check.specs.Verdicts.{is_busy}

@@ -3,7 +3,7 @@ use Rattle.std.proofs.Common.{◌≡◌, ℕ, List, Result, Ok, sym, subst, ◌�
 use Rattle.std.specs.Str.Parse.{ParsesUnsigned}
 use Rattle.std.proofs.lemmas.Fmt.{parse-decimal}
 use Rattle.jh_num.proofs.Public.{ok_err, ok_one}
-use Rattle.jh_cli.specs.Soak.{AreRounds, TellsRounds}
+use Rattle.jh_cli.specs.Soak.{AreRounds, ParsesRounds}
 use Rattle.jh_cli.proofs.RoundsLemmas.{rounds_told}
 use Rattle.jh_cli.proofs.soak.read_rounds.Goals as goal
 
@@ -19,6 +19,6 @@ returns-in_default c rounds are = ok_err c.parse.result rounds c.in_default.fiel
 pub returns : goal.returns
 returns c =
     let found : ℕ = c.in-Ok.rounds in
-    let told = rounds_told c.args.word.now c.as_str.result.now found c.eq-plain.result c.eq-plain.ensures (c.as_str.ensures.value ∙ c.in_ok-written.ensures.ok)
+    let told = rounds_told c.args.word.now c.as_str.result.now found c.eq-canonical.result c.eq-canonical.ensures (c.as_str.ensures.value ∙ c.in_ok-written.ensures.ok)
     (λ rounds are. ok_one c.parse.result rounds found (read c.args.word.now rounds c.parse.result are c.parse.ensures.value.0) c.in-Ok.is) in
-    subst (TellsRounds c.args.word.now) (sym c.rounds_if.ensures) told
+    subst (ParsesRounds c.args.word.now) (sym c.rounds_if.ensures) told

@@ -4,7 +4,7 @@ use Rattle.std.specs.Prelude.{map, string_bytes}
 use Rattle.jh_outside.specs.Trail.{Asks, no_ask}
 use Rattle.jh_cli.specs.Call.{IsCall}
 use Rattle.jh_cli.specs.Soak.{Soaks}
-use Rattle.jh_cli.specs.Stopped.{IsCounted}
+use Rattle.jh_cli.specs.Endings.{IsCounted}
 use Rattle.jh_cli.specs.Words.{Asked, RunOf, SoakOf, command_of}
 use Rattle.jh_cli.proofs.CallLemmas.{finished_call}
 use Rattle.jh_cli.proofs.RunLemmas.{soak_counted}

@@ -4,7 +4,7 @@ use Rattle.std.proofs.lemmas.Bool.{cases_lt, false≢true}
 use Rattle.jh_num.specs.declared.address.TheConstants.{ADDRESS_END}
 use Rattle.jh_cellcfg.specs.declared.config.PciDevice.{PciDevice}
 use Rattle.jh_cellcfg.specs.declared.region.Region.{Region}
-use Rattle.jh_history.specs.Behind.{answer_to, ecam_start, ecam_end, window_found}
+use Rattle.jh_history.specs.Behind.{answer_to, ecam_start, ecam_end, window_of_access}
 use Rattle.jh_history.specs.Devices.{Devices, devices_in}
 use Rattle.jh_history.specs.Grants.{is_kept}
 use Rattle.jh_history.specs.Lives.{regions_in}
@@ -25,10 +25,10 @@ returns-then-is_within c =
     let listed : c.devices_in-list.result.now ≡ devices.list = c.devices_in-list.ensures cells (sym c.configs.ensures) in
     let same : c.new-devices.result ≡ devices = c.new-devices.ensures ∙ ap (λ (list : List PciDevice). record devices { list = list }) listed in
     c.answer_of.ensures
-    ∙ ap (λ (d : Devices). answer_to d.cell region c.ecam_of.result.start c.ecam_of.result.end (window_found d wanted.at wanted.width) wanted.access wanted.at wanted.width) same
-    ∙ ap (λ (s : ℕ). answer_to cell region s c.ecam_of.result.end (window_found devices wanted.at wanted.width) wanted.access wanted.at wanted.width) c.ecam_of.ensures.start
-    ∙ ap (λ (e : ℕ). answer_to cell region start e (window_found devices wanted.at wanted.width) wanted.access wanted.at wanted.width) c.ecam_of.ensures.end
-    ∙ ap (λ (o : Option Region). answer_to cell o start end (window_found devices wanted.at wanted.width) wanted.access wanted.at wanted.width) c.subpage_of-region.ensures.found
+    ∙ ap (λ (d : Devices). answer_to d.cell region c.ecam_of.result.start c.ecam_of.result.end (window_of_access d wanted.at wanted.width) wanted.access wanted.at wanted.width) same
+    ∙ ap (λ (s : ℕ). answer_to cell region s c.ecam_of.result.end (window_of_access devices wanted.at wanted.width) wanted.access wanted.at wanted.width) c.ecam_of.ensures.start
+    ∙ ap (λ (e : ℕ). answer_to cell region start e (window_of_access devices wanted.at wanted.width) wanted.access wanted.at wanted.width) c.ecam_of.ensures.end
+    ∙ ap (λ (o : Option Region). answer_to cell o start end (window_of_access devices wanted.at wanted.width) wanted.access wanted.at wanted.width) c.subpage_of-region.ensures.found
     ∙ sym (answer_within (regions_in image cells cell) devices (is_kept image cells cell) image.system wanted.access wanted.at wanted.width within.1)
 
 pub returns-else-is_within : goal.returns-else-is_within

@@ -1,5 +1,5 @@
 -- By what the check says of all cells with it.
-use Rattle.jh_history.proofs.DueComesLemmas.{decided_lives, comes_lives}
+use Rattle.jh_history.proofs.DueCreateLemmas.{decided_lives, comes_lives}
 use Rattle.jh_history.proofs.due_facts.a_cell_that_comes_may_live.Goals as goal
 
 pub returns : goal.returns

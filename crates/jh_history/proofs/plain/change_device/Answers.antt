@@ -6,7 +6,7 @@ use Rattle.jh_ivshmem.specs.Specs.{IsInItsLimits}
 use Rattle.jh_history.specs.Access.{with_slot}
 use Rattle.jh_history.specs.Devices.{specs_at}
 use Rattle.jh_history.specs.Endpoints.{endpoints_changed, with_words, MayJoinThem}
-use Rattle.jh_history.specs.PlainView.{last_byte}
+use Rattle.jh_history.specs.Private.PlainView.{last_byte}
 use Rattle.jh_history.proofs.DeviceLoopLemmas.{at_some, at_none, first, word_ends}
 use Rattle.jh_history.proofs.plain.change_device.Goals as goal
 

@@ -3,7 +3,7 @@ use Rattle.std.proofs.Common.{◌<◌, ◌≤◌, List, length, sym, ap, ◌∙�
 use Rattle.jh_ivshmem.specs.declared.spec.EndpointSpec.{EndpointSpec}
 use Rattle.jh_ivshmem.specs.Specs.{IsInItsLimits}
 use Rattle.jh_history.specs.Endpoints.{endpoints_changed, with_words, MayJoinThem}
-use Rattle.jh_history.specs.PlainView.{last_byte}
+use Rattle.jh_history.specs.Private.PlainView.{last_byte}
 use Rattle.jh_history.proofs.DeviceLoopLemmas.{left_all, left_end, endpoints_next, words_next, may_begin, All_next, may_next}
 use Rattle.jh_history.proofs.plain.change_devices.Goals as goal
 

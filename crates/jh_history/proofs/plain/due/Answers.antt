@@ -2,7 +2,7 @@
 use Rattle.jh_history.specs.History.{facts}
 use Rattle.jh_history.specs.Due.{IsLegal}
 use Rattle.jh_history.specs.Sound.{IsSound}
-use Rattle.jh_history.specs.PlainView.{StandsFor}
+use Rattle.jh_history.specs.Private.PlainView.{Represents}
 use Rattle.jh_history.proofs.plain.due.Goals as goal
 
 pub after-requires-clause-legal : goal.after-requires-clause-legal
@@ -12,7 +12,7 @@ pub returns : goal.returns
 returns c =
     let legal : IsLegal c.args.image.now c.as_slice.result.now = rw c.as_slice.ensures c.requires.legal in
     let f = facts c.args.image.now c.as_slice.result.now in
-    let stands : StandsFor c.in_ok-plain.plain c.args.image.now f × IsSound c.args.image.now f = (c.in_ok-plain.ensures, c.legal_journals_are_sound.ensures.legal c.args.image.now c.as_slice.result.now c.requires.admitted legal) in
+    let stands : Represents c.in_ok-plain.plain c.args.image.now f × IsSound c.args.image.now f = (c.in_ok-plain.ensures, c.legal_journals_are_sound.ensures.legal c.args.image.now c.as_slice.result.now c.requires.admitted legal) in
     rw (← c.as_slice.ensures) (c.next_of.ensures.due c.args.image.now f stands)
 
 pub next_of-requires : goal.next_of-requires

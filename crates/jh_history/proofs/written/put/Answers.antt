@@ -1,7 +1,7 @@
 -- One byte more.
 use Rattle.std.proofs.Common.{ℕ, List, get_or, ap, sym, ◌∙◌}
 use Rattle.std.proofs.lemmas.List.{take_all}
-use Rattle.jh_history.specs.PlainView.{last_byte, put_in_page}
+use Rattle.jh_history.specs.Private.PlainView.{last_byte, put_in_page}
 use Rattle.jh_history.proofs.PageWriteLemmas.{put_more, put_none, again}
 use Rattle.jh_history.proofs.written.put.Goals as goal
 

@@ -2,7 +2,7 @@
 use Rattle.std.proofs.Common.{◌≡◌, take}
 use Rattle.jh_script.specs.declared.image.Image.{Image}
 use Rattle.jh_history.specs.declared.place.Place.{Place}
-use Rattle.jh_history.specs.PlainView.{last_byte, put_in_page}
+use Rattle.jh_history.specs.Private.PlainView.{last_byte, put_in_page}
 use Rattle.jh_history.proofs.written.put.Given as goal
 
 abbrev pub invariant-loop-i : goal.invariant-loop-i

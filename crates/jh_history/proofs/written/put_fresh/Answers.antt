@@ -1,6 +1,6 @@
 -- The whole page.
 use Rattle.std.proofs.Common.{◌∙◌}
-use Rattle.jh_history.specs.PlainView.{last_byte}
+use Rattle.jh_history.specs.Private.PlainView.{last_byte}
 use Rattle.jh_history.proofs.PageWriteLemmas.{put_fresh}
 use Rattle.jh_history.proofs.written.put_fresh.Goals as goal
 

@@ -1,7 +1,7 @@
 -- No reply, and the message's four bytes.
 use Rattle.std.proofs.Common.{◌∙◌, refl}
 use Rattle.std.specs.Prelude.{replicate}
-use Rattle.jh_history.specs.PlainView.{last_byte}
+use Rattle.jh_history.specs.Private.PlainView.{last_byte}
 use Rattle.jh_history.proofs.PageWriteLemmas.{put_message}
 use Rattle.jh_history.proofs.written.put_message.Goals as goal
 

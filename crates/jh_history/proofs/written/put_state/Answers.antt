@@ -1,6 +1,6 @@
 -- The state's four bytes.
 use Rattle.std.proofs.Common.{◌∙◌}
-use Rattle.jh_history.specs.PlainView.{last_byte}
+use Rattle.jh_history.specs.Private.PlainView.{last_byte}
 use Rattle.jh_history.proofs.PageWriteLemmas.{put_state}
 use Rattle.jh_history.proofs.written.put_state.Goals as goal
 

@@ -5,7 +5,7 @@ use Rattle.jh_script.specs.declared.image.Image.{Image}
 use Rattle.jh_history.specs.declared.comm.PageChange.{PageChange}
 use Rattle.jh_history.specs.declared.place.Place.{Place}
 use Rattle.jh_history.specs.Pages.{with_page}
-use Rattle.jh_history.specs.PlainView.{last_byte}
+use Rattle.jh_history.specs.Private.PlainView.{last_byte}
 use Rattle.jh_history.proofs.written.write_page.Goals as goal
 
 pub returns-in-Fresh : goal.returns-in-Fresh

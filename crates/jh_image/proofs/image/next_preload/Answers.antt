@@ -6,7 +6,7 @@ use Rattle.jh_outside.specs.Trail.{Asks}
 use Rattle.jh_image.specs.declared.fault.ImageCause.TheVariants.{Preload as BadPreload}
 use Rattle.jh_image.specs.Order.{ask_for}
 use Rattle.jh_image.specs.Images.{with_system, so_far_of, a_preload}
-use Rattle.jh_image.specs.Causes.{HandsOutNothing, OnRefused, StopsReading}
+use Rattle.jh_image.specs.Causes.{HandsOutNothing, OnRefused, IsCauseOf}
 use Rattle.jh_image.proofs.StopLemmas.{on_refusal, on_refused, unread_stops, preload_stops}
 use Rattle.jh_image.proofs.image.next_preload.Goals as goal
 
@@ -20,13 +20,13 @@ returns-in_err-preload-clause-err g c =
     let board = c.args.board.now in
     let file = c.args.file.now in
     let so_far = so_far_of c.requires.next.0 c.args.system.now c.args.preloads.now [] in
-    passed_up c.from_residual.result c.in_err-preload.field-0.0 (λ e. OnRefused (StopsReading contents board) e) c.from_residual.ensures.1
-    (on_refused (HandsOutNothing contents file.file) (StopsReading contents board) c.in_err-preload.field-0.0 (unread_stops contents board file.file (with_system so_far) c.requires.next.1 (a_preload so_far file c.requires.next.2)) c.in_err-preload.ensures.err)
+    passed_up c.from_residual.result c.in_err-preload.field-0.0 (λ e. OnRefused (IsCauseOf contents board) e) c.from_residual.ensures.1
+    (on_refused (HandsOutNothing contents file.file) (IsCauseOf contents board) c.in_err-preload.field-0.0 (unread_stops contents board file.file (with_system so_far) c.requires.next.1 (a_preload so_far file c.requires.next.2)) c.in_err-preload.ensures.err)
 
 pub returns-then-not-is_fit-clause-err : goal.returns-then-not-is_fit-clause-err
 returns-then-not-is_fit-clause-err g c =
     let contents = g.F.Files.contents c.args.files.now in
     let board = c.args.board.now in
     let so_far = so_far_of c.requires.next.0 c.args.system.now c.args.preloads.now [] in
-    on_refusal (StopsReading contents board) board (BadPreload _) c.refused.result c.refused.ensures
+    on_refusal (IsCauseOf contents board) board (BadPreload _) c.refused.result c.refused.ensures
     (preload_stops contents board so_far c.args.file.now c.in_ok-preload.preload _ c.requires.next.1 c.requires.next.2 c.in_ok-preload.ensures.ok (first_of (search rules, grind (arith, common_steps))) (first_of (search rules, grind (arith, common_steps))))

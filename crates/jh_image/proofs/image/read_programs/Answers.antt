@@ -3,7 +3,7 @@ use Rattle.std.proofs.Common.{◌≡◌, ◌+◌, ◌<◌, ◌≤◌, length, ge
 use Rattle.std.proofs.lemmas.List.{take_all}
 use Rattle.jh_num.proofs.Public.{passed_up}
 use Rattle.jh_image.specs.Images.{so_far_of}
-use Rattle.jh_image.specs.Causes.{IsProgramUnread, OnRefused, StopsReading}
+use Rattle.jh_image.specs.Causes.{IsProgramCause, OnRefused, IsCauseOf}
 use Rattle.jh_image.proofs.StopLemmas.{on_refused, program_stops}
 use Rattle.jh_outside.specs.Trail.{Asks, no_ask, AsksAll, AsksUntil}
 use Rattle.jh_image.specs.Order.{ask_for, program_name}
@@ -33,8 +33,8 @@ returns-in_err-program-clause-err g c =
     let so_far = c.loop-file.invariant.so_far in
     let next = scripts_next contents board listing system preloads i file c.loop-file.programs c.requires.all lt is so_far in
     let unread = rw c.loop-file.invariant.kept at c.in_err-program.ensures.err in
-    passed_up c.from_residual.result c.in_err-program.field-0.0 (λ e. OnRefused (StopsReading contents board) e) c.from_residual.ensures.1
-    (on_refused (IsProgramUnread contents file.file) (StopsReading contents board) c.in_err-program.field-0.0 (program_stops contents board (so_far_of listing system preloads c.loop-file.programs) file so_far.read next) unread)
+    passed_up c.from_residual.result c.in_err-program.field-0.0 (λ e. OnRefused (IsCauseOf contents board) e) c.from_residual.ensures.1
+    (on_refused (IsProgramCause contents file.file) (IsCauseOf contents board) c.in_err-program.field-0.0 (program_stops contents board (so_far_of listing system preloads c.loop-file.programs) file so_far.read next) unread)
 
 pub loop-file-preserved : goal.loop-file-preserved
 loop-file-preserved g c =

@@ -1,6 +1,6 @@
 -- The system is admitted, or isn't.
 use Rattle.jh_num.proofs.Public.{passed_up}
-use Rattle.jh_image.specs.Causes.{IsUnsound, OnRefused, StopsReading}
+use Rattle.jh_image.specs.Causes.{IsUnsound, OnRefused, IsCauseOf}
 use Rattle.jh_image.proofs.StopLemmas.{on_refused, system_read, unsound_stops}
 use Rattle.jh_image.proofs.image.read_ready.Goals as goal
 
@@ -10,8 +10,8 @@ returns-in_err-check_system-clause-err g c =
     let board = c.args.board.now in
     let listing = c.args.listing.now in
     let unsound = rw c.as_str.ensures at c.in_err-check_system.ensures.err in
-    passed_up c.from_residual-in_err-check_system.result c.in_err-check_system.field-0.0 (λ e. OnRefused (StopsReading contents board) e) c.from_residual-in_err-check_system.ensures.1
-    (on_refused (IsUnsound board listing.system c.in_ok-system.system) (StopsReading contents board) c.in_err-check_system.field-0.0
+    passed_up c.from_residual-in_err-check_system.result c.in_err-check_system.field-0.0 (λ e. OnRefused (IsCauseOf contents board) e) c.from_residual-in_err-check_system.ensures.1
+    (on_refused (IsUnsound board listing.system c.in_ok-system.system) (IsCauseOf contents board) c.in_err-check_system.field-0.0
     (unsound_stops contents board listing c.in_ok-system.system c.requires c.in_ok-system.ensures.ok) unsound)
 
 pub returns-clause-ok : goal.returns-clause-ok

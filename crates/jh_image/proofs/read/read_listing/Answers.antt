@@ -5,7 +5,7 @@ use Rattle.jh_outside.specs.Trail.{Ask, Asks}
 use Rattle.jh_image.specs.Order.{ask_for}
 use Rattle.jh_image.proofs.OrderLemmas.{board_asked}
 use Rattle.jh_image.specs.Images.{nothing, the_board, nothing_read}
-use Rattle.jh_image.specs.Causes.{HandsOutNothing, IsBoardRefusal, OnRefused, StopsReading}
+use Rattle.jh_image.specs.Causes.{HandsOutNothing, IsBoardRefusal, OnRefused, IsCauseOf}
 use Rattle.jh_image.proofs.StopLemmas.{on_refused, unread_stops, board_stops}
 use Rattle.jh_image.proofs.read.read_listing.Goals as goal
 
@@ -19,12 +19,12 @@ pub returns-in_err-bytes-clause-err : goal.returns-in_err-bytes-clause-err
 returns-in_err-bytes-clause-err g c =
     let contents = g.F.Files.contents c.args.files.now in
     let board = c.args.board.now in
-    passed_up c.from_residual.result c.in_err-bytes.field-0.0 (λ e. OnRefused (StopsReading contents board) e) c.from_residual.ensures.1
-    (on_refused (HandsOutNothing contents board) (StopsReading contents board) c.in_err-bytes.field-0.0 (unread_stops contents board board nothing nothing_read the_board) c.in_err-bytes.ensures.err)
+    passed_up c.from_residual.result c.in_err-bytes.field-0.0 (λ e. OnRefused (IsCauseOf contents board) e) c.from_residual.ensures.1
+    (on_refused (HandsOutNothing contents board) (IsCauseOf contents board) c.in_err-bytes.field-0.0 (unread_stops contents board board nothing nothing_read the_board) c.in_err-bytes.ensures.err)
 
 pub returns-clause-err : goal.returns-clause-err
 returns-clause-err g c =
     let contents = g.F.Files.contents c.args.files.now in
     let board = c.args.board.now in
-    on_refused (IsBoardRefusal board c.in-Err.fault) (StopsReading contents board) c.refused_board.result
+    on_refused (IsBoardRefusal board c.in-Err.fault) (IsCauseOf contents board) c.refused_board.result
     (board_stops contents board _ c.in-Err.fault c.in_ok-bytes.ensures.ok (rw (c.as_slice.ensures.value, c.in-Err.is) at c.read_board.ensures.told)) c.refused_board.ensures

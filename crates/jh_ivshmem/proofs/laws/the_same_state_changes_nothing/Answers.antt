@@ -8,7 +8,7 @@ use Rattle.jh_ivshmem.specs.declared.endpoint.Endpoint.{Endpoint}
 use Rattle.jh_ivshmem.specs.Specs.{is_device, AreEndpointsApart}
 use Rattle.jh_ivshmem.specs.Changes.{changed}
 use Rattle.jh_ivshmem.specs.Links.{written, told_of, endpoint_at}
-use Rattle.jh_ivshmem.specs.Seen.{Seen}
+use Rattle.jh_ivshmem.specs.EndpointsView.{EndpointsView}
 use Rattle.jh_ivshmem.proofs.ApartLemmas.{set_device}
 use Rattle.jh_ivshmem.proofs.laws.the_same_state_changes_nothing.Goals as goal
 
@@ -37,5 +37,5 @@ returns c = λ e named.
     (untold e c.args._links.now.list)
     ∙ itself c.args._cell c.args._device c.args._links.now.list e
     (subst (λ (list : List Endpoint). AllPairs AreEndpointsApart (map (λ (o : Endpoint). o.spec) list))
-    (ap (λ (seen : Seen). seen.list) c._links.view_is) c._links.invariant.apart)
+    (ap (λ (seen : EndpointsView). seen.list) c._links.view_is) c._links.invariant.apart)
     named

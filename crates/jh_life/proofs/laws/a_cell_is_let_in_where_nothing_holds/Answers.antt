@@ -17,8 +17,8 @@ let_in true refusal P same = (λ e. absurd (none-some EPERM (sym e)), λ both. a
 let_in false refusal P same = (λ e. (refl, same.0 e), λ both. same.1 both.1)
 
 -- nothing of a refusal holds exactly where the cell is accepted
-abbrev IsTold : CellConfig → ℕ → ℕ → ℕ → ℕ → SystemConfig → List CellConfig → Type 0
-IsTold new owned caller pages pool system live = (refusal_of system live new (may_have owned caller) pages pool ≡ None) ↔ IsAccepted system live new (may_have owned caller) pages pool
+abbrev IsLetIn : CellConfig → ℕ → ℕ → ℕ → ℕ → SystemConfig → List CellConfig → Type 0
+IsLetIn new owned caller pages pool system live = (refusal_of system live new (may_have owned caller) pages pool ≡ None) ↔ IsAccepted system live new (may_have owned caller) pages pool
 
 pub returns : goal.returns
 returns c = λ locked owned caller pool.
@@ -27,6 +27,6 @@ returns c = λ locked owned caller pool.
     let live = configs_of seen.lives in
     let pages : ℕ = pages_of seen.system.root.memory_regions (live ++ new ∷ []) in
     let_in locked (refusal_of seen.system live new (may_have owned caller) pages pool) (IsAccepted seen.system live new (may_have owned caller) pages pool)
-    (subst (λ (s : SystemConfig). IsTold new owned caller pages pool s live) c.system.ensures
-    (subst (λ (l : List CellConfig). IsTold new owned caller pages pool c.system.result.now l) c.list.ensures.value
+    (subst (λ (s : SystemConfig). IsLetIn new owned caller pages pool s live) c.system.ensures
+    (subst (λ (l : List CellConfig). IsLetIn new owned caller pages pool c.system.result.now l) c.list.ensures.value
     (c.nothing_is_refused_that_is_accepted.ensures (may_have owned caller) pages pool)))

@@ -1,19 +1,19 @@
 use Rattle.std.proofs.Common.{◌≡◌, Some, subst, inl, inr}
 use Rattle.std.specs.Prelude.{◌⊎◌, ℤ}
 use Rattle.jh_num.specs.declared.error.TheConstants.{EBUSY, EEXIST, EINVAL, ENOMEM, EPERM}
-use Rattle.jh_life.specs.Seen.{Seen}
+use Rattle.jh_life.specs.CellsView.{CellsView}
 use Rattle.jh_life.specs.Causes.{Create, verdict_on, Cause, Locked, Known, TakenCpu, BrokenRule, Overlap, FewPages, number_for, IsFirst}
 use Rattle.jh_life.proofs.CauseLemmas.{cause_from, cause_to, none_from, none_to, first_locked, permission_cause, known_cause, busy_cause, invalid_cause, pages_cause}
 use Rattle.jh_life.proofs.laws.each_number_has_its_causes.Goals as goal
 
 -- where a number tells one cause alone, that is the first one
-only : (seen : Seen) (create : Create) (number : ℤ) (cause : Cause) → ((other : Cause) → number ≡ number_for other → other ≡ cause) → verdict_on seen create ≡ Some number → IsFirst seen create cause
+only : (seen : CellsView) (create : Create) (number : ℤ) (cause : Cause) → ((other : Cause) → number ≡ number_for other → other ≡ cause) → verdict_on seen create ≡ Some number → IsFirst seen create cause
 only seen create number cause one e =
     let r = cause_from seen create number e in
     subst (λ (it : Cause). IsFirst seen create it) (one r.0 r.2) r.1
 
 -- and where it tells one of two
-busy : (seen : Seen) (create : Create) → verdict_on seen create ≡ Some EBUSY → IsFirst seen create TakenCpu ⊎ IsFirst seen create Overlap
+busy : (seen : CellsView) (create : Create) → verdict_on seen create ≡ Some EBUSY → IsFirst seen create TakenCpu ⊎ IsFirst seen create Overlap
 busy seen create e =
     let r = cause_from seen create EBUSY e in
     elim (busy_cause r.0 r.2) [
@@ -21,7 +21,7 @@ busy seen create e =
       | inr same ↦ inr (subst (λ (it : Cause). IsFirst seen create it) same r.1)
     ]
 
-told : (seen : Seen) (create : Create) → IsFirst seen create TakenCpu ⊎ IsFirst seen create Overlap → verdict_on seen create ≡ Some EBUSY
+told : (seen : CellsView) (create : Create) → IsFirst seen create TakenCpu ⊎ IsFirst seen create Overlap → verdict_on seen create ≡ Some EBUSY
 told seen create (inl first) = cause_to seen create TakenCpu first
 told seen create (inr first) = cause_to seen create Overlap first
 

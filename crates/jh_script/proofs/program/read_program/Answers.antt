@@ -35,7 +35,7 @@ loop-line-preserved-in-Blank c =
       faults = blank_fault c.args.text.now c.loop-line.number c.saturating_add-number.result _ (lines_of c.loop-line.rest.now) (lines_of c.in-Some.after.now) before.faults lines number;
       found = blank_ops c.args.text.now c.loop-line.ops (lines_of c.loop-line.rest.now) (lines_of c.in-Some.after.now) before.found lines;
       few = before.few;
-      plain = before.plain;
+      well_formed = before.well_formed;
     }
 
 pub loop-line-preserved : goal.loop-line-preserved
@@ -51,7 +51,7 @@ loop-line-preserved c =
       faults = op_fault c.args.text.now c.loop-line.number c.saturating_add-number.result c.loop-line.ops c.push.new.self (lines_of c.loop-line.rest.now) (lines_of c.in-Some.after.now) op before.faults lines number few push;
       found = op_ops c.args.text.now c.loop-line.ops c.push.new.self (lines_of c.loop-line.rest.now) (lines_of c.in-Some.after.now) op before.found lines push;
       few = omega (arith, ap length push, length-append c.loop-line.ops (op ∷ []));
-      plain = subst (All IsWellFormed) (sym push) (All-push IsWellFormed c.loop-line.ops op before.plain sound);
+      well_formed = subst (All IsWellFormed) (sym push) (All-push IsWellFormed c.loop-line.ops op before.well_formed sound);
     }
 
 pub returns-clause-exact : goal.returns-clause-exact

@@ -11,7 +11,7 @@ invariant-loop-line l = record {
   faults : first_fault 0 most_ops (lines_of l.text) ≡ first_fault l.number (most_ops - length l.ops) (lines_of l.rest);
   found : ops_of (lines_of l.text) ≡ l.ops ++ ops_of (lines_of l.rest);
   few : length l.ops ≤ most_ops;
-  plain : All IsWellFormed l.ops;
+  well_formed : All IsWellFormed l.ops;
 }
 
 abbrev pub decreases-loop-line : goal.decreases-loop-line

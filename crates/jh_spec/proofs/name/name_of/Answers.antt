@@ -2,7 +2,7 @@ use Rattle.std.proofs.Common.{◌≡◌, ◌++◌, length, false, sym, ◌∙◌
 use Rattle.std.specs.List.{list_any}
 use Rattle.std.proofs.lemmas.List.{drop-replicate}
 use Rattle.jh_cellcfg.specs.Limits.{is_zero}
-use Rattle.jh_spec.proofs.NamesTold.{name_good, name_bad}
+use Rattle.jh_spec.proofs.PaddedNames.{name_good, name_bad}
 use Rattle.jh_spec.proofs.name.name_of.Goals as goal
 
 pub returns-then-is_name-clause-told : goal.returns-then-is_name-clause-told

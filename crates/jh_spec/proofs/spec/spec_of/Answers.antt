@@ -1,5 +1,5 @@
 use Rattle.std.proofs.lemmas.Result.{err_from_is_err_and}
-use Rattle.jh_spec.proofs.KindTold.{cell_by, system_by}
+use Rattle.jh_spec.proofs.KindLemmas.{cell_by, system_by}
 use Rattle.jh_spec.proofs.Steps.{step, stop, ended}
 use Rattle.jh_spec.proofs.spec.spec_of.Goals as goal
 

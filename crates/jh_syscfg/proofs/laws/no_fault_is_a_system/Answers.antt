@@ -1,4 +1,4 @@
-use Rattle.jh_syscfg.proofs.SystemsFound.{system_found}
+use Rattle.jh_syscfg.proofs.SpelledSystems.{system_found}
 use Rattle.jh_syscfg.proofs.laws.no_fault_is_a_system.Goals as goal
 
 pub returns : goal.returns

@@ -7,7 +7,7 @@ use Rattle.jh_cellcfg.specs.declared.live.Live.{Live}
 use Rattle.jh_script.specs.declared.image.Image.{Image}
 use Rattle.jh_history.specs.declared.access.Access.TheVariants.{Read}
 use Rattle.jh_history.specs.declared.call.Creation.{Creation}
-use Rattle.jh_history.specs.declared.call.Creation.TheVariants.{Refused, Comes}
+use Rattle.jh_history.specs.declared.call.Creation.TheVariants.{Refused, Accepted}
 use Rattle.jh_history.specs.declared.place.Place.{Place}
 use Rattle.jh_history.specs.Admitted.{IsAdmitted}
 use Rattle.jh_history.specs.Configs.{ReadCell}
@@ -21,7 +21,7 @@ use Rattle.jh_history.proofs.Public.{same_function, read_by_is}
 use Rattle.jh_board.specs.declared.held.Held.{Held}
 use Rattle.jh_board.specs.Means.{Means}
 use Rattle.jh_board.specs.Pages.{byte_of}
-use Rattle.jh_board.specs.StateView.{StateView}
+use Rattle.jh_board.specs.Private.StateView.{StateView}
 use Rattle.jh_board.proofs.RootReadLemmas.{read_held, held_reads}
 use Rattle.jh_board.proofs.state.State.creation.Goals as goal
 
@@ -48,9 +48,9 @@ read_is s i f caller at read admitted seen locked reads =
     ∙ ap (λ (cell : ReadCell). creation_by i f caller cell) (reads ∙ read_by_is i f (read_held s.image s.held) at by))
 
 -- what isn't a configuration comes as it is
-refused_is : (image : Image) (f : Facts) (caller : ℕ) (read : Creation) → ((config : CellConfig) → read ≡ Comes config → ⊥) → read ≡ creation_by image f caller (as_read read)
+refused_is : (image : Image) (f : Facts) (caller : ℕ) (read : Creation) → ((config : CellConfig) → read ≡ Accepted config → ⊥) → read ≡ creation_by image f caller (as_read read)
 refused_is image f caller (Refused number) other = refl
-refused_is image f caller (Comes config) other = absurd (other config refl)
+refused_is image f caller (Accepted config) other = absurd (other config refl)
 
 pub returns-then-is_any_locked : goal.returns-then-is_any_locked
 unfolding creation_of
@@ -61,15 +61,15 @@ returns-then-is_any_locked c = λ i f h.
     sym (locked_is i f c.self.inside.held.now seen.1) ∙ sym (c.is_any_locked.ensures f.cells cells) ∙ c.if-is_any_locked.true in
     rw locked refl
 
-pub returns-in-Comes : goal.returns-in-Comes
-returns-in-Comes c = λ i f h.
+pub returns-in-Accepted : goal.returns-in-Accepted
+returns-in-Accepted c = λ i f h.
     let s : StateView = record { image = c.self.inside.image.now; held = c.self.inside.held.now } in
     let seen = subst (IsSeen i f) (sym c.self.view_is) h in
     let cells = sym (c.list.ensures.value ∙ ap configs_of seen.1.cells) in
     let locked = sym (locked_is i f s.held seen.1) ∙ sym (c.is_any_locked.ensures f.cells cells) ∙ c.if-is_any_locked.false in
     let read = c.in_ok-refused.refused in
     let reads = subst (λ (x : StateView). as_read read ≡ read_by (read_held x.image x.held) c.args.at) (sym c.self.view_is) c.in_ok-refused.ensures in
-    let is = ap (λ (r : Creation). creation_by s.image f c.args.caller (as_read r)) (sym c.in-Comes.is) ∙ read_is s i f c.args.caller c.args.at read c.has_few_cpus.ensures.admitted seen locked reads in
+    let is = ap (λ (r : Creation). creation_by s.image f c.args.caller (as_read r)) (sym c.in-Accepted.is) ∙ read_is s i f c.args.caller c.args.at read c.has_few_cpus.ensures.admitted seen locked reads in
     subst (λ (x : Creation). IfOk c.judge.result (λ creation. creation ≡ x)) is (c.judge.ensures f (subst (λ (x : Image). Means x s.held f) seen.0 seen.1))
 
 pub returns-in_default : goal.returns-in_default
@@ -80,4 +80,4 @@ returns-in_default c = λ i f h.
     let locked = sym (locked_is i f s.held seen.1) ∙ sym (c.is_any_locked.ensures f.cells cells) ∙ c.if-is_any_locked.false in
     let read = c.in_ok-refused.refused in
     let reads = subst (λ (x : StateView). as_read read ≡ read_by (read_held x.image x.held) c.args.at) (sym c.self.view_is) c.in_ok-refused.ensures in
-    refused_is s.image f c.args.caller read c.in_default.not-Comes ∙ read_is s i f c.args.caller c.args.at read c.has_few_cpus.ensures.admitted seen locked reads
+    refused_is s.image f c.args.caller read c.in_default.not-Accepted ∙ read_is s i f c.args.caller c.args.at read c.has_few_cpus.ensures.admitted seen locked reads

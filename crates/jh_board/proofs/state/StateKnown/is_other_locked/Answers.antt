@@ -7,7 +7,7 @@ use Rattle.jh_history.specs.LiveView.{is_other_locked_by}
 use Rattle.jh_shape.specs.Lives.{configs_of}
 use Rattle.jh_history.proofs.Public.{same_function}
 use Rattle.jh_board.specs.Pages.{byte_of}
-use Rattle.jh_board.specs.StateView.{StateView}
+use Rattle.jh_board.specs.Private.StateView.{StateView}
 use Rattle.jh_board.proofs.state.StateKnown.is_other_locked.Goals as goal
 
 pub returns : goal.returns

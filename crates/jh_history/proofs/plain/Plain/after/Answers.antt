@@ -8,11 +8,11 @@ use Rattle.jh_history.specs.Facts.{Facts}
 use Rattle.jh_history.specs.Due.{due_at}
 use Rattle.jh_history.specs.History.{facts}
 use Rattle.jh_history.specs.Sound.{IsSound}
-use Rattle.jh_history.specs.PlainView.{StandsFor}
+use Rattle.jh_history.specs.Private.PlainView.{Represents}
 use Rattle.jh_history.proofs.FactsLemmas.{facts_nil, facts_next}
 use Rattle.jh_history.proofs.FollowLemmas.{may_follow}
 use Rattle.jh_history.proofs.LegalLemmas.{due_index}
-use Rattle.jh_history.proofs.PlainLemmas.{due_at_plain}
+use Rattle.jh_history.proofs.WellFormedLemmas.{due_at_well_formed}
 use Rattle.jh_history.proofs.plain.Plain.after.Goals as goal
 
 abbrev any_entry : Entry
@@ -21,10 +21,10 @@ any_entry = record { cpu = 0; cell = 0; act = Read 0 0 None }
 pub loop-entry-init : goal.loop-entry-init
 loop-entry-init c = rw facts_nil (record { stands = c.in_ok-plain.ensures; sound = c.legal_journals_are_sound.ensures.start c.args.image.now c.requires.admitted })
 
-pub follow-requires-clause-plain : goal.follow-requires-clause-plain
-follow-requires-clause-plain c =
+pub follow-requires-clause-well_formed : goal.follow-requires-clause-well_formed
+follow-requires-clause-well_formed c =
     let lt : c.loop-entry.entry-index < length c.args.entries.now = omega arith in
-    due_at_plain c.args.image.now (facts c.args.image.now (take c.loop-entry.entry-index c.args.entries.now)) _ _ c.requires.admitted (due_index c.args.image.now c.args.entries.now c.loop-entry.entry-index _ c.requires.legal lt)
+    due_at_well_formed c.args.image.now (facts c.args.image.now (take c.loop-entry.entry-index c.args.entries.now)) _ _ c.requires.admitted (due_index c.args.image.now c.args.entries.now c.loop-entry.entry-index _ c.requires.legal lt)
 
 pub follow-requires-clause-due : goal.follow-requires-clause-due
 follow-requires-clause-due c =
@@ -57,9 +57,9 @@ loop-entry-preserved c =
     let f = facts c.args.image.now (take c.loop-entry.entry-index c.args.entries.now) in
     let next = sym (facts_next c.args.image.now c.args.entries.now c.loop-entry.entry-index _ lt) in
     record {
-      stands = subst (λ (g : Facts). StandsFor c.follow.new.self c.args.image.now g) next (c.in_ok-follow.ensures c.args.image.now f c.loop-entry.invariant.stands);
+      stands = subst (λ (g : Facts). Represents c.follow.new.self c.args.image.now g) next (c.in_ok-follow.ensures c.args.image.now f c.loop-entry.invariant.stands);
       sound = subst (λ (g : Facts). IsSound c.args.image.now g) next (c.legal_journals_are_sound.ensures.after c.args.image.now f _ c.loop-entry.invariant.sound (due_index c.args.image.now c.args.entries.now c.loop-entry.entry-index _ c.requires.legal lt));
     }
 
 pub returns : goal.returns
-returns c = subst (λ (entries : List Entry). StandsFor c.loop-entry.plain c.args.image.now (facts c.args.image.now entries)) (take_all c.loop-entry.entry-index c.args.entries.now c.loop-entry-test.false) c.loop-entry.invariant.stands
+returns c = subst (λ (entries : List Entry). Represents c.loop-entry.plain c.args.image.now (facts c.args.image.now entries)) (take_all c.loop-entry.entry-index c.args.entries.now c.loop-entry-test.false) c.loop-entry.invariant.stands

@@ -13,7 +13,7 @@ use Rattle.jh_history.specs.Cpus.{cpu_after}
 use Rattle.jh_history.specs.Endpoints.{change_by, endpoints_changed, specs_changing, with_words, IsNextOf}
 use Rattle.jh_history.specs.Pages.{page_write_by, with_page_write}
 use Rattle.jh_shape.specs.Lives.{configs_of}
-use Rattle.jh_history.specs.PlainView.{PlainView, last_byte}
+use Rattle.jh_history.specs.Private.PlainView.{PlainView, last_byte}
 use Rattle.jh_history.proofs.FactsLemmas.{same_function}
 use Rattle.jh_history.proofs.FollowLemmas.{may_commit}
 use Rattle.jh_history.proofs.plain.Plain.change.Goals as goal

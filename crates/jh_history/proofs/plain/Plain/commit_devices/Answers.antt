@@ -8,7 +8,7 @@ use Rattle.jh_history.specs.declared.call.OpenCall.{OpenCall}
 use Rattle.jh_history.specs.declared.device_change.DeviceChange.{DeviceChange}
 use Rattle.jh_history.specs.Devices.{specs_of}
 use Rattle.jh_history.specs.Endpoints.{change_by, changing_by, endpoints_changed, with_words, MayChange}
-use Rattle.jh_history.specs.PlainView.{PlainView, last_byte}
+use Rattle.jh_history.specs.Private.PlainView.{PlainView, last_byte}
 use Rattle.jh_history.proofs.FollowLemmas.{specs_changing_holds}
 use Rattle.jh_history.proofs.plain.Plain.commit_devices.Goals as goal
 

@@ -10,7 +10,7 @@ use Rattle.jh_history.specs.Configs.{ReadCell}
 use Rattle.jh_history.specs.LiveView.{is_locked_by}
 use Rattle.jh_history.specs.Phases.{is_locked, creation_of, creation_by}
 use Rattle.jh_shape.specs.Lives.{configs_of}
-use Rattle.jh_history.specs.PlainView.{PlainView, HasSoundCells, last_byte}
+use Rattle.jh_history.specs.Private.PlainView.{PlainView, HasSoundCells, last_byte}
 use Rattle.jh_history.specs.ReadView.{as_read}
 use Rattle.jh_history.proofs.FactsLemmas.{same_function}
 use Rattle.jh_history.proofs.PlainReadLemmas.{read_in, plain_reads}

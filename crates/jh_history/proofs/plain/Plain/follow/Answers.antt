@@ -10,7 +10,7 @@ use Rattle.jh_history.specs.Calls.{call_by}
 use Rattle.jh_history.specs.Commits.{cells_by}
 use Rattle.jh_history.specs.Due.{due_at}
 use Rattle.jh_history.specs.Sound.{IsSound}
-use Rattle.jh_history.specs.PlainView.{last_byte}
+use Rattle.jh_history.specs.Private.PlainView.{last_byte}
 use Rattle.jh_history.proofs.KeptLemmas.{Stands_after}
 use Rattle.jh_history.proofs.plain.Plain.follow.Goals as goal
 

@@ -11,7 +11,7 @@ use Rattle.jh_history.specs.declared.call.OpenCall.{OpenCall}
 use Rattle.jh_history.specs.Calls.{call_by}
 use Rattle.jh_history.specs.Commits.{cells_by}
 use Rattle.jh_shape.specs.Lives.{configs_of}
-use Rattle.jh_history.specs.PlainView.{PlainView, HasSoundCells}
+use Rattle.jh_history.specs.Private.PlainView.{PlainView, HasSoundCells}
 use Rattle.jh_history.proofs.PlainStepLemmas.{fit_after}
 use Rattle.jh_history.proofs.plain.Plain.move_on.Goals as goal
 

@@ -3,7 +3,7 @@ use Rattle.std.proofs.Common.{◌≡◌, ℕ, ◌<◌, ◌^◌, Some, length, ap
 use Rattle.jh_history.specs.declared.access.Access.TheVariants.{Read}
 use Rattle.jh_history.specs.Access.{memory_or_nothing, memory_read, reach_by}
 use Rattle.jh_history.specs.Grants.{granted_in}
-use Rattle.jh_history.specs.PlainView.{PlainView, last_byte}
+use Rattle.jh_history.specs.Private.PlainView.{PlainView, last_byte}
 use Rattle.jh_history.proofs.ReadLemmas.{one_place_holds}
 use Rattle.jh_history.proofs.plain.Plain.read.Goals as goal
 

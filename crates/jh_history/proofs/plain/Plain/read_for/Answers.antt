@@ -1,7 +1,7 @@
 -- What a create reads.
 use Rattle.std.proofs.Common.{subst, ap, ◌∙◌}
 use Rattle.jh_history.specs.Configs.{config_read}
-use Rattle.jh_history.specs.PlainView.{PlainView, HasSoundCells}
+use Rattle.jh_history.specs.Private.PlainView.{PlainView, HasSoundCells}
 use Rattle.jh_history.proofs.PlainReadLemmas.{read_in, plain_reads}
 use Rattle.jh_history.proofs.ReadLemmas.{read_by_is}
 use Rattle.jh_history.proofs.plain.Plain.read_for.Goals as goal

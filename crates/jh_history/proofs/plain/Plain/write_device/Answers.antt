@@ -7,7 +7,7 @@ use Rattle.jh_history.specs.Access.{with_slot_if, slot_of_reach}
 use Rattle.jh_history.specs.Devices.{Devices}
 use Rattle.jh_history.specs.Endpoints.{endpoints_put}
 use Rattle.jh_history.specs.Grants.{devices_of}
-use Rattle.jh_history.specs.PlainView.{PlainView, last_byte}
+use Rattle.jh_history.specs.Private.PlainView.{PlainView, last_byte}
 use Rattle.jh_history.proofs.FactsLemmas.{same_function}
 use Rattle.jh_history.proofs.KeptLemmas.{devices_kept}
 use Rattle.jh_history.proofs.plain.Plain.write_device.Goals as goal

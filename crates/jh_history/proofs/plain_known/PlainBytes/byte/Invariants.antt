@@ -1,6 +1,6 @@
 -- The byte after those that were written so far.
 use Rattle.std.proofs.Common.{◌≡◌, take}
-use Rattle.jh_history.specs.PlainView.{last_byte}
+use Rattle.jh_history.specs.Private.PlainView.{last_byte}
 use Rattle.jh_history.proofs.plain_known.PlainBytes.byte.Given as goal
 
 abbrev pub invariant-loop-one : goal.invariant-loop-one

@@ -1,6 +1,6 @@
 -- What is kept stands for the facts.
 use Rattle.std.proofs.Common.{ap, sym, ◌∙◌}
-use Rattle.jh_history.specs.PlainView.{PlainView}
+use Rattle.jh_history.specs.Private.PlainView.{PlainView}
 use Rattle.jh_history.proofs.plain_known.PlainKnown.call.Goals as goal
 
 pub returns : goal.returns

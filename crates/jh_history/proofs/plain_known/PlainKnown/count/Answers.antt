@@ -2,7 +2,7 @@
 use Rattle.std.proofs.Common.{List, ◌+◌, length, ap, sym, ◌∙◌}
 use Rattle.jh_cellcfg.specs.declared.config.CellConfig.{CellConfig}
 use Rattle.jh_cellcfg.specs.declared.live.Live.{Live}
-use Rattle.jh_history.specs.PlainView.{PlainView}
+use Rattle.jh_history.specs.Private.PlainView.{PlainView}
 use Rattle.jh_history.proofs.FewLemmas.{configs_length}
 use Rattle.jh_history.proofs.plain_known.PlainKnown.count.Goals as goal
 

@@ -3,7 +3,7 @@ use Rattle.std.proofs.Common.{ℕ, get_or, ap, ◌∙◌}
 use Rattle.std.specs.Prelude.{slice_get}
 use Rattle.std.proofs.lemmas.Option.{get_or_from_slice_get}
 use Rattle.jh_cpu.specs.Changes.{opened}
-use Rattle.jh_history.specs.PlainView.{PlainView}
+use Rattle.jh_history.specs.Private.PlainView.{PlainView}
 use Rattle.jh_history.proofs.plain_known.PlainKnown.cpu.Goals as goal
 
 pub returns : goal.returns

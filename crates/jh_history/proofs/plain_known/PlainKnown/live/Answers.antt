@@ -2,7 +2,7 @@
 use Rattle.std.proofs.Common.{List, ap, sym, ◌∙◌}
 use Rattle.jh_cellcfg.specs.declared.live.Live.{Live}
 use Rattle.jh_shape.specs.Lives.{configs_of}
-use Rattle.jh_history.specs.PlainView.{PlainView}
+use Rattle.jh_history.specs.Private.PlainView.{PlainView}
 use Rattle.jh_history.proofs.plain_known.PlainKnown.live.Goals as goal
 
 pub returns : goal.returns

@@ -1,7 +1,7 @@
 -- What is kept stands for the facts.
 use Rattle.std.proofs.Common.{ap, sym, ◌∙◌}
 use Rattle.jh_script.specs.declared.image.Image.{Image}
-use Rattle.jh_history.specs.PlainView.{PlainView}
+use Rattle.jh_history.specs.Private.PlainView.{PlainView}
 use Rattle.jh_history.proofs.plain_known.PlainKnown.root.Goals as goal
 
 pub returns : goal.returns

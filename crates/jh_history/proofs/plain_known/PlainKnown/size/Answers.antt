@@ -2,7 +2,7 @@
 use Rattle.std.proofs.Common.{ap, sym, ◌∙◌}
 use Rattle.jh_script.specs.declared.image.Image.{Image}
 use Rattle.jh_history.specs.Admitted.{pool_pages}
-use Rattle.jh_history.specs.PlainView.{PlainView}
+use Rattle.jh_history.specs.Private.PlainView.{PlainView}
 use Rattle.jh_history.proofs.plain_known.PlainKnown.size.Goals as goal
 
 pub returns : goal.returns

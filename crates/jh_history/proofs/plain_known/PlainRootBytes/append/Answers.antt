@@ -1,7 +1,7 @@
 -- One byte more, and one that may not be read.
 use Rattle.std.proofs.Common.{◌≡◌, ℕ, ◌+◌, ◌++◌, List, Option, Some, None, ap, sym, ◌∙◌}
 use Rattle.std.specs.Prelude.{option_map}
-use Rattle.jh_history.specs.PlainView.{root_byte}
+use Rattle.jh_history.specs.Private.PlainView.{root_byte}
 use Rattle.jh_history.proofs.ReadLemmas.{bytes_by_grown, bytes_by_missing}
 use Rattle.jh_history.proofs.plain_known.PlainRootBytes.append.Goals as goal
 

@@ -1,7 +1,7 @@
 -- The bytes so far, behind those of the buffer.
 use Rattle.std.proofs.Common.{◌≡◌, ◌++◌, List, ℕ, Some}
 use Rattle.std.specs.Prelude.{option_map}
-use Rattle.jh_history.specs.PlainView.{root_byte}
+use Rattle.jh_history.specs.Private.PlainView.{root_byte}
 use Rattle.jh_history.specs.ReadView.{bytes_by}
 use Rattle.jh_history.proofs.plain_known.PlainRootBytes.append.Given as goal
 

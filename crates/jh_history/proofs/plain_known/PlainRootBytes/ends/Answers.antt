@@ -1,7 +1,7 @@
 -- Nothing is read past the addresses.
 use Rattle.jh_history.specs.declared.access.Access.TheVariants.{Read}
 use Rattle.jh_history.specs.Grants.{granted_in}
-use Rattle.jh_history.specs.PlainView.{last_byte}
+use Rattle.jh_history.specs.Private.PlainView.{last_byte}
 use Rattle.jh_history.proofs.ReadLemmas.{read_beyond}
 use Rattle.jh_history.proofs.plain_known.PlainRootBytes.ends.Goals as goal
 

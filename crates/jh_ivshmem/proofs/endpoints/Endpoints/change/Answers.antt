@@ -3,7 +3,7 @@ use Rattle.std.proofs.lemmas.List.{length-map}
 use Rattle.jh_ivshmem.specs.Changes.{is_meant, after}
 use Rattle.jh_ivshmem.specs.Specs.{is_device}
 use Rattle.jh_ivshmem.specs.Keys.{key_of}
-use Rattle.jh_ivshmem.specs.Seen.{Seen}
+use Rattle.jh_ivshmem.specs.EndpointsView.{EndpointsView}
 use Rattle.jh_ivshmem.proofs.endpoints.Endpoints.change.Goals as goal
 use Rattle.jh_ivshmem.proofs.ApartLemmas.{changed_length}
 
@@ -11,7 +11,7 @@ pub returns-in-Device-clause-spare : goal.returns-in-Device-clause-spare
 returns-in-Device-clause-spare c =
     omega (
       arith,
-      ap (λ (seen : Seen). seen.spare) c.self.view_is,
+      ap (λ (seen : EndpointsView). seen.spare) c.self.view_is,
       c.change_one.ensures.room,
       c.change_one.ensures.key_room,
       ap length c.change_one.ensures.list,
@@ -30,7 +30,7 @@ pub returns-in_default-clause-spare : goal.returns-in_default-clause-spare
 returns-in_default-clause-spare c =
     omega (
       arith,
-      ap (λ (seen : Seen). seen.spare) c.self.view_is,
+      ap (λ (seen : EndpointsView). seen.spare) c.self.view_is,
       c.change_each.ensures.room,
       c.change_each.ensures.key_room,
       ap length c.change_each.ensures.list,

@@ -5,7 +5,7 @@ use Rattle.jh_ivshmem.specs.declared.endpoint.Endpoint.{Endpoint}
 use Rattle.jh_ivshmem.specs.Specs.{is_device}
 use Rattle.jh_ivshmem.specs.contracts.endpoints.Endpoints.{the_view}
 use Rattle.jh_ivshmem.specs.Changes.{changed}
-use Rattle.jh_ivshmem.specs.Seen.{Seen}
+use Rattle.jh_ivshmem.specs.EndpointsView.{EndpointsView}
 use Rattle.jh_ivshmem.specs.Links.{endpoint_at}
 use Rattle.jh_ivshmem.specs.Lending.{with_space}
 use Rattle.jh_ivshmem.proofs.ApartLemmas.{set_device}
@@ -17,7 +17,7 @@ use Rattle.jh_ivshmem.proofs.endpoints.Endpoints.config_mut.Goals as goal
 
 found : (c : goal.After-self-2-1) → endpoint_at c.args.cell c.args.device c.args.self.now.list ≡ Some c.index_mut-endpoint.result.now
 found c =
-    ap (λ (seen : Seen). endpoint_at c.args.cell c.args.device seen.list) (sym c.self.view_is)
+    ap (λ (seen : EndpointsView). endpoint_at c.args.cell c.args.device seen.list) (sym c.self.view_is)
     ∙ sym c.index_of-i.ensures.value
     ∙ slice_get_read c.self.inside.endpoints.items (length c.self.inside.endpoints.items) c.index_of-i.result
     c.index_mut-endpoint.result.now refl c.index_of-i.ensures.bound c.index_mut-endpoint.ensures.value
@@ -44,7 +44,7 @@ returns c = (
   (
     refl,
     λ w. ap (λ (list : List Endpoint). record (the_view c.self.inside) { list = list }) (listed c w)
-        ∙ ap (λ (seen : Seen). with_space c.args.cell c.args.device w seen) c.self.view_is,
+        ∙ ap (λ (seen : EndpointsView). with_space c.args.cell c.args.device w seen) c.self.view_is,
   ),
   record { value = λ e named. ap (λ (o : Endpoint). o.space) (same_found c.args.cell c.args.device c.args.self.now.list e c.index_mut-endpoint.result.now named (found c)); others = λ space. besides_changed (is_device c.args.cell c.args.device) (is_device c.args.cell c.args.device) (λ (e : Endpoint). record e { space = space }) (λ e. refl) (λ s h. h) c.args.self.now.list; writes_back = tt },
 )

@@ -2,7 +2,7 @@ use Rattle.std.proofs.Common.{◌≡◌, ◌<◌, ℕ, List, Some, None, IsSome,
 use Rattle.std.specs.List.{slice_get}
 use Rattle.jh_ivshmem.specs.declared.change.Whom.TheVariants.{Device}
 use Rattle.jh_ivshmem.specs.declared.endpoint.Endpoint.{Endpoint}
-use Rattle.jh_ivshmem.specs.Seen.{Seen}
+use Rattle.jh_ivshmem.specs.EndpointsView.{EndpointsView}
 use Rattle.jh_ivshmem.specs.Links.{endpoint_at}
 use Rattle.jh_ivshmem.specs.Keys.{key_of, is_key_meant, AreInOrder}
 use Rattle.jh_ivshmem.proofs.KeyLemmas.{found_at, found_none, found_within}
@@ -20,7 +20,7 @@ unreachable-requires c =
     let whom = Device c.args.cell c.args.device in
     let none = ap (position (is_key_meant whom)) (sym (c.deref.ensures.value ∙ c.self.invariant.keys))
     ∙ sym c.key_index.ensures ∙ c.in-None.is in
-    let listed = ap (λ (seen : Seen). seen.list) c.self.view_is in
+    let listed = ap (λ (seen : EndpointsView). seen.list) c.self.view_is in
     no_some c.args.self.now.list c.args.cell c.args.device
     (ap (endpoint_at c.args.cell c.args.device) (sym listed) ∙ found_none whom c.self.inside.endpoints.items none)
     c.requires.there
@@ -33,13 +33,13 @@ found c =
 pub returns-clause-value : goal.returns-clause-value
 returns-clause-value c =
     subst (λ (list : List Endpoint). slice_get list c.in-Some.i ≡ endpoint_at c.args.cell c.args.device list)
-    (ap (λ (seen : Seen). seen.list) c.self.view_is)
+    (ap (λ (seen : EndpointsView). seen.list) c.self.view_is)
     (sym (found_at (Device c.args.cell c.args.device) c.self.inside.endpoints.items c.in-Some.i (found c)))
 
 pub returns-clause-bound : goal.returns-clause-bound
 returns-clause-bound c =
     subst (λ (list : List Endpoint). c.in-Some.i < length list)
-    (ap (λ (seen : Seen). seen.list) c.self.view_is)
+    (ap (λ (seen : EndpointsView). seen.list) c.self.view_is)
     (found_within (Device c.args.cell c.args.device) c.self.inside.endpoints.items c.in-Some.i (found c))
 
 pub key_index-requires : goal.key_index-requires

@@ -4,7 +4,7 @@ use Rattle.std.proofs.lemmas.List.Folds.{list_all-map}
 use Rattle.std.proofs.lemmas.List.Sums.{AllPass-from_list_all, list_all-from_AllPass}
 use Rattle.jh_ivshmem.specs.declared.endpoint.Endpoint.{Endpoint}
 use Rattle.jh_ivshmem.specs.Keys.{key_of, is_key_apart}
-use Rattle.jh_ivshmem.specs.Seen.{Seen}
+use Rattle.jh_ivshmem.specs.EndpointsView.{EndpointsView}
 use Rattle.jh_ivshmem.proofs.ApartLemmas.{apart_of_key, key_of_apart}
 use Rattle.jh_ivshmem.proofs.endpoints.Endpoints.is_free.Goals as goal
 
@@ -13,7 +13,7 @@ told c =
     c.all_apart.ensures
     ∙ ap (list_all (is_key_apart c.args.s.now)) (c.deref.ensures.value ∙ c.self.invariant.keys)
     ∙ list_all-map (is_key_apart c.args.s.now) key_of c.self.inside.endpoints.items
-    ∙ ap (λ (seen : Seen). list_all (λ (e : Endpoint). is_key_apart c.args.s.now (key_of e)) seen.list) c.self.view_is
+    ∙ ap (λ (seen : EndpointsView). list_all (λ (e : Endpoint). is_key_apart c.args.s.now (key_of e)) seen.list) c.self.view_is
 
 pub returns : goal.returns
 returns c = (

@@ -3,7 +3,7 @@ use Rattle.std.specs.List.{insert}
 use Rattle.jh_ivshmem.specs.declared.endpoint.Endpoint.{Endpoint}
 use Rattle.jh_ivshmem.specs.declared.key.Key.{Key}
 use Rattle.jh_ivshmem.specs.Specs.{AreEndpointsApart, is_device}
-use Rattle.jh_ivshmem.specs.Seen.{Seen}
+use Rattle.jh_ivshmem.specs.EndpointsView.{EndpointsView}
 use Rattle.jh_ivshmem.specs.Keys.{AreInOrder}
 use Rattle.jh_ivshmem.specs.Links.{besides, joined}
 use Rattle.jh_ivshmem.proofs.BesidesLemmas.{besides_joined, own_device}
@@ -27,13 +27,13 @@ joining c =
     (c.put-2.ensures.items ∙ ap (λ (l : List Key). insert l c.insertion_index-index.result c.of-key.result) c.in_ok-make_room-2.ensures.items)
     (record { vectors = refl; within = c.requires.within })
     (subst (λ (list : List Endpoint). All (λ (o : Endpoint). AreEndpointsApart o.spec c.args.s) list)
-    (sym (ap (λ (seen : Seen). seen.list) c.self.view_is)) c.requires.new)
+    (sym (ap (λ (seen : EndpointsView). seen.list) c.self.view_is)) c.requires.new)
 
 pub invariant_of-self-2 : goal.invariant_of-self-2
 invariant_of-self-2 c = (joining c).kept
 
 pub returns-clause-ok : goal.returns-clause-ok
-returns-clause-ok c = (joining c).list ∙ ap (joined c.args.s) (ap (λ (seen : Seen). seen.list) c.self.view_is)
+returns-clause-ok c = (joining c).list ∙ ap (joined c.args.s) (ap (λ (seen : EndpointsView). seen.list) c.self.view_is)
 
 pub returns-clause-others : goal.returns-clause-others
 returns-clause-others c =

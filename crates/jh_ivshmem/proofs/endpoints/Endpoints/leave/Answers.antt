@@ -4,7 +4,7 @@ use Rattle.jh_ivshmem.specs.declared.endpoint.Endpoint.{Endpoint}
 use Rattle.jh_ivshmem.specs.declared.spec.EndpointSpec.{EndpointSpec}
 use Rattle.jh_ivshmem.specs.declared.key.Key.{Key}
 use Rattle.jh_ivshmem.specs.Specs.{is_device, is_concerned}
-use Rattle.jh_ivshmem.specs.Seen.{Seen}
+use Rattle.jh_ivshmem.specs.EndpointsView.{EndpointsView}
 use Rattle.jh_ivshmem.specs.Keys.{AreKept, is_key_meant}
 use Rattle.jh_ivshmem.specs.Links.{told_of, besides}
 use Rattle.jh_ivshmem.proofs.BesidesLemmas.{besides_left}
@@ -30,7 +30,7 @@ returns-clause-list c = λ e named.
     c.args.cell c.args.device c.args.self.now.list e named
     (c.drop_endpoint.ensures.list
     ∙ ap (filter (λ (o : Endpoint). not (is_device c.args.cell c.args.device o.spec)))
-    (ap (λ (seen : Seen). seen.list) c.self.view_is ∙ c.tell-slot.ensures.list e named))
+    (ap (λ (seen : EndpointsView). seen.list) c.self.view_is ∙ c.tell-slot.ensures.list e named))
 
 pub returns-clause-others : goal.returns-clause-others
 returns-clause-others c = λ e named. ap (besides (is_concerned e.spec)) (returns-clause-list c e named) ∙ besides_left e c.args.self.now.list

@@ -3,7 +3,7 @@ use Rattle.std.proofs.lemmas.List.Folds.{fold-map}
 use Rattle.jh_ivshmem.specs.declared.key.Key.{Key}
 use Rattle.jh_ivshmem.specs.Keys.{key_of, pending_by, AreInOrder}
 use Rattle.jh_ivshmem.specs.Links.{earlier, pending_of}
-use Rattle.jh_ivshmem.specs.Seen.{Seen}
+use Rattle.jh_ivshmem.specs.EndpointsView.{EndpointsView}
 use Rattle.jh_ivshmem.proofs.OrderLemmas.{keys_in_order}
 use Rattle.jh_ivshmem.proofs.endpoints.Endpoints.pending.Goals as goal
 
@@ -12,7 +12,7 @@ returns c =
     c.first_pending.ensures
     ∙ ap (fold (λ best (key : Key). earlier best (pending_by c.args.cell key)) None) (c.deref.ensures.value ∙ c.self.invariant.keys)
     ∙ fold-map (λ best (key : Key). earlier best (pending_by c.args.cell key)) key_of None c.self.inside.endpoints.items
-    ∙ ap (λ (seen : Seen). pending_of c.args.cell seen.list) c.self.view_is
+    ∙ ap (λ (seen : EndpointsView). pending_of c.args.cell seen.list) c.self.view_is
 
 pub first_pending-requires : goal.first_pending-requires
 first_pending-requires c =

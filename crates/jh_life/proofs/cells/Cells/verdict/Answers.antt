@@ -6,7 +6,7 @@ use Rattle.jh_cellcfg.specs.declared.config.CellConfig.{CellConfig}
 use Rattle.jh_cellcfg.specs.declared.config.SystemConfig.{SystemConfig}
 use Rattle.jh_check.specs.Refusals.{is_known, nobody, refusal_of}
 use Rattle.jh_shape.specs.Pages.{pages_of}
-use Rattle.jh_life.specs.Seen.{Seen}
+use Rattle.jh_life.specs.CellsView.{CellsView}
 use Rattle.jh_life.specs.Lives.{numbered_cells}
 use Rattle.jh_shape.specs.Lives.{configs_of}
 use Rattle.jh_shape.proofs.Public.{configs_joined, length_joined}
@@ -16,7 +16,7 @@ use Rattle.jh_life.proofs.cells.Cells.verdict.Goals as goal
 use Rattle.jh_life.proofs.cells.Cells.verdict.Goals.{After-refusal_without_cpus}
 
 -- the pages of all cells with another
-abbrev pages_with : Seen → CellConfig → ℕ
+abbrev pages_with : CellsView → CellConfig → ℕ
 pages_with seen new = pages_of seen.system.root.memory_regions (configs_of seen.lives ++ new ∷ [])
 
 -- beside 15 cells
@@ -28,8 +28,8 @@ told_full c =
     let configs = c.self.inside.configs.items in
     let marks = c.self.inside.marks.items in
     let pages : ℕ = pages_with now new in
-    let system : c.self.inside.system ≡ now.system = ap (λ (s : Seen). s.system) c.self.view_is in
-    let cells : live ≡ configs_of now.lives = c.as_slice-live.ensures.value ∙ sym (configs_joined configs marks c.self.invariant.even) ∙ ap (λ (s : Seen). configs_of s.lives) c.self.view_is in
+    let system : c.self.inside.system ≡ now.system = ap (λ (s : CellsView). s.system) c.self.view_is in
+    let cells : live ≡ configs_of now.lives = c.as_slice-live.ensures.value ∙ sym (configs_joined configs marks c.self.invariant.even) ∙ ap (λ (s : CellsView). configs_of s.lives) c.self.view_is in
     let lives : length now.lives ≡ length configs = rw (← c.self.view_is) (length_joined configs marks c.self.invariant.even) in
     let len : length live ≡ length configs = ap (λ (l : List CellConfig). length l) c.as_slice-live.ensures.value in
     let full : length now.lives ≡ 15 = omega arith in
@@ -56,8 +56,8 @@ returns-in-Some-clause-value c =
     let new = c.args.new.now in
     let live = c.as_slice-live.result.now in
     let free : ℕ → Bool = has_bit c.free_cpus-free.result in
-    let system : c.self.inside.system ≡ now.system = ap (λ (s : Seen). s.system) c.self.view_is in
-    let cells : live ≡ configs_of now.lives = c.as_slice-live.ensures.value ∙ sym (configs_joined c.self.inside.configs.items c.self.inside.marks.items c.self.invariant.even) ∙ ap (λ (s : Seen). configs_of s.lives) c.self.view_is in
+    let system : c.self.inside.system ≡ now.system = ap (λ (s : CellsView). s.system) c.self.view_is in
+    let cells : live ≡ configs_of now.lives = c.as_slice-live.ensures.value ∙ sym (configs_joined c.self.inside.configs.items c.self.inside.marks.items c.self.invariant.even) ∙ ap (λ (s : CellsView). configs_of s.lives) c.self.view_is in
     let kept : refusal_of c.self.inside.system live new free 0 0 ≡ refusal_of c.self.inside.system live new free (pages_with now new) c.args.pool =
     refused_kept c.self.inside.system live new free (pages_with now new) c.args.pool (sym c.in_ok-refusal.ensures ∙ c.in-Some.is) in
     rw c.if-locked.false
@@ -71,8 +71,8 @@ returns-in-None-clause-value c =
     let new = c.args.new.now in
     let live = c.as_slice-live.result.now in
     let free : ℕ → Bool = has_bit c.free_cpus-free.result in
-    let system : c.self.inside.system ≡ now.system = ap (λ (s : Seen). s.system) c.self.view_is in
-    let cells : live ≡ configs_of now.lives = c.as_slice-live.ensures.value ∙ sym (configs_joined c.self.inside.configs.items c.self.inside.marks.items c.self.invariant.even) ∙ ap (λ (s : Seen). configs_of s.lives) c.self.view_is in
+    let system : c.self.inside.system ≡ now.system = ap (λ (s : CellsView). s.system) c.self.view_is in
+    let cells : live ≡ configs_of now.lives = c.as_slice-live.ensures.value ∙ sym (configs_joined c.self.inside.configs.items c.self.inside.marks.items c.self.invariant.even) ∙ ap (λ (s : CellsView). configs_of s.lives) c.self.view_is in
     let before : refusal_of c.self.inside.system live new free 0 0 ≡ None = sym c.in_ok-refusal.ensures ∙ c.in-None.is in
     let whole = refused_left c.self.inside.system live new free (pages_with now new) c.args.pool before in
     rw c.if-locked.false
@@ -87,8 +87,8 @@ returns-in-None-clause-unknown c =
     let new = c.args.new.now in
     let live = c.as_slice-live.result.now in
     let free : ℕ → Bool = has_bit c.free_cpus-free.result in
-    let system : c.self.inside.system ≡ now.system = ap (λ (s : Seen). s.system) c.self.view_is in
-    let cells : live ≡ configs_of now.lives = c.as_slice-live.ensures.value ∙ sym (configs_joined c.self.inside.configs.items c.self.inside.marks.items c.self.invariant.even) ∙ ap (λ (s : Seen). configs_of s.lives) c.self.view_is in
+    let system : c.self.inside.system ≡ now.system = ap (λ (s : CellsView). s.system) c.self.view_is in
+    let cells : live ≡ configs_of now.lives = c.as_slice-live.ensures.value ∙ sym (configs_joined c.self.inside.configs.items c.self.inside.marks.items c.self.invariant.even) ∙ ap (λ (s : CellsView). configs_of s.lives) c.self.view_is in
     let before : refusal_of now.system (configs_of now.lives) new (may_have c.args.owned c.args.caller) 0 0 ≡ None =
     sym (same_cells c.self.inside.system now.system live (configs_of now.lives) new free (may_have c.args.owned c.args.caller) 0 0 system cells c.free_cpus-free.ensures)
     ∙ sym c.in_ok-refusal.ensures ∙ c.in-None.is in

@@ -6,7 +6,7 @@ use Rattle.serde_json.specs.Data.{Items}
 use Rattle.serde_json.specs.View.{items_view}
 use Rattle.jh_spec.specs.Json.{items_told}
 use Rattle.jh_spec.specs.Fields.{u32_told}
-use Rattle.jh_spec.proofs.ListsTold.{counted, words_none, words_some, none_told, all_told, one_told}
+use Rattle.jh_spec.proofs.ListPrefixes.{counted, words_none, words_some, none_told, all_told, one_told}
 use Rattle.jh_spec.proofs.numbers.ArrayU32FromJson.from_json.Goals as goal
 
 -- the words of a value by its array's items

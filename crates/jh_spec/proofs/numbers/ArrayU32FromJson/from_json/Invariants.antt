@@ -1,7 +1,7 @@
 use Rattle.std.proofs.Common.{◌≡◌, length, take}
 use Rattle.jh_spec.specs.Fields.{u32_told}
-use Rattle.jh_spec.proofs.ListsTold.{ToldSoFar}
+use Rattle.jh_spec.proofs.ListPrefixes.{IsListPrefix}
 use Rattle.jh_spec.proofs.numbers.ArrayU32FromJson.from_json.Given as goal
 
 abbrev pub invariant-loop-place : goal.invariant-loop-place
-invariant-loop-place g l = record { told : ToldSoFar u32_told l.items.items l.place (take l.place l.words); len : length l.words ≡ g.row.N }
+invariant-loop-place g l = record { told : IsListPrefix u32_told l.items.items l.place (take l.place l.words); len : length l.words ≡ g.row.N }

@@ -1,0 +1,9 @@
+-- Definitions that mirror the code: clauses of private functions alone cite them, and no public clause rests on them.
+pub mod Closed
+pub mod IsCellRegions
+pub mod IsIndexed
+pub mod Judged
+pub mod KeptCells
+pub mod LiveView
+pub mod StateView
+pub mod Steps

@@ -1,0 +1,18 @@
+-- What is true of every board's live cells.
+use Rattle.std.specs.Prelude.{◌≡◌, ℕ, ◌<◌, ◌≤◌, All, length}
+use Rattle.jh_num.specs.Bytes.{has_byte}
+use Rattle.jh_shape.specs.Pages.{pages_of}
+use Rattle.jh_shape.specs.Lives.{configs_of}
+use Rattle.jh_board.specs.Private.Closed.{is_closed_by, all_regions, count_regions, AreInRange}
+use Rattle.jh_board.specs.declared.cells.LiveCells.TheInside.{Inside}
+
+-- what is kept beside the live cells is theirs: their regions, what they close to root, and how many pages all cells
+-- take
+pub record FitsItsCells (s : Inside) : Type 0 where
+  pub indexes : s.indexes.items ≡ all_regions s.cells.lives
+  pub within : All AreInRange s.indexes.items
+  pub closed : (place : ℕ) → has_byte s.closed.ranges place ≡ is_closed_by s.cells.lives place
+  pub few : length s.closed.ranges ≤ s.regions
+  pub regions : s.regions ≡ count_regions s.indexes.items
+  pub room : s.regions < s.closed.room
+  pub used : s.used ≡ pages_of s.cells.system.root.memory_regions (configs_of s.cells.lives)

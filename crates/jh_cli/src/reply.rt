@@ -1,0 +1,53 @@
+//! What the words ask for, worked out before anything is written.
+ghost use Rattle.std.specs.Prelude.{map, string_bytes, Some};
+ghost use Rattle.jh_cli.specs.Order.{ReadsFor, IsReadFor};
+ghost use Rattle.jh_cli.specs.Words.{command_of, asked_by, HasFewCells, IsSerial};
+ghost use Rattle.jh_cli.specs.Outcome.{Outcome};
+ghost use Rattle.jh_cli.specs.Endings.{OnEnding, IsCounted};
+
+use crate::audit::audit;
+use crate::check::check;
+use crate::command::{Command, command_of};
+use crate::ending::{Ending, CallFault};
+use crate::lines::usage_line;
+use crate::map::map;
+use crate::pack::pack;
+use crate::play::play;
+use crate::status::Status;
+use jh_outside::Files;
+use std::alloc::Global;
+
+/// Does what the command asks for, which isn't `run` or `soak`.
+fn run_command<F: Files>(alloc: Global, command: Command<'_>, files: &mut F) -> Result<Ending, CallFault>
+    requires few { HasFewCells command }
+    requires serial { IsSerial (Some (asked_by command)) }
+    ensures ends { OnEnding result (Outcome (F.contents files.old) (Some (asked_by command.entry))) }
+    ensures counted { OnEnding result (IsCounted (F.faults files.old) (F.faults files.new) (F.failed files.new)) }
+    ensures asked { OnEnding result (ReadsFor F.asks F.failed (F.contents files.old) (asked_by command.entry) files.old files.new) }
+{
+    match command {
+        Command::Check { system, cells } => check(alloc, files, system, cells),
+        Command::Pack { spec } => pack(alloc, files, spec),
+        Command::Play { board, schedule } => play(alloc, files, board, schedule),
+        Command::Map { board, schedule } => map(alloc, files, board, schedule),
+        Command::Audit { board, journal } => audit(alloc, files, board, journal),
+        // these two have been told apart already
+        Command::Run { .. } | Command::Soak { .. } => unreachable!(),
+    }
+}
+
+/// What the words ask for, whose command isn't `run` or `soak`.
+pub fn reply_to<F: Files>(alloc: Global, words: &[String], files: &mut F) -> Result<Ending, CallFault>
+    requires { IsSerial (command_of (map string_bytes words.now)) }
+    ensures outcome { OnEnding result (Outcome (F.contents files.old) (command_of (map string_bytes words.now))) }
+    ensures counted { OnEnding result (IsCounted (F.faults files.old) (F.faults files.new) (F.failed files.new)) }
+    ensures asked { OnEnding result (IsReadFor F.asks F.failed (F.contents files.old) (command_of (map string_bytes words.now)) files.old files.new) }
+{
+    match command_of(words) {
+        Some(command) => run_command(alloc, command, files),
+        None => Ok(Ending {
+            status: Status::Usage,
+            text: usage_line(alloc)?,
+        }),
+    }
+}

@@ -1,0 +1,99 @@
+-- What the slow plain program keeps of a journal: CPUs, the live cells, the endpoints of their devices, the open call,
+-- and the bytes that were written.
+use Rattle.std.specs.Prelude.{◌≡◌, ℕ, ◌+◌, ◌^◌, ◌<◌, ◌≤◌, ◌==◌, List, length, fold, slice_get, if◌then◌else◌, Option, Some, IfSome}
+use Rattle.jh_num.specs.Memory.{stored}
+use Rattle.jh_cellcfg.specs.declared.live.Live.{Live}
+use Rattle.jh_cpu.specs.declared.cpu.Cpu.{Cpu}
+use Rattle.jh_ivshmem.specs.declared.endpoint.Endpoint.{Endpoint}
+use Rattle.jh_ivshmem.specs.declared.spec.Slot.{Slot}
+use Rattle.jh_script.specs.declared.image.Image.{Image}
+use Rattle.jh_history.specs.declared.access.Reach.{Reach}
+use Rattle.jh_history.specs.declared.call.OpenCall.{OpenCall}
+use Rattle.jh_history.specs.declared.entry.Act.{Act}
+use Rattle.jh_history.specs.declared.entry.Entry.{Entry}
+use Rattle.jh_history.specs.declared.place.Place.{Place}
+use Rattle.jh_history.specs.declared.place.Place.TheVariants.{Physical, Page}
+use Rattle.jh_history.specs.declared.written.WrittenByte.{WrittenByte}
+use Rattle.jh_history.specs.Places.{is_same}
+use Rattle.jh_history.specs.declared.access.Access.TheVariants.{Read}
+use Rattle.jh_history.specs.Access.{reach_by, memory_read, slot_of_reach}
+use Rattle.jh_history.specs.Grants.{granted_in}
+use Rattle.jh_history.specs.Devices.{devices_in}
+use Rattle.jh_history.specs.Endpoints.{change_by, changing_by, IsNextOf, MayChange}
+use Rattle.jh_history.specs.Facts.{Facts}
+use Rattle.jh_history.specs.Bytes.{loaded_byte}
+use Rattle.jh_history.specs.Admitted.{IsAdmitted}
+use Rattle.jh_shape.specs.Lives.{configs_of}
+use Rattle.jh_history.specs.Due.{due_at}
+use Rattle.jh_history.specs.Sound.{AreSoundCells, IsSound}
+
+-- the image, and what the slow plain program keeps beside it of a journal
+pub record PlainView : Type 0 where
+  pub image : Image
+  pub cpus : List Cpu
+  pub cells : List Live
+  pub endpoints : List Endpoint
+  pub call : Option OpenCall
+  pub bytes : List WrittenByte
+
+-- the byte of the place, where it was b before this one was written
+abbrev pub overwritten : Place → ℕ → WrittenByte → ℕ
+overwritten q b one = if is_same q one.place then one.byte else b
+
+-- the byte of the place after those that were written, the newest last
+abbrev pub last_byte : Image → List WrittenByte → Place → ℕ
+last_byte image bytes q = fold (overwritten q) (loaded_byte image q) bytes
+
+-- the byte that root reads at the address, where it may
+abbrev pub root_byte : PlainView → ℕ → Option ℕ
+root_byte plain at = memory_read (last_byte plain.image plain.bytes) (reach_by (granted_in plain.image plain.cells plain.image.system.root.id Read) at 1)
+
+-- the bytes, with the list's from the offset on in the page of the cell
+abbrev pub put_in_page : ℕ → ℕ → List ℕ → (Place → ℕ) → Place → ℕ
+put_in_page cell at bytes byte (Physical p) = byte (Physical p)
+put_in_page cell at bytes byte (Page other offset) =
+    if other == cell then stored (λ k. byte (Page other k)) at bytes offset else byte (Page other offset)
+
+-- the image is admitted, its root and the cells are sound, and these are few
+pub record HasSoundCells (image : Image) (cells : List Live) : Type 0 where
+  pub admitted : IsAdmitted image
+  pub sound : AreSoundCells image.system (configs_of cells)
+  pub few : length cells ≤ 15
+
+-- what is kept stands for these facts of the image
+pub record Represents (plain : PlainView) (image : Image) (facts : Facts) : Type 0 where
+  pub same : image ≡ plain.image
+  pub cells : facts.cells ≡ plain.cells
+  pub endpoints : facts.endpoints ≡ plain.endpoints
+  pub call : facts.call ≡ plain.call
+  pub cpus : (i : ℕ) → i < 16 → slice_get plain.cpus i ≡ Some (facts.cpu i)
+  pub bytes : (q : Place) → facts.byte q ≡ last_byte image plain.bytes q
+
+-- all but the bytes and the endpoints stay
+pub record IsSameBut (old new : PlainView) : Type 0 where
+  pub image : new.image ≡ old.image
+  pub cpus : new.cpus ≡ old.cpus
+  pub cells : new.cells ≡ old.cells
+  pub call : new.call ≡ old.call
+
+-- the entry is due in a sound state of the image with these cells and this call
+pub record IsDueBeside (image : Image) (lives : List Live) (open_call : Option OpenCall) (entry : Entry) : Type 0 where
+  pub facts : Facts
+  pub sound : IsSound image facts
+  pub due : due_at image facts entry.cpu ≡ Some entry
+  pub cells : facts.cells ≡ lives
+  pub call : facts.call ≡ open_call
+
+-- each word of a state table that a write of a cell writes ends below 2^64
+abbrev pub HasWords : PlainView → Type 0
+HasWords plain = (id value : ℕ) (found : Reach) → IfSome (slot_of_reach (devices_in plain.image plain.cells plain.endpoints id) found value) (λ (slot : Slot). slot.place + 4 < 2 ^ 64)
+
+-- the devices of the cell that a Commit is about may be changed
+abbrev pub MayCommit : PlainView → Act → Type 0
+MayCommit plain act = IfSome (changing_by plain.cells plain.call act) (MayChange (change_by plain.call) plain.endpoints)
+
+-- what is kept of devices lets the entry be followed
+pub record MayBeFollowed (plain : PlainView) (entry : Entry) : Type 0 where
+  pub words : HasWords plain
+  pub commit : MayCommit plain entry.act
+  pub next : IsNextOf entry.cell plain.endpoints entry.act
