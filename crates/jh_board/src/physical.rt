@@ -123,7 +123,7 @@ impl Physical {
         Ok(())
     }
 
-    /// HoldsPage the page of the place. No byte changes.
+    /// Holds the page of the place. No byte changes.
     pub fn hold(&mut self, place: u64) -> Result<(), NoMemory>
         ensures bytes { (q : ℕ) → paged_byte self.new q ≡ paged_byte self.old q }
         ensures held { OnOk result (HoldsPage self.new place) }

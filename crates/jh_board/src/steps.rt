@@ -30,7 +30,7 @@ use crate::cells::LiveCells;
 use crate::devices::{change_devices, prepare_devices, write_slot_if};
 use crate::granted::devices_of;
 use crate::held::Held;
-use crate::indexed::{ProgramIndex, IndexedImage};
+use crate::indexed::{IndexedImage, ProgramIndex};
 use crate::memory::Memory;
 use crate::state::{JudgedCreate, creation_by};
 use jh_call::Call;

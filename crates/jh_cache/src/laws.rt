@@ -1,4 +1,4 @@
-//! What holds of every list of translations.
+//! What holds of every list of translations. Each function does nothing; its contract is the law.
 ghost use Rattle.std.specs.Prelude.{◌≡◌, ◌≢◌, ℕ, ◌<◌, ◌≤◌, false, List, ◌∷◌, ◌++◌, [], length, Some, None};
 ghost use Rattle.jh_cache.specs.declared.translation.Translation.{Translation as AnyTranslation};
 ghost use Rattle.jh_cache.specs.Translations.{filled, flushed, is_for, looked, without};

@@ -112,7 +112,7 @@ first_fault bytes = first_of (
     ∷ body_fault 8 (drop 8 bytes)
     ∷ [])
 
--- the call answered this configuration, unless memory ran out
+-- the call answered this configuration, but for want of memory
 pub record Gives (answer : Result CellConfig ConfigFault) (config : CellConfig) : Type 0 where
   pub unrefused : refusal answer ≡ None
   pub found : IfOk answer (λ other. other ≡ config)

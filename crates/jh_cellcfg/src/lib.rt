@@ -25,7 +25,7 @@ pub use laws::{
     no_fault_is_a_body, no_fault_is_a_spelling, one_body, one_spelling, size_is_length,
     spelling_has_no_fault,
 };
-pub use limits::{fits, is_name};
+pub use limits::{are_printable, are_zero, fits, is_name};
 pub use live::Live;
 pub use read::{cell_size, check_start, read_body, read_cell};
 pub use reader::Reader;

@@ -27,15 +27,15 @@ fn first_zero(bytes: &[u8]) -> Option<usize>
     bytes.iter().position(|byte| *byte == 0)
 }
 
-/// Whether all bytes are printable characters, 0x20 to 0x7e.
-fn are_printable(bytes: &[u8]) -> bool
+/// Whether all bytes are printable characters, from the space to the tilde: 0x20 to 0x7e.
+pub fn are_printable(bytes: &[u8]) -> bool
     ensures { result ≡ list_all is_printable bytes.now }
 {
     bytes.iter().all(|byte| *byte >= 0x20 && *byte <= 0x7e)
 }
 
 /// Whether all bytes are 0.
-fn are_zero(bytes: &[u8]) -> bool
+pub fn are_zero(bytes: &[u8]) -> bool
     ensures { result ≡ list_all is_zero bytes.now }
 {
     bytes.iter().all(|byte| *byte == 0)

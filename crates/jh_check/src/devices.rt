@@ -416,13 +416,6 @@ pub(crate) fn device_breaks(
             && agrees_with_lower(setup, number, regions, device, doubted))
 }
 
-/// Whether all bytes are 0.
-pub(crate) fn are_zero(bytes: &[u8]) -> bool
-    ensures { result ≡ list_all is_zero bytes.now }
-{
-    bytes.iter().all(|byte| *byte == 0)
-}
-
 /// Whether the bitmap names no CPU, or one above 15.
 #[tactic(auto, unfolding(crate::specs::Devices::cpus_break))]
 pub(crate) fn cpus_break(set: &[u8]) -> bool

@@ -6,7 +6,6 @@ ghost use Rattle.jh_cellcfg.specs.Cells.{is_cpu_set};
 ghost use Rattle.jh_cellcfg.specs.Limits.{is_zero};
 ghost use Rattle.jh_check.specs.Refusals.{is_namesake, is_known, any_below, is_beyond, names_beyond, nobody, refusal_of};
 
-use crate::devices::are_zero;
 use crate::laws::{beyond_is_a_cpu, sound_bitmaps_name_few_cpus};
 use crate::verdict::{NewCell, clean_with};
 use jh_cellcfg::{CellConfig, SystemConfig};

@@ -15,7 +15,7 @@ use crate::pairs::{Site, pair_breaks};
 use crate::regions::{are_sound, region_breaks};
 use crate::rule::{RULES, Rule, rule_at};
 use crate::setup::Setup;
-use crate::spans::{Span, index, met_by, span_of, are_disjoint, takes_part};
+use crate::spans::{Span, are_disjoint, index, met_by, span_of, takes_part};
 use jh_cellcfg::{CellConfig, Region, SystemConfig};
 use jh_num::NoMemory;
 use std::alloc::Global;

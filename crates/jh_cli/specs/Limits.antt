@@ -1,4 +1,4 @@
--- How much is read, as numbers of their own and not those of the code.
+-- How many bytes are asked of a file.
 use Rattle.std.specs.Prelude.{ℕ, ◌+◌}
 use Rattle.jh_image.specs.Files.{max_file_size}
 

@@ -12,7 +12,7 @@ ghost use Rattle.jh_cli.specs.Audit.{JournalRefusal, JudgesFile, AuditsBy, Audit
 ghost use Rattle.jh_cli.specs.Endings.{said_of, OnEnded, OnEnding, IsCounted};
 
 use crate::boards::open;
-use crate::ending::{Ending, CallFault, read_below, refused_for};
+use crate::ending::{CallFault, Ending, read_below, refused_for};
 use crate::limits::MOST_OF_A_JOURNAL;
 use crate::status::Status;
 use jh_audit::{Verdict, audit as audit_journal};
@@ -35,7 +35,12 @@ fn unread(alloc: Global, name: &str, fault: &JournalFault) -> CallFault
 }
 
 /// The verdict on the journal in the file of this name, by the image.
-fn judge<F: Files>(alloc: Global, files: &mut F, image: Image, name: &str) -> Result<Verdict, CallFault>
+fn judge<F: Files>(
+    alloc: Global,
+    files: &mut F,
+    image: Image,
+    name: &str,
+) -> Result<Verdict, CallFault>
     requires admitted { IsAdmitted image }
     ensures ok { IfOk result (JudgesFile (F.contents files.old) name.now image) }
     ensures err { IfErr result (λ stop. OnEnded stop (FailsAt most_of_a_journal (F.contents files.old) name.now JournalRefusal)) }

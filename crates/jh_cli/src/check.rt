@@ -9,7 +9,7 @@ ghost use Rattle.jh_cli.specs.Reading.{Spells, FailsAtFile};
 ghost use Rattle.jh_cli.specs.Check.{IsCellFile, CellRefusal, IsSystemFile, SystemRefusal, SpellCells, FailsAmong, ChecksCells, Checks, checked, checked_status, findings_text};
 ghost use Rattle.jh_cli.specs.Endings.{said_of, OnEnded, OnEnding, IsCounted};
 
-use crate::ending::{Ending, CallFault, read_below, refused_for};
+use crate::ending::{CallFault, Ending, read_below, refused_for};
 use crate::limits::MOST;
 use crate::status::Status;
 use jh_cellcfg::{CellConfig, ConfigFault, SystemConfig, read_cell};
@@ -56,7 +56,11 @@ fn system<F: Files>(alloc: Global, files: &mut F, name: &str) -> Result<SystemCo
 }
 
 /// The cells in the files of these names, read in their order.
-fn cells<F: Files>(alloc: Global, files: &mut F, names: &[String]) -> Result<Seq<CellConfig>, CallFault>
+fn cells<F: Files>(
+    alloc: Global,
+    files: &mut F,
+    names: &[String],
+) -> Result<Seq<CellConfig>, CallFault>
     ensures ok { IfOk result (SpellCells (F.contents files.old) (map string_bytes names.now)) }
     ensures few { IfOk result (λ cells. length cells ≡ length names.now) }
     ensures err { IfErr result (λ stop. OnEnded stop (FailsAmong (F.contents files.old) (map string_bytes names.now))) }

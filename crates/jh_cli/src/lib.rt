@@ -12,12 +12,12 @@ mod lines;
 mod map;
 mod pack;
 mod play;
+mod reply;
 mod run;
 mod schedule;
 mod send;
 mod soak;
 mod status;
-mod reply;
 mod top;
 
 pub use command::{Command, command_of};

@@ -7,7 +7,7 @@ ghost use Rattle.jh_cli.specs.Map.{IsMapped, MapsBy, MapsOf};
 ghost use Rattle.jh_cli.specs.Endings.{said_of, OnEnding, IsCounted};
 
 use crate::boards::open;
-use crate::ending::{Ending, CallFault};
+use crate::ending::{CallFault, Ending};
 use crate::schedule::schedule;
 use crate::status::Status;
 use jh_num::NoMemory;
@@ -36,7 +36,12 @@ fn render(alloc: Global, image: Image, cpus: &[u8]) -> Result<Ending, NoMemory>
 }
 
 /// Reads the schedule, and tells the maps after it.
-fn map_by<F: Files>(alloc: Global, files: &mut F, image: Image, items: &str) -> Result<Ending, CallFault>
+fn map_by<F: Files>(
+    alloc: Global,
+    files: &mut F,
+    image: Image,
+    items: &str,
+) -> Result<Ending, CallFault>
     requires admitted { IsAdmitted image }
     ensures ends { OnEnding result (MapsBy (F.contents files.old) items.now image) }
     ensures counted { OnEnding result (IsCounted (F.faults files.old) (F.faults files.new) (F.failed files.new)) }
@@ -47,7 +52,12 @@ fn map_by<F: Files>(alloc: Global, files: &mut F, image: Image, items: &str) -> 
 }
 
 /// Reads the board, and tells the maps after the schedule.
-pub fn map<F: Files>(alloc: Global, files: &mut F, board: &str, items: &str) -> Result<Ending, CallFault>
+pub fn map<F: Files>(
+    alloc: Global,
+    files: &mut F,
+    board: &str,
+    items: &str,
+) -> Result<Ending, CallFault>
     ensures ends { OnEnding result (MapsOf (F.contents files.old) board.now items.now) }
     ensures counted { OnEnding result (IsCounted (F.faults files.old) (F.faults files.new) (F.failed files.new)) }
     ensures asked { OnEnding result (ReadsBoard F.asks F.failed (F.contents files.old) board.now (items.now ∷ []) files.old files.new) }

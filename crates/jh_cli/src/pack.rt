@@ -7,7 +7,7 @@ ghost use Rattle.jh_cli.specs.Reading.{Spells, FailsAtFile};
 ghost use Rattle.jh_cli.specs.Pack.{IsSpecFile, SpecRefusal, Packs, packed};
 ghost use Rattle.jh_cli.specs.Endings.{said_of, OnEnded, OnEnding, IsCounted};
 
-use crate::ending::{Ending, CallFault, read_below, refused};
+use crate::ending::{CallFault, Ending, read_below, refused};
 use crate::limits::MOST;
 use crate::status::Status;
 use jh_cellcfg::write_cell;

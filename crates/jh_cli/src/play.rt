@@ -8,7 +8,7 @@ ghost use Rattle.jh_cli.specs.Play.{IsPlayed, played_status, PlaysBy, Plays};
 ghost use Rattle.jh_cli.specs.Endings.{said_of, OnEnding, IsCounted};
 
 use crate::boards::open;
-use crate::ending::{Ending, CallFault};
+use crate::ending::{CallFault, Ending};
 use crate::schedule::schedule;
 use crate::status::Status;
 use jh_num::NoMemory;

@@ -8,7 +8,7 @@ ghost use Rattle.jh_cli.specs.Endings.{OnEnding, IsCounted};
 use crate::audit::audit;
 use crate::check::check;
 use crate::command::{Command, command_of};
-use crate::ending::{Ending, CallFault};
+use crate::ending::{CallFault, Ending};
 use crate::lines::usage_line;
 use crate::map::map;
 use crate::pack::pack;
@@ -18,7 +18,11 @@ use jh_outside::Files;
 use std::alloc::Global;
 
 /// Does what the command asks for, which isn't `run` or `soak`.
-fn run_command<F: Files>(alloc: Global, command: Command<'_>, files: &mut F) -> Result<Ending, CallFault>
+fn run_command<F: Files>(
+    alloc: Global,
+    command: Command<'_>,
+    files: &mut F,
+) -> Result<Ending, CallFault>
     requires few { HasFewCells command }
     requires serial { IsSerial (Some (asked_by command)) }
     ensures ends { OnEnding result (Outcome (F.contents files.old) (Some (asked_by command.entry))) }
@@ -37,7 +41,11 @@ fn run_command<F: Files>(alloc: Global, command: Command<'_>, files: &mut F) -> 
 }
 
 /// What the words ask for, whose command isn't `run` or `soak`.
-pub fn reply_to<F: Files>(alloc: Global, words: &[String], files: &mut F) -> Result<Ending, CallFault>
+pub fn reply_to<F: Files>(
+    alloc: Global,
+    words: &[String],
+    files: &mut F,
+) -> Result<Ending, CallFault>
     requires { IsSerial (command_of (map string_bytes words.now)) }
     ensures outcome { OnEnding result (Outcome (F.contents files.old) (command_of (map string_bytes words.now))) }
     ensures counted { OnEnding result (IsCounted (F.faults files.old) (F.faults files.new) (F.failed files.new)) }

@@ -6,7 +6,7 @@ ghost use Rattle.jh_cli.specs.Run.{IsRan, Runs};
 ghost use Rattle.jh_cli.specs.Endings.{said_of, OnEnding, IsCounted};
 
 use crate::boards::open;
-use crate::ending::{Ending, CallFault};
+use crate::ending::{CallFault, Ending};
 use crate::play::status_of;
 use jh_num::NoMemory;
 use jh_outside::{Files, Gate};

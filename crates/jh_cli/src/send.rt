@@ -4,7 +4,7 @@ ghost use Rattle.jh_outside.specs.Count.{Rose};
 ghost use Rattle.jh_cli.specs.Outcome.{Sent};
 ghost use Rattle.jh_cli.specs.Endings.{said_of, OnEnding};
 
-use crate::ending::{Ending, CallFault};
+use crate::ending::{CallFault, Ending};
 use crate::status::Status;
 use jh_outside::{Sink, write_all};
 

@@ -3,7 +3,7 @@ ghost use Rattle.std.specs.Prelude.{◌≡◌, ◌≤◌, ◌&&◌, nat_le, Some
 ghost use Rattle.jh_cli.specs.Soak.{ParsesRounds, summary_line, IsSoaked, Soaks};
 ghost use Rattle.jh_cli.specs.Endings.{said_of, OnEnding};
 
-use crate::ending::{Ending, CallFault};
+use crate::ending::{CallFault, Ending};
 use crate::lines::rounds_line;
 use crate::play::status_of;
 use crate::status::Status;

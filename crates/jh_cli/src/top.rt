@@ -5,11 +5,11 @@ ghost use Rattle.jh_cli.specs.Call.{IsCall};
 
 use crate::command::{Command, command_of};
 use crate::laws::good_inputs_are_answered;
+use crate::reply::reply_to;
 use crate::run::run;
 use crate::send::finish;
 use crate::soak::soak;
 use crate::status::Status;
-use crate::reply::reply_to;
 use jh_outside::{Files, Gate, Sink};
 use std::alloc::Global;
 use std::sync::Wait;

@@ -3,20 +3,28 @@ ghost use Rattle.std.specs.Prelude.{◌≡◌, ℕ, ◌+◌, ◌<◌, ◌≤◌,
 ghost use Rattle.jh_num.specs.Memory.{stored};
 ghost use Rattle.jh_comm.specs.Page.{word_in, state_in, message_in, reply_in, with_state, sent, fresh_page};
 
+/// The first bytes of a page.
 const SIGNATURE: &[u8; 6] = b"JHCOMM";
 
+/// The revision of its layout.
 const REVISION: u16 = 1;
 
+/// Where it stands.
 const REVISION_AT: usize = 6;
 
+/// Where the state of the cell stands.
 const STATE_AT: usize = 8;
 
+/// Where the message to the cell stands.
 const MESSAGE_AT: usize = 12;
 
+/// Where the cell's reply stands.
 const REPLY_AT: usize = 16;
 
+/// Where the console stands.
 const CONSOLE_AT: usize = 24;
 
+/// Where the address of the ECAM window stands.
 const MMCONFIG_AT: usize = 56;
 
 /// Writes the bytes from the offset on.

@@ -1,4 +1,4 @@
-//! What holds of every descriptor and every word.
+//! What holds of every descriptor and every word. Each function does nothing; its contract is the law.
 ghost use Rattle.std.specs.Prelude.{◌≡◌, ℕ, ◌+◌, ◌*◌, ◌/◌, ◌%◌, ◌^◌, ◌<◌, ◌≤◌};
 ghost use Rattle.jh_desc.specs.declared.descriptor.Descriptor.{Descriptor as AnyDescriptor};
 ghost use Rattle.jh_desc.specs.declared.descriptor.Descriptor.TheVariants.{Table as TableOf};

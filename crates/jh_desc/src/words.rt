@@ -7,22 +7,31 @@ use crate::descriptor::Descriptor;
 use crate::levels::offset;
 use jh_num::{FIRST_LEVEL, LAST_LEVEL, PAGE_SIZE, Rights};
 
+/// The word is a descriptor.
 const VALID: u64 = 1;
 
+/// It names a table, or at the last level a page.
 const TABLE_OR_PAGE: u64 = 1 << 1;
 
+/// The memory is a device's (Device-nGnRE).
 const DEVICE: u64 = 0b0001 << 2;
 
+/// The memory is normal, write-back within and without.
 const NORMAL: u64 = 0b1111 << 2;
 
+/// It may be read.
 const READ: u64 = 1 << 6;
 
+/// It may be written.
 const WRITE: u64 = 1 << 7;
 
+/// It is shared by the CPUs.
 const INNER_SHAREABLE: u64 = 0b11 << 8;
 
+/// The access flag, which is always set.
 const ACCESSED: u64 = 1 << 10;
 
+/// It may not be executed.
 const EXECUTE_NEVER: u64 = 1 << 54;
 
 /// The first place that no descriptor can name.

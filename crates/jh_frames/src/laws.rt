@@ -1,4 +1,4 @@
-//! What holds of memory and of words.
+//! What holds of memory and of words. Each function does nothing; its contract is the law.
 ghost use Rattle.std.specs.Prelude.{◌≡◌, ℕ, ◌+◌, ◌/◌, ◌%◌, ◌<◌, ◌≤◌, List, length, map, is_some};
 ghost use Rattle.std.specs.List.{range_with_len};
 ghost use Rattle.jh_num.specs.Memory.{spelled, stored};

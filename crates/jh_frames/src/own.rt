@@ -101,7 +101,7 @@ impl Own {
         self.bytes[k] = byte;
     }
 
-    /// Writes the word over the eight bytes from the place on, the lowest byte first.
+    /// As `set_word`, where it is told that the places behind the word have numbers of 64 bits.
     fn set_bytes(&mut self, at: u64, word: u64)
         requires own { IsOwn self.old at 8 }
         requires fits { at + 8 < 2 ^ 64 }

@@ -5,6 +5,7 @@ use Rattle.std.specs.Cmp.Lexicographic.{pointwise}
 use Rattle.serde_json.specs.Data.{Data}
 use Rattle.serde_json.specs.Find.{as_str, as_object}
 use Rattle.jh_cellcfg.specs.Limits.{is_printable}
+use Rattle.jh_spec.specs.Faults.{IsJsonAnswer}
 use Rattle.jh_spec.specs.Json.{◌>>=◌, IsText, told_at, unlisted, has_only, number_told, number_below, list_at}
 use Rattle.jh_image.specs.declared.board.Listing.{Listing}
 use Rattle.jh_image.specs.declared.board.PreloadFile.{PreloadFile}
@@ -136,15 +137,6 @@ object_told d = unless_at_fault (member_fault d) (listing_made d)
 abbrev pub board_told : Data → Result Listing JsonFault
 board_told d = if is_some (as_object d) then object_told d else Err Json
 
--- why no object was read: the bytes are no object's text, or memory ran out
-abbrev pub IsNoObject : List ℕ → JsonFault → Type 0
-IsNoObject bytes Json = (d : Data) → IsText bytes d → board_told d ≡ Err Json
-IsNoObject bytes (Member name) = ⊥
-IsNoObject bytes NoMemory = ⊤
-
 -- what is answered to these bytes: what their value tells, or that they are no object's text
 abbrev pub IsListingAnswer : List ℕ → Result Listing JsonFault → Type 0
-IsListingAnswer bytes (Ok listing) = (d : Data) × IsText bytes d × (board_told d ≡ Ok listing)
-IsListingAnswer bytes (Err Json) = (d : Data) → IsText bytes d → board_told d ≡ Err Json
-IsListingAnswer bytes (Err (Member name)) = (d : Data) × IsText bytes d × (board_told d ≡ Err (Member name))
-IsListingAnswer bytes (Err NoMemory) = ⊤
+IsListingAnswer bytes result = IsJsonAnswer board_told bytes result

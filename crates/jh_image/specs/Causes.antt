@@ -53,7 +53,7 @@ pub record IsCauseOf (contents : Contents) (board file : List ℕ) (cause : Imag
   pub read : ReadsTo contents board stage
   pub stops : HasCause contents board stage file cause
 
--- P holds of the file and the cause, unless memory ran out
+-- P holds of the file and the cause, but for want of memory
 abbrev pub OnRefused : (List ℕ → ImageCause → Type 0) → ImageFault → Type 0
 OnRefused P (Refused file cause) = P file cause
 OnRefused P NoMemory = ⊤

@@ -4,12 +4,12 @@ ghost use Rattle.serde_json.specs.Find.{as_object};
 ghost use Rattle.serde_json.specs.View.{view};
 ghost use Rattle.jh_spec.specs.Faults.{IsWantedReading};
 ghost use Rattle.jh_spec.specs.Json.{IsText};
-ghost use Rattle.jh_image.specs.Boards.{object_told, IsListingAnswer, IsNoObject, are_distinct, seat_of};
+ghost use Rattle.jh_image.specs.Boards.{object_told, IsListingAnswer, are_distinct, seat_of};
 
 use crate::file_name::FileName;
 use crate::list::{preloads, programs};
 use jh_num::Seq;
-use jh_spec::json::{first_unlisted, text_at};
+use jh_spec::json::{first_unlisted, object, text_at};
 use jh_spec::{JsonFault, fault_of};
 use serde_json::Value;
 use std::alloc::Global;
@@ -39,20 +39,6 @@ pub struct Listing {
     pub preloads: Seq<PreloadFile>,
     /// At most 256, no two of one CPU of one cell.
     pub programs: Seq<ProgramFile>,
-}
-
-/// The object that the bytes are the text of.
-fn object(alloc: Global, bytes: &[u8]) -> Result<Value, JsonFault>
-    ensures text { IfOk result (λ value. IsText bytes.now (view value)) }
-    ensures object { IfOk result (λ value. is_some (as_object (view value)) ≡ true) }
-    ensures fault { IfErr result (IsNoObject bytes.now) }
-{
-    match Value::from_slice(alloc, bytes) {
-        Ok(value) if value.is_object() => Ok(value),
-        Ok(_) => Err(JsonFault::Json),
-        Err(e) if e.is_memory() => Err(JsonFault::NoMemory),
-        Err(_) => Err(JsonFault::Json),
-    }
 }
 
 /// What an object's members tell.

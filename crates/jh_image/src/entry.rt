@@ -33,13 +33,6 @@ pub(crate) fn preload(alloc: Global, entry: &Value) -> Result<Option<PreloadFile
     }))
 }
 
-/// Whether all bytes are characters from the space to the tilde, 0x20 to 0x7e.
-fn are_printable(bytes: &[u8]) -> bool
-    ensures { result ≡ list_all is_printable bytes.now }
-{
-    bytes.iter().all(|byte| *byte >= 0x20 && *byte <= 0x7e)
-}
-
 /// Whether the text is a cell's name: 1 to 31 characters from the space to the tilde.
 fn is_cell_name(text: &[u8]) -> bool
     ensures { result ≡ is_cell_name text.now }

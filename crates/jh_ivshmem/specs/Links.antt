@@ -1,5 +1,5 @@
 -- All endpoints: what each call leaves of them. A link is the endpoints with one bdf.
-use Rattle.std.specs.Prelude.{ℕ, ◌≡◌, ◌/◌, ◌%◌, ◌^◌, Bool, false, not, ◌&&◌, ◌==◌, nat_lt, Option, None, Some, List, [], ◌∷◌, fold, filter, find, option_map, if◌then◌else◌}
+use Rattle.std.specs.Prelude.{ℕ, ◌≡◌, ◌≢◌, ◌<◌, length, slice_index_or, ◌/◌, ◌%◌, ◌^◌, Bool, false, not, ◌&&◌, ◌==◌, nat_lt, Option, None, Some, List, [], ◌∷◌, fold, filter, find, option_map, if◌then◌else◌}
 use Rattle.std.specs.Option.{option_map_or}
 use Rattle.jh_ivshmem.specs.declared.endpoint.Endpoint.{Endpoint}
 use Rattle.jh_ivshmem.specs.declared.spec.EndpointSpec.{EndpointSpec}
@@ -87,3 +87,9 @@ pending_of cell list = fold (λ best (e : Endpoint). earlier best (pending_at ce
 abbrev pub taken_of : ℕ → Option (ℕ × ℕ) → List Endpoint → List Endpoint
 taken_of cell None list = list
 taken_of cell (Some next) list = changed (is_device cell next.0) (taken next.1) list
+
+-- the endpoint of that number in the list is on another link than the other endpoint, and isn't that one
+pub record IsOnAnotherLink (e : Endpoint) (list : List Endpoint) (k : ℕ) (d : Endpoint) : Type 0 where
+  pub within : k < length list
+  pub link : (slice_index_or list k d).spec.bdf ≢ e.spec.bdf
+  pub device : is_device e.spec.cell e.spec.device (slice_index_or list k d).spec ≡ false

@@ -17,6 +17,7 @@ pub struct Endpoint {
     pub vectors: [Vector; 16],
 }
 
+/// Where the register of interrupt control stands in BAR 0.
 const INTERRUPT_CONTROL: u32 = 0x08;
 
 /// The first of the vectors that is pending.

@@ -146,7 +146,7 @@ fn drop_endpoint(endpoints: &mut Vec<Endpoint>, cell: u32, device: u32)
     endpoints.retain(|e| !(e.spec.cell == cell && e.spec.device == device));
 }
 
-/// Drops the key of the device.
+/// Drops the keys whose endpoints are meant.
 fn drop_key(keys: &mut Vec<Key>, whom: Whom)
     ensures list { keys.new.items ≡ filter (λ (key : Key). not (is_key_meant whom key)) keys.old.items }
     ensures len { vec_len keys.new ≤ vec_len keys.old }

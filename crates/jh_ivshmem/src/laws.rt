@@ -5,7 +5,7 @@ ghost use Rattle.jh_vpci.specs.Space.{Space, has_vectors};
 ghost use Rattle.jh_ivshmem.specs.Specs.{AreEndpointsApart, count_of, is_device, is_peer};
 ghost use Rattle.jh_ivshmem.specs.Endpoint.{is_open, raised, vector_at};
 ghost use Rattle.jh_ivshmem.specs.Changes.{changed};
-ghost use Rattle.jh_ivshmem.specs.Links.{ForEndpoint, is_pending, joined, rung, written, reset_of, left_by, pending_of, taken_of};
+ghost use Rattle.jh_ivshmem.specs.Links.{ForEndpoint, IsOnAnotherLink, is_pending, joined, rung, written, reset_of, left_by, pending_of, taken_of};
 
 use crate::endpoint::Endpoint;
 use crate::endpoints::Endpoints;
@@ -85,10 +85,8 @@ pub fn a_pending_vector_goes_only_by_its_own()
 /// What an endpoint does is never seen on another link: an endpoint of another bdf that isn't the writing one
 /// stays as it was.
 pub fn links_never_see_each_other()
-    ensures written { (e : Endpoint) (bar at value : ℕ) (list : List Endpoint) (k : ℕ) (d : Endpoint) → k < length list
-        → (slice_index_or list k d).spec.bdf ≢ e.spec.bdf → is_device e.spec.cell e.spec.device (slice_index_or list k d).spec ≡ false
+    ensures written { (e : Endpoint) (bar at value : ℕ) (list : List Endpoint) (k : ℕ) (d : Endpoint) → IsOnAnotherLink e list k d
         → slice_index_or (written e bar at value list) k d ≡ slice_index_or list k d }
-    ensures reset { (e : Endpoint) (list : List Endpoint) (k : ℕ) (d : Endpoint) → k < length list
-        → (slice_index_or list k d).spec.bdf ≢ e.spec.bdf → is_device e.spec.cell e.spec.device (slice_index_or list k d).spec ≡ false
+    ensures reset { (e : Endpoint) (list : List Endpoint) (k : ℕ) (d : Endpoint) → IsOnAnotherLink e list k d
         → slice_index_or (reset_of e list) k d ≡ slice_index_or list k d }
 {}

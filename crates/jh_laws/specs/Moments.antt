@@ -27,6 +27,34 @@ pub record AdmittedMoment : Type 0 where
   pub admitted : IsAdmitted image
   pub legal : IsLegal image (before ++ entry ∷ rest)
 
+-- two entries of a legal journal of an admitted image, with the entries before the first, those between the two and the
+-- rest behind the last
+pub record AdmittedSpan : Type 0 where
+  pub image : Image
+  pub before : List Entry
+  pub first : Entry
+  pub between : List Entry
+  pub last : Entry
+  pub rest : List Entry
+  pub admitted : IsAdmitted image
+  pub legal : IsLegal image (before ++ first ∷ (between ++ last ∷ rest))
+
+-- the facts just before the first entry
+abbrev pub facts_at_first : AdmittedSpan → Facts
+facts_at_first s = facts s.image s.before
+
+-- the facts just behind the first entry
+abbrev pub facts_past_first : AdmittedSpan → Facts
+facts_past_first s = facts s.image (s.before ++ s.first ∷ [])
+
+-- the facts just before the last entry
+abbrev pub facts_at_last : AdmittedSpan → Facts
+facts_at_last s = facts s.image (s.before ++ s.first ∷ s.between)
+
+-- the facts just behind the last entry
+abbrev pub facts_past_last : AdmittedSpan → Facts
+facts_past_last s = facts s.image (s.before ++ s.first ∷ (s.between ++ s.last ∷ []))
+
 -- the facts after the journal
 abbrev pub facts_of : AdmittedJournal → Facts
 facts_of j = facts j.image j.entries

@@ -47,7 +47,7 @@ pub record Rings (image : Image) (f : Facts) (entry : Entry) (peer : Endpoint) (
 
 -- ---- states
 
--- the call that is open is a start or a destroy of the cell
+-- the call is a start or a destroy of the cell
 abbrev pub IsAbout : Call → ℕ → Type 0
 IsAbout (Start cell) id = cell ≡ id
 IsAbout (Destroy cell) id = cell ≡ id

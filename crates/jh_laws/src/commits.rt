@@ -1,5 +1,5 @@
 //! Which cells live after an entry, and which configuration a new one has.
-ghost use Rattle.std.specs.Prelude.{◌≡◌, ◌≢◌, ℕ, List, [], ◌∷◌, ◌++◌, map, filter, Some, None, All, true, false};
+ghost use Rattle.std.specs.Prelude.{◌≡◌, ◌≢◌, ℕ, [], ◌∷◌, ◌++◌, map, filter, Some, None, All, true, false};
 ghost use Rattle.jh_cellcfg.specs.declared.config.CellConfig.{CellConfig as TheConfig};
 ghost use Rattle.jh_call.specs.declared.call.Call.TheVariants.{Create, Start, Loadable, Destroy};
 ghost use Rattle.jh_shape.specs.Lives.{marked};
@@ -9,9 +9,7 @@ ghost use Rattle.jh_history.specs.declared.entry.Act.TheVariants.{Decide, Commit
 ghost use Rattle.jh_history.specs.History.{facts};
 ghost use Rattle.jh_history.specs.Commits.{is_commit, is_other};
 ghost use Rattle.jh_history.specs.Configs.{config_read, read_at};
-ghost use Rattle.jh_history.specs.Due.{IsLegal};
-ghost use Rattle.jh_history.specs.Admitted.{IsAdmitted};
-ghost use Rattle.jh_laws.specs.Moments.{AdmittedMoment, facts_before, facts_behind};
+ghost use Rattle.jh_laws.specs.Moments.{AdmittedMoment, AdmittedSpan, facts_before, facts_behind, facts_at_first, facts_at_last, facts_past_last};
 ghost use Rattle.jh_laws.specs.Ways.{begun, call_begun};
 
 /// Root lives alone at opening. The Commit of a create adds its cell behind the others, not loadable; that of a
@@ -37,11 +35,9 @@ pub fn cells_live_from_commit_to_commit()
 /// A cell that a create makes has the configuration that was read at the create's address at its Decide, whatever
 /// stands there when it is committed.
 pub fn configurations_are_read_at_the_decide()
-    ensures { (image : TheImage) (before middle rest : List TheEntry) (decide commit first : TheEntry) (at : ℕ) →
-        IsAdmitted image → IsLegal image (before ++ decide ∷ (middle ++ commit ∷ rest)) →
-        begun before ≡ Some first → call_begun first.act ≡ Create at → decide.act ≡ Decide None →
-        All (λ (e : TheEntry). e.cpu ≢ decide.cpu) middle → commit.cpu ≡ decide.cpu →
-        (config : TheConfig) × (config_read (read_at image (facts image before) at) ≡ Some config) ×
-        ((facts image (before ++ decide ∷ (middle ++ commit ∷ []))).cells ≡
-        (facts image (before ++ decide ∷ middle)).cells ++ (record { config = config; loadable = false }) ∷ []) }
+    ensures { (s : AdmittedSpan) (opening : TheEntry) (at : ℕ) →
+        begun s.before ≡ Some opening → call_begun opening.act ≡ Create at → s.first.act ≡ Decide None →
+        All (λ (e : TheEntry). e.cpu ≢ s.first.cpu) s.between → s.last.cpu ≡ s.first.cpu →
+        (config : TheConfig) × (config_read (read_at s.image (facts_at_first s) at) ≡ Some config) ×
+        ((facts_past_last s).cells ≡ (facts_at_last s).cells ++ (record { config = config; loadable = false }) ∷ []) }
 {}

@@ -1,5 +1,5 @@
 //! What entries do to CPUs.
-ghost use Rattle.std.specs.Prelude.{◌≡◌, ◌≢◌, ◌↔◌, ℕ, ℤ, true, false, Some, IsSome, slice_get, List, ◌∷◌, ◌++◌, All};
+ghost use Rattle.std.specs.Prelude.{◌≡◌, ◌≢◌, ◌↔◌, ℕ, ℤ, true, false, Some, IsSome, slice_get, All};
 ghost use Rattle.jh_cellcfg.specs.declared.config.CellConfig.{CellConfig as TheConfig};
 ghost use Rattle.jh_cellcfg.specs.Cells.{name_of};
 ghost use Rattle.jh_cpu.specs.declared.cpu.Mode.TheVariants.{Running as Runs};
@@ -8,13 +8,11 @@ ghost use Rattle.jh_script.specs.declared.op.Op.{Op as TheOp};
 ghost use Rattle.jh_history.specs.Lives.{is_on_board, program_of};
 ghost use Rattle.jh_history.specs.declared.entry.Entry.{Entry as TheEntry};
 ghost use Rattle.jh_history.specs.declared.entry.Act.TheVariants.{Begin, Stop, Commit, Finish};
-ghost use Rattle.jh_laws.specs.Moments.{AdmittedJournal, AdmittedMoment, facts_of, facts_before, facts_behind, state_before, state_behind, cells_before, cells_behind};
+ghost use Rattle.jh_laws.specs.Moments.{AdmittedJournal, AdmittedMoment, AdmittedSpan, facts_of, facts_before, facts_behind, state_before, state_behind, cells_before, cells_behind};
 ghost use Rattle.jh_laws.specs.Ways.{is_agreement, begun, call_begun};
-ghost use Rattle.jh_history.specs.Due.{due, IsLegal};
-ghost use Rattle.jh_history.specs.Admitted.{IsAdmitted};
+ghost use Rattle.jh_history.specs.Due.{due};
 ghost use Rattle.jh_history.specs.Pages.{page_write_by, failing};
 ghost use Rattle.jh_history.specs.declared.place.Place.TheVariants.{Physical};
-ghost use Rattle.jh_script.specs.declared.image.Image.{Image as TheImage};
 ghost use Rattle.jh_laws.specs.Ready.{IsReadyAt};
 ghost use Rattle.jh_history.specs.Sound.{IsCalm};
 ghost use Rattle.jh_history.specs.Calls.{is_call};
@@ -76,9 +74,8 @@ pub fn cpus_that_are_ready_have_an_entry_due()
 /// root. All that a violation writes is the state of its cell, where all CPUs of a cell besides root have failed
 /// then.
 pub fn violations_end_their_cpus()
-    ensures rests { (image : TheImage) (before middle rest : List TheEntry) (one other : TheEntry) → IsAdmitted image →
-        IsLegal image (before ++ one ∷ (middle ++ other ∷ rest)) → is_violation one.act ≡ true →
-        All (λ (e : TheEntry). is_commit e.act ≡ false) middle → other.cpu ≢ one.cpu }
+    ensures rests { (s : AdmittedSpan) → is_violation s.first.act ≡ true →
+        All (λ (e : TheEntry). is_commit e.act ≡ false) s.between → s.last.cpu ≢ s.first.cpu }
     ensures state { (m : AdmittedMoment) → is_violation m.entry.act ≡ true →
         page_write_by m.image (facts_before m) m.entry m.entry.act ≡ failing m.image (facts_before m) m.entry }
     ensures memory { (m : AdmittedMoment) (place : ℕ) → is_violation m.entry.act ≡ true →

@@ -1,3 +1,4 @@
 pub mod Index
 pub mod IsIndex
 pub mod Dispatch
+pub mod Lookups

@@ -10,7 +10,7 @@ pub const ENOENT: i64 = -2;
 /// A list is too long.
 pub const E2BIG: i64 = -7;
 
-/// Out of memory.
+/// Want of memory.
 pub const ENOMEM: i64 = -12;
 
 /// The thing is in use.

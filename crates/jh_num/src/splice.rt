@@ -141,7 +141,7 @@ pub(crate) fn meeting(alloc: Global, xs: &[Range], ys: &[Range]) -> Result<Vec<R
     let mut met = Vec::new(alloc);
     let mut i = 0;
     let mut j = 0;
-    'walk: while i < xs.len() && j < ys.len() {
+    'both_left: while i < xs.len() && j < ys.len() {
         let x = xs[i];
         let y = ys[j];
         let start = x.start.max(y.start);
@@ -211,7 +211,7 @@ pub(crate) fn merge(ranges: &mut Vec<Range>, others: &[Range])
     let mut i = ranges.len() - others.len();
     let mut j = others.len();
     let mut at = ranges.len();
-    'merge: while i > 0 || j > 0 {
+    'some_left: while i > 0 || j > 0 {
         if ends_last(ranges.as_slice(), i, others, j) {
             i -= 1;
             let next = ranges[i];

@@ -11,6 +11,7 @@ pub struct Probe {
     pub word: u64,
 }
 
+/// How many reads are kept.
 const KEPT: usize = 8;
 
 /// How many descriptors were read, and the last eight of them.

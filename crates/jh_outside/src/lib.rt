@@ -1,6 +1,6 @@
 //! The outside: files that are read from their start, a sink that text is appended to, and a gate that workers
-//! pass. Each is a trait whose meaning its clauses say, with one form in memory, and files and
-//! standard output of the system.
+//! pass. Files and the sink are traits whose meaning their clauses say, each with a form in memory and one of the
+//! system; a gate promises nothing.
 #![tactic(auto)]
 
 mod dir_files;

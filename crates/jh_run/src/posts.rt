@@ -77,7 +77,7 @@ impl<H: Home> Post<H> {
     }
 }
 
-/// The posts that were left, each at the place of its caller's number.
+/// The posts that were left, each at the index of its caller's number.
 #[derive(Drop)]
 struct Left<H: Home> {
     posts: Vec<Option<Post<H>>>,
@@ -94,10 +94,12 @@ impl<H: Home> Left<H> {
         Ok(Left { posts })
     }
 
+    /// The post of the caller, which is left no more.
     fn take(&mut self, caller: u8) -> Option<Post<H>> {
         self.posts[usize::from(caller)].take()
     }
 
+    /// The post of the lowest caller that was left, which is left no more.
     fn take_any(&mut self) -> Option<Post<H>> {
         for post in self.posts.as_mut_slice() {
             if post.is_some() {
@@ -107,6 +109,7 @@ impl<H: Home> Left<H> {
         None
     }
 
+    /// Leaves the post.
     fn put(&mut self, post: Post<H>) {
         let caller = post.port.caller();
         self.posts[usize::from(caller)] = Some(post);

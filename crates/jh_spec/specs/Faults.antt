@@ -1,9 +1,10 @@
 -- Steps that may find a fault: a member that tells nothing, or a name that isn't listed.
-use Rattle.std.specs.Prelude.{◌≡◌, ⊤, List, ℕ, Option, Some, None, Result, Ok, Err}
+use Rattle.std.specs.Prelude.{◌≡◌, ⊤, List, ℕ, Option, Some, None, Result, Ok, Err, false, is_some}
 use Rattle.serde_json.specs.Data.{Data}
+use Rattle.serde_json.specs.Find.{as_object}
 use Rattle.jh_spec.specs.declared.fault.JsonFault.{JsonFault}
 use Rattle.jh_spec.specs.declared.fault.JsonFault.TheVariants.{Json, Member, NoMemory}
-use Rattle.jh_spec.specs.Json.{unlisted}
+use Rattle.jh_spec.specs.Json.{IsText, unlisted}
 
 infixl 10 ◌>>=◌
 -- the next step, where this one finds no fault
@@ -41,3 +42,17 @@ IsWantedReading wanted (Err (Member name)) = wanted ≡ Err (Member name)
 -- an answer is the one that is wanted, or want of memory
 pub record IsAsWanted {X : Type 0} (wanted result : Result X JsonFault) : Type 0 where
   pub answer : IsWantedReading wanted result
+
+-- why no object was read: the bytes are no object's text, or there is want of memory
+abbrev pub IsNoObject : List ℕ → JsonFault → Type 0
+IsNoObject bytes Json = (d : Data) → IsText bytes d → is_some (as_object d) ≡ false
+IsNoObject bytes (Member name) = ⊥
+IsNoObject bytes NoMemory = ⊤
+
+-- what is answered to these bytes, of which the value tells this or is at fault: that, or that they are no object's text,
+-- or want of memory
+abbrev pub IsJsonAnswer : {X : Type 0} → (Data → Result X JsonFault) → List ℕ → Result X JsonFault → Type 0
+IsJsonAnswer told bytes (Ok x) = (d : Data) × IsText bytes d × (told d ≡ Ok x)
+IsJsonAnswer told bytes (Err Json) = (d : Data) → IsText bytes d → told d ≡ Err Json
+IsJsonAnswer told bytes (Err (Member name)) = (d : Data) × IsText bytes d × (told d ≡ Err (Member name))
+IsJsonAnswer told bytes (Err NoMemory) = ⊤

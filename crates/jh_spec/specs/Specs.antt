@@ -12,7 +12,7 @@ use Rattle.jh_spec.specs.declared.spec.Spec.TheVariants.{Cell as CellSpec, Syste
 use Rattle.jh_spec.specs.declared.spec.Kind.{Kind}
 use Rattle.jh_spec.specs.declared.spec.Kind.TheVariants.{Cell, System}
 use Rattle.jh_spec.specs.Json.{IsText}
-use Rattle.jh_spec.specs.Faults.{◌>>=◌}
+use Rattle.jh_spec.specs.Faults.{◌>>=◌, IsJsonAnswer}
 use Rattle.jh_spec.specs.Cells.{cell_names, cell_told, system_told}
 
 -- the kind that the text names
@@ -44,18 +44,9 @@ object_told d = told_by (kind_told d) d
 abbrev pub spec_told : Data → Result Spec JsonFault
 spec_told d = if is_some (as_object d) then object_told d else Err Json
 
--- why no object was read: the bytes are no object's text, or memory ran out
-abbrev pub IsNoSpec : List ℕ → JsonFault → Type 0
-IsNoSpec bytes Json = (d : Data) → IsText bytes d → spec_told d ≡ Err Json
-IsNoSpec bytes (Member name) = ⊥
-IsNoSpec bytes NoMemory = ⊤
-
 -- what is answered to these bytes: what their value tells, or that they are no object's text
 abbrev pub IsSpecAnswer : List ℕ → Result Spec JsonFault → Type 0
-IsSpecAnswer bytes (Ok spec) = (d : Data) × IsText bytes d × (spec_told d ≡ Ok spec)
-IsSpecAnswer bytes (Err Json) = (d : Data) → IsText bytes d → spec_told d ≡ Err Json
-IsSpecAnswer bytes (Err (Member name)) = (d : Data) × IsText bytes d × (spec_told d ≡ Err (Member name))
-IsSpecAnswer bytes (Err NoMemory) = ⊤
+IsSpecAnswer bytes result = IsJsonAnswer spec_told bytes result
 
 -- the configuration may be written
 abbrev pub MayBeWritten : Spec → Type 0

@@ -1,12 +1,29 @@
 //! What a JSON value tells, for every text of ours that is JSON.
-ghost use Rattle.std.specs.Prelude.{◌≡◌, option_map, map, nat_eq, IfSome, ◌<◌};
+ghost use Rattle.std.specs.Prelude.{◌≡◌, option_map, map, nat_eq, IfSome, IfOk, IfErr, is_some, true, ◌<◌};
 ghost use Rattle.std.specs.List.{list_any};
 ghost use Rattle.std.specs.Cmp.Lexicographic.{pointwise};
-ghost use Rattle.serde_json.specs.Find.{as_str};
+ghost use Rattle.serde_json.specs.Find.{as_str, as_object};
 ghost use Rattle.serde_json.specs.View.{view, members_view};
-ghost use Rattle.jh_spec.specs.Json.{told_at, first_unlisted, unlisted, has_only, number_told, number_below};
+ghost use Rattle.jh_spec.specs.Json.{IsText, told_at, first_unlisted, unlisted, has_only, number_told, number_below};
+ghost use Rattle.jh_spec.specs.Faults.{IsNoObject};
 
+use crate::fault::JsonFault;
 use serde_json::{Map, Value};
+use std::alloc::Global;
+
+/// The object that the bytes are the text of, all of them.
+pub fn object(alloc: Global, bytes: &[u8]) -> Result<Value, JsonFault>
+    ensures text { IfOk result (λ value. IsText bytes.now (view value)) }
+    ensures object { IfOk result (λ value. is_some (as_object (view value)) ≡ true) }
+    ensures fault { IfErr result (IsNoObject bytes.now) }
+{
+    match Value::from_slice(alloc, bytes) {
+        Ok(value) if value.is_object() => Ok(value),
+        Ok(_) => Err(JsonFault::Json),
+        Err(e) if e.is_memory() => Err(JsonFault::NoMemory),
+        Err(_) => Err(JsonFault::Json),
+    }
+}
 
 /// The text that the object's member of this name is; `None` where it is missing or no text.
 pub fn text_at<'v>(object: &'v Value, name: &str) -> Option<&'v str>

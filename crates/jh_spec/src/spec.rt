@@ -1,13 +1,13 @@
 //! A configuration told in JSON.
-ghost use Rattle.std.specs.Prelude.{◌≡◌, IfOk, IfErr, is_some, true};
+ghost use Rattle.std.specs.Prelude.{◌≡◌, IfOk, is_some, true};
 ghost use Rattle.serde_json.specs.Find.{as_object};
 ghost use Rattle.serde_json.specs.View.{view};
-ghost use Rattle.jh_spec.specs.Json.{IsText};
-ghost use Rattle.jh_spec.specs.Specs.{IsSpecAnswer, MayBeWritten, IsNoSpec, kind_told, object_told};
+ghost use Rattle.jh_spec.specs.Specs.{IsSpecAnswer, MayBeWritten, kind_told, object_told};
 ghost use Rattle.jh_spec.specs.Faults.{IsAsWanted};
 
 use crate::cell::{CELL_NAMES, cell};
 use crate::fault::{JsonFault, fault_of};
+use crate::json::object;
 use crate::system::system;
 use jh_cellcfg::{CellConfig, SystemConfig};
 use serde_json::Value;
@@ -56,19 +56,5 @@ fn kind_of(object: &Value) -> Option<Kind>
         "cell" => Some(Kind::Cell),
         "system" => Some(Kind::System),
         _ => None,
-    }
-}
-
-/// The object that the bytes are the text of.
-fn object(alloc: Global, bytes: &[u8]) -> Result<Value, JsonFault>
-    ensures text { IfOk result (λ value. IsText bytes.now (view value)) }
-    ensures object { IfOk result (λ value. is_some (as_object (view value)) ≡ true) }
-    ensures fault { IfErr result (IsNoSpec bytes.now) }
-{
-    match Value::from_slice(alloc, bytes) {
-        Ok(value) if value.is_object() => Ok(value),
-        Ok(_) => Err(JsonFault::Json),
-        Err(e) if e.is_memory() => Err(JsonFault::NoMemory),
-        Err(_) => Err(JsonFault::Json),
     }
 }

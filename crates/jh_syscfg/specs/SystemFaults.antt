@@ -14,7 +14,7 @@ system_fault bytes = first_of (
     ∷ body_fault 96 (drop 96 bytes)
     ∷ [])
 
--- the call answered this system, unless memory ran out
+-- the call answered this system, but for want of memory
 pub record GivesSystem (answer : Result SystemConfig ConfigFault) (system : SystemConfig) : Type 0 where
   pub unrefused : refusal answer ≡ None
   pub found : IfOk answer (λ other. other ≡ system)

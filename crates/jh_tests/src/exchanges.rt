@@ -403,7 +403,7 @@ fn a_locked_cell_keeps_cells_from_coming_and_going(rt: HostRuntime) -> Result<()
     Ok(())
 }
 
-const TOLD: &str = "0 0 hvc 1 0x48000000 0x0 = begin
+const NOTED: &str = "0 0 hvc 1 0x48000000 0x0 = begin
 1 0 stop
 2 0 stop
 0 0 decide = go
@@ -435,7 +435,7 @@ fn a_cell_that_receives_a_note_is_noted(rt: HostRuntime) -> Result<(), Fail> {
         second: "",
         demo: "await 4 0x8000000c 2\nwrite 4 0x80000010 4\n",
         schedule: "",
-        journal: TOLD,
+        journal: NOTED,
     };
     plays(&rt, rt.alloc(), &case)?;
     Ok(())

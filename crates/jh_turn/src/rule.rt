@@ -12,11 +12,11 @@ pub struct Hand<E> {
 
 /// What a seat knows. No value of it is made.
 pub struct View<T, E> {
-    // The value that was opened.
+    /// The value that was opened.
     pub opened: Option<T>,
-    // The callers that the seat speaks for: all at first, then one, and all again once the seats are joined.
+    /// The callers that the seat speaks for: all at first, then one, and all again once the seats are joined.
     pub hands: LinkedList<Hand<E>>,
-    // The turn is the seat's.
+    /// The turn is the seat's.
     pub holding: bool,
 }
 
@@ -27,6 +27,7 @@ pub struct Opening<T> {
     pub callers: Vec<u8>,
 }
 
+/// The rule of the table behind the lock.
 pub struct Law;
 
 impl<T: Turner> TableRule<Option<Box<T>>, View<T, T::Entry>, Opening<T>> for Law {

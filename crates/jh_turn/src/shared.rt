@@ -11,15 +11,16 @@ mod closing;
 mod opening;
 mod turns;
 
-// Word 0 has the number of the caller that holds the turn, or this.
+/// What word 0 has where no caller holds the turn.
 const FREE: u64 = 256;
 
+/// Word 0 has the number of the caller that holds the turn.
 const HOLDER: usize = 0;
 
-// Word 1 has the number of entries.
+/// Word 1 has the number of entries.
 const LENGTH: usize = 1;
 
-// The slot has the value, or nothing while it is out.
+/// The slot has the value, or nothing while it is out.
 const VALUE: usize = 0;
 
 /// A value that callers in several threads take turns on.

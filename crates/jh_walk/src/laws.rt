@@ -1,4 +1,4 @@
-//! What holds of every walk, over any words.
+//! What holds of every walk, over any words. Each function does nothing; its contract is the law.
 ghost use Rattle.std.specs.Prelude.{◌≡◌, ◌≢◌, ℕ, ◌+◌, ◌/◌, ◌<◌, ◌≤◌, ◌⊎◌, List, length, Some};
 ghost use Rattle.jh_desc.specs.declared.descriptor.Hit.{Hit as AnyHit};
 ghost use Rattle.jh_walk.specs.Walks.{levels, probes_of, walk_of};

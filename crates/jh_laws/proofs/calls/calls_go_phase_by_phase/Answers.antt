@@ -3,4 +3,4 @@ use Rattle.jh_laws.proofs.CallLemmas.{follows_begun}
 use Rattle.jh_laws.proofs.calls.calls_go_phase_by_phase.Goals as goal
 
 pub returns : goal.returns
-returns c = follows_begun
+returns c = λ s. follows_begun s.image s.before s.between s.rest s.first s.last s.admitted s.legal

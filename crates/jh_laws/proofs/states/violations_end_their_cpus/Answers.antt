@@ -4,7 +4,7 @@ use Rattle.jh_laws.proofs.FailedLemmas.{failing_of, failed_rests, memory_kept}
 use Rattle.jh_laws.proofs.states.violations_end_their_cpus.Goals as goal
 
 pub returns-clause-rests : goal.returns-clause-rests
-returns-clause-rests c = failed_rests
+returns-clause-rests c = λ s. failed_rests s.image s.before s.between s.rest s.first s.last s.admitted s.legal
 
 pub returns-clause-state : goal.returns-clause-state
 returns-clause-state c = λ m violates. failing_of m.image (facts_before m) m.entry m.entry.act violates

@@ -2,8 +2,8 @@ use Rattle.std.proofs.Common.{◌+◌, ◌-◌, length}
 use Rattle.jh_num.proofs.MeetingLemmas.{Meets}
 use Rattle.jh_num.proofs.splice.meeting.Given as goal
 
-abbrev pub invariant-walk : goal.invariant-walk
-invariant-walk l = Meets l.xs l.ys l.i l.j l.met.items
+abbrev pub invariant-both_left : goal.invariant-both_left
+invariant-both_left l = Meets l.xs l.ys l.i l.j l.met.items
 
-abbrev pub decreases-walk : goal.decreases-walk
-decreases-walk l = (length l.xs - l.i) + (length l.ys - l.j)
+abbrev pub decreases-both_left : goal.decreases-both_left
+decreases-both_left l = (length l.xs - l.i) + (length l.ys - l.j)

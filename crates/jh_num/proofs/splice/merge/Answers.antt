@@ -12,38 +12,38 @@ firsts items len others = take (len - length others) items
 pub put_before-at-requires-clause-some : goal.put_before-at-requires-clause-some
 put_before-at-requires-clause-some c =
     let xs = firsts c.args.ranges.now.items (vec_len c.args.ranges.now) c.args.others.now in
-    let k = c.merge.i - 1 in
+    let k = c.some_left.i - 1 in
     let x = c.index-next.result.now in
-    let bound = c.merge.invariant.merges.i_bound in
-    let some : 0 < c.merge.i = c.ends_last.ensures.first c.if-ends_last.true in
+    let bound = c.some_left.invariant.merges.i_bound in
+    let some : 0 < c.some_left.i = c.ends_last.ensures.first c.if-ends_last.true in
     own_some xs k x c.requires.apart (omega arith)
-    (c.index-next.ensures ∙ reads xs c.merge.ranges.items c.merge.i k x (omega arith) c.merge.invariant.unread)
+    (c.index-next.ensures ∙ reads xs c.some_left.ranges.items c.some_left.i k x (omega arith) c.some_left.invariant.unread)
 
 pub put_before-at-requires-clause-last : goal.put_before-at-requires-clause-last
 put_before-at-requires-clause-last c = λ d below.
     let xs = firsts c.args.ranges.now.items (vec_len c.args.ranges.now) c.args.others.now in
-    let k = c.merge.i - 1 in
+    let k = c.some_left.i - 1 in
     let x = c.index-next.result.now in
-    let bound = c.merge.invariant.merges.i_bound in
-    let some : 0 < c.merge.i = c.ends_last.ensures.first c.if-ends_last.true in
-    let own : x ≡ get_or xs k x = c.index-next.ensures ∙ reads xs c.merge.ranges.items c.merge.i k x (omega arith) c.merge.invariant.unread in
+    let bound = c.some_left.invariant.merges.i_bound in
+    let some : 0 < c.some_left.i = c.ends_last.ensures.first c.if-ends_last.true in
+    let own : x ≡ get_or xs k x = c.index-next.ensures ∙ reads xs c.some_left.ranges.items c.some_left.i k x (omega arith) c.some_left.invariant.unread in
     let end : x.end ≡ (get_or xs k d).end = own_end xs k x d (omega arith) own in
-    let len = c.merge.ranges.ok.0 in
-    let ends = c.merge.invariant.merges.xs_ends k d d (omega arith) (omega arith) in
+    let len = c.some_left.ranges.ok.0 in
+    let ends = c.some_left.invariant.merges.xs_ends k d d (omega arith) (omega arith) in
     omega arith
 
-pub merge-preserved-then-ends_last : goal.merge-preserved-then-ends_last
-merge-preserved-then-ends_last c =
+pub some_left-preserved-then-ends_last : goal.some_left-preserved-then-ends_last
+some_left-preserved-then-ends_last c =
     let xs = firsts c.args.ranges.now.items (vec_len c.args.ranges.now) c.args.others.now in
     let ys = c.args.others.now in
-    let items = c.merge.ranges.items in
+    let items = c.some_left.ranges.items in
     let new = c.put_before-at.new.ranges.items in
-    let i = c.merge.i in
-    let j = c.merge.j in
-    let k = c.merge.i - 1 in
-    let at = c.merge.at in
+    let i = c.some_left.i in
+    let j = c.some_left.j in
+    let k = c.some_left.i - 1 in
+    let at = c.some_left.at in
     let x = c.index-next.result.now in
-    let m = c.merge.invariant.merges in
+    let m = c.some_left.invariant.merges in
     let put = c.put_before-at.ensures in
     let i_bound = m.i_bound in
     let j_bound = m.j_bound in
@@ -52,7 +52,7 @@ merge-preserved-then-ends_last c =
     let inside = put.within in
     let len = c.put_before-at.new.ranges.ok.0 in
     let some : 0 < i = c.ends_last.ensures.first c.if-ends_last.true in
-    let own : x ≡ get_or xs k x = c.index-next.ensures ∙ reads xs items i k x (omega arith) c.merge.invariant.unread in
+    let own : x ≡ get_or xs k x = c.index-next.ensures ∙ reads xs items i k x (omega arith) c.some_left.invariant.unread in
     let whole : i ≡ k + 1 = omega arith in
     let going : Merges xs ys items (k + 1) j at = subst (λ n. Merges xs ys items n j at) whole m in
     let puts : Puts items new at c.put_before-at.result x = record { bytes = put.bytes; apart = put.apart; first = put.first; near = put.near; within = omega arith } in
@@ -65,30 +65,30 @@ merge-preserved-then-ends_last c =
           let end : x.end ≡ (get_or items k d).end = own_end items k x d (omega arith) c.index-next.ensures in
           omega arith)
           puts;
-      unread = still_unread xs items new i k (at - 1) (omega arith) (omega arith) c.merge.invariant.unread put.before;
-      len = put.len ∙ c.merge.invariant.len;
-      capacity = put.capacity ∙ c.merge.invariant.capacity;
+      unread = still_unread xs items new i k (at - 1) (omega arith) (omega arith) c.some_left.invariant.unread put.before;
+      len = put.len ∙ c.some_left.invariant.len;
+      capacity = put.capacity ∙ c.some_left.invariant.capacity;
     }
 
 pub put_before-at-requires-else-ends_last-clause-some : goal.put_before-at-requires-else-ends_last-clause-some
 put_before-at-requires-else-ends_last-clause-some c =
-    let bound = c.merge.invariant.merges.j_bound in
-    let some : 0 < c.merge.j = c.ends_last.ensures.other c.if-ends_last.false in
-    own_some c.args.others.now (c.merge.j - 1) c.index-others-j.result c.requires.others (omega arith) c.index-others-j.is
+    let bound = c.some_left.invariant.merges.j_bound in
+    let some : 0 < c.some_left.j = c.ends_last.ensures.other c.if-ends_last.false in
+    own_some c.args.others.now (c.some_left.j - 1) c.index-others-j.result c.requires.others (omega arith) c.index-others-j.is
 
-pub merge-preserved : goal.merge-preserved
-merge-preserved c =
+pub some_left-preserved : goal.some_left-preserved
+some_left-preserved c =
     let xs = firsts c.args.ranges.now.items (vec_len c.args.ranges.now) c.args.others.now in
     let ys = c.args.others.now in
-    let items = c.merge.ranges.items in
+    let items = c.some_left.ranges.items in
     let new = c.put_before-at-else-ends_last.new.ranges.items in
     let to = c.put_before-at-else-ends_last.result in
-    let i = c.merge.i in
-    let j = c.merge.j in
-    let k = c.merge.j - 1 in
-    let at = c.merge.at in
+    let i = c.some_left.i in
+    let j = c.some_left.j in
+    let k = c.some_left.j - 1 in
+    let at = c.some_left.at in
     let y = c.index-others-j.result in
-    let m = c.merge.invariant.merges in
+    let m = c.some_left.invariant.merges in
     let put = c.put_before-at-else-ends_last.ensures in
     let i_bound = m.i_bound in
     let j_bound = m.j_bound in
@@ -104,13 +104,13 @@ merge-preserved c =
       merges = swapped ys xs new k i to (stepped ys xs items new k i at to y c.requires.others (swapped xs ys items i (k + 1) at going) c.index-others-j.is
           (λ n d less.
           let rise : (get_or xs n d).end ≤ (get_or xs (i - 1) d).end = ends_rise xs n (i - 1) d c.requires.apart (omega arith) (omega arith) in
-          let own : (get_or items (i - 1) d).end ≡ (get_or xs (i - 1) d).end = ap (λ (r : Range). r.end) (reads xs items i (i - 1) d (omega arith) c.merge.invariant.unread) in
+          let own : (get_or items (i - 1) d).end ≡ (get_or xs (i - 1) d).end = ap (λ (r : Range). r.end) (reads xs items i (i - 1) d (omega arith) c.some_left.invariant.unread) in
           let earlier : (get_or c.as_slice.result.now (i - 1) d).end ≤ (get_or ys k d).end = c.ends_last.ensures.earlier d c.if-ends_last.false (omega arith) in
           let same : (get_or c.as_slice.result.now (i - 1) d).end ≡ (get_or items (i - 1) d).end = ap (λ (rs : List Range). (get_or rs (i - 1) d).end) c.as_slice.ensures.value in
           let end : y.end ≡ (get_or ys k d).end = own_end ys k y d (omega arith) c.index-others-j.is in
           omega arith)
           puts);
-      unread = still_unread xs items new i i (at - 1) (omega arith) (omega arith) c.merge.invariant.unread put.before;
-      len = put.len ∙ c.merge.invariant.len;
-      capacity = put.capacity ∙ c.merge.invariant.capacity;
+      unread = still_unread xs items new i i (at - 1) (omega arith) (omega arith) c.some_left.invariant.unread put.before;
+      len = put.len ∙ c.some_left.invariant.len;
+      capacity = put.capacity ∙ c.some_left.invariant.capacity;
     }

@@ -4,13 +4,13 @@ use Rattle.std.specs.Prelude.{vec_len, vec_capacity}
 use Rattle.jh_num.proofs.MergeLemmas.{Merges}
 use Rattle.jh_num.proofs.splice.merge.Given as goal
 
-abbrev pub invariant-merge : goal.invariant-merge
-invariant-merge l = record {
+abbrev pub invariant-some_left : goal.invariant-some_left
+invariant-some_left l = record {
   merges : Merges (take (vec_len l.fn.ranges - length l.fn.others) l.fn.ranges.items) l.others l.ranges.items l.i l.j l.at;
   unread : take l.i l.ranges.items ≡ take l.i (take (vec_len l.fn.ranges - length l.fn.others) l.fn.ranges.items);
   len : vec_len l.ranges ≡ vec_len l.fn.ranges;
   capacity : vec_capacity l.ranges ≡ vec_capacity l.fn.ranges;
 }
 
-abbrev pub decreases-merge : goal.decreases-merge
-decreases-merge l = l.i + l.j
+abbrev pub decreases-some_left : goal.decreases-some_left
+decreases-some_left l = l.i + l.j
