@@ -8,7 +8,7 @@ ghost use Rattle.jh_check.specs.Refusals.{is_namesake, is_known, any_below, is_b
 
 use crate::laws::{beyond_is_a_cpu, sound_bitmaps_name_few_cpus};
 use crate::verdict::{NewCell, clean_with};
-use jh_cellcfg::{CellConfig, SystemConfig};
+use jh_cellcfg::{CellConfig, SystemConfig, are_zero};
 use jh_num::error::{EBUSY, EEXIST, EINVAL, ENOMEM};
 use jh_num::{NoMemory, has_bit};
 use std::alloc::Global;

@@ -1,9 +1,7 @@
 //! From a board's text to the names of its files.
-ghost use Rattle.std.specs.Prelude.{◌≡◌, ◌≤◌, IfOk, IfErr, is_some, true, length, map};
-ghost use Rattle.serde_json.specs.Find.{as_object};
+ghost use Rattle.std.specs.Prelude.{◌≡◌, ◌≤◌, IfOk, true, length, map};
 ghost use Rattle.serde_json.specs.View.{view};
 ghost use Rattle.jh_spec.specs.Faults.{IsWantedReading};
-ghost use Rattle.jh_spec.specs.Json.{IsText};
 ghost use Rattle.jh_image.specs.Boards.{object_told, IsListingAnswer, are_distinct, seat_of};
 
 use crate::file_name::FileName;

@@ -1,13 +1,12 @@
 //! The entries of a board's lists.
 ghost use Rattle.std.specs.Prelude.{◌≡◌, IfOk, None, option_map};
-ghost use Rattle.std.specs.List.{list_all};
 ghost use Rattle.serde_json.specs.View.{view};
-ghost use Rattle.jh_cellcfg.specs.Limits.{is_printable};
 ghost use Rattle.jh_spec.specs.Json.{told_at, number_below};
 ghost use Rattle.jh_image.specs.Boards.{preload_told, program_told, is_cell_name, cell_told};
 
 use crate::board::{PreloadFile, ProgramFile};
 use crate::file_name::FileName;
+use jh_cellcfg::are_printable;
 use jh_num::{NoMemory, Seq};
 use jh_spec::json::{has_only, number_at, number_below, text_at};
 use serde_json::Value;

@@ -1,6 +1,5 @@
 //! A configuration told in JSON.
-ghost use Rattle.std.specs.Prelude.{◌≡◌, IfOk, is_some, true};
-ghost use Rattle.serde_json.specs.Find.{as_object};
+ghost use Rattle.std.specs.Prelude.{◌≡◌, IfOk};
 ghost use Rattle.serde_json.specs.View.{view};
 ghost use Rattle.jh_spec.specs.Specs.{IsSpecAnswer, MayBeWritten, kind_told, object_told};
 ghost use Rattle.jh_spec.specs.Faults.{IsAsWanted};
