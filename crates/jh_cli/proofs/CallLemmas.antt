@@ -11,7 +11,7 @@ use Rattle.jh_cli.specs.Words.{Asked}
 use Rattle.jh_cli.specs.Lines.{exit_number}
 use Rattle.jh_image.specs.Files.{Contents}
 use Rattle.jh_cli.specs.Reading.{Reply}
-use Rattle.jh_cli.specs.Endings.{said_of, OnEnding, IsCounted}
+use Rattle.jh_cli.specs.Endings.{reply_of, OnEnding, IsCounted}
 use Rattle.jh_cli.specs.Order.{IsReadFor}
 use Rattle.jh_cli.specs.Outcome.{Outcome, Sent}
 use Rattle.jh_cli.specs.Complete.{AreGood, MayEndWith}
@@ -61,9 +61,9 @@ module _ {S K : Type 0} (contents : S → Contents) (failed : S → List ℕ) (f
       → (r ≡ Err stop.NoMemory → (status ≡ NoMemory) × (written l ≡ written k))
       → IsCall contents failed faults one written sink_faults asked s t k l status
   finished_call answered asked s t k l (Ok told) status outcome counted read sent fault memory =
-      told_call answered asked s t k l (said_of told) status (record { outcome = outcome; read = read; counted = counted }) sent fault
+      told_call answered asked s t k l (reply_of told) status (record { outcome = outcome; read = read; counted = counted }) sent fault
   finished_call answered asked s t k l (Err (stop.Ended told)) status outcome counted read sent fault memory =
-      told_call answered asked s t k l (said_of told) status (record { outcome = outcome; read = read; counted = counted }) sent fault
+      told_call answered asked s t k l (reply_of told) status (record { outcome = outcome; read = read; counted = counted }) sent fault
   finished_call answered asked s t k l (Err stop.NoMemory) status outcome counted read sent fault memory =
       let wanted = memory refl in
       no_call asked s t k l status wanted.0 wanted.1

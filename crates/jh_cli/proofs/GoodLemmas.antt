@@ -51,7 +51,7 @@ use Rattle.jh_cli.specs.Pack.{IsSpecFile, SpecRefusal, Packs, packed}
 use Rattle.jh_cli.specs.Boards.{stopped, EndsAt}
 use Rattle.jh_cli.specs.Play.{AreCpus, IsSchedule, ScheduleRefusal, IsPlayed, played_status, PlaysBy, Plays}
 use Rattle.jh_cli.specs.Run.{Runs}
-use Rattle.jh_cli.specs.Map.{mapped_said, IsMapped, MapsBy, MapsOf}
+use Rattle.jh_cli.specs.Map.{map_reply, IsMapped, MapsBy, MapsOf}
 use Rattle.jh_cli.specs.Soak.{AreRounds, Soaks}
 use Rattle.jh_cli.specs.Audit.{IsJournalFile, JournalRefusal, IsAudited, AuditsBy, Audits, verdict_status}
 use Rattle.jh_cli.specs.Outcome.{Outcome, Sent}
@@ -275,7 +275,7 @@ audit_unrefused unrefused no_bad not_long contents board journal said good (inr 
 abbrev IsMapOf : Image → List ℕ → Status → Type 0
 IsMapOf image cpus status = status ≡ played_status (items image max_entries cpus []).full
 
-mapped_status : (image : Image) (cpus : List ℕ) (found : Option (List ℕ)) → Maps image max_entries cpus found → IsMapOf image cpus (mapped_said found).status
+mapped_status : (image : Image) (cpus : List ℕ) (found : Option (List ℕ)) → Maps image max_entries cpus found → IsMapOf image cpus (map_reply found).status
 mapped_status image cpus (Some text) is = ap played_status (sym is.0)
 mapped_status image cpus None is = ap played_status (sym is.0)
 

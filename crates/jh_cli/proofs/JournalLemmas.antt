@@ -27,8 +27,8 @@ abbrev pub Refuses : List ℕ → JournalFault → Reply → Type 0
 Refuses name fault said = said ≡ record { status = Refused; text = refusal_line name (fault_text fault) }
 
 -- what the reader says of its fault
-abbrev pub IsTold : List ℕ → JournalFault → Type 0
-IsTold text fault = fault ≢ NoMemory → IsFault text fault
+abbrev pub IsTrueFault : List ℕ → JournalFault → Type 0
+IsTrueFault text fault = fault ≢ NoMemory → IsFault text fault
 
 fault_in : {X : Type 0} → Result X JournalFault → JournalFault
 fault_in (Ok x) = NoMemory
@@ -41,19 +41,19 @@ is_other {X} fault r memory is wanted other h = other (ap (λ (s : Result X Jour
 -- the reader's clauses say that its fault is the text's
 pub is_fault : {X : Type 0} (text : List ℕ) (fault : JournalFault) (r memory : Result X JournalFault) → r ≡ Err fault → memory ≡ Err NoMemory
     → (r ≢ memory → (number : ℕ) → (r ≡ Err (Line number)) ↔ IsFirstBadLine text number)
-    → (r ≢ memory → (r ≡ Err TooLong) ↔ IsTooLong text) → IsTold text fault
+    → (r ≢ memory → (r ≡ Err TooLong) ↔ IsTooLong text) → IsTrueFault text fault
 is_fault text (Line number) r memory is wanted line long other = (line (is_other (Line number) r memory is wanted other) number).0 is
 is_fault text TooLong r memory is wanted line long other = (long (is_other TooLong r memory is wanted other)).0 is
 is_fault text NoMemory r memory is wanted line long other = tt
 
-stops_for : (contents : Contents) (name text : List ℕ) (fault : JournalFault) → fault ≢ NoMemory → IsTold text fault → HandsOut (contents name) most_of_a_journal text → length text < most_of_a_journal
+stops_for : (contents : Contents) (name text : List ℕ) (fault : JournalFault) → fault ≢ NoMemory → IsTrueFault text fault → HandsOut (contents name) most_of_a_journal text → length text < most_of_a_journal
     → (s : CallFault) → OnEnded s (Refuses name fault) → OnEnded s (FailsAt most_of_a_journal contents name JournalRefusal)
 stops_for contents name text fault other told handed within s h =
     refuses most_of_a_journal contents name JournalRefusal text (fault_text fault) handed
     (inr (record { within = within; fault = fault; is_of_text = other; first = told other; told = refl })) s h
 
 -- the call ends at a text with a fault
-pub ends_there : (contents : Contents) (name text : List ℕ) (fault : JournalFault) → IsTold text fault → HandsOut (contents name) most_of_a_journal text → length text < most_of_a_journal
+pub ends_there : (contents : Contents) (name text : List ℕ) (fault : JournalFault) → IsTrueFault text fault → HandsOut (contents name) most_of_a_journal text → length text < most_of_a_journal
     → (s : CallFault) → OnEnded s (Refuses name fault) → (fault ≡ NoMemory → s ≡ stop.NoMemory) → OnEnded s (FailsAt most_of_a_journal contents name JournalRefusal)
 unfolding tag
 ends_there contents name text (Line number) told handed within s h memory = stops_for contents name text (Line number) (λ e. let same : 1 ≡ 0 = ap tag e in omega arith) told handed within s h

@@ -58,41 +58,41 @@ hands (Some None) most bytes is h = h
 hands (Some (Some held)) most bytes is h = h
 
 module _ (contents : Contents) where
-  abbrev IsTold : List ℕ → Type 0
-  IsTold name = contents name ≢ None
+  abbrev IsKnown : List ℕ → Type 0
+  IsKnown name = contents name ≢ None
 
-  has : (name bytes : List ℕ) → IsTold name → HasBytes contents name bytes → HasBytes (all_told contents) name bytes
+  has : (name bytes : List ℕ) → IsKnown name → HasBytes contents name bytes → HasBytes (all_told contents) name bytes
   has name bytes is h = record { handed = hands (contents name) (max_file_size + 1) bytes is h.handed; few = h.few }
 
-  oversize : (name : List ℕ) → IsTold name → IsOversize contents name → IsOversize (all_told contents) name
+  oversize : (name : List ℕ) → IsKnown name → IsOversize contents name → IsOversize (all_told contents) name
   oversize name is h = record { bytes = h.bytes; handed = hands (contents name) (max_file_size + 1) h.bytes is h.handed; many = h.many }
 
-  lists : (board : List ℕ) (listing : Listing) → IsTold board → Lists contents board listing → Lists (all_told contents) board listing
+  lists : (board : List ℕ) (listing : Listing) → IsKnown board → Lists contents board listing → Lists (all_told contents) board listing
   lists board listing is h = record { bytes = h.bytes; has = has board h.bytes is h.has; told = h.told }
 
-  spells : (name : List ℕ) (system : SystemConfig) → IsTold name → SpellsSystem contents name system → SpellsSystem (all_told contents) name system
+  spells : (name : List ℕ) (system : SystemConfig) → IsKnown name → SpellsSystem contents name system → SpellsSystem (all_told contents) name system
   spells name system is h = record { bytes = h.bytes; has = has name h.bytes is h.has; typed = h.typed; limits = h.limits; spelled = h.spelled }
 
-  preload_of : (file : PreloadFile) (preload : Preload) → IsTold file.file → IsPreloadOf contents file preload → IsPreloadOf (all_told contents) file preload
+  preload_of : (file : PreloadFile) (preload : Preload) → IsKnown file.file → IsPreloadOf contents file preload → IsPreloadOf (all_told contents) file preload
   preload_of file preload is h = record { has = has file.file preload.bytes is h.has; at = h.at }
 
-  program_of : (file : ProgramFile) (program : Program) → IsTold file.file → IsProgramOf contents file program → IsProgramOf (all_told contents) file program
+  program_of : (file : ProgramFile) (program : Program) → IsKnown file.file → IsProgramOf contents file program → IsProgramOf (all_told contents) file program
   program_of file program is h = record { bytes = h.bytes; has = has file.file h.bytes is h.has; told = h.told; cell = h.cell; cpu = h.cpu }
 
   -- ---- the board
 
   module _ (board : List ℕ) (told : IsKnownBoard contents board) where
-    at_board : IsTold board
+    at_board : IsKnown board
     at_board = told.of_board.0
 
-    at_system : (listing : Listing) → Lists contents board listing → IsTold listing.system
+    at_system : (listing : Listing) → Lists contents board listing → IsKnown listing.system
     at_system listing h = (told.of_files listing h).1.0
 
     at_preloads : (listing : Listing) → Lists contents board listing → AreKnownNames contents (map preload_name listing.preloads)
-    at_preloads listing h = all_front IsTold (map preload_name listing.preloads) (map program_name listing.programs) (told.of_files listing h).1.1
+    at_preloads listing h = all_front IsKnown (map preload_name listing.preloads) (map program_name listing.programs) (told.of_files listing h).1.1
 
     at_programs : (listing : Listing) → Lists contents board listing → AreKnownNames contents (map program_name listing.programs)
-    at_programs listing h = all_back IsTold (map preload_name listing.preloads) (map program_name listing.programs) (told.of_files listing h).1.1
+    at_programs listing h = all_back IsKnown (map preload_name listing.preloads) (map program_name listing.programs) (told.of_files listing h).1.1
 
     -- what is listed at the stage
     abbrev IsListed : Stage → Type 0
@@ -110,13 +110,13 @@ module _ (contents : Contents) where
     is_listed s nothing_read = tt
     is_listed s (one_more_read before now read last) = reads_listed before now last (is_listed before read)
 
-    at_preload : (so_far : SoFar) (file : PreloadFile) → Lists contents board so_far.listing → IsNextPreload so_far file → IsTold file.file
-    at_preload so_far file listed_so next = all_get IsTold preload_name so_far.listing.preloads (length so_far.preloads) file next (at_preloads so_far.listing listed_so)
+    at_preload : (so_far : SoFar) (file : PreloadFile) → Lists contents board so_far.listing → IsNextPreload so_far file → IsKnown file.file
+    at_preload so_far file listed_so next = all_get IsKnown preload_name so_far.listing.preloads (length so_far.preloads) file next (at_preloads so_far.listing listed_so)
 
-    at_program : (so_far : SoFar) (file : ProgramFile) → Lists contents board so_far.listing → IsNextProgram so_far file → IsTold file.file
-    at_program so_far file listed_so next = all_get IsTold program_name so_far.listing.programs (length so_far.programs) file next.next (at_programs so_far.listing listed_so)
+    at_program : (so_far : SoFar) (file : ProgramFile) → Lists contents board so_far.listing → IsNextProgram so_far file → IsKnown file.file
+    at_program so_far file listed_so next = all_get IsKnown program_name so_far.listing.programs (length so_far.programs) file next.next (at_programs so_far.listing listed_so)
 
-    at_next : (stage : Stage) (file : List ℕ) → IsNextFile board stage file → IsListed stage → IsTold file
+    at_next : (stage : Stage) (file : List ℕ) → IsNextFile board stage file → IsListed stage → IsKnown file
     at_next stage file the_board before = at_board
     at_next stage file (the_system listing) before = at_system listing before
     at_next stage file (a_preload so_far entry next) before = at_preload so_far entry before next

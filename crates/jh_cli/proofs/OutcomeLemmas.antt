@@ -21,7 +21,7 @@ use Rattle.jh_cli.specs.Check.{IsSystemFile, SystemRefusal, ChecksCells}
 use Rattle.jh_cli.specs.Pack.{IsSpecFile, SpecRefusal, packed}
 use Rattle.jh_cli.specs.Boards.{stopped, EndsAt, Opens}
 use Rattle.jh_cli.specs.Play.{IsSchedule, ScheduleRefusal, IsPlayed, PlaysBy}
-use Rattle.jh_cli.specs.Map.{mapped_said, IsMapped, MapsBy}
+use Rattle.jh_cli.specs.Map.{map_reply, IsMapped, MapsBy}
 use Rattle.jh_cli.specs.Audit.{IsJournalFile, JournalRefusal, IsAudited, AuditsBy}
 use Rattle.jh_cli.specs.Outcome.{Outcome}
 use Rattle.jh_cli.specs.Complete.{IsKnownBoard, AreKnownFiles}
@@ -72,7 +72,7 @@ same_found one_maps image cpus (Some text) None h k = absurd (false≢true (sym 
 same_found one_maps image cpus (Some text) (Some more) h k = ap Some (one_maps image (items image max_entries cpus []).entries text more h.2 k.2)
 
 one_mapped : OneMaps → (image : Image) (cpus : List ℕ) (one other : Reply) → IsMapped image cpus one → IsMapped image cpus other → one ≡ other
-one_mapped one_maps image cpus one other (found, is, told) (more, also, said) = told ∙ ap mapped_said (same_found one_maps image cpus found more is also) ∙ sym said
+one_mapped one_maps image cpus one other (found, is, told) (more, also, said) = told ∙ ap map_reply (same_found one_maps image cpus found more is also) ∙ sym said
 
 -- ---- all of them
 

@@ -24,7 +24,7 @@ use Rattle.jh_cli.specs.Pack.{IsSpecFile, SpecRefusal, packed}
 use Rattle.jh_cli.specs.Boards.{stopped, Opens}
 use Rattle.jh_cli.specs.Play.{ScheduleRefusal, IsSchedule, IsPlayed, played_status, PlaysBy}
 use Rattle.jh_cli.specs.Run.{EndsRun, IsRan}
-use Rattle.jh_cli.specs.Map.{IsMapped, mapped_said, MapsBy}
+use Rattle.jh_cli.specs.Map.{IsMapped, map_reply, MapsBy}
 use Rattle.jh_cli.specs.Audit.{JournalRefusal, IsJournalFile, IsAudited, AuditsBy, verdict_status}
 use Rattle.jh_cli.specs.Soak.{Soaks}
 use Rattle.jh_cli.specs.Limits.{most_of_a_file, most_of_a_journal}
@@ -63,12 +63,12 @@ played_ends_other : (image : Image) (cpus : List ℕ) (said : Reply) → IsPlaye
 played_ends_other image cpus said is =
     other said (played_status (played image max_entries cpus).full) (ap (λ (s : Reply). s.status) is.told) (played_other (played image max_entries cpus).full)
 
-mapped_other : (found : Option (List ℕ)) → exit_number (mapped_said found).status ≢ 5
+mapped_other : (found : Option (List ℕ)) → exit_number (map_reply found).status ≢ 5
 mapped_other (Some text) = omega arith
 mapped_other None = omega arith
 
 map_ends_other : (image : Image) (cpus : List ℕ) (said : Reply) → IsMapped image cpus said → IsOther said
-map_ends_other image cpus said (found, is, told) = other said (mapped_said found).status (ap (λ (s : Reply). s.status) told) (mapped_other found)
+map_ends_other image cpus said (found, is, told) = other said (map_reply found).status (ap (λ (s : Reply). s.status) told) (mapped_other found)
 
 -- a run ends with one of two statuses
 pub run_ends : (image : Image) (entries : List Entry) (status : Status) → EndsRun image entries status → (status ≡ Good) ⊎ (status ≡ Full)

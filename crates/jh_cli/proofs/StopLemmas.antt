@@ -10,11 +10,11 @@ use Rattle.jh_cli.specs.declared.ending.CallFault.TheVariants.{Ended, NoMemory}
 use Rattle.jh_cli.specs.Lines.{refusal_line}
 use Rattle.jh_image.specs.Files.{Contents}
 use Rattle.jh_cli.specs.Reading.{Reply, SpellsAt, FailsAt, ReadsAt}
-use Rattle.jh_cli.specs.Endings.{OnEnded, OnEnding, said_of, IsCounted}
+use Rattle.jh_cli.specs.Endings.{OnEnded, OnEnding, reply_of, IsCounted}
 
 -- what is said of every ended call carries over
 pub on_stop : (P Q : Reply → Type 0) (stop : CallFault) → ((said : Reply) → P said → Q said) → OnEnded stop P → OnEnded stop Q
-on_stop P Q (Ended told) f h = f (said_of told) h
+on_stop P Q (Ended told) f h = f (reply_of told) h
 on_stop P Q NoMemory f h = tt
 
 -- bytes that are refused stop the call
@@ -26,7 +26,7 @@ refuses most contents name Why bytes words handed why stop h =
 
 -- what is said carries over
 pub on_told : (P Q : Reply → Type 0) (r : Result Ending CallFault) → ((said : Reply) → P said → Q said) → OnEnding r P → OnEnding r Q
-on_told P Q (Ok told) f h = f (said_of told) h
+on_told P Q (Ok told) f h = f (reply_of told) h
 on_told P Q (Err stop) f h = on_stop P Q stop f h
 
 -- what is said of a stop is told where it is passed up

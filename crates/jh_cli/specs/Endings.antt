@@ -9,17 +9,17 @@ use Rattle.jh_cli.specs.Lines.{fault_line}
 use Rattle.jh_cli.specs.Reading.{Reply}
 
 -- the status and the text that are told
-abbrev pub said_of : Ending → Reply
-said_of told = record { status = told.status; text = told.text.items }
+abbrev pub reply_of : Ending → Reply
+reply_of told = record { status = told.status; text = told.text.items }
 
 -- P holds of what is told, where the stop isn't for want of memory
 abbrev pub OnEnded : CallFault → (Reply → Type 0) → Type 0
-OnEnded (Ended told) P = P (said_of told)
+OnEnded (Ended told) P = P (reply_of told)
 OnEnded NoMemory P = ⊤
 
 -- P holds of what a command tells, where it ends at a file too; for want of memory nothing is told
 abbrev pub OnEnding : Result Ending CallFault → (Reply → Type 0) → Type 0
-OnEnding (Ok told) P = P (said_of told)
+OnEnding (Ok told) P = P (reply_of told)
 OnEnding (Err stop) P = OnEnded stop P
 
 -- a fault of reading is told only where the count of faults rose, and its line names the read that failed

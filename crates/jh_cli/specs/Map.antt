@@ -10,13 +10,13 @@ use Rattle.jh_cli.specs.Play.{IsSchedule, ScheduleRefusal}
 use Rattle.jh_cli.specs.declared.status.Status.TheVariants.{Good, Full}
 
 -- the maps that were told, or, where the limit stopped an item, nothing
-abbrev pub mapped_said : Option (List ℕ) → Reply
-mapped_said (Some text) = record { status = Good; text = text }
-mapped_said None = record { status = Full; text = [] }
+abbrev pub map_reply : Option (List ℕ) → Reply
+map_reply (Some text) = record { status = Good; text = text }
+map_reply None = record { status = Full; text = [] }
 
 -- what is said of the image after the items alone: the maps, or that the limit stopped an item
 abbrev pub IsMapped : Image → List ℕ → Reply → Type 0
-IsMapped image cpus said = (found : Option (List ℕ)) × Maps image max_entries cpus found × (said ≡ mapped_said found)
+IsMapped image cpus said = (found : Option (List ℕ)) × Maps image max_entries cpus found × (said ≡ map_reply found)
 
 -- what a map of the image after the schedule ends with
 abbrev pub MapsBy : Contents → List ℕ → Image → Reply → Type 0

@@ -9,7 +9,7 @@ ghost use Rattle.jh_cli.specs.Limits.{most_of_a_journal};
 ghost use Rattle.jh_cli.specs.Lines.{refusal_line};
 ghost use Rattle.jh_cli.specs.Reading.{FailsAt};
 ghost use Rattle.jh_cli.specs.Audit.{JournalRefusal, JudgesFile, AuditsBy, Audits, due_text, verdict_text, verdict_status};
-ghost use Rattle.jh_cli.specs.Endings.{said_of, OnEnded, OnEnding, IsCounted};
+ghost use Rattle.jh_cli.specs.Endings.{reply_of, OnEnded, OnEnding, IsCounted};
 
 use crate::boards::open;
 use crate::ending::{CallFault, Ending, read_below, refused_for};
@@ -102,7 +102,7 @@ fn due_text(alloc: Global, line: u32, entry: &Entry) -> Result<Vec<u8>, NoMemory
 
 /// Tells the verdict.
 fn tell_verdict(alloc: Global, verdict: &Verdict) -> Result<Ending, NoMemory>
-    ensures { IfOk result (λ told. said_of told ≡ record { status = verdict_status verdict.now; text = verdict_text verdict.now }) }
+    ensures { IfOk result (λ told. reply_of told ≡ record { status = verdict_status verdict.now; text = verdict_text verdict.now }) }
 {
     Ok(Ending {
         status: status_of(verdict),

@@ -7,7 +7,7 @@ ghost use Rattle.jh_outside.specs.Trail.{AsksAll};
 ghost use Rattle.jh_cli.specs.Order.{FailsIn, ReadsIn};
 ghost use Rattle.jh_cli.specs.Reading.{Spells, FailsAtFile};
 ghost use Rattle.jh_cli.specs.Check.{IsCellFile, CellRefusal, IsSystemFile, SystemRefusal, SpellCells, FailsAmong, ChecksCells, Checks, checked, checked_status, findings_text};
-ghost use Rattle.jh_cli.specs.Endings.{said_of, OnEnded, OnEnding, IsCounted};
+ghost use Rattle.jh_cli.specs.Endings.{reply_of, OnEnded, OnEnding, IsCounted};
 
 use crate::ending::{CallFault, Ending, read_below, refused_for};
 use crate::limits::MOST;
@@ -98,7 +98,7 @@ fn tell_findings(
     cells: &[CellConfig],
 ) -> Result<Ending, NoMemory>
     requires { length cells.now ≤ 15 }
-    ensures { IfOk result (λ told. said_of told ≡ checked system.now cells.now) }
+    ensures { IfOk result (λ told. reply_of told ≡ checked system.now cells.now) }
 {
     let found = check_all(alloc, system, cells)?;
     let text = findings_text(alloc, found.as_slice())?;

@@ -4,7 +4,7 @@ ghost use Rattle.jh_history.specs.Admitted.{IsAdmitted};
 ghost use Rattle.jh_history.specs.Lives.{is_on_board};
 ghost use Rattle.jh_cli.specs.Order.{ReadsIn, ReadsBoard};
 ghost use Rattle.jh_cli.specs.Map.{IsMapped, MapsBy, MapsOf};
-ghost use Rattle.jh_cli.specs.Endings.{said_of, OnEnding, IsCounted};
+ghost use Rattle.jh_cli.specs.Endings.{reply_of, OnEnding, IsCounted};
 
 use crate::boards::open;
 use crate::ending::{CallFault, Ending};
@@ -21,7 +21,7 @@ use std::alloc::Global;
 fn render(alloc: Global, image: Image, cpus: &[u8]) -> Result<Ending, NoMemory>
     requires admitted { IsAdmitted image }
     requires cpus { All (λ cpu. IsTrue (is_on_board image cpu)) cpus.now }
-    ensures { IfOk result (λ told. IsMapped image cpus.now (said_of told)) }
+    ensures { IfOk result (λ told. IsMapped image cpus.now (reply_of told)) }
 {
     match map_board(alloc, image, cpus, MAX_ENTRIES as u32)? {
         Some(text) => Ok(Ending {

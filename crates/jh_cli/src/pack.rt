@@ -5,7 +5,7 @@ ghost use Rattle.jh_outside.specs.Trail.{AsksAll};
 ghost use Rattle.jh_cli.specs.Order.{FailsIn, ReadsIn};
 ghost use Rattle.jh_cli.specs.Reading.{Spells, FailsAtFile};
 ghost use Rattle.jh_cli.specs.Pack.{IsSpecFile, SpecRefusal, Packs, packed};
-ghost use Rattle.jh_cli.specs.Endings.{said_of, OnEnded, OnEnding, IsCounted};
+ghost use Rattle.jh_cli.specs.Endings.{reply_of, OnEnded, OnEnding, IsCounted};
 
 use crate::ending::{CallFault, Ending, read_below, refused};
 use crate::limits::MOST;

@@ -5,7 +5,7 @@ ghost use Rattle.jh_history.specs.Lives.{is_on_board};
 ghost use Rattle.jh_run.specs.Ends.{is_full};
 ghost use Rattle.jh_cli.specs.Order.{ReadsIn, ReadsBoard};
 ghost use Rattle.jh_cli.specs.Play.{IsPlayed, played_status, PlaysBy, Plays};
-ghost use Rattle.jh_cli.specs.Endings.{said_of, OnEnding, IsCounted};
+ghost use Rattle.jh_cli.specs.Endings.{reply_of, OnEnding, IsCounted};
 
 use crate::boards::open;
 use crate::ending::{CallFault, Ending};
@@ -32,7 +32,7 @@ pub fn status_of(ended: Ended) -> Status
 fn render(alloc: Global, image: Image, cpus: &[u8]) -> Result<Ending, NoMemory>
     requires admitted { IsAdmitted image }
     requires cpus { All (λ cpu. IsTrue (is_on_board image cpu)) cpus.now }
-    ensures { IfOk result (λ told. IsPlayed image cpus.now (said_of told)) }
+    ensures { IfOk result (λ told. IsPlayed image cpus.now (reply_of told)) }
 {
     let (board, ended) = play_board(alloc, image, cpus, MAX_ENTRIES as u32)?;
     let text = print_journal(alloc, board.journal())?;

@@ -3,7 +3,7 @@ ghost use Rattle.std.specs.Prelude.{◌≡◌, IfOk, []};
 ghost use Rattle.jh_history.specs.Admitted.{IsAdmitted};
 ghost use Rattle.jh_cli.specs.Order.{ReadsBoard};
 ghost use Rattle.jh_cli.specs.Run.{IsRan, Runs};
-ghost use Rattle.jh_cli.specs.Endings.{said_of, OnEnding, IsCounted};
+ghost use Rattle.jh_cli.specs.Endings.{reply_of, OnEnding, IsCounted};
 
 use crate::boards::open;
 use crate::ending::{CallFault, Ending};
@@ -25,7 +25,7 @@ fn render<R: Threads + Wait + Sync, G: Gate + Sync>(
     gate: &G,
 ) -> Result<Ending, NoMemory>
     requires { IsAdmitted image }
-    ensures { IfOk result (λ told. IsRan image (said_of told)) }
+    ensures { IfOk result (λ told. IsRan image (reply_of told)) }
 {
     let (board, ended) = run_board(rt, alloc, image, gate, MAX_ENTRIES as u32)?;
     let text = print_journal(alloc, board.journal())?;

@@ -2,7 +2,7 @@
 ghost use Rattle.std.specs.Prelude.{◌≡◌, ◌≢◌, Err};
 ghost use Rattle.jh_outside.specs.Count.{Rose};
 ghost use Rattle.jh_cli.specs.Outcome.{Sent};
-ghost use Rattle.jh_cli.specs.Endings.{said_of, OnEnding};
+ghost use Rattle.jh_cli.specs.Endings.{reply_of, OnEnding};
 
 use crate::ending::{CallFault, Ending};
 use crate::status::Status;
@@ -10,7 +10,7 @@ use jh_outside::{Sink, write_all};
 
 /// Writes the text, and answers the status, or that the sink failed. It takes no memory.
 fn send<K: Sink>(out: &mut K, told: &Ending) -> Status
-    ensures sent { Sent (K.written out.old) (K.written out.new) (said_of told.now) result }
+    ensures sent { Sent (K.written out.old) (K.written out.new) (reply_of told.now) result }
     ensures fault { result ≡ Status.WriteFault → told.now.status ≢ Status.WriteFault → Rose (K.faults out.old) (K.faults out.new) }
 {
     match write_all(out, told.text.as_slice()) {

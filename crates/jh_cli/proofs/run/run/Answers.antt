@@ -2,7 +2,7 @@
 use Rattle.std.proofs.Common.{[], Ok, inl}
 use Rattle.jh_outside.specs.Trail.{no_ask}
 use Rattle.jh_cli.specs.Run.{IsRan}
-use Rattle.jh_cli.specs.Endings.{said_of}
+use Rattle.jh_cli.specs.Endings.{reply_of}
 use Rattle.jh_cli.proofs.BoardLemmas.{opens}
 use Rattle.jh_cli.proofs.OrderLemmas.{board_behind}
 use Rattle.jh_cli.proofs.RunLemmas.{ran_counted}
@@ -14,7 +14,7 @@ returns-clause-ends g c =
 
 pub returns-clause-counted : goal.returns-clause-counted
 returns-clause-counted g c =
-    ran_counted (g.F.Files.faults c.args.files.now) (g.F.Files.faults c.open.new.files) (g.F.Files.failed c.open.new.files) c.in_ok-image.image (said_of c.in_ok-render.field-0) c.in_ok-render.ensures
+    ran_counted (g.F.Files.faults c.args.files.now) (g.F.Files.faults c.open.new.files) (g.F.Files.failed c.open.new.files) c.in_ok-image.image (reply_of c.in_ok-render.field-0) c.in_ok-render.ensures
 
 pub returns-clause-asked : goal.returns-clause-asked
 returns-clause-asked g c =
