@@ -4,15 +4,15 @@ use Rattle.jh_text.specs.declared.fault.JournalFault.TheVariants.{NoMemory}
 use Rattle.jh_text.specs.FaultText.{fault_text}
 use Rattle.jh_cli.specs.Lines.{refusal_line}
 use Rattle.jh_cli.proofs.OrderLemmas.{refuses_one}
-use Rattle.jh_cli.proofs.JournalLemmas.{IsTold, is_fault, ends_there, no_fault_there}
+use Rattle.jh_cli.proofs.JournalLemmas.{IsTrueFault, is_fault, ends_there, no_fault_there}
 use Rattle.jh_cli.proofs.audit.judge.Goals as goal
 
 pub returns : goal.returns
 returns g c =
     let text = c.in_ok-bytes.bytes in
     let fault = c.in-Err.fault in
-    let first : IsTold text fault =
-    subst (λ (t : List ℕ). IsTold t fault) c.as_slice.ensures.value (is_fault c.as_slice.result.now fault (Err fault) (Err NoMemory) refl refl c.in-Err.ensures.line c.in-Err.ensures.too_long) in
+    let first : IsTrueFault text fault =
+    subst (λ (t : List ℕ). IsTrueFault t fault) c.as_slice.ensures.value (is_fault c.as_slice.result.now fault (Err fault) (Err NoMemory) refl refl c.in-Err.ensures.line c.in-Err.ensures.too_long) in
     record {
       ok = tt;
       err = ends_there (g.F.Files.contents c.args.files.now) c.args.name.now text fault first c.in_ok-bytes.ensures.ok c.in_ok-bytes.ensures.within c.unread.result c.unread.ensures.told c.unread.ensures.memory;
