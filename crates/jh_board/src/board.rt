@@ -214,11 +214,11 @@ impl Board {
         self.held.cells.count()
     }
 
-    /// The configuration of the live cell at the place: root is at 0, and the others follow in order of creation.
-    pub fn cell(&self, place: u32) -> Option<&CellConfig>
-        ensures { option_copied result ≡ slice_get (all_cells self.now.image (facts self.now.image self.now.entries).cells) place }
+    /// The configuration of the live cell of that number: root has 0, and the others follow in order of creation.
+    pub fn cell(&self, number: u32) -> Option<&CellConfig>
+        ensures { option_copied result ≡ slice_get (all_cells self.now.image (facts self.now.image self.now.entries).cells) number }
     {
-        cell_at(&self.image, &self.held.cells, place)
+        cell_at(&self.image, &self.held.cells, number)
     }
 
     /// The map of the live cell with the id; `None` where no live cell has it.

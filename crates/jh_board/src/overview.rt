@@ -15,18 +15,18 @@ use jh_map::Run;
 use jh_num::{ByteSet, NoMemory, Seq};
 use std::alloc::Global;
 
-/// The configuration of the live cell at the place: root is at 0, and the others follow in order of creation.
+/// The configuration of the live cell of that number: root has 0, and the others follow in order of creation.
 pub fn cell_at<'a>(
     image: &'a IndexedImage,
     cells: &'a LiveCells,
-    place: u32,
+    number: u32,
 ) -> Option<&'a CellConfig>
-    ensures { option_copied result ≡ slice_get (all_cells image.now cells.now.lives) place }
+    ensures { option_copied result ≡ slice_get (all_cells image.now cells.now.lives) number }
 {
-    if place == 0 {
+    if number == 0 {
         Some(image.config())
     } else {
-        cells.list().get(place as usize - 1)
+        cells.list().get(number as usize - 1)
     }
 }
 

@@ -50,15 +50,15 @@ count_fault n = first_of (
     ∷ over Total 65536 (whole_size n)
     ∷ [])
 
--- the number of the two bytes at the place, the lowest first
+-- the number of the two bytes at the offset, the lowest first
 abbrev pub u16_at : List ℕ → ℕ → ℕ
-u16_at bytes place = from_le_bytes w16 (slice_range bytes place (place + 2))
+u16_at bytes offset = from_le_bytes w16 (slice_range bytes offset (offset + 2))
 
--- the number of the four bytes at the place, the lowest first
+-- the number of the four bytes at the offset, the lowest first
 abbrev pub u32_at : List ℕ → ℕ → ℕ
-u32_at bytes place = from_le_bytes w32 (slice_range bytes place (place + 4))
+u32_at bytes offset = from_le_bytes w32 (slice_range bytes offset (offset + 4))
 
--- the counts of a header; the places count from its name
+-- the counts of a header; the offsets count from its name
 unfoldable pub counts_at : List ℕ → Counts
 counts_at body = record {
   cpu_set = u32_at body 40;

@@ -10,13 +10,13 @@ use Rattle.jh_cellcfg.specs.declared.config.CellConfig.{CellConfig}
 use Rattle.jh_cellcfg.specs.declared.header.Counts.{Counts}
 use Rattle.jh_cellcfg.specs.Faults.{u16_at, u32_at, counts_at}
 
--- the number of the one byte at the place
+-- the number of the one byte at the offset
 abbrev pub u8_at : List ℕ → ℕ → ℕ
-u8_at bytes place = slice_index bytes place
+u8_at bytes offset = slice_index bytes offset
 
--- the number of the eight bytes at the place, the lowest first
+-- the number of the eight bytes at the offset, the lowest first
 abbrev pub u64_at : List ℕ → ℕ → ℕ
-u64_at bytes place = from_le_bytes w64 (slice_range bytes place (place + 8))
+u64_at bytes offset = from_le_bytes w64 (slice_range bytes offset (offset + 8))
 
 -- the records that stand one behind another, so many of them and each of so many bytes
 abbrev pub records : {X : Type 0} → (List ℕ → X) → ℕ → ℕ → List ℕ → List X

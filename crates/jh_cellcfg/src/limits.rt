@@ -21,8 +21,8 @@ pub fn is_name(name: &[u8; 32]) -> bool
 
 /// The index of the first byte that is 0, if there is one.
 fn first_zero(bytes: &[u8]) -> Option<usize>
-    ensures place { result ≡ position is_zero bytes.now }
-    ensures within { IfSome result (λ place. place < length bytes.now) }
+    ensures first { result ≡ position is_zero bytes.now }
+    ensures within { IfSome result (λ first. first < length bytes.now) }
 {
     bytes.iter().position(|byte| *byte == 0)
 }

@@ -454,7 +454,7 @@ same_section_from one r other s t =
       section = r - one_start;
       is_device = d.2;
       is_other = e.2;
-      linked = record { one_kind = eqb-true d.1.kind 3 l.0; other_kind = eqb-true e.1.kind 3 m.0; place = eqb-true d.1.bdf e.1.bdf m.1 };
+      linked = record { one_kind = eqb-true d.1.kind 3 l.0; other_kind = eqb-true e.1.kind 3 m.0; bdf = eqb-true d.1.bdf e.1.bdf m.1 };
       within = x.1;
       other_within = subst (λ k. k < 2 + e.1.shmem_peers) (sym offset) y.1;
       item = x.0;
@@ -472,7 +472,7 @@ same_section_to one r other s h =
     let offset : r - d.shmem_regions_start ≡ s - e.shmem_regions_start = omega arith in
     let linked : are_linked d e ≡ true =
     and_from (d.kind == 3) ((e.kind == 3) && (d.bdf == e.bdf)) (eq-eqb d.kind 3 h.linked.one_kind) (
-    and_from (e.kind == 3) (d.bdf == e.bdf) (eq-eqb e.kind 3 h.linked.other_kind) (eq-eqb d.bdf e.bdf h.linked.place)) in
+    and_from (e.kind == 3) (d.bdf == e.bdf) (eq-eqb e.kind 3 h.linked.other_kind) (eq-eqb d.bdf e.bdf h.linked.bdf)) in
     let both : are_sections_of r s d e ≡ true =
     and_from (are_linked d e) (is_section d r && (is_section e s && same)) linked (
     and_from (is_section d r) (is_section e s && same) (at_section r d.shmem_regions_start (section_count d) h.section h.item h.within) (

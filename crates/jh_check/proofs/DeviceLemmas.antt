@@ -375,13 +375,13 @@ sound_sections cell d g =
 linked_whole : (d e : PciDevice) → AreLinked d e → are_linked d e ≡ true
 linked_whole d e h =
     and_from (d.kind == 3) ((e.kind == 3) && (d.bdf == e.bdf)) (eq-eqb d.kind 3 h.one_kind) (
-    and_from (e.kind == 3) (d.bdf == e.bdf) (eq-eqb e.kind 3 h.other_kind) (eq-eqb d.bdf e.bdf h.place))
+    and_from (e.kind == 3) (d.bdf == e.bdf) (eq-eqb e.kind 3 h.other_kind) (eq-eqb d.bdf e.bdf h.bdf))
 
 linked_parts : (d e : PciDevice) → are_linked d e ≡ true → AreLinked d e
 linked_parts d e t =
     let p = and_parts (d.kind == 3) ((e.kind == 3) && (d.bdf == e.bdf)) t in
     let q = and_parts (e.kind == 3) (d.bdf == e.bdf) p.1 in
-    record { one_kind = eqb-true d.kind 3 p.0; other_kind = eqb-true e.kind 3 q.0; place = eqb-true d.bdf e.bdf q.1 }
+    record { one_kind = eqb-true d.kind 3 p.0; other_kind = eqb-true e.kind 3 q.0; bdf = eqb-true d.bdf e.bdf q.1 }
 
 same_parts : (x y : Region) → is_same_memory x y ≡ true → (x.size ≡ y.size) × (0 < x.size → x.phys_start ≡ y.phys_start)
 same_parts x y t =
@@ -489,10 +489,10 @@ good_whole lower cell earlier d p =
 -- an earlier device at the same place
 twice : (cell : CellConfig) (m n : ℕ) (one other : PciDevice) → m < n → IsDevice cell m one → AreLinked one other → is_twice (take n cell.pci_devices) other ≡ true
 twice cell m n one other l i linked =
-    any_at (λ (e : PciDevice). is_shmem e && (e.bdf == other.bdf)) (take n cell.pci_devices) m one (take_get n cell.pci_devices m one l i) (and_from (is_shmem one) (one.bdf == other.bdf) (eq-eqb one.kind 3 linked.one_kind) (eq-eqb one.bdf other.bdf linked.place))
+    any_at (λ (e : PciDevice). is_shmem e && (e.bdf == other.bdf)) (take n cell.pci_devices) m one (take_get n cell.pci_devices m one l i) (and_from (is_shmem one) (one.bdf == other.bdf) (eq-eqb one.kind 3 linked.one_kind) (eq-eqb one.bdf other.bdf linked.bdf))
 
 turned : (one other : PciDevice) → AreLinked one other → AreLinked other one
-turned one other h = record { one_kind = h.other_kind; other_kind = h.one_kind; place = sym h.place }
+turned one other h = record { one_kind = h.other_kind; other_kind = h.one_kind; bdf = sym h.bdf }
 
 -- what one device's rules say, in words and by tests
 pub words_good : (all : List CellConfig) (a : ℕ) (cell : CellConfig) (n : ℕ) (d : PciDevice) → IsShmem d → IsGoodDevice cell d → IsConsistentAmong all a cell n d → is_good_shmem (take a all) cell (take n cell.pci_devices) d ≡ true
@@ -503,7 +503,7 @@ words_good all a cell n d kind g among =
     let w = any_of (λ (e : PciDevice). is_shmem e && (e.bdf == d.bdf)) earlier u in
     let v = get_take n cell.pci_devices w.0 w.1 w.2 in
     let k = and_parts (is_shmem w.1) (w.1.bdf == d.bdf) w.3 in
-    let linked : AreLinked w.1 d = record { one_kind = eqb-true w.1.kind 3 k.0; other_kind = kind; place = eqb-true w.1.bdf d.bdf k.1 } in
+    let linked : AreLinked w.1 d = record { one_kind = eqb-true w.1.kind 3 k.0; other_kind = kind; bdf = eqb-true w.1.bdf d.bdf k.1 } in
     among.single w.0 w.1 v.0 v.1 linked) in
     let agrees : agrees_with_all (take a all) regions d ≡ true =
     all_from (λ (lower : CellConfig). list_all (λ (f : PciDevice). agrees_with regions d lower.memory_regions f) lower.pci_devices) (take a all) (λ b other h.

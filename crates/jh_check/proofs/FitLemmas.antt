@@ -149,8 +149,8 @@ seated cells seats number n cell none among is has within =
       seat = seat_of number n device;
       is = there;
       owner = refl;
-      place = refl;
-      stands = record { among = among; cell_is = sym is; within = within; device_is = get_or_default cell.pci_devices n device none within };
+      bdf = refl;
+      sits = record { among = among; cell_is = sym is; within = within; device_is = get_or_default cell.pci_devices n device none within };
     }
 
 -- a device at a bdf that is told fits those of cells with lower numbers
@@ -163,5 +163,5 @@ agrees_sure cells number cell device seats sure bound has known told own =
     let stands : IsAt cells x there other = record { among = among; cell_is = get_or_default cells x.cell there c among; within = within; device_is = get_or_default there.pci_devices x.item other d within } in
     let owner = own.owner in
     let apart : own.seat.cell ≢ x.cell = λ e. omega arith in
-    let t = known device.bdf told own.seat x own.is cx own.place ex apart cell device there other own.stands stands in
+    let t = known device.bdf told own.seat x own.is cx own.bdf ex apart cell device there other own.sits stands in
     or_right (not (are_linked device other)) (fits cell.memory_regions device there.memory_regions other) t)

@@ -183,7 +183,7 @@ numbers_differ system cells c a b one other apart na nb m n d e i j linked =
     elim (cases_order a b) [
       | inl same ↦ absurd (apart same)
       | inr (inl l) ↦
-          let turned : AreLinked e d = record { one_kind = linked.other_kind; other_kind = linked.one_kind; place = sym linked.place } in
+          let turned : AreLinked e d = record { one_kind = linked.other_kind; other_kind = linked.one_kind; bdf = sym linked.bdf } in
           let g = c.links b a other one l nb na n m e d j i turned in
           λ q. g.numbers (sym q)
       | inr (inr l) ↦

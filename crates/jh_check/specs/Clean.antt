@@ -87,7 +87,7 @@ IsShmem device = device.kind ≡ 3
 pub record AreLinked (one other : PciDevice) : Type 0 where
   pub one_kind : IsShmem one
   pub other_kind : IsShmem other
-  pub place : one.bdf ≡ other.bdf
+  pub bdf : one.bdf ≡ other.bdf
 
 -- the region is the device's section of that number: 0 is the state table, 1 the read/write section, and 2 + p
 -- the output of the peer p
@@ -133,7 +133,7 @@ pub record IsGoodDevice (cell : CellConfig) (device : PciDevice) : Type 0 where
 abbrev pub DevicesAreGood : SystemConfig → List CellConfig → Type 0
 DevicesAreGood system cells = EachCell system cells (λ cell. EachDevice cell (λ device. IsShmem device → IsGoodDevice cell device))
 
--- no two ivshmem devices of one cell have the same place on the bus
+-- no two ivshmem devices of one cell have one bdf
 abbrev pub DevicesAreSingle : SystemConfig → List CellConfig → Type 0
 DevicesAreSingle system cells =
     EachCell system cells (λ cell. EachTwoDevices cell cell (λ m n d e. AreLinked d e → m ≡ n))

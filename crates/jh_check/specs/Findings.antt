@@ -128,7 +128,7 @@ rules_in_order =
     VirtOverlap ∷ PhysOverlap ∷ Hypervisor ∷ OutOfRange ∷ RootNotIdentity ∷ CommInRoot ∷ CommShape
     ∷ ExecuteWithoutRead ∷ SubpageTaken ∷ CellsOverlap ∷ Shmem ∷ NoCpu ∷ PhysAlign ∷ []
 
--- what is found by the rule at its place among the rules
+-- what is found by the rule of that index in the order
 abbrev pub found_at : Region → List CellConfig → ℕ → Rule → List Finding
 found_at h all n rule = found_by rule h all
 

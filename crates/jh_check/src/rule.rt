@@ -52,12 +52,12 @@ pub(crate) const RULES: [Rule; 13] = [
     Rule::PhysAlign,
 ];
 
-/// The rule that stands at that place of the order.
-pub(crate) fn rule_at(place: usize) -> Rule
-    requires { place < length rules_in_order }
-    ensures { result ≡ slice_index_or rules_in_order place VirtOverlap }
+/// The rule of that index in the order.
+pub(crate) fn rule_at(index: usize) -> Rule
+    requires { index < length rules_in_order }
+    ensures { result ≡ slice_index_or rules_in_order index VirtOverlap }
 {
-    RULES[place]
+    RULES[index]
 }
 
 impl Rule {

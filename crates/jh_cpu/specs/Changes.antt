@@ -55,8 +55,8 @@ lent owner cpu = record {
 }
 
 -- where in its program in root, of so many operations, the CPU goes on: at the end where it had failed there
-abbrev pub place_in_root : ℕ → Cpu → ℕ
-place_in_root end cpu = if cpu.failed_in_root then end else cpu.root_position
+abbrev pub position_in_root : ℕ → Cpu → ℕ
+position_in_root end cpu = if cpu.failed_in_root then end else cpu.root_position
 
 -- the CPU as root has it again: it would run, and is stopped until the call that gave it back is over
 abbrev pub returned : ℕ → ℕ → Cpu → Cpu
@@ -65,7 +65,7 @@ returned root end cpu = record {
   mode = Running;
   asked = false;
   stopped = true;
-  position = place_in_root end cpu;
+  position = position_in_root end cpu;
   root_position = 0;
   failed_in_root = false;
 }

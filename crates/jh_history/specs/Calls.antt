@@ -25,13 +25,13 @@ is_named (Loadable cell) id = cell == id
 is_named (Destroy cell) id = cell == id
 is_named _ id = false
 
--- a cell is told that another was created or destroyed, unless it is passive
-abbrev pub is_recipient : ℕ → Live → Bool
-is_recipient about live = not (has_id about live) && not (is_passive live.config)
-
 -- a cell of the configuration is told that another was created or destroyed, unless it is passive
 abbrev pub is_recipient_by : ℕ → CellConfig → Bool
 is_recipient_by about config = not (config.id == about) && not (is_passive config)
+
+-- a cell is told that another was created or destroyed, unless it is passive
+abbrev pub is_recipient : ℕ → Live → Bool
+is_recipient about live = is_recipient_by about live.config
 
 -- the cells behind the one with the id
 abbrev pub behind : ℕ → List Live → List Live

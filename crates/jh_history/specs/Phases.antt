@@ -1,17 +1,15 @@
 -- The phases of an open management call: what is due to its caller, and when.
-use Rattle.std.specs.Prelude.{ℕ, ℤ, Bool, ◌==◌, ◌&&◌, ◌||◌, not, nat_le, ◌∷◌, [], ◌++◌, Option, Some, None, option_map, option_and_then, is_some, if◌then◌else◌}
+use Rattle.std.specs.Prelude.{ℕ, ℤ, Bool, ◌==◌, ◌&&◌, ◌||◌, not, nat_le, Option, Some, None, option_map, option_and_then, is_some, if◌then◌else◌}
 use Rattle.std.specs.List.{list_any}
 use Rattle.jh_num.specs.declared.error.TheConstants.{EPERM, ENOENT, EINVAL}
 use Rattle.jh_cellcfg.specs.declared.config.CellConfig.{CellConfig}
 use Rattle.jh_cellcfg.specs.declared.live.Live.{Live}
-use Rattle.jh_cellcfg.specs.Lives.{id_of, has_id}
 use Rattle.jh_cellcfg.specs.Cells.{is_passive}
-use Rattle.jh_check.specs.Refusals.{any_below, refusal_of}
+use Rattle.jh_check.specs.Refusals.{any_below}
 use Rattle.jh_shape.specs.Lives.{configs_of}
-use Rattle.jh_shape.specs.Pages.{pages_of}
 use Rattle.jh_cpu.specs.declared.cpu.Cpu.{Cpu}
-use Rattle.jh_comm.specs.Page.{state_in, reply_in}
-use Rattle.jh_comm.specs.declared.words.TheConstants.{STATE_RUNNING_LOCKED, STATE_SHUT_DOWN, STATE_FAILED, REPLY_REQUEST_APPROVED, REPLY_RECEIVED}
+use Rattle.jh_comm.specs.Page.{reply_in}
+use Rattle.jh_comm.specs.declared.words.TheConstants.{STATE_SHUT_DOWN, STATE_FAILED, REPLY_REQUEST_APPROVED, REPLY_RECEIVED}
 use Rattle.jh_call.specs.declared.call.Call.{Call}
 use Rattle.jh_call.specs.declared.call.Call.TheVariants.{Create, Start, Loadable, Destroy}
 use Rattle.jh_script.specs.declared.image.Image.{Image}
@@ -28,7 +26,8 @@ use Rattle.jh_history.specs.declared.entry.Act.{Act}
 use Rattle.jh_history.specs.declared.entry.Act.TheVariants.{Decide, Settle, Commit, Note, Noted, Finish}
 use Rattle.jh_history.specs.Facts.{Facts}
 use Rattle.jh_history.specs.Lives.{is_on_board, live_in, cell_of}
-use Rattle.jh_history.specs.Admitted.{pool_pages}
+use Rattle.jh_history.specs.LiveView.{word_by, is_locked_by, is_other_locked_by}
+use Rattle.jh_history.specs.ReadView.{gives_by, refusal_by}
 use Rattle.jh_history.specs.Cpus.{is_running}
 use Rattle.jh_history.specs.Calls.{is_named}
 use Rattle.jh_history.specs.Pages.{named_cell}
@@ -36,7 +35,7 @@ use Rattle.jh_history.specs.Configs.{ReadCell, Reads, Refuses, read_at}
 
 -- the state word of the cell with the id, in its communication page
 abbrev pub state_word : Facts → ℕ → ℕ
-state_word facts id = state_in (λ k. facts.byte (Page id k))
+state_word facts id = word_by facts.byte id
 
 -- the reply word of the cell with the id, in its communication page
 abbrev pub reply_word : Facts → ℕ → ℕ
@@ -52,15 +51,15 @@ keeps_commit image call i cpu = is_on_board image i && is_named call cpu.owner &
 
 -- the cell, which lives besides root, is locked: its state is RUNNING_LOCKED
 abbrev pub is_locked : Facts → Live → Bool
-is_locked facts live = state_word facts (id_of live) == STATE_RUNNING_LOCKED
+is_locked facts live = is_locked_by facts.byte live.config
 
 -- the cell, which lives besides root and is another than the one with the id, is locked
 abbrev pub is_other_locked : Facts → ℕ → Live → Bool
-is_other_locked facts id live = not (has_id id live) && is_locked facts live
+is_other_locked facts id live = is_other_locked_by facts.byte id live.config
 
 -- the caller may give the CPU away: it is another of root's
 abbrev pub may_give : Image → Facts → ℕ → ℕ → Bool
-may_give image facts caller cpu = is_on_board image cpu && not (cpu == caller) && ((facts.cpu cpu).owner == image.system.root.id)
+may_give image facts caller cpu = gives_by image caller cpu (facts.cpu cpu)
 
 -- the cell comes, unless it is refused
 abbrev pub unless_refused : CellConfig → Option ℤ → Creation
@@ -72,8 +71,7 @@ unless_refused config (Some number) = Refused number
 abbrev pub creation_by : Image → Facts → ℕ → ReadCell → Creation
 creation_by image facts caller (Refuses number) = Refused number
 creation_by image facts caller (Reads config) =
-    unless_refused config
-    (refusal_of image.system (configs_of facts.cells) config (may_give image facts caller) (pages_of image.system.root.memory_regions (configs_of facts.cells ++ config ∷ [])) (pool_pages image.system))
+    unless_refused config (refusal_by image (configs_of facts.cells) (may_give image facts caller) config)
 
 -- what comes of a create at the address: it is refused where a cell is locked, and else by its configuration
 unfoldable pub creation_of : Image → Facts → ℕ → ℕ → Creation

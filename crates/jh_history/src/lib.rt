@@ -27,6 +27,7 @@ mod known;
 mod laws;
 mod locked;
 mod next;
+mod page_words;
 mod pages;
 mod phases;
 mod place;

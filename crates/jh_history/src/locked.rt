@@ -7,12 +7,10 @@ ghost use Rattle.jh_shape.specs.Lives.{configs_of};
 ghost use Rattle.jh_history.specs.Places.{places_of_row};
 
 use crate::bytes::{Bytes, value_of};
+use crate::page_words::STATE_AT;
 use crate::place::{Place, Places, Row};
 use jh_cellcfg::CellConfig;
 use jh_comm::STATE_RUNNING_LOCKED;
-
-/// Where the state stands in a communication page.
-const STATE_AT: u64 = 8;
 
 /// The state of the cell.
 fn state_word<B: Bytes>(bytes: &B, cell: u32) -> u32

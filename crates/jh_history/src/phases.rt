@@ -20,17 +20,13 @@ use crate::change::is_running;
 use crate::entry::{Act, Heard, Settled};
 use crate::known::Known;
 use crate::next::is_idle_but;
+use crate::page_words::{REPLY_AT, STATE_AT};
 use crate::place::{Place, Places, Row};
 use jh_call::Call;
 use jh_cellcfg::CellConfig;
 use jh_comm::{REPLY_RECEIVED, REPLY_REQUEST_APPROVED, STATE_FAILED, STATE_SHUT_DOWN};
 use jh_num::NoMemory;
 use jh_num::error::{EINVAL, ENOENT, EPERM};
-
-/// Where the state and the reply stand in a communication page.
-const STATE_AT: u64 = 8;
-
-const REPLY_AT: u64 = 16;
 
 /// Whether the call is about the cell with the id: a start, a set loadable or a destroy that names it.
 pub(crate) fn is_named(call: &Call, id: u64) -> bool

@@ -13,18 +13,12 @@ ghost use Rattle.jh_history.specs.Private.PlainView.{last_byte, put_in_page};
 
 use crate::comm::{PageChange, PageWrite};
 use crate::device_write::slot_places;
+use crate::page_words::{MESSAGE_AT, REPLY_AT, STATE_AT};
 use crate::place::{Place, Places, Row};
 use jh_comm::fresh;
 use jh_ivshmem::Slot;
 use jh_num::NoMemory;
 use jh_script::{Image, Preload};
-
-/// Where the words of a communication page stand.
-const STATE_AT: u64 = 8;
-
-const MESSAGE_AT: u64 = 12;
-
-const REPLY_AT: u64 = 16;
 
 /// A byte that an entry wrote.
 #[derive(Clone, Copy)]

@@ -7,7 +7,7 @@ use Rattle.jh_cellcfg.specs.declared.fault.ConfigFault.{ConfigFault}
 use Rattle.jh_cellcfg.specs.Lives.{id_of}
 use Rattle.jh_cellcfg.specs.Faults.{header_fault, header_size}
 use Rattle.jh_cellcfg.specs.Reading.{config_of}
-use Rattle.jh_check.specs.Refusals.{refusal_of, IsAccepted}
+use Rattle.jh_check.specs.Refusals.{IsAccepted}
 use Rattle.jh_shape.specs.Pages.{pages_of}
 use Rattle.jh_comm.specs.declared.words.TheConstants.{STATE_RUNNING_LOCKED}
 use Rattle.jh_call.specs.declared.call.Call.{Call}
@@ -17,6 +17,7 @@ use Rattle.jh_history.specs.Facts.{Facts}
 use Rattle.jh_history.specs.Admitted.{pool_pages}
 use Rattle.jh_history.specs.Configs.{bytes_at, refused_for}
 use Rattle.jh_history.specs.Phases.{state_word, may_give}
+use Rattle.jh_history.specs.ReadView.{refusal_by}
 use Rattle.jh_shape.specs.Lives.{configs_of}
 
 -- the cell lives besides root, and is locked
@@ -57,7 +58,7 @@ pub record IsReadRefusal (image : Image) (f : Facts) (at : ℕ) (refused : Optio
 
 -- what a configuration that was read is refused for: the first cause that holds, or none
 pub record IsRefusedOf (image : Image) (f : Facts) (caller : ℕ) (config : CellConfig) (refused : Option ℤ) : Type 0 where
-  pub cause : refused ≡ refusal_of image.system (configs_of f.cells) config (may_give image f caller) (pages_of image.system.root.memory_regions (configs_of f.cells ++ config ∷ [])) (pool_pages image.system)
+  pub cause : refused ≡ refusal_by image (configs_of f.cells) (may_give image f caller) config
   pub goes : IsAccepted image.system (configs_of f.cells) config (may_give image f caller) (pages_of image.system.root.memory_regions (configs_of f.cells ++ config ∷ [])) (pool_pages image.system)
       → refused ≡ None
 

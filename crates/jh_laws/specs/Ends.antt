@@ -159,10 +159,14 @@ pub record IsAwaitedBy (image : Image) (f : Facts) (id at width value : ℕ) (ok
   pub answered : IsTrue ok ↔ IsAnswered image f id ToRead at width
   pub reads : IsTrue ok → IsReadBy image f id ToRead at width value
 
+-- an access of the cell has the outcome that it has where these facts hold; of any other act `Other` holds
+abbrev pub EndsOr : Type 0 → Image → Facts → ℕ → Act → Type 0
+EndsOr Other image f id (Read width at got) = IsGotBy image f id ToRead at width got
+EndsOr Other image f id (Fetch at got) = IsGotBy image f id ToFetch at 4 got
+EndsOr Other image f id (Write width at value ok) = IsTrue ok ↔ IsAnswered image f id ToWrite at width
+EndsOr Other image f id (Await width at value ok) = IsAwaitedBy image f id at width value ok
+EndsOr Other image f id _ = Other
+
 -- an access of the cell has the outcome that it has where these facts hold
 abbrev pub EndsAsGranted : Image → Facts → ℕ → Act → Type 0
-EndsAsGranted image f id (Read width at got) = IsGotBy image f id ToRead at width got
-EndsAsGranted image f id (Fetch at got) = IsGotBy image f id ToFetch at 4 got
-EndsAsGranted image f id (Write width at value ok) = IsTrue ok ↔ IsAnswered image f id ToWrite at width
-EndsAsGranted image f id (Await width at value ok) = IsAwaitedBy image f id at width value ok
-EndsAsGranted image f id _ = Unit {0}
+EndsAsGranted image f id act = EndsOr (Unit {0}) image f id act

@@ -1,22 +1,17 @@
 -- How accesses end.
-use Rattle.std.specs.Prelude.{◌↔◌, Bool, false, not, List, is_some, IsTrue}
+use Rattle.std.specs.Prelude.{Bool, false, not, List, is_some}
 use Rattle.jh_cellcfg.specs.declared.config.CellConfig.{CellConfig}
 use Rattle.jh_script.specs.declared.image.Image.{Image}
-use Rattle.jh_history.specs.declared.access.Access.TheVariants.{Read as ToRead, Write as ToWrite, Fetch as ToFetch}
 use Rattle.jh_history.specs.declared.entry.Entry.{Entry}
 use Rattle.jh_history.specs.declared.entry.Act.{Act}
 use Rattle.jh_history.specs.declared.entry.Act.TheVariants.{Read, Write, Fetch, Await}
 use Rattle.jh_history.specs.History.{facts}
-use Rattle.jh_laws.specs.Ends.{IsAnswered, IsGotBy, IsAwaitedBy}
+use Rattle.jh_laws.specs.Ends.{EndsOr}
 
 -- the act is an access that the cell makes after the entries, with the outcome that it has there, which is that of any
 -- live cell. No image whose root has no device, and that has no hypercall, comes to any other act
 abbrev pub HasItsOutcome : Image → List Entry → CellConfig → Act → Type 0
-HasItsOutcome image entries cell (Read width at got) = IsGotBy image (facts image entries) cell.id ToRead at width got
-HasItsOutcome image entries cell (Fetch at got) = IsGotBy image (facts image entries) cell.id ToFetch at 4 got
-HasItsOutcome image entries cell (Write width at value ok) = IsTrue ok ↔ IsAnswered image (facts image entries) cell.id ToWrite at width
-HasItsOutcome image entries cell (Await width at value ok) = IsAwaitedBy image (facts image entries) cell.id at width value ok
-HasItsOutcome image entries cell _ = ⊥
+HasItsOutcome image entries cell act = EndsOr ⊥ image (facts image entries) cell.id act
 
 -- the act is a violation: an access that didn't succeed
 abbrev pub is_violation : Act → Bool

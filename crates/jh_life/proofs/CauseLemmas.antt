@@ -20,13 +20,13 @@ use Rattle.jh_life.specs.CellsView.{CellsView}
 use Rattle.jh_life.specs.Lives.{numbered_cells}
 use Rattle.jh_shape.specs.Lives.{configs_of}
 use Rattle.jh_life.specs.Verdict.{may_have}
-use Rattle.jh_life.specs.Causes.{Create, verdict_on, Cause, Locked, Known, TakenCpu, BrokenRule, Overlap, FewPages, place_in_order, number_for, IsKnownTo, NamesTakenCpu, BreaksRule, SpeaksAgainst, IsFirst}
+use Rattle.jh_life.specs.Causes.{Create, verdict_on, Cause, Locked, Known, TakenCpu, BrokenRule, Overlap, FewPages, rank, number_for, IsKnownTo, NamesTakenCpu, BreaksRule, SpeaksAgainst, IsFirst}
 
 -- ---- by tests
 
 record IsFirstOf (test : Cause → Bool) (cause : Cause) : Type 0 where
   pub passes : test cause ≡ true
-  pub none : (other : Cause) → place_in_order other < place_in_order cause → test other ≡ false
+  pub none : (other : Cause) → rank other < rank cause → test other ≡ false
 
 abbrev first_of : Bool → Bool → Bool → Bool → Bool → Bool → Option ℤ
 first_of locked known taken broken overlap few =
@@ -40,7 +40,7 @@ abbrev IsNoCause : (Cause → Bool) → Option ℤ → Type 0
 IsNoCause test told = ((cause : Cause) → test cause ≡ false) × (told ≡ None)
 
 -- what fails before a cause
-before : (test : Cause → Bool) (n : ℕ) → n ≤ 5 → (0 < n → test Locked ≡ false) → (1 < n → test Known ≡ false) → (2 < n → test TakenCpu ≡ false) → (3 < n → test BrokenRule ≡ false) → (4 < n → test Overlap ≡ false) → (other : Cause) → place_in_order other < n → test other ≡ false
+before : (test : Cause → Bool) (n : ℕ) → n ≤ 5 → (0 < n → test Locked ≡ false) → (1 < n → test Known ≡ false) → (2 < n → test TakenCpu ≡ false) → (3 < n → test BrokenRule ≡ false) → (4 < n → test Overlap ≡ false) → (other : Cause) → rank other < n → test other ≡ false
 before test n last a b c d e Locked l = a l
 before test n last a b c d e Known l = b l
 before test n last a b c d e TakenCpu l = c l
@@ -81,7 +81,7 @@ cause_at (suc (suc (suc zero))) = BrokenRule
 cause_at (suc (suc (suc (suc zero)))) = Overlap
 cause_at (suc (suc (suc (suc (suc n))))) = FewPages
 
-at_place : (cause : Cause) → cause_at (place_in_order cause) ≡ cause
+at_place : (cause : Cause) → cause_at (rank cause) ≡ cause
 unfolding cause_at
 at_place Locked = refl
 at_place Known = refl
@@ -90,17 +90,17 @@ at_place BrokenRule = refl
 at_place Overlap = refl
 at_place FewPages = refl
 
-same_place : (one other : Cause) → place_in_order one ≡ place_in_order other → one ≡ other
+same_place : (one other : Cause) → rank one ≡ rank other → one ≡ other
 same_place one other e = sym (at_place one) ∙ ap cause_at e ∙ at_place other
 
-not_earlier : (test : Cause → Bool) (one other : Cause) → IsFirstOf test one → IsFirstOf test other → place_in_order one < place_in_order other → ⊥
+not_earlier : (test : Cause → Bool) (one other : Cause) → IsFirstOf test one → IsFirstOf test other → rank one < rank other → ⊥
 not_earlier test one other first second l = false≢true (sym (second.none one l) ∙ first.passes)
 
 one_first : (test : Cause → Bool) (one other : Cause) → IsFirstOf test one → IsFirstOf test other → one ≡ other
 one_first test one other first second =
-    elim (cases_lt (place_in_order one) (place_in_order other)) [
+    elim (cases_lt (rank one) (rank other)) [
       | inl l ↦ absurd (not_earlier test one other first second l)
-      | inr l ↦ elim (cases_lt (place_in_order other) (place_in_order one)) [
+      | inr l ↦ elim (cases_lt (rank other) (rank one)) [
         | inl m ↦ absurd (not_earlier test other one second first m)
         | inr m ↦ same_place one other (omega arith)
       ]

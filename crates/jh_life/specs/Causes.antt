@@ -35,14 +35,14 @@ pub data Cause : Type 0 where
   Overlap : Cause
   FewPages : Cause
 
--- the place of the cause in the order in which causes are told
-abbrev pub place_in_order : Cause → ℕ
-place_in_order Locked = 0
-place_in_order Known = 1
-place_in_order TakenCpu = 2
-place_in_order BrokenRule = 3
-place_in_order Overlap = 4
-place_in_order FewPages = 5
+-- the rank of the cause in the order in which causes are told
+abbrev pub rank : Cause → ℕ
+rank Locked = 0
+rank Known = 1
+rank TakenCpu = 2
+rank BrokenRule = 3
+rank Overlap = 4
+rank FewPages = 5
 
 -- the number that tells the cause
 abbrev pub number_for : Cause → ℤ
@@ -89,4 +89,4 @@ SpeaksAgainst seen create FewPages = LacksPages seen create
 -- the cause holds, and none before it
 pub record IsFirst (seen : CellsView) (create : Create) (cause : Cause) : Type 0 where
   pub holds : SpeaksAgainst seen create cause
-  pub none : (other : Cause) → place_in_order other < place_in_order cause → SpeaksAgainst seen create other → ⊥
+  pub none : (other : Cause) → rank other < rank cause → SpeaksAgainst seen create other → ⊥

@@ -39,8 +39,8 @@ fn print_maps(alloc: Global, board: &Board) -> Result<Vec<u8>, NoMemory>
     ensures { IfOk result (λ text. IsMapsText board.now.image board.now.entries text.items) }
 {
     let mut text = Vec::new(alloc);
-    for place in 0..board.count() {
-        match board.cell(place) {
+    for number in 0..board.count() {
+        match board.cell(number) {
             Some(cell) => push_cell_map(alloc, board, cell, &mut text)?,
             // there are so many cells
             None => unreachable!(),

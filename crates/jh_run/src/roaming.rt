@@ -53,9 +53,9 @@ pub fn roam<H: Home, R: Wait, G: Gate>(
     posts.leave(rt, post);
 }
 
-/// The place in the caller's own list for the turn behind one that answered this: the same one while its CPU has entries due, and
-/// else that of the CPU that has. Where a worker is at that one, other threads go first, and the next place has its turn.
-fn next_place<H: Home>(
+/// The index in the caller's own list for the turn behind one that answered this: the same one while its CPU has entries due, and
+/// else that of the CPU that has. Where a worker is at that one, other threads go first, and the next post has its turn.
+fn next_index<H: Home>(
     posts: &Posts<H>,
     own: &[Post<H>],
     at: usize,
@@ -67,8 +67,8 @@ fn next_place<H: Home>(
     match answer {
         Ok(Turn::Made(_) | Turn::Edited { .. }) => at,
         Ok(Turn::NotNow { due_to }) => {
-            if let Some(place) = own.iter().position(|post| post.port.caller() == due_to) {
-                return place;
+            if let Some(index) = own.iter().position(|post| post.port.caller() == due_to) {
+                return index;
             }
             thread::yield_now();
             (at + 1) % own.len()
@@ -98,6 +98,6 @@ pub fn roam_own<H: Home, R: Wait, G: Gate>(
             return;
         }
         let answer = own[at].turn(rt, shared, gate);
-        at = next_place(posts, own, at, answer);
+        at = next_index(posts, own, at, answer);
     }
 }

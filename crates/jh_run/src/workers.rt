@@ -108,6 +108,7 @@ fn drive_own<H: Home, R: Wait, G: Gate>(
         roam_own(rt, shared, posts, gate, own.as_mut_slice());
     }
     leave_all(rt, posts, own);
+    // this ends at once where the own list was driven until the run's end
     roam(rt, shared, posts, gate, first);
 }
 

@@ -31,7 +31,7 @@ pub record AreMarks (limit : ℕ) (cpus : List ℕ) (marks : List Bool) : Type 0
 
 -- a mark's bit in its byte, by its weight there
 abbrev pub mark_bit : List Bool → ℕ → ℕ → ℕ
-mark_bit marks place weight = if get_or marks place false then weight else 0
+mark_bit marks cpu weight = if get_or marks cpu false then weight else 0
 
 -- the byte of eight marks, from this one on
 abbrev pub mark_byte : List Bool → ℕ → ℕ

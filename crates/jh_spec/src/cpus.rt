@@ -46,11 +46,11 @@ fn marks(alloc: Global, limit: usize, cpus: &[u64]) -> Result<Option<Vec<bool>>,
         if *cpu >= limit as u64 {
             return Ok(None);
         }
-        let place = *cpu as usize;
-        if marks[place] {
+        let number = *cpu as usize;
+        if marks[number] {
             return Ok(None);
         }
-        marks[place] = true;
+        marks[number] = true;
     }
     Ok(Some(marks))
 }
@@ -88,8 +88,8 @@ fn bitmap_of(alloc: Global, bytes: usize, cpus: &[u64]) -> Result<Option<Seq<u8>
         return Ok(None);
     };
     let mut bitmap = Vec::with_capacity(alloc, bytes)?;
-    for place in 0..bytes {
-        bitmap.push(byte_of(&marks, 8 * place))?;
+    for k in 0..bytes {
+        bitmap.push(byte_of(&marks, 8 * k))?;
     }
     Ok(Some(Seq::from_vec(bitmap)))
 }

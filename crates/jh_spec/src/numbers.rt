@@ -77,8 +77,8 @@ impl<const N: usize> FromJson for [u32; N] {
             return None;
         }
         let mut words = [0; N];
-        for place in 0..N {
-            words[place] = u32::from_json(&items[place])?;
+        for k in 0..N {
+            words[k] = u32::from_json(&items[k])?;
         }
         Some(words)
     }

@@ -48,7 +48,7 @@ words_of space = let spec = space.spec in
 
 -- the word at the offset, 0 where none is listed
 unfoldable pub word_of : Space → ℕ → ℕ
-word_of space offset = unwrap_or (lookup (λ place. place == offset) (words_of space)) 0
+word_of space offset = unwrap_or (lookup (λ listed. listed == offset) (words_of space)) 0
 
 -- the offset at which the word begins that has the byte
 abbrev pub word_at : ℕ → ℕ

@@ -83,7 +83,7 @@ impl ConfigSpace {
             + set(0x8000, self.enabled)
     }
 
-    /// Privileged control above the capability's length, place of the next one and kind.
+    /// Privileged control above the capability's length, offset of the next one and kind.
     fn capability(&self) -> u32
         ensures { result ≡ (if self.now.one_shot then 1 else 0) * 2 ^ 24 + 0x20 * 2 ^ 16 + with_vectors self.now.spec 0x60 * 2 ^ 8 + 0x09 }
     {

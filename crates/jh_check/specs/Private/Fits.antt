@@ -18,8 +18,8 @@ pub record IsSeated (cells : List CellConfig) (seats : List Seat) (number : ℕ)
   pub seat : Seat
   pub is : Contains seats seat
   pub owner : seat.cell ≡ number
-  pub place : seat.bdf ≡ device.bdf
-  pub stands : IsAt cells seat cell device
+  pub bdf : seat.bdf ≡ device.bdf
+  pub sits : IsAt cells seat cell device
 
 -- the other device has that number among its peers, and as many peers and the same memory as the one
 abbrev pub is_like : List Region → PciDevice → List Region → PciDevice → ℕ → Bool

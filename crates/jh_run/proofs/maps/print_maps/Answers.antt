@@ -9,14 +9,14 @@ use Rattle.jh_board.specs.Maps.{all_cells}
 use Rattle.jh_run.proofs.MapsLemmas.{one_more}
 use Rattle.jh_run.proofs.maps.print_maps.Goals as goal
 
-pub loop-place-preserved : goal.loop-place-preserved
-loop-place-preserved c =
+pub loop-number-preserved : goal.loop-number-preserved
+loop-number-preserved c =
     let image = c.args.board.now.image in
     let lives = (facts image c.args.board.now.entries).cells in
     let all = all_cells image lives in
-    let place = c.loop-place.place in
+    let number = c.loop-number.number in
     let cell = c.in-Some.cell.now in
-    let at : slice_get all place ≡ Some cell = sym (rw c.in-Some.is at c.cell.ensures) in
+    let at : slice_get all number ≡ Some cell = sym (rw c.in-Some.is at c.cell.ensures) in
     let made = c.in_ok-push_cell_map-in-Some.ensures in
-    let next : take (place + 1) all ≡ take place all ++ cell ∷ [] = take_more all place cell (slice_get_within all place cell at) ∙ ap (λ (x : CellConfig). take place all ++ x ∷ []) (get_or_from_slice_get all place cell cell at) in
-    rw (next, made.2) (one_more image lives (take place all) cell made.0 c.loop-place.text.items c.loop-place.invariant made.1)
+    let next : take (number + 1) all ≡ take number all ++ cell ∷ [] = take_more all number cell (slice_get_within all number cell at) ∙ ap (λ (x : CellConfig). take number all ++ x ∷ []) (get_or_from_slice_get all number cell cell at) in
+    rw (next, made.2) (one_more image lives (take number all) cell made.0 c.loop-number.text.items c.loop-number.invariant made.1)

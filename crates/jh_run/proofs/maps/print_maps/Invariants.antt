@@ -5,6 +5,6 @@ use Rattle.jh_board.specs.Maps.{all_cells}
 use Rattle.jh_run.specs.Maps.{AreMaps}
 use Rattle.jh_run.proofs.maps.print_maps.Given as goal
 
-abbrev pub invariant-loop-place : goal.invariant-loop-place
-invariant-loop-place l =
-    AreMaps l.board.image (facts l.board.image l.board.entries).cells (take l.place (all_cells l.board.image (facts l.board.image l.board.entries).cells)) l.text.items
+abbrev pub invariant-loop-number : goal.invariant-loop-number
+invariant-loop-number l =
+    AreMaps l.board.image (facts l.board.image l.board.entries).cells (take l.number (all_cells l.board.image (facts l.board.image l.board.entries).cells)) l.text.items

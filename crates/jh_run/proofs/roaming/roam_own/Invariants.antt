@@ -1,4 +1,4 @@
--- The place is one of the list.
+-- The index is one of the list.
 use Rattle.std.proofs.Common.{◌<◌, length}
 use Rattle.jh_run.proofs.roaming.roam_own.Given as goal
 

@@ -19,30 +19,30 @@ returns-then-len g c =
     let differs : length vec.items ≢ g.row.N = λ e. c.if-len.true (omega (arith, vec.ok.0, c.len.ensures, e)) in
     sym (words_none u32_told g.row.N vec.items differs) ∙ ap (words_in g.row.N) c.in_ok-items.ensures
 
-pub loop-place-init : goal.loop-place-init
-loop-place-init g c = record { told = none_told u32_told c.in_ok-items.items.now.items; len = length-replicate g.row.N 0 }
+pub loop-k-init : goal.loop-k-init
+loop-k-init g c = record { told = none_told u32_told c.in_ok-items.items.now.items; len = length-replicate g.row.N 0 }
 
-pub loop-place-preserved : goal.loop-place-preserved
-loop-place-preserved g c =
+pub loop-k-preserved : goal.loop-k-preserved
+loop-k-preserved g c =
     let vec = c.in_ok-items.items.now in
-    let place = c.loop-place.place in
-    let words = c.loop-place.words in
+    let k = c.loop-k.k in
+    let words = c.loop-k.words in
     let word = c.in_ok-words.field-0 in
-    let in_words : place < length words = omega (arith, c.loop-place.invariant.len) in
-    let in_items : place < length vec.items = omega (arith, vec.ok.0, c.len.ensures, c.if-len.false) in
+    let in_words : k < length words = omega (arith, c.loop-k.invariant.len) in
+    let in_items : k < length vec.items = omega (arith, vec.ok.0, c.len.ensures, c.if-len.false) in
     record {
-      told = rw (take_more_set words place word in_words)
-          (one_told u32_told vec.items place (take place words) c.index.result.now word in_items c.index.ensures (sym c.in_ok-words.ensures) c.loop-place.invariant.told);
-      len = length-set words place word ∙ c.loop-place.invariant.len;
+      told = rw (take_more_set words k word in_words)
+          (one_told u32_told vec.items k (take k words) c.index.result.now word in_items c.index.ensures (sym c.in_ok-words.ensures) c.loop-k.invariant.told);
+      len = length-set words k word ∙ c.loop-k.invariant.len;
     }
 
 pub returns : goal.returns
 returns g c =
     let vec = c.in_ok-items.items.now in
-    let place = c.loop-place.place in
-    let words = c.loop-place.words in
-    let all_words : length words ≤ place = omega (arith, c.loop-place.invariant.len) in
-    let all_items : length vec.items ≤ place = omega (arith, vec.ok.0, c.len.ensures, c.if-len.false) in
+    let k = c.loop-k.k in
+    let words = c.loop-k.words in
+    let all_words : length words ≤ k = omega (arith, c.loop-k.invariant.len) in
+    let all_items : length vec.items ≤ k = omega (arith, vec.ok.0, c.len.ensures, c.if-len.false) in
     let told : items_told u32_told (items_view vec.items) ≡ Some words
-    = all_told u32_told vec.items place (take place words) all_items c.loop-place.invariant.told ∙ ap Some (take_all place words all_words) in
-    sym (words_some g.row.N words c.loop-place.invariant.len) ∙ ap (counted g.row.N) (sym told) ∙ ap (words_in g.row.N) c.in_ok-items.ensures
+    = all_told u32_told vec.items k (take k words) all_items c.loop-k.invariant.told ∙ ap Some (take_all k words all_words) in
+    sym (words_some g.row.N words c.loop-k.invariant.len) ∙ ap (counted g.row.N) (sym told) ∙ ap (words_in g.row.N) c.in_ok-items.ensures
