@@ -130,7 +130,7 @@ specs_apart_by config single =
     specs_pairs AreEndpointsApart config
     (λ l m one other below i i' kind kind'.
     let bdfs : eqb other.bdf one.bdf ≡ false = false_from_ne_true (eqb other.bdf one.bdf) (λ same.
-    let linked : AreLinked one other = record { one_kind = kind; other_kind = kind'; place = sym (eqb-true other.bdf one.bdf same) } in
+    let linked : AreLinked one other = record { one_kind = kind; other_kind = kind'; bdf = sym (eqb-true other.bdf one.bdf same) } in
     let e : l ≡ m = single l m one other i i' linked in
     absurd (omega arith)) in
     record {
@@ -177,7 +177,7 @@ specs_apart_two system configs a b one other s t clean differ numbered numbered'
     let Q : EndpointSpec → Type 0 = AreEndpointsApart (spec_of one h.number d) in
     let peers : eqb e.bdf d.bdf && eqb e.shmem_dev_id d.shmem_dev_id ≡ false = elim (cases_Bool (eqb e.bdf d.bdf)) [
       | inl same ↦
-          let linked : AreLinked d e = record { one_kind = kind_from h.number d h.passes; other_kind = kind_from h'.number e h'.passes; place = sym (eqb-true e.bdf d.bdf same) } in
+          let linked : AreLinked d e = record { one_kind = kind_from h.number d h.passes; other_kind = kind_from h'.number e h'.passes; bdf = sym (eqb-true e.bdf d.bdf same) } in
           and_right (eqb e.bdf d.bdf) (eqb e.shmem_dev_id d.shmem_dev_id)
           (ne_eqb e.shmem_dev_id d.shmem_dev_id (λ q. numbers_differ system configs clean a b one other differ numbered numbered' h.number h'.number d e h.item h'.item linked (sym q)))
       | inr apart ↦ and_left (eqb e.bdf d.bdf) (eqb e.shmem_dev_id d.shmem_dev_id) apart

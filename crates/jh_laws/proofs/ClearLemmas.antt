@@ -53,7 +53,7 @@ two_of_cell image configs config clean held =
     specs_pairs AreTwoOfCell config
     (λ l m one other below i i' kind kind'.
     let different : l ≢ m = λ same. (let no : ⊥ = omega arith in no) in
-    (λ bdf. (let linked : AreLinked one other = record { one_kind = kind; other_kind = kind'; place = bdf } in different (clean.single held.0 config numbered l m one other i i' linked)), different))
+    (λ bdf. (let linked : AreLinked one other = record { one_kind = kind; other_kind = kind'; bdf = bdf } in different (clean.single held.0 config numbered l m one other i i' linked)), different))
 
 -- each has its endpoint
 pub links_of : (image : Image) (f : Facts) (config : CellConfig) → IsSound image f → Contains (image.system.root ∷ configs_of f.cells) config → HaveLinks (specs_of config) f.endpoints
@@ -292,7 +292,7 @@ uncalled image f entry e v h sound commits held cell call =
     let all : Contains (image.system.root ∷ configs_of f.cells) h.config = Contains_tail image.system.root (configs_of f.cells) h.config h.lives in
     let numbered = held_numbered image.system (configs_of f.cells) h.config all in
     let place : its.device.bdf ≡ mine.device.bdf = sym (ap (λ (t : EndpointSpec). t.bdf) its.is) ∙ c.1.4 ∙ ap (λ (t : EndpointSpec). t.bdf) mine.is in
-    let linked : AreLinked its.device mine.device = record { one_kind = its.kind; other_kind = mine.kind; place = place } in
+    let linked : AreLinked its.device mine.device = record { one_kind = its.kind; other_kind = mine.kind; bdf = place } in
     let device : one.spec.device ≡ e.spec.device = sound.cells.clean.single all.0 h.config numbered one.spec.device e.spec.device its.device mine.device its.item mine.item linked in
     c.1.5 (ap (λ (x : Endpoint). x.spec.id) (one_endpoint image f one e sound c.1.1 held (one_cell ∙ sym cell) device))
 

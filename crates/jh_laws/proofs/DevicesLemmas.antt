@@ -194,7 +194,7 @@ function_is image f id offset e sound h =
     let item : slice_get cell.pci_devices some.0 ≡ Some found.device = ap (λ (ds : List PciDevice). slice_get ds some.0) (sym own) ∙ ap (slice_get devices) (sym index) ∙ found.item in
     let kind : found.device.kind ≡ 3 = eqb-true found.device.kind 3 (and_parts (nat_lt some.0 (2 ^ 32)) (is_shmem found.device) found.passes).1 in
     let numbered = number_of_holds image f.cells cell h.is.live in
-    let linked : AreLinked found.device h.device = record { one_kind = kind; other_kind = h.is.kind; place = found.has ∙ sym h.has } in
+    let linked : AreLinked found.device h.device = record { one_kind = kind; other_kind = h.is.kind; bdf = found.has ∙ sym h.has } in
     let same : some.0 ≡ h.number = sound.cells.clean.single numbered.0 cell numbered.1 some.0 h.number found.device h.device item h.is.item linked in
     ap (option_and_then (λ n. endpoint_at id n f.endpoints)) (some.1 ∙ ap Some same) ∙ h.is.there
 
