@@ -194,13 +194,17 @@ impl<H: Home> Posts<H> {
         }
     }
 
+    /// The post of the caller, if it was left.
+    pub fn take_left<R: Wait>(&self, rt: &R, caller: u8) -> Option<Post<H>> {
+        self.left.lock(rt).take(caller)
+    }
+
     /// The post of the caller, once it was left.
     pub fn take_back<R: Wait>(&self, rt: &R, caller: u8) -> Post<H>
         ensures caller { port_caller result.port ≡ caller }
     {
         for _ in rt.forever() {
-            let post = self.left.lock(rt).take(caller);
-            if let Some(post) = post {
+            if let Some(post) = self.take_left(rt, caller) {
                 if post.port.caller() == caller {
                     return post;
                 }

@@ -53,6 +53,48 @@ pub fn roam<H: Home, R: Wait, G: Gate>(
     posts.leave(rt, post);
 }
 
+/// Takes turns at the post, each behind the gate, while its CPU has entries due and the run goes on. What the last one answered.
+fn stay<H: Home, R: Wait, G: Gate>(
+    rt: &R,
+    shared: &Shared<Running>,
+    posts: &Posts<H>,
+    gate: &G,
+    post: &mut Post<H>,
+) -> Result<Turn, TurnFault>
+    requires home { H.shared ≡ Some shared.now }
+{
+    for _ in rt.forever() {
+        let answer = post.turn(rt, shared, gate);
+        if posts.have_ended() || !matches!(answer, Ok(Turn::Made(_) | Turn::Edited { .. })) {
+            return answer;
+        }
+    }
+    unreachable!()
+}
+
+/// What a turn answered; or, where it told of a CPU whose worker rests, what the last turn at that one's post answered, which is
+/// left again.
+fn visit<H: Home, R: Wait, G: Gate>(
+    rt: &R,
+    shared: &Shared<Running>,
+    posts: &Posts<H>,
+    gate: &G,
+    answer: Result<Turn, TurnFault>,
+) -> Result<Turn, TurnFault>
+    requires home { H.shared ≡ Some shared.now }
+{
+    let due_to = match &answer {
+        Ok(Turn::NotNow { due_to }) => *due_to,
+        _ => return answer,
+    };
+    let Some(mut post) = posts.take_left(rt, due_to) else {
+        return answer;
+    };
+    let last = stay(rt, shared, posts, gate, &mut post);
+    posts.leave(rt, post);
+    last
+}
+
 /// The index in the caller's own list for the turn behind one that answered this: the same one while its CPU has entries due, and
 /// else that of the CPU that has. Where a worker is at that one, other threads go first, and the next post has its turn.
 fn next_index<H: Home>(
@@ -81,7 +123,7 @@ fn next_index<H: Home>(
 }
 
 /// Takes turns at the posts of the caller's own list, each behind the gate, until a worker finds that nothing is due to any CPU, or that a turn
-/// is refused. No other worker goes to these.
+/// is refused. No other worker goes to these; the caller goes to the posts of workers that rest.
 pub fn roam_own<H: Home, R: Wait, G: Gate>(
     rt: &R,
     shared: &Shared<Running>,
@@ -98,6 +140,7 @@ pub fn roam_own<H: Home, R: Wait, G: Gate>(
             return;
         }
         let answer = own[at].turn(rt, shared, gate);
+        let answer = visit(rt, shared, posts, gate, answer);
         at = next_index(posts, own, at, answer);
     }
 }
