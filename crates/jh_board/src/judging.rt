@@ -40,7 +40,7 @@ fn has_another(owned: u16, caller: u8) -> bool
     ensures { result ≡ false → (cpu : ℕ) → has_bit owned cpu ≡ true → cpu ≡ caller }
 {
     for cpu in 0..16u8 {
-        if has_bit(owned, usize::from(cpu)) && cpu != caller {
+        if has_bit(u32::from(owned), usize::from(cpu)) && cpu != caller {
             return true;
         }
     }

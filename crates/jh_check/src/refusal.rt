@@ -39,7 +39,7 @@ fn is_beyond(may: u16, cell: &CellConfig, cpu: usize) -> bool
     requires { cpu < 16 }
     ensures { result ≡ is_beyond (has_bit may) cell.now.cpu_set cpu }
 {
-    cell.has_cpu(cpu as u8) && !has_bit(may, cpu)
+    cell.has_cpu(cpu as u8) && !has_bit(u32::from(may), cpu)
 }
 
 /// Whether one of the first 16 CPUs is named and mustn't be.

@@ -11,7 +11,7 @@ fn is_free(owned: u16, caller: u8, cpu: usize) -> bool
     requires { cpu < 16 }
     ensures { result ≡ may_have owned caller cpu }
 {
-    has_bit(owned, cpu) && cpu != usize::from(caller)
+    has_bit(u32::from(owned), cpu) && cpu != usize::from(caller)
 }
 
 /// The CPUs that a new cell may have: those of the mask without the caller's.

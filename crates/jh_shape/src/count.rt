@@ -26,7 +26,7 @@ impl<'a> Target<'a> {
         ensures { AreMarkedBelow limit words.new level (λ n. are_cut (claims_of self.now).holders (n * slot_size level) (slot_size level)) }
     {
         for (i, cell) in self.cells.iter().enumerate() {
-            if has_bit(self.held, i) {
+            if has_bit(u32::from(self.held), i) {
                 mark_cuts(words, level, cell.memory_regions.as_slice(), limit);
             }
         }
