@@ -6,7 +6,7 @@ use Rattle.std.proofs.lemmas.Bool.Decides.{nat_tests}
 use Rattle.jh_num.specs.declared.rights.Rights.{Rights}
 use Rattle.jh_desc.specs.declared.descriptor.Descriptor.{Descriptor}
 use Rattle.jh_desc.specs.declared.descriptor.Descriptor.TheVariants.{Invalid, Table, Leaf}
-use Rattle.jh_desc.specs.Descriptors.{address_in, rights_in, is_device, may_block, read_of, leaf_bits, word_of, IsWritable}
+use Rattle.jh_desc.specs.Descriptors.{address_in, rights_in, is_device, has_blocks, read_of, leaf_bits, word_of, IsWritable}
 use Rattle.jh_num.specs.declared.level.TheConstants.{LAST_LEVEL}
 use Rattle.jh_num.specs.Bits.{bits_where, has_bit}
 use Rattle.jh_num.specs.Levels.{slot_size}
@@ -88,7 +88,7 @@ same_rights : (a b c : Bool) (rights : Rights) → a ≡ rights.read → b ≡ r
 same_rights a b c rights p q r = rw (p, q, r) refl
 
 -- what a word says, part by part
-block_reads : (level word out : ℕ) (rights : Rights) (device : Bool) → has_bit word 0 ≡ true → has_bit word 1 ≡ false → may_block level ≡ true → address_in (slot_size level) word ≡ out → rights_in word ≡ rights → is_device word ≡ device → read_of word level ≡ Leaf out rights device
+block_reads : (level word out : ℕ) (rights : Rights) (device : Bool) → has_bit word 0 ≡ true → has_bit word 1 ≡ false → has_blocks level ≡ true → address_in (slot_size level) word ≡ out → rights_in word ≡ rights → is_device word ≡ device → read_of word level ≡ Leaf out rights device
 block_reads level word out rights device valid block may at can memory = rw (valid, block, may, at, can, memory) refl
 
 page_reads : (level word out : ℕ) (rights : Rights) (device : Bool) → has_bit word 0 ≡ true → has_bit word 1 ≡ true → (level == LAST_LEVEL) ≡ true → address_in (slot_size level) word ≡ out → rights_in word ≡ rights → is_device word ≡ device → read_of word level ≡ Leaf out rights device

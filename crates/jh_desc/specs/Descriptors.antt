@@ -32,9 +32,9 @@ is_device word = (word / 2 ^ 4 % 4) == 0
 abbrev pub leaf_in : ℕ → ℕ → Descriptor
 leaf_in level word = Leaf (address_in (slot_size level) word) (rights_in word) (is_device word)
 
--- a block may stand at the level, which is 1 or 2
-abbrev pub may_block : ℕ → Bool
-may_block level = nat_lt 0 level && nat_lt level LAST_LEVEL
+-- the level has blocks, as levels 1 and 2 do
+abbrev pub has_blocks : ℕ → Bool
+has_blocks level = nat_lt 0 level && nat_lt level LAST_LEVEL
 
 -- what the word says at the level
 abbrev pub read_of : ℕ → ℕ → Descriptor
@@ -42,7 +42,7 @@ read_of word level =
     if has_bit word 0
     then (if has_bit word 1
     then (if level == LAST_LEVEL then leaf_in level word else Table (address_in 4096 word))
-    else (if may_block level then leaf_in level word else Invalid))
+    else (if has_blocks level then leaf_in level word else Invalid))
     else Invalid
 
 -- the bits of a leaf below its address, and bit 54

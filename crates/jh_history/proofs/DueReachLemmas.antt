@@ -19,7 +19,7 @@ use Rattle.jh_ivshmem.specs.declared.endpoint.Endpoint.{Endpoint}
 use Rattle.jh_mmio.specs.declared.hitting.Window.{Window as TheWindow}
 use Rattle.jh_mmio.specs.declared.hitting.Hitting.{Hitting}
 use Rattle.jh_mmio.specs.declared.hitting.Hitting.TheVariants.{Subpage as HitsSubpage, Ecam, Bar, Nothing as HitsNothing}
-use Rattle.jh_mmio.specs.Dispatch.{takes_all, lets_through, behind_between}
+use Rattle.jh_mmio.specs.Dispatch.{takes_all, lets_through, hitting_behind_regions}
 use Rattle.jh_script.specs.declared.image.Image.{Image}
 use Rattle.jh_history.specs.declared.place.Place.{Place}
 use Rattle.jh_history.specs.declared.place.Place.TheVariants.{Physical, Page}
@@ -178,7 +178,7 @@ device_answers cells start o at width HitsNothing = tt
 
 found_answers : (image : Image) (lives : List Live) (id : ℕ) (closed : ℕ → Bool) (start end : ℕ) (window : Option TheWindow) (write : Bool) (at width : ℕ) (o : Option Region) → IsClean image.system (configs_of lives) → find (takes_all closed at width) (regions_in image lives id) ≡ o
     → ReachesCells lives (answer_by id o start end window write at width)
-found_answers image lives id closed start end window write at width None clean is = device_answers lives start window at width (behind_between start end (asked_windows window) at width)
+found_answers image lives id closed start end window write at width None clean is = device_answers lives start window at width (hitting_behind_regions start end (asked_windows window) at width)
 found_answers image lives id closed start end window write at width (Some r) clean is =
     let found = IsFound_from_find (takes_all closed at width) (regions_in image lives id) r is in
     region_answers lives id at width r (is_comm r) (lets_through at width write r) (takes_all_plain image lives id closed at width r clean found.held found.passes)

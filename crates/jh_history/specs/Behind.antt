@@ -8,7 +8,7 @@ use Rattle.jh_cellcfg.specs.declared.region.Region.{Region}
 use Rattle.jh_mmio.specs.declared.hitting.Window.{Window as TheWindow}
 use Rattle.jh_mmio.specs.declared.hitting.Hitting.{Hitting}
 use Rattle.jh_mmio.specs.declared.hitting.Hitting.TheVariants.{Subpage as HitsSubpage, Ecam, Bar, Nothing as HitsNothing}
-use Rattle.jh_mmio.specs.Dispatch.{takes_all, window_has, lets_through, behind_between}
+use Rattle.jh_mmio.specs.Dispatch.{takes_all, window_has, lets_through, hitting_behind_regions}
 use Rattle.jh_history.specs.declared.access.Access.{Access}
 use Rattle.jh_history.specs.declared.access.Access.TheVariants.{Read, Write, Fetch}
 use Rattle.jh_history.specs.declared.access.Reach.{Reach}
@@ -57,7 +57,7 @@ window_of_access devices at width = find (window_has at width) (windows_of devic
 
 -- what answers where no subpage region has the access
 abbrev pub behind_regions : ℕ → ℕ → Option TheWindow → ℕ → ℕ → Reach
-behind_regions start end window at width = by_device start window at width (behind_between start end (asked_windows window) at width)
+behind_regions start end window at width = by_device start window at width (hitting_behind_regions start end (asked_windows window) at width)
 
 -- what answers a read, or a write, where that is the subpage region which has the access, if one has it: the
 -- region, and the windows only where there is no such region

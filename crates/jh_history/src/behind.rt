@@ -5,7 +5,7 @@ ghost use Rattle.jh_cellcfg.specs.declared.region.Region.{Region as TheRegion};
 ghost use Rattle.jh_cellcfg.specs.Regions.{has_address, IsInRange};
 ghost use Rattle.jh_history.specs.Places.{places_in_row};
 ghost use Rattle.jh_history.specs.Access.{place_in_cell};
-ghost use Rattle.jh_mmio.specs.Dispatch.{behind_between};
+ghost use Rattle.jh_mmio.specs.Dispatch.{hitting_behind_regions};
 ghost use Rattle.jh_history.specs.Behind.{ecam_start, ecam_end, by_region, in_window, asked_windows, by_device, behind_regions, window_of_access, answer_by, answer_to};
 ghost use Rattle.jh_history.specs.Devices.{IsGoodWindow};
 
@@ -15,7 +15,7 @@ use crate::grants::place_in_cell;
 use crate::place::{Places, Row};
 use crate::within::ends_within;
 use jh_cellcfg::{Region, SystemConfig};
-use jh_mmio::{Hitting, Window, behind, lets_through};
+use jh_mmio::{Hitting, Window, hitting_behind_regions, lets_through};
 use jh_num::Range;
 
 /// How many bytes of the ECAM window a bus has.
@@ -90,7 +90,7 @@ fn in_window(window: Window, at: u64) -> Reach
 /// What is reached where that answers which lies behind the regions.
 fn by_device(ecam: Range, window: Option<Window>, wanted: &Wanted, hitting: Hitting) -> Reach
     requires good { IfSome window IsGoodWindow }
-    requires hits { hitting ≡ behind_between ecam.start ecam.end (asked_windows window) wanted.now.at wanted.now.width }
+    requires hits { hitting ≡ hitting_behind_regions ecam.start ecam.end (asked_windows window) wanted.now.at wanted.now.width }
     ensures { result ≡ by_device ecam.start window wanted.now.at wanted.now.width hitting }
 {
     match hitting {
@@ -113,8 +113,8 @@ fn behind_regions(ecam: Range, window: Option<Window>, wanted: &Wanted) -> Reach
     ensures { result ≡ behind_regions ecam.start ecam.end window wanted.now.at wanted.now.width }
 {
     let hitting = match window {
-        Some(window) => behind(ecam, &[window], wanted.at, wanted.width),
-        None => behind(ecam, &[], wanted.at, wanted.width),
+        Some(window) => hitting_behind_regions(ecam, &[window], wanted.at, wanted.width),
+        None => hitting_behind_regions(ecam, &[], wanted.at, wanted.width),
     };
     by_device(ecam, window, wanted, hitting)
 }

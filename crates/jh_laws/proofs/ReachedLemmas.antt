@@ -16,7 +16,7 @@ use Rattle.jh_cellcfg.specs.Regions.{has_size, has_address, is_page_mapped, virt
 use Rattle.jh_cellcfg.proofs.Public.{has_address_from}
 use Rattle.jh_mmio.specs.declared.hitting.Hitting.TheVariants.{Ecam, Bar, Nothing as HitsNothing}
 use Rattle.jh_mmio.specs.declared.hitting.Window.{Window as TheWindow}
-use Rattle.jh_mmio.specs.Dispatch.{lies_between, is_at_closed, takes_all, has_right, lets_through, by_ecam_at, by_window, window_has}
+use Rattle.jh_mmio.specs.Dispatch.{lies_between, is_at_closed, takes_all, has_right, lets_through, by_ecam, by_window, window_has}
 use Rattle.jh_num.specs.Numbers.{item_number}
 use Rattle.jh_mmio.proofs.Public.{lies_from, lies_parts}
 use Rattle.jh_ivshmem.specs.declared.endpoint.Endpoint.{Endpoint}
@@ -362,7 +362,7 @@ bar_way image f id access at width (Some w) sound some behind none outside found
 window_way : (image : Image) (f : Facts) (id : ℕ) (access : Access) (at width : ℕ) (o : Option TheWindow) (b : Bool) → IsSound image f → 0 < width → Behind image f id access at width → NoRegion image f id at width
     → window_of_access (devices_of image f id) at width ≡ o → lies_between (ecam_start image.system) (ecam_end image.system) at width ≡ b
     → reach image f id access at width
-    ≡ by_device image.system.pci_mmconfig_base o at width (cond b (by_ecam_at image.system.pci_mmconfig_base at width) (option_map_or (by_window at width) (position (window_has at width) (asked_windows o)) HitsNothing))
+    ≡ by_device image.system.pci_mmconfig_base o at width (cond b (by_ecam image.system.pci_mmconfig_base at width) (option_map_or (by_window at width) (position (window_has at width) (asked_windows o)) HitsNothing))
     → Way image f id access at width
 window_way image f id access at width o true sound some behind none found is e =
     config_way image f id access at width o (is_wide width && eqb ((at - image.system.pci_mmconfig_base) % width) 0) behind none (window_in image.system at width some is) refl e

@@ -1,7 +1,7 @@
 //! Configuration space, read and written.
 ghost use Rattle.std.specs.Prelude.{◌≡◌, ◌+◌, ◌*◌, ◌/◌, ◌%◌, ◌^◌, ◌<◌, ◌≤◌, ◌⊎◌, ◌↔◌, false, IsNone, option_map};
 ghost use Rattle.jh_vpci.specs.Space.{fresh, is_open, window_of, ends_of, has_vectors};
-ghost use Rattle.jh_vpci.specs.Words.{command_of, control_of, with_vectors, word_of, word_at, read_of};
+ghost use Rattle.jh_vpci.specs.Words.{command_bits, control_bits, with_vectors, word_of, word_offset, read_of};
 ghost use Rattle.jh_num.specs.Bits.{bits_where, has_bit};
 ghost use Rattle.jh_vpci.specs.Writes.{with_word, written};
 
@@ -9,6 +9,12 @@ use crate::function::FunctionSpec;
 use crate::word::{bits_where, bytes_at, high, low, window_from, with_bytes};
 use jh_num::{Range, has_bit};
 use std::marker::Model;
+
+/// How many bytes the window of BAR 0 has, in which the registers stand.
+const REGISTERS_SIZE: u32 = 0x1000;
+
+/// How many bytes the window of BAR 1 has, in which the table of vectors stands.
+const TABLE_SIZE: u32 = 0x200;
 
 /// The configuration space of one ivshmem function: 4,096 bytes, of which these are kept and the others
 /// are fixed (PCI Local Bus Specification 3.0, section 6, with MSI-X of section 6.8.2; the vendor's
@@ -67,7 +73,7 @@ impl ConfigSpace {
 
     /// Command: bit 1 the windows of the BARs, bit 2 bus master, bit 10 interrupts off.
     fn command(&self) -> u32
-        ensures value { result ≡ command_of self.now }
+        ensures value { result ≡ command_bits self.now }
         ensures bound { result < 2 ^ 16 }
     {
         bits_where(self.memory, 0x2)
@@ -77,7 +83,7 @@ impl ConfigSpace {
 
     /// Control of MSI-X: the vectors less 1, bit 14 the function mask, bit 15 enable.
     fn control(&self) -> u32
-        ensures value { result ≡ control_of self.now }
+        ensures value { result ≡ control_bits self.now }
         ensures bound { result < 2 ^ 16 }
     {
         u32::from(self.spec.vectors.saturating_sub(1))
@@ -163,9 +169,9 @@ impl ConfigSpace {
         if offset == 0x04 {
             self.put_command(word);
         } else if offset == 0x10 {
-            self.bar0 = word / 0x1000 * 0x1000;
+            self.bar0 = word / REGISTERS_SIZE * REGISTERS_SIZE;
         } else if offset == 0x14 && vectors {
-            self.bar1 = word / 0x200 * 0x200;
+            self.bar1 = word / TABLE_SIZE * TABLE_SIZE;
         } else if offset == 0x40 {
             self.put_privileged(word);
         } else if offset == 0x60 && vectors {
@@ -205,8 +211,8 @@ impl ConfigSpace {
             return None;
         }
         match bar {
-            0 => Some(window_from(self.bar0, 4096)),
-            1 if self.spec.has_vectors() => Some(window_from(self.bar1, 512)),
+            0 => Some(window_from(self.bar0, REGISTERS_SIZE)),
+            1 if self.spec.has_vectors() => Some(window_from(self.bar1, TABLE_SIZE)),
             _ => None,
         }
     }

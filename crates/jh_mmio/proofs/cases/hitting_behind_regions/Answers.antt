@@ -2,7 +2,7 @@
 use Rattle.std.proofs.Common.{sym, ◌∙◌, Some, None}
 use Rattle.jh_mmio.proofs.AccessLemmas.{lies_parts}
 use Rattle.jh_mmio.proofs.HittingLemmas.{behind_window, behind_ecam}
-use Rattle.jh_mmio.proofs.cases.behind.Goals as goal
+use Rattle.jh_mmio.proofs.cases.hitting_behind_regions.Goals as goal
 
 pub by_ecam-requires : goal.by_ecam-requires
 by_ecam-requires c = (lies_parts c.args.ecam.start c.args.ecam.end c.args.at c.args.width c.requires.some (sym c.if-lies_in_range.ensures)).0
