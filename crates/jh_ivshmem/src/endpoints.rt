@@ -3,6 +3,7 @@ ghost use Rattle.std.specs.Prelude.{◌≡◌, ℕ, ◌+◌, ◌*◌, ◌%◌, �
 ghost use Rattle.std.specs.List.{list_all, insert};
 ghost use Rattle.std.specs.List.Sorted.{IsPartitionPoint};
 ghost use Rattle.jh_vpci.specs.Space.{Space};
+ghost use Rattle.jh_vpci.specs.Windows.{window_size};
 ghost use Rattle.jh_ivshmem.specs.Specs.{IsInItsLimits, AreEndpointsApart, is_device, is_concerned, slot_of};
 ghost use Rattle.jh_ivshmem.specs.Registers.{register_of};
 ghost use Rattle.jh_ivshmem.specs.Changes.{changed};
@@ -349,7 +350,7 @@ impl Endpoints {
         requires there { IsSome (endpoint_at cell device self.now.list) }
         requires bar { bar < 2 }
         requires aligned { at % 4 ≡ 0 }
-        requires within { at < (if bar == 0 then 4096 else 512) }
+        requires within { at < window_size bar }
         ensures { ForEndpoint cell device self.now.list (λ e. result ≡ register_of e bar at) }
     {
         self.named(cell, device).register(bar, at)
@@ -361,7 +362,7 @@ impl Endpoints {
         requires there { IsSome (endpoint_at cell device self.old.list) }
         requires bar { bar < 2 }
         requires aligned { at % 4 ≡ 0 }
-        requires within { at < (if bar == 0 then 4096 else 512) }
+        requires within { at < window_size bar }
         ensures list { ForEndpoint cell device self.old.list (λ e. self.new.list ≡ written e bar at value self.old.list) }
         ensures others { ForEndpoint cell device self.old.list (λ e. besides (is_concerned e.spec) self.new.list ≡ besides (is_concerned e.spec) self.old.list) }
         ensures slot { ForEndpoint cell device self.old.list (λ e. result ≡ slot_written e bar at value) }
