@@ -22,7 +22,7 @@ use crate::overview::{cell_at, map_of};
 use crate::state::{any_cpu_due, find_create, next_entry};
 use crate::steps::make;
 use crate::turn::{Turn, TurnFault};
-use jh_cellcfg::CellConfig;
+use jh_cellcfg::{CellConfig, MAX_CPUS};
 use jh_cpu::Cpu;
 use jh_history::{
     DeviceChange, Entry, Journal, Reach, devices_may_change, legal_journals_are_sound,
@@ -129,7 +129,7 @@ fn held_at_opening(alloc: Global, image: &Image) -> Result<Held, NoMemory>
     let cells = LiveCells::new(alloc, &image.system)?;
     Ok(Held {
         memory,
-        cpus: [Cpu::new(image.system.root.id); 16],
+        cpus: [Cpu::new(image.system.root.id); MAX_CPUS],
         cells,
         programs: opening_programs(image),
         endpoints,

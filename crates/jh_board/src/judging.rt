@@ -10,7 +10,8 @@ ghost use Rattle.jh_board.specs.Means.{Means};
 
 use crate::held::Held;
 use crate::indexed::IndexedImage;
-use jh_check::{MOST_CELLS, with_bit};
+use jh_cellcfg::MAX_CPUS;
+use jh_check::{MAX_CELLS, with_bit};
 use jh_cpu::Cpu;
 use jh_history::{BoxedCell, Creation, unless_refused};
 use jh_num::{NoMemory, has_bit};
@@ -23,12 +24,12 @@ fn is_of_root(image: &IndexedImage, state: Cpu, cpu: u8) -> bool
 }
 
 /// The CPUs on the board that are root's.
-fn cpus_of_root(image: &IndexedImage, cpus: &[Cpu; 16]) -> u16
+fn cpus_of_root(image: &IndexedImage, cpus: &[Cpu; MAX_CPUS]) -> u16
     ensures { (f : Facts) → ((i : ℕ) → i < 16 → slice_get cpus.now i ≡ Some (f.cpu i)) → (cpu : ℕ) → has_bit result cpu ≡ (is_on_board image.now cpu && ((f.cpu cpu).owner == image.now.system.root.id)) }
 {
     image.has_few_cpus();
     let mut owned = 0;
-    for cpu in 0..16u8 {
+    for cpu in 0..MAX_CPUS as u8 {
         let index = usize::from(cpu);
         owned = with_bit(owned, index, is_of_root(image, cpus[index], cpu));
     }
@@ -39,7 +40,7 @@ fn cpus_of_root(image: &IndexedImage, cpus: &[Cpu; 16]) -> u16
 fn has_another(owned: u16, caller: u8) -> bool
     ensures { result ≡ false → (cpu : ℕ) → has_bit owned cpu ≡ true → cpu ≡ caller }
 {
-    for cpu in 0..16u8 {
+    for cpu in 0..MAX_CPUS as u8 {
         if has_bit(u32::from(owned), usize::from(cpu)) && cpu != caller {
             return true;
         }
@@ -60,7 +61,7 @@ pub fn judge(
     let owned = cpus_of_root(image, &held.cpus);
     let cells = held.cells.cells();
     // Fifteen cells and the caller have a CPU each, so none is left to be given away.
-    if cells.list().len() == MOST_CELLS && has_another(owned, caller) {
+    if cells.list().len() == MAX_CELLS && has_another(owned, caller) {
         return Err(NoMemory);
     }
     let refusal = cells.verdict(

@@ -34,7 +34,7 @@ use crate::indexed::{IndexedImage, ProgramIndex};
 use crate::memory::Memory;
 use crate::state::{JudgedCreate, creation_by};
 use jh_call::Call;
-use jh_cellcfg::CellConfig;
+use jh_cellcfg::{CellConfig, MAX_CPUS};
 use jh_cpu::Cpu;
 use jh_history::{
     Act, BoxedCell, Called, Creation, DeviceChange, Entry, Known, OpenCall, PageWrite, Reach,
@@ -340,9 +340,9 @@ fn is_commit(act: &Act) -> bool
 fn renew_programs(
     image: &IndexedImage,
     cells: &LiveCells,
-    cpus: &[Cpu; 16],
+    cpus: &[Cpu; MAX_CPUS],
     act: &Act,
-    programs: &mut [ProgramIndex; 16],
+    programs: &mut [ProgramIndex; MAX_CPUS],
 )
     ensures { (call : Option TheOpenCall) (lives : List TheLive) → AreProgramIndices image.now lives programs.old → cells.now.lives ≡ cells_by call lives act.now → AreProgramIndices image.now cells.now.lives programs.new }
 {

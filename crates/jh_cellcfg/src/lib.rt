@@ -16,7 +16,7 @@ mod region;
 mod write;
 mod writer;
 
-pub use config::{CellConfig, Console, Irqchip, PciDevice, SystemConfig};
+pub use config::{CellConfig, Console, Irqchip, MAX_CPUS, PciDevice, SystemConfig};
 pub use fault::{ConfigFault, Part};
 pub use flags::{CellFlags, RegionFlags};
 pub use header::{Counts, Header, REVISION};

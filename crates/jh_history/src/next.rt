@@ -20,6 +20,7 @@ use crate::entry::{Act, Entry};
 use crate::hypercalls::hvc_act;
 use crate::known::Known;
 use crate::phases::{is_phase_due, phase_act};
+use jh_cellcfg::MAX_CPUS;
 use jh_cpu::Cpu;
 use jh_num::NoMemory;
 use jh_script::Op;
@@ -296,7 +297,7 @@ fn is_other_due<K: Known>(known: &K, caller: u8, cpu: u8) -> bool
 fn any_other_due<K: Known>(known: &K, caller: u8) -> bool
     ensures { (i : TheImage) (f : Facts) → K.Knows known.now i f → result ≡ any_below (is_other_due i f caller) 16 }
 {
-    for cpu in 0..16u8 {
+    for cpu in 0..MAX_CPUS as u8 {
         if is_other_due(known, caller, cpu) {
             return true;
         }
@@ -397,8 +398,8 @@ pub fn any_due<K: Known>(known: &K, first: u8) -> Option<u8>
     ensures due { (i : TheImage) (f : Facts) → K.Knows known.now i f → IfSome result (λ cpu. IsSome (due_at i f cpu)) }
     ensures quiet { (i : TheImage) (f : Facts) → K.Knows known.now i f → ((cpu : ℕ) → IsTrue (is_cpu_set i.system.root.cpu_set cpu) → cpu < 16) → IsTrue (is_none result) ↔ ((cpu : ℕ) → due_at i f cpu ≡ None) }
 {
-    for k in 0..16u8 {
-        let cpu = (first + k) % 16;
+    for k in 0..MAX_CPUS as u8 {
+        let cpu = (first + k) % MAX_CPUS as u8;
         if is_due(known, cpu) {
             return Some(cpu);
         }

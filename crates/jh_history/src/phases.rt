@@ -23,7 +23,7 @@ use crate::next::is_idle_but;
 use crate::page_words::{REPLY_AT, STATE_AT};
 use crate::place::{Place, Places, Row};
 use jh_call::Call;
-use jh_cellcfg::CellConfig;
+use jh_cellcfg::{CellConfig, MAX_CPUS};
 use jh_comm::{REPLY_RECEIVED, REPLY_REQUEST_APPROVED, STATE_FAILED, STATE_SHUT_DOWN};
 use jh_num::NoMemory;
 use jh_num::error::{EINVAL, ENOENT, EPERM};
@@ -85,7 +85,7 @@ fn keeps_decide<K: Known>(known: &K, caller: u8, cpu: u8) -> bool
 fn any_keeps_decide<K: Known>(known: &K, caller: u8) -> bool
     ensures { (i : TheImage) (f : Facts) → K.Knows known.now i f → result ≡ any_below (λ k. keeps_decide i caller k (f.cpu k)) 16 }
 {
-    for cpu in 0..16u8 {
+    for cpu in 0..MAX_CPUS as u8 {
         if keeps_decide(known, caller, cpu) {
             return true;
         }
@@ -109,7 +109,7 @@ fn keeps_commit<K: Known>(known: &K, call: &Call, cpu: u8) -> bool
 fn any_keeps_commit<K: Known>(known: &K, call: &Call) -> bool
     ensures { (i : TheImage) (f : Facts) → K.Knows known.now i f → result ≡ any_below (λ k. keeps_commit i call.now k (f.cpu k)) 16 }
 {
-    for cpu in 0..16u8 {
+    for cpu in 0..MAX_CPUS as u8 {
         if keeps_commit(known, call, cpu) {
             return true;
         }

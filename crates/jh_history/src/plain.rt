@@ -48,7 +48,7 @@ use crate::reading::read_config;
 use crate::sound::legal_journals_are_sound;
 use crate::written::{WrittenByte, write_page_if, write_places, write_slot, write_slot_if};
 use jh_call::Call;
-use jh_cellcfg::CellConfig;
+use jh_cellcfg::{CellConfig, MAX_CPUS};
 use jh_check::sound_bitmaps_name_few_cpus;
 use jh_cpu::Cpu;
 use jh_ivshmem::Endpoints;
@@ -64,7 +64,7 @@ use std::mem;
 pub(crate) struct Plain<'a> {
     pub(crate) alloc: Global,
     pub(crate) image: &'a Image,
-    pub(crate) cpus: [Cpu; 16],
+    pub(crate) cpus: [Cpu; MAX_CPUS],
     pub(crate) cells: PlainCells,
     pub(crate) endpoints: Endpoints,
     pub(crate) call: Option<OpenCall>,
@@ -192,7 +192,7 @@ impl<'a> Plain<'a> {
         Ok(Plain {
             alloc,
             image,
-            cpus: [Cpu::new(image.system.root.id); 16],
+            cpus: [Cpu::new(image.system.root.id); MAX_CPUS],
             cells: PlainCells::new(alloc),
             endpoints,
             call: None,

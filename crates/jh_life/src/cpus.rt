@@ -3,6 +3,7 @@ ghost use Rattle.std.specs.Prelude.{◌≡◌, ◌<◌, ℕ};
 ghost use Rattle.jh_num.specs.Bits.{has_bit};
 ghost use Rattle.jh_life.specs.Verdict.{may_have};
 
+use jh_cellcfg::MAX_CPUS;
 use jh_check::with_bit;
 use jh_num::has_bit;
 
@@ -19,7 +20,7 @@ pub(crate) fn free_cpus(owned: u16, caller: u8) -> u16
     ensures { (cpu : ℕ) → has_bit result cpu ≡ may_have owned caller cpu }
 {
     let mut free = 0;
-    for cpu in 0..16 {
+    for cpu in 0..MAX_CPUS {
         free = with_bit(free, cpu, is_free(owned, caller, cpu));
     }
     free

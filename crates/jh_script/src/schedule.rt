@@ -6,6 +6,7 @@ ghost use Rattle.jh_script.specs.Numbers.{decimal_of};
 use crate::fault::{MAX_ITEMS, ScheduleFault};
 use crate::number::decimal;
 use crate::words::next_word;
+use jh_cellcfg::MAX_CPUS;
 use jh_num::Seq;
 use std::alloc::Global;
 
@@ -58,7 +59,7 @@ fn cpu(word: &[u8], cpus: u16) -> Option<u8>
     ensures present { IfSome result (IsPresent cpus) }
 {
     let n = decimal(word)?;
-    if n < 16 && (cpus >> n) & 1 == 1 {
+    if n < MAX_CPUS as u64 && (cpus >> n) & 1 == 1 {
         Some(n as u8)
     } else {
         None

@@ -39,15 +39,15 @@ told_full c =
     ∙ refused_same now.system (configs_of now.lives) new nobody (may_have c.args.owned c.args.caller) pages pages c.args.pool
     (λ cpu. may_none c.args.owned c.args.caller cpu (c.requires full cpu)) refl
 
-pub returns-then-live-eq-MOST_CELLS-clause-value : goal.returns-then-live-eq-MOST_CELLS-clause-value
-returns-then-live-eq-MOST_CELLS-clause-value c = rw c.if-locked.false (told_full c)
+pub returns-then-live-eq-MAX_CELLS-clause-value : goal.returns-then-live-eq-MAX_CELLS-clause-value
+returns-then-live-eq-MAX_CELLS-clause-value c = rw c.if-locked.false (told_full c)
 
-pub returns-then-live-eq-MOST_CELLS-clause-unknown : goal.returns-then-live-eq-MOST_CELLS-clause-unknown
-returns-then-live-eq-MOST_CELLS-clause-unknown c =
+pub returns-then-live-eq-MAX_CELLS-clause-unknown : goal.returns-then-live-eq-MAX_CELLS-clause-unknown
+returns-then-live-eq-MAX_CELLS-clause-unknown c =
     accepted_unknown c.refusal_without_cpus.result c.args.self.now.system (configs_of c.args.self.now.lives) c.args.new.now (may_have c.args.owned c.args.caller) (pages_with c.args.self.now c.args.new.now) c.args.pool (told_full c)
 
-pub returns-then-live-eq-MOST_CELLS-clause-room : goal.returns-then-live-eq-MOST_CELLS-clause-room
-returns-then-live-eq-MOST_CELLS-clause-room c = if_none_some c.refusal_without_cpus.result (length c.args.self.now.lives < 15) c.refusal_without_cpus.ensures.some
+pub returns-then-live-eq-MAX_CELLS-clause-room : goal.returns-then-live-eq-MAX_CELLS-clause-room
+returns-then-live-eq-MAX_CELLS-clause-room c = if_none_some c.refusal_without_cpus.result (length c.args.self.now.lives < 15) c.refusal_without_cpus.ensures.some
 
 -- beside fewer: what is refused before the pages
 pub returns-in-Some-clause-value : goal.returns-in-Some-clause-value
