@@ -2,6 +2,7 @@
 ghost use Rattle.std.specs.Prelude.{◌≡◌, ◌++◌, IfOk, OnOk};
 ghost use Rattle.jh_cellcfg.specs.Spelling.{counts_of, header_of, parts_bytes, body_bytes, spelling};
 ghost use Rattle.jh_cellcfg.specs.Limits.{AreWithinLimits, IsWithinLimits};
+ghost use Rattle.jh_cellcfg.specs.Widths.{AreCounts};
 
 use crate::config::CellConfig;
 use crate::header::{Counts, Header, REVISION, SIGNATURE};
@@ -34,7 +35,7 @@ impl Header {
 impl Counts {
     /// The lengths of a configuration's parts.
     pub fn of(config: &CellConfig) -> Counts
-        requires { AreWithinLimits (counts_of config.now) }
+        requires { AreCounts (counts_of config.now) }
         ensures { result ≡ counts_of config.now }
     {
         Counts {
