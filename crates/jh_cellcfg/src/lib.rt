@@ -27,8 +27,8 @@ pub use laws::{
 };
 pub use limits::{
     MAX_CACHE_REGIONS, MAX_CONFIG_SIZE, MAX_CPU_SET_BYTES, MAX_IRQCHIPS, MAX_MEMORY_REGIONS,
-    MAX_PCI_CAPS, MAX_PCI_DEVICES, MAX_PIO_REGIONS, MAX_STREAM_IDS, are_printable, are_zero, fits,
-    is_name,
+    MAX_PCI_CAPS, MAX_PCI_DEVICES, MAX_PIO_REGIONS, MAX_STREAM_IDS, are_printable, are_zero,
+    is_name, is_within_limits,
 };
 pub use live::Live;
 pub use read::{cell_size, check_start, read_body, read_cell};

@@ -143,7 +143,7 @@ impl Header {
 }
 
 /// Whether the configuration is within the limits, so that it can be written.
-pub fn fits(config: &CellConfig) -> bool
+pub fn is_within_limits(config: &CellConfig) -> bool
     ensures { IsTrue result ↔ IsWithinLimits config.now }
 {
     is_name(&config.name)

@@ -74,7 +74,7 @@ fn write_parts(config: &CellConfig, out: Writer) -> Result<Writer, NoMemory>
     write_list(&config.stream_ids, out)
 }
 
-/// The one spelling of a configuration that [`fits`](crate::fits).
+/// The one spelling of a configuration that [is within the limits](crate::is_within_limits).
 pub fn write_cell(alloc: Global, config: &CellConfig) -> Result<Vec<u8>, NoMemory>
     requires { IsWithinLimits config.now }
     ensures { IfOk result (λ bytes. bytes.items ≡ spelling config.now) }
