@@ -3,7 +3,7 @@ use Rattle.std.specs.List.{list_any}
 use Rattle.std.proofs.lemmas.List.{drop-replicate}
 use Rattle.jh_cellcfg.specs.Limits.{is_zero}
 use Rattle.jh_spec.proofs.PaddedNames.{name_good, name_bad}
-use Rattle.jh_spec.proofs.name.name_of.Goals as goal
+use Rattle.jh_spec.proofs.name.padded_name.Goals as goal
 
 pub returns-then-is_name-clause-told : goal.returns-then-is_name-clause-told
 returns-then-is_name-clause-told c =
