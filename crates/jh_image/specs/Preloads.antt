@@ -1,4 +1,4 @@
--- What is asked of a preload behind those that stand before it.
+-- What is asked of a preload by itself and beside those that stand before it.
 use Rattle.std.specs.Prelude.{All, List}
 use Rattle.jh_cellcfg.specs.declared.region.Region.{Region}
 use Rattle.jh_script.specs.declared.image.Preload.{Preload}
