@@ -4,7 +4,7 @@ use Rattle.jh_num.specs.declared.address.TheConstants.{ADDRESS_END}
 use Rattle.jh_num.proofs.Public.{list_any_agree, list_any_nothing}
 use Rattle.jh_cellcfg.specs.declared.region.Region.{Region}
 use Rattle.jh_cellcfg.specs.Regions.{phys_end}
-use Rattle.jh_shape.specs.Marks.{is_place_beyond}
+use Rattle.jh_shape.specs.Private.Marks.{is_place_beyond}
 use Rattle.jh_num.specs.Levels.{slot_size}
 use Rattle.jh_shape.proofs.LawLemmas.{size_some}
 use Rattle.jh_shape.proofs.MarkLemmas.{place_fits, past_by_end, past_no_end}
