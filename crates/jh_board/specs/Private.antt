@@ -5,5 +5,6 @@ pub mod IsIndexed
 pub mod Judged
 pub mod KeptCells
 pub mod LiveView
+pub mod Pages
 pub mod StateView
 pub mod Steps

@@ -39,7 +39,8 @@ use Rattle.jh_board.specs.declared.held.Held.{Held}
 use Rattle.jh_board.specs.Private.Closed.{AreInRange}
 use Rattle.jh_board.specs.Private.LiveView.{LiveView}
 use Rattle.jh_board.specs.Means.{Means, HoldsWords, IsReady, IsReadyFor}
-use Rattle.jh_board.specs.Pages.{MemoryView, MayHold, HoldsPlace, HoldsSlot}
+use Rattle.jh_board.specs.Pages.{MemoryView, HoldsPlace, HoldsSlot}
+use Rattle.jh_board.specs.Private.Pages.{MayHold}
 
 -- the act is a Decide that goes on
 abbrev pub decides_to_go_on : Act → Bool
