@@ -1,6 +1,5 @@
 pub mod Count
 pub mod Trail
-pub mod TrailLaws
 pub mod Reads
 pub mod Refused
 pub mod Writes

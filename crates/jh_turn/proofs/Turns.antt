@@ -4,7 +4,7 @@ use mathlib.Core.List.{IsPrefix}
 use Rattle.jh_turn.specs.Histories.{entries_of, Grows, IsTurn}
 use Rattle.jh_turn.specs.Hands.{seen_of}
 use Rattle.jh_turn.specs.Rule.{Slot, Seated, Claimed}
-use Rattle.jh_turn.proofs.Prefixes.{entries-append, entries_made, foreign_rest, grown_by, grows_on, prefix_trans}
+use Rattle.jh_turn.proofs.Prefixes.{entries_append, entries_made, foreign_rest, grown_by, grows_on, prefix_trans}
 use Rattle.jh_turn.proofs.Keeps.{first_slot}
 
 module _ {E O A : Type 0} (whose : E → ℕ) (answers : O → ℕ → List E → List E → A → Type 0) where
@@ -17,7 +17,7 @@ module _ {E O A : Type 0} (whose : E → ℕ) (answers : O → ℕ → List E �
     one_at_most = g.1;
     after = g.2 ∙ ap (λ l. l ++ g.0) (sym start.1);
     answered = subst (λ (z : O × List E). answers z.0 who z.1 after answer) (λ i. (same i, sym start.1 i)) told;
-    own = ap (entries_of whose who) g.2 ∙ (entries-append whose who before g.0 ∙ ap₂ (λ x y. x ++ y) own (entries_made whose who g.0 g.1));
+    own = ap (entries_of whose who) g.2 ∙ (entries_append whose who before g.0 ∙ ap₂ (λ x y. x ++ y) own (entries_made whose who g.0 g.1));
   }
 
 -- two names of what one slot has
