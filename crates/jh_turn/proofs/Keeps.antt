@@ -12,9 +12,9 @@ use Rattle.atomic_table.proofs.Lists.{set_here, set_again}
 use Rattle.jh_turn.specs.declared.rule.Hand.{Hand}
 use Rattle.jh_turn.specs.declared.rule.View.{View}
 use Rattle.jh_turn.specs.declared.rule.Opening.{Opening}
-use Rattle.jh_turn.specs.Hands.{hand, caller_of, seen_of}
+use Rattle.jh_turn.specs.Hands.{caller_of, seen_of}
 use Rattle.jh_turn.specs.Histories.{entries_of, Grows}
-use Rattle.jh_turn.specs.Rule.{free, Slot, Seated, view, HandFits, Fits, IsFree, IsHeld, Kept, claims, notes, releases}
+use Rattle.jh_turn.specs.Private.Rule.{free, Slot, Seated, hand, view, HandFits, Fits, IsFree, IsHeld, Kept, Claims, Notes, Releases}
 use Rattle.jh_turn.proofs.Prefixes.{prefix_self, prefix_trans, others_stay, grows_on}
 use Rattle.jh_turn.proofs.Seats.{inside, seats_stay, one_there, contains_one}
 
@@ -84,7 +84,7 @@ module _ {T E O : Type 0} (whose : E → ℕ) (origin : T → O) (serves : O →
         }
 
     pub claim_keeps : (n id who : ℕ) (me : M) (seen : List E) → me.0.hands ≡ hand who seen ∷ [] → who < free
-        → Allows Rule n id me 0 (λ x. either (eqb x free) who x) (claims whose origin serves history (step n 0 free who maybe.none) me)
+        → Allows Rule n id me 0 (λ x. either (eqb x free) who x) (Claims whose origin serves history (step n 0 free who maybe.none) me)
     claim_keeps n id who me seen is small s r wide at little = ⊎_elim
         (λ f. let fits = hand_fits s r id me.0 who seen at is in let found : get_or s.words 0 0 ≡ free = ap (λ (ws : List ℕ). get_or ws 0 0) f.words in let front : seen_of me.0.hands ≡ seen = ap seen_of is in (
           view me.0.opened (hand who (history f.value.value) ∷ []) true,
@@ -167,7 +167,7 @@ module _ {T E O : Type 0} (whose : E → ℕ) (origin : T → O) (serves : O →
         }
 
     pub note_keeps : (n id who k : ℕ) (me : M) (seen : List E) (value : Box T Global) → me.0.hands ≡ hand who seen ∷ [] → me.0.holding ≡ true → me.1 ≡ (0, Some value) ∷ [] → Grows whose who seen (history value.value)
-        → k ≡ length (history value.value) → Allows Rule n id me 1 (λ _. k) (λ _ m. notes history me m)
+        → k ≡ length (history value.value) → Allows Rule n id me 1 (λ _. k) (λ _ m. Notes history me m)
     note_keeps n id who k me seen value is holds in_hand grew long s r wide at little = (
       view me.0.opened (hand who (history value.value) ∷ []) true,
       keeps,
@@ -178,7 +178,7 @@ module _ {T E O : Type 0} (whose : E → ℕ) (origin : T → O) (serves : O →
     )
 
     pub release_keeps : (n id who : ℕ) (me : M) (value : Box T Global) (opened : T) → me.0.hands ≡ hand who (history value.value) ∷ [] → me.0.holding ≡ true → me.1 ≡ (0, Some value) ∷ [] → me.0.opened ≡ Some opened → origin value.value ≡ origin opened
-        → Allows Rule n id me 0 (λ _. free) (λ _ m. releases me m)
+        → Allows Rule n id me 0 (λ _. free) (λ _ m. Releases me m)
     release_keeps n id who me value opened is holds in_hand from same_origin s r wide at little =
         let w : V = view me.0.opened me.0.hands false in (
           w,

@@ -3,7 +3,7 @@ use Rattle.std.proofs.Common.{◌≡◌, ℕ, List, [], ◌∷◌, ◌++◌, Som
 use mathlib.Core.List.{IsPrefix}
 use Rattle.jh_turn.specs.Histories.{entries_of, Grows, IsTurn}
 use Rattle.jh_turn.specs.Hands.{seen_of}
-use Rattle.jh_turn.specs.Rule.{Slot, Seated, Claimed}
+use Rattle.jh_turn.specs.Private.Rule.{Slot, Seated, Claimed}
 use Rattle.jh_turn.proofs.Prefixes.{entries_append, entries_made, foreign_rest, grown_by, grows_on, prefix_trans}
 use Rattle.jh_turn.proofs.Keeps.{first_slot}
 

@@ -2,9 +2,9 @@
 use Rattle.std.specs.Prelude.{◌≡◌, ℕ, true, false, List, [], ◌∷◌, Some, None}
 use Rattle.atomic_table.specs.declared.shared.Seat.{Seat}
 use Rattle.jh_turn.specs.declared.rule.View.{View}
-use Rattle.jh_turn.specs.Hands.{hand, seen_of}
+use Rattle.jh_turn.specs.Hands.{seen_of}
 use Rattle.jh_turn.specs.Histories.{Grows}
-use Rattle.jh_turn.specs.Rule.{Slot, Seated, view}
+use Rattle.jh_turn.specs.Private.Rule.{Slot, Seated, hand, view}
 
 module _ {T E : Type 0} where
   -- the seat is the same after as before: it has the same table and the same number
