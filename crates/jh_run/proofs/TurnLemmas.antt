@@ -56,7 +56,7 @@ done_tells origin cpu before after h = let P : List Entry → Type 0 = IsQuiet o
 pub refused_tells : (origin : Origin) (cpu : ℕ) (before after : List Entry) (fault : TurnFault) → IsTurnAnswer origin cpu before after (Err fault) → ExplainsEnd origin (Refused fault) after
 refused_tells origin cpu before after Full h =
     let P : List Entry → Type 0 = λ es. ExplainsEnd origin (Refused Full) es in
-    subst P (sym h.2) (h.0, h.1)
+    subst P (sym h.1) h.0
 refused_tells origin cpu before after NoMemory h = tt
 
 pub turn_tells : (origin : Origin) (cpu : ℕ) (before after : List Entry) (answer : Result Turn TurnFault) → IsTurnAnswer origin cpu before after answer → IfSome (drive_end_after answer) (λ end. ExplainsEnd origin end after)

@@ -7,6 +7,7 @@ use Rattle.jh_script.specs.declared.image.Image.{Image}
 use Rattle.jh_history.specs.declared.entry.Entry.{Entry}
 use Rattle.jh_history.specs.Due.{IsLegal, IsQuiet}
 use Rattle.jh_board.specs.BoardView.{BoardView}
+use Rattle.jh_run.specs.Ends.{IsFullAndBusy}
 use Rattle.jh_run.specs.Origins.{Origin}
 use Rattle.jh_run.specs.Plays.{IsBoardOf}
 use Rattle.jh_run.proofs.TurnLemmas.{board_origin}
@@ -58,7 +59,7 @@ abbrev pub QuietExactly : Ended → Image → List Entry → Type 0
 QuietExactly ended image entries = (ended ≡ EndedQuiet) ↔ IsQuiet image entries
 
 abbrev pub FullExactly : Ended → Image → ℕ → List Entry → Type 0
-FullExactly ended image limit entries = (ended ≡ EndedFull) ↔ ((length entries ≡ limit) × ¬ IsQuiet image entries)
+FullExactly ended image limit entries = (ended ≡ EndedFull) ↔ IsFullAndBusy image limit entries
 
 pub quiet_exactly : (origin : Origin) (ended : Ended) (entries : List Entry) → ExplainsEnd origin (drive_end_of ended) entries → QuietExactly ended origin.image entries
 quiet_exactly origin EndedQuiet entries quiet = (λ e. quiet, λ h. refl)

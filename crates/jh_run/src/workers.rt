@@ -28,7 +28,7 @@ pub struct Driven {
 }
 
 /// The callers of the ports.
-fn callers_of(alloc: Global, ports: &[Port<Running>]) -> Result<Vec<u8>, NoMemory>
+fn callers_of_ports(alloc: Global, ports: &[Port<Running>]) -> Result<Vec<u8>, NoMemory>
     ensures { IfOk result (λ callers. callers.items ≡ map port_caller ports.now) }
 {
     let mut callers = Vec::new(alloc);
@@ -226,7 +226,7 @@ fn drive_at<H: Home + Send + Sync, R: Threads + Wait + Sync, G: Gate + Sync>(
     ensures same { IfOk result (λ driven. IsSameSet shared.now ports.items driven.ports.items) }
     ensures shows { IfOk result (λ driven. SomeShows (origin_of (opened_value shared.now)) (drive_end driven.refused) driven.ports.items) }
 {
-    let callers = callers_of(alloc, ports.as_slice())?;
+    let callers = callers_of_ports(alloc, ports.as_slice())?;
     let mut back = Vec::with_capacity(alloc, ports.len())?;
     let own = Vec::with_capacity(alloc, ports.len())?;
     let posts: Posts<H> = Posts::new(alloc)?;
