@@ -24,8 +24,8 @@ abbrev pub Serves : Origin → ℕ → Type 0
 Serves origin cpu = IsTrue (is_on_board origin.image cpu)
 
 -- the entries of the running board
-abbrev pub entries_of : Running → List Entry
-entries_of running = running.board.entries
+abbrev pub journal_of : Running → List Entry
+journal_of running = running.board.entries
 
 -- at these entries a turn of the CPU may answer so, and leave those; no turn edits tables
 abbrev pub IsTurnAnswer : Origin → ℕ → List Entry → List Entry → Result Turn TurnFault → Type 0

@@ -4,7 +4,7 @@ ghost use Rattle.jh_history.specs.Admitted.{IsAdmitted};
 ghost use Rattle.jh_history.specs.Due.{IsLegal, IsQuiet};
 ghost use Rattle.jh_history.specs.Lives.{is_on_board};
 ghost use Rattle.jh_turn.specs.Ports.{AreAllPorts, opened_value};
-ghost use Rattle.jh_run.specs.Drives.{SomeShows, drive_end, drive_end_of};
+ghost use Rattle.jh_run.specs.Drives.{SomeShows, refusal_of};
 ghost use Rattle.jh_run.specs.Ends.{IsFullAndBusy};
 ghost use Rattle.jh_run.specs.Plays.{IsBoardOf};
 ghost use Rattle.jh_run.specs.Running.{origin_of};
@@ -63,7 +63,7 @@ fn open_run(
 
 /// How a run ended in which a turn was refused for this, if one was.
 fn ended_by(refused: Option<TurnFault>) -> Result<Ended, NoMemory>
-    ensures { IfOk result (λ ended. drive_end refused ≡ drive_end_of ended) }
+    ensures { IfOk result (λ ended. refused ≡ refusal_of ended) }
 {
     match refused {
         None => Ok(Ended::Quiet),
@@ -76,7 +76,7 @@ fn ended_by(refused: Option<TurnFault>) -> Result<Ended, NoMemory>
 /// tells it, and nothing came behind that.
 fn end_run(shared: Shared<Running>, driven: Driven) -> Result<(Board, Ended), NoMemory>
     requires ports { AreAllPorts shared driven.ports.items }
-    requires shows { SomeShows (origin_of (opened_value shared)) (drive_end driven.refused) driven.ports.items }
+    requires shows { SomeShows (origin_of (opened_value shared)) driven.refused driven.ports.items }
     ensures board { IfOk result (λ r. IsBoardOf (origin_of (opened_value shared)).image (origin_of (opened_value shared)).limit r.0) }
     ensures legal { IfOk result (λ r. IsLegal (origin_of (opened_value shared)).image r.0.entries) }
     ensures quiet { IfOk result (λ r. (r.1 ≡ Ended.Quiet) ↔ IsQuiet (origin_of (opened_value shared)).image r.0.entries) }
