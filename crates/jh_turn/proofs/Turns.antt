@@ -21,11 +21,11 @@ module _ {E O A : Type 0} (whose : E → ℕ) (answers : O → ℕ → List E �
   }
 
 -- two names of what one slot has
-pub one_value : {T : Type 0} (hand : List (ℕ × Slot T)) (a b : Box T Global) → hand ≡ (0, Some a) ∷ [] → hand ≡ (0, Some b) ∷ [] → a ≡ b
-one_value hand a b e f = let slot : Some a ≡ Some b = ap first_slot (sym e ∙ f) in cc slot
+pub one_value : {T : Type 0} (slots : List (ℕ × Slot T)) (a b : Box T Global) → slots ≡ (0, Some a) ∷ [] → slots ≡ (0, Some b) ∷ [] → a ≡ b
+one_value slots a b e f = let slot : Some a ≡ Some b = ap first_slot (sym e ∙ f) in cc slot
 
 module _ {T E O A : Type 0} (whose : E → ℕ) (origin : T → O) (serves : O → ℕ → Type 0) (history : T → List E) (answers : O → ℕ → List E → List E → A → Type 0) where
-  -- from a claim of the turn and a turn of the value in hand
+  -- from a claim of the turn and a turn of the value in the slot
   pub told : (who : ℕ) (me claimed : Seated T E) (k : Claimed whose origin serves history who me claimed) (opened before after : T) (answer : A) → me.0.opened ≡ Some opened → before ≡ k.value.value
       → Grows whose who (history before) (history after) → answers (origin before) who (history before) (history after) answer → IsTurn whose (answers (origin opened) who) who (seen_of me.0.hands) answer (history after)
   told who me claimed k opened before after answer from is grew says = turned whose answers who (seen_of me.0.hands) (history before) (history after) (origin before) (origin opened) answer

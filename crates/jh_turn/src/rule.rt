@@ -47,7 +47,7 @@ impl<T: Turner> Play<Option<Box<T>>, View<T, T::Entry>> for Claim {
     ghost then = { Claims T.whose T.origin T.serves T.history };
 }
 
-/// Word 1 becomes the length of the history of the value in hand.
+/// Word 1 becomes the length of the history of the value in the slot that the seat has.
 pub struct Note;
 
 impl<T: Turner> Play<Option<Box<T>>, View<T, T::Entry>> for Note {

@@ -20,7 +20,7 @@ free = 256
 abbrev pub Slot : Type 0 → Type 0
 Slot T = Option (Box T Global)
 
--- what a seat knows, and what it has in hand
+-- what a seat knows, and the slots that it has
 abbrev pub Seated : Type 0 → Type 0 → Type 0
 Seated T E = Me (Slot T) (View T E)
 
@@ -66,11 +66,11 @@ module _ {T E : Type 0} where
     pub holds_it : holder.holding ≡ true
     pub one_holds : (j : ℕ) (v : View T E) → get_elem? s.views j ≡ maybe.some v → v.holding ≡ true → j ≡ seat
 
-  -- the seat has this value in hand, out of the slot, and nothing else
-  abbrev pub HasInHand : Seated T E → Box T Global → Type 0
-  HasInHand me value = me.1 ≡ (0, Some value) ∷ []
+  -- the seat has the slot, with this value in it
+  abbrev pub HasSlotWith : Seated T E → Box T Global → Type 0
+  HasSlotWith me value = me.1 ≡ (0, Some value) ∷ []
 
-  -- the seat gives the turn up, and the first thing that it had in hand
+  -- the seat gives the turn up, and the first slot that it had
   abbrev pub Releases : Seated T E → Seated T E → Type 0
   Releases before after = after ≡ (view before.0.opened before.0.hands false, rest before.1)
 
@@ -79,9 +79,9 @@ module _ {T E : Type 0} (history : T → List E) where
   abbrev pub opening_view : Opening T → View T E
   opening_view key = view (Some key.value.value) (map (λ who. hand who (history key.value.value)) key.callers.items) false
 
-  -- the seat has seen the whole history of the value that it has in hand, and still has that value in hand
+  -- where the seat has the slot with a value in it, it has seen the whole history of that value now, and still has the slot
   abbrev pub Notes : Seated T E → Seated T E → Type 0
-  Notes before after = (value : Box T Global) → HasInHand before value → after ≡ (holding_view before.0.opened (caller_of before.0.hands) (history value.value), before.1)
+  Notes before after = (value : Box T Global) → HasSlotWith before value → after ≡ (holding_view before.0.opened (caller_of before.0.hands) (history value.value), before.1)
 
 module _ {T E O : Type 0} (origin : T → O) (history : T → List E) where
   -- no seat holds the turn, and the value is at home
@@ -118,10 +118,10 @@ module _ {T E O : Type 0} (whose : E → ℕ) (origin : T → O) (serves : O →
     pub each_seat : (seat : ℕ) (v : View T E) → get_elem? s.views seat ≡ maybe.some v → Fits whose key.value.value key.callers.items log owner seat v
     pub lock : IsFree origin history key.value.value log s ⊎ IsHeld log s
 
-  -- the turn is the seat's, which has the value in hand and has seen its whole history
+  -- the turn is the seat's, which has the slot with the value in it, and has seen the value's whole history
   pub record Claimed (who : ℕ) (before after : Seated T E) : Type 0 where
     pub value : Box T Global
-    pub in_hand : after.1 ≡ (0, Some value) ∷ before.1
+    pub has_slot : after.1 ≡ (0, Some value) ∷ before.1
     pub knows : after.0 ≡ holding_view before.0.opened who (history value.value)
     pub seen : IsPrefix (seen_of before.0.hands) (history value.value)
     pub own : entries_of whose who (history value.value) ≡ entries_of whose who (seen_of before.0.hands)

@@ -11,7 +11,7 @@ module _ {T E : Type 0} where
   abbrev pub IsSameSeat : Seat (Slot T) (View T E) → Seat (Slot T) (View T E) → Type 0
   IsSameSeat before after = (after.table_id ≡ before.table_id) × (after.id ≡ before.id)
 
-  -- the seat is one caller's, waits for the turn, and has nothing in hand
+  -- the seat is one caller's, waits for the turn, and has no slot
   pub record IsWaiting (who : ℕ) (me : Seated T E) : Type 0 where
     pub one_hand : me.0.hands ≡ hand who (seen_of me.0.hands) ∷ []
     pub waits : me.0.holding ≡ false
