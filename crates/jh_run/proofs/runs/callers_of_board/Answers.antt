@@ -3,7 +3,7 @@ use Rattle.std.proofs.Common.{ℕ, List, refl}
 use Rattle.jh_history.specs.Items.{cpus_of}
 use Rattle.jh_check.specs.Clean.{IsSoundBitmap, IsSoundCpuSet}
 use Rattle.jh_run.proofs.CallerLemmas.{some_contained, differ_rising}
-use Rattle.jh_run.proofs.runs.callers_of.Goals as goal
+use Rattle.jh_run.proofs.runs.callers_of_board.Goals as goal
 
 pub returns-clause-some : goal.returns-clause-some
 returns-clause-some c =

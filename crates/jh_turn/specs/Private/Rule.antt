@@ -10,7 +10,7 @@ use Rattle.jh_turn.specs.declared.rule.Hand.{Hand}
 use Rattle.jh_turn.specs.declared.rule.View.{View}
 use Rattle.jh_turn.specs.declared.rule.Opening.{Opening}
 use Rattle.jh_turn.specs.Histories.{entries_of}
-use Rattle.jh_turn.specs.Hands.{hand, caller_of, seen_of}
+use Rattle.jh_turn.specs.Hands.{caller_of, seen_of}
 
 -- the number that word 0 has where no caller holds the turn: callers have lower ones
 abbrev pub free : ℕ
@@ -20,9 +20,13 @@ free = 256
 abbrev pub Slot : Type 0 → Type 0
 Slot T = Option (Box T Global)
 
--- what a seat knows, and what it has in hand
+-- what a seat knows, and the slots that it has
 abbrev pub Seated : Type 0 → Type 0 → Type 0
 Seated T E = Me (Slot T) (View T E)
+
+-- what a seat knows of a caller: its number, and the history that it has seen
+abbrev pub hand : {E : Type 0} → ℕ → List E → Hand E
+hand caller seen = record { caller = caller; seen = seen }
 
 module _ {T E : Type 0} where
   -- what a seat knows: the opened value, its hands, and whether it holds the turn
@@ -41,6 +45,10 @@ module _ {T E : Type 0} where
   abbrev pub together : View T E → View T E → View T E
   together v w = view v.opened (v.hands ++ w.hands) v.holding
 
+  -- what the seat knows that holds the turn for this caller, which has seen this history
+  abbrev pub holding_view : Option T → ℕ → List E → View T E
+  holding_view opened who log = view opened (hand who log ∷ []) true
+
   -- what a seat knows that has no hands any more
   abbrev pub spent_view : View T E
   spent_view = view None [] false
@@ -58,18 +66,22 @@ module _ {T E : Type 0} where
     pub holds_it : holder.holding ≡ true
     pub one_holds : (j : ℕ) (v : View T E) → get_elem? s.views j ≡ maybe.some v → v.holding ≡ true → j ≡ seat
 
-  -- the seat gives the turn up, and the first thing that it had in hand
-  abbrev pub releases : Seated T E → Seated T E → Type 0
-  releases before after = after ≡ (view before.0.opened before.0.hands false, rest before.1)
+  -- the seat has the slot, with this value in it
+  abbrev pub HasSlotWith : Seated T E → Box T Global → Type 0
+  HasSlotWith me value = me.1 ≡ (0, Some value) ∷ []
+
+  -- the seat gives the turn up, and the first slot that it had
+  abbrev pub Releases : Seated T E → Seated T E → Type 0
+  Releases before after = after ≡ (view before.0.opened before.0.hands false, rest before.1)
 
 module _ {T E : Type 0} (history : T → List E) where
   -- the first seat has every caller's hand, which has seen the opened history
   abbrev pub opening_view : Opening T → View T E
   opening_view key = view (Some key.value.value) (map (λ who. hand who (history key.value.value)) key.callers.items) false
 
-  -- what the seat has seen is the history of the value in hand
-  abbrev pub notes : Seated T E → Seated T E → Type 0
-  notes before after = (value : Box T Global) → before.1 ≡ (0, Some value) ∷ [] → after ≡ (view before.0.opened (hand (caller_of before.0.hands) (history value.value) ∷ []) true, before.1)
+  -- where the seat has the slot with a value in it, it has seen the whole history of that value now, and still has the slot
+  abbrev pub Notes : Seated T E → Seated T E → Type 0
+  Notes before after = (value : Box T Global) → HasSlotWith before value → after ≡ (holding_view before.0.opened (caller_of before.0.hands) (history value.value), before.1)
 
 module _ {T E O : Type 0} (origin : T → O) (history : T → List E) where
   -- no seat holds the turn, and the value is at home
@@ -106,16 +118,16 @@ module _ {T E O : Type 0} (whose : E → ℕ) (origin : T → O) (serves : O →
     pub each_seat : (seat : ℕ) (v : View T E) → get_elem? s.views seat ≡ maybe.some v → Fits whose key.value.value key.callers.items log owner seat v
     pub lock : IsFree origin history key.value.value log s ⊎ IsHeld log s
 
-  -- the turn is the seat's, which has the value in hand and has seen its whole history
+  -- the turn is the seat's, which has the slot with the value in it, and has seen the value's whole history
   pub record Claimed (who : ℕ) (before after : Seated T E) : Type 0 where
     pub value : Box T Global
-    pub in_hand : after.1 ≡ (0, Some value) ∷ before.1
-    pub knows : after.0 ≡ view before.0.opened (hand who (history value.value) ∷ []) true
+    pub has_slot : after.1 ≡ (0, Some value) ∷ before.1
+    pub knows : after.0 ≡ holding_view before.0.opened who (history value.value)
     pub seen : IsPrefix (seen_of before.0.hands) (history value.value)
     pub own : entries_of whose who (history value.value) ≡ entries_of whose who (seen_of before.0.hands)
     pub serves_it : serves (origin value.value) who
     pub same_origin : (x : T) → before.0.opened ≡ Some x → origin value.value ≡ origin x
 
   -- the caller has the turn where the step found it free; else the seat is as before
-  abbrev pub claims : Step (Slot T) → Seated T E → ℕ → Seated T E → Type 0
-  claims step before found after = (found ≡ free → Claimed step.second before after) × (found ≢ free → after ≡ before)
+  abbrev pub Claims : Step (Slot T) → Seated T E → ℕ → Seated T E → Type 0
+  Claims step before found after = (found ≡ free → Claimed step.second before after) × (found ≢ free → after ≡ before)
