@@ -1,5 +1,5 @@
 //! What live cells are granted.
-ghost use Rattle.std.specs.Prelude.{◌≡◌, ◌+◌, ◌%◌, ◌^◌, ◌<◌, ◌≤◌, ℕ, Bool, List, IfSome, IsTrue, find, option_map};
+ghost use Rattle.std.specs.Prelude.{◌≡◌, ◌+◌, ◌%◌, ◌^◌, ◌<◌, ◌≤◌, ℕ, Bool, IfSome, IsTrue, find, option_map};
 ghost use Rattle.jh_num.specs.declared.address.TheConstants.{ADDRESS_END};
 ghost use Rattle.std.specs.List.{list_any};
 ghost use Rattle.jh_script.specs.declared.image.Image.{Image as TheImage};
@@ -19,7 +19,7 @@ use crate::cells::LiveCells;
 use crate::indexed::{IndexedImage, giving};
 use jh_cellcfg::{PciDevice, Region};
 use jh_history::{
-    Access, Devices, Grants, Place, Places, Reach, Row, Wanted, answer_of, ecam_of, first_of_row,
+    Access, Devices, Grants, Place, Places, Reach, Row, Wanted, answer_behind, ecam_of, first_of_row,
     is_within, places_in,
 };
 use jh_ivshmem::Endpoints;
@@ -192,7 +192,7 @@ fn behind(
     if is_within(wanted) {
         let region = open_whole(image, cells, cell, wanted);
         let devices = Devices::new(cell, devices_of(image, cells, cell), endpoints);
-        answer_of(&devices, region, ecam_of(&image.image().system), wanted)
+        answer_behind(&devices, region, ecam_of(&image.image().system), wanted)
     } else {
         Reach::Nothing
     }
