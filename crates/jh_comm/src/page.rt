@@ -12,14 +12,14 @@ const REVISION: u16 = 1;
 /// Where it stands.
 const REVISION_AT: usize = 6;
 
-/// Where the state of the cell stands.
-const STATE_AT: usize = 8;
+/// Where the state of the cell stands, in bytes from the start of the page.
+pub const STATE_AT: usize = 8;
 
-/// Where the message to the cell stands.
-const MESSAGE_AT: usize = 12;
+/// Where the message to the cell stands, in bytes from the start of the page.
+pub const MESSAGE_AT: usize = 12;
 
-/// Where the cell's reply stands.
-const REPLY_AT: usize = 16;
+/// Where the cell's reply stands, in bytes from the start of the page.
+pub const REPLY_AT: usize = 16;
 
 /// Where the console stands.
 const CONSOLE_AT: usize = 24;

@@ -27,7 +27,6 @@ mod known;
 mod laws;
 mod locked;
 mod next;
-mod page_words;
 mod pages;
 mod phases;
 mod place;

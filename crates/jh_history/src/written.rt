@@ -13,9 +13,8 @@ ghost use Rattle.jh_history.specs.Private.PlainView.{last_byte, put_in_page};
 
 use crate::comm::{PageChange, PageWrite};
 use crate::device_write::slot_places;
-use crate::page_words::{MESSAGE_AT, REPLY_AT, STATE_AT};
 use crate::place::{Place, Places, Row};
-use jh_comm::fresh;
+use jh_comm::{MESSAGE_AT, REPLY_AT, STATE_AT, fresh};
 use jh_ivshmem::Slot;
 use jh_num::NoMemory;
 use jh_script::{Image, Preload};
@@ -116,12 +115,12 @@ pub(crate) fn write_slot_if(
 }
 
 /// Puts the bytes into the page of the cell, from the offset on.
-fn put(bytes: &mut Vec<WrittenByte>, cell: u32, at: u64, list: &[u8]) -> Result<(), NoMemory>
+fn put(bytes: &mut Vec<WrittenByte>, cell: u32, at: usize, list: &[u8]) -> Result<(), NoMemory>
     requires { at + length list.now < 2 ^ 64 }
     ensures { OnOk result ((image : TheImage) (q : ThePlace) → last_byte image bytes.new.items q ≡ put_in_page cell at list.now (last_byte image bytes.old.items) q) }
 {
     for (i, byte) in list.iter().enumerate() {
-        let offset = at + i as u64;
+        let offset = (at + i) as u64;
         bytes.push(WrittenByte {
             place: Place::Page { cell, offset },
             byte: *byte,
