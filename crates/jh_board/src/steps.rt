@@ -1,7 +1,6 @@
 //! What an entry does to what a board holds.
-ghost use Rattle.std.specs.Prelude.{◌≡◌, ℕ, ◌<◌, ◌≤◌, List, Option, All, AllPairs, OnOk, OnErr, IfOk, IfSome, Some, None, false, option_copied};
+ghost use Rattle.std.specs.Prelude.{◌≡◌, ℕ, List, Option, All, AllPairs, OnOk, OnErr, IfOk, IfSome, Some, None, false, option_copied};
 ghost use Rattle.std.specs.Option.{option_map_or};
-ghost use Rattle.jh_cellcfg.specs.declared.config.CellConfig.{CellConfig as TheConfig};
 ghost use Rattle.jh_ivshmem.specs.Specs.{IsInItsLimits};
 ghost use Rattle.jh_cellcfg.specs.Regions.{SharesNoAddress};
 ghost use Rattle.jh_script.specs.declared.image.Image.{Image};
@@ -344,7 +343,8 @@ fn renew_programs(
     act: &Act,
     programs: &mut [ProgramIndex; 16],
 )
-    ensures { (call : Option TheOpenCall) (lives : List TheLive) → AreProgramIndices image.now lives programs.old → cells.now.lives ≡ cells_by call lives act.now → AreProgramIndices image.now cells.now.lives programs.new }
+    ensures { (call : Option TheOpenCall) (lives : List TheLive) → AreProgramIndices image.now lives programs.old
+        → cells.now.lives ≡ cells_by call lives act.now → AreProgramIndices image.now cells.now.lives programs.new }
 {
     if !is_commit(act) {
         return;

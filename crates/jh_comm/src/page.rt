@@ -1,5 +1,5 @@
 //! Reading and writing the words of the page. A page has 4,096 bytes.
-ghost use Rattle.std.specs.Prelude.{◌≡◌, ℕ, ◌+◌, ◌<◌, ◌≤◌, length, slice_index, replicate};
+ghost use Rattle.std.specs.Prelude.{◌≡◌, ℕ, ◌+◌, ◌<◌, ◌≤◌, length, slice_index};
 ghost use Rattle.jh_num.specs.Memory.{stored};
 ghost use Rattle.jh_comm.specs.Page.{word_in, state_in, message_in, reply_in, with_state, sent, fresh_page};
 

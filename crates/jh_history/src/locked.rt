@@ -4,7 +4,6 @@ ghost use Rattle.std.specs.List.{list_any};
 ghost use Rattle.jh_cellcfg.specs.declared.live.Live.{Live as TheLive};
 ghost use Rattle.jh_history.specs.LiveView.{word_by, is_locked_by, is_other_locked_by};
 ghost use Rattle.jh_shape.specs.Lives.{configs_of};
-ghost use Rattle.jh_history.specs.Places.{places_of_row};
 
 use crate::bytes::{Bytes, value_of};
 use crate::place::{Place, Places, Row};

@@ -1,6 +1,5 @@
 //! What is due to the caller of an open management call.
-ghost use Rattle.std.specs.Prelude.{◌≡◌, ℕ, ◌<◌, Bool, true, List, map, is_some, if◌then◌else◌, None, Some, IfOk, IfSome, option_map, option_copied};
-ghost use Rattle.std.specs.Option.{option_map_or};
+ghost use Rattle.std.specs.Prelude.{◌≡◌, ◌<◌, Bool, true, is_some, if◌then◌else◌, None, Some, IfOk, IfSome, option_map, option_copied};
 ghost use Rattle.jh_script.specs.declared.image.Image.{Image as TheImage};
 ghost use Rattle.jh_check.specs.Refusals.{any_below};
 ghost use Rattle.jh_comm.specs.Page.{word_in};
