@@ -179,7 +179,7 @@ pub fn devices_of<'a>(image: &'a IndexedImage, cells: &'a LiveCells, cell: u32) 
 
 /// What answers the cell's access where no memory does, where these cells live besides root, and all have these
 /// endpoints.
-fn behind(
+fn behind_in(
     image: &IndexedImage,
     cells: &LiveCells,
     endpoints: &Endpoints,
@@ -211,6 +211,6 @@ pub fn reach(
 {
     match memory(image, cells, cell, wanted) {
         Some(places) => Reach::Memory(places),
-        None => behind(image, cells, endpoints, cell, wanted),
+        None => behind_in(image, cells, endpoints, cell, wanted),
     }
 }

@@ -11,7 +11,7 @@ mod devices;
 mod granted;
 mod held;
 mod indexed;
-mod judging;
+mod creation;
 mod laws;
 mod memory;
 mod overview;

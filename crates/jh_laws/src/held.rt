@@ -11,7 +11,7 @@ ghost use Rattle.jh_history.specs.declared.place.Place.TheVariants.{Physical, Pa
 ghost use Rattle.jh_history.specs.Admitted.{IsAdmitted};
 ghost use Rattle.jh_history.specs.Grants.{granted};
 ghost use Rattle.jh_laws.specs.Moments.{AdmittedJournal, AdmittedMoment, facts_of, facts_before, live_configs, ByteChanges};
-ghost use Rattle.jh_laws.specs.Grants.{IsGranted};
+ghost use Rattle.jh_laws.specs.Grants.{IsGiven};
 ghost use Rattle.jh_laws.specs.Ends.{EndsAsGranted};
 ghost use Rattle.jh_laws.specs.Held.{IsGrantedTo, IsHeld};
 ghost use Rattle.jh_laws.specs.Written.{MayChangeHeld, WritesPageOf};
@@ -25,7 +25,7 @@ pub fn cells_are_granted_their_places()
 /// What root is granted at an address is the place of physical memory that has this address.
 pub fn root_is_granted_its_addresses()
     ensures { (image : TheImage) (access : TheAccess) (at : ℕ) (place : ThePlace) → IsAdmitted image →
-        IsGranted image.system.root access at place → place ≡ Physical at }
+        IsGiven image.system.root access at place → place ≡ Physical at }
 {}
 
 /// Root is granted exactly what its regions give, each address as its own place, but for places that a live cell
@@ -34,12 +34,12 @@ pub fn root_is_granted_its_addresses()
 pub fn root_is_granted_the_rest()
     ensures root { (j : AdmittedJournal) (access : TheAccess) (at : ℕ) →
         IsGrantedTo j.image (facts_of j).cells j.image.system.root.id access at (Physical at) ↔
-        (IsGranted j.image.system.root access at (Physical at) × (IsTaken (facts_of j).cells at → ⊥)) }
+        (IsGiven j.image.system.root access at (Physical at) × (IsTaken (facts_of j).cells at → ⊥)) }
     ensures address { (j : AdmittedJournal) (access : TheAccess) (at : ℕ) (place : ThePlace) →
         IsGrantedTo j.image (facts_of j).cells j.image.system.root.id access at place → place ≡ Physical at }
     ensures cells { (j : AdmittedJournal) (cell : TheConfig) (access : TheAccess) (at : ℕ) (place : ThePlace) →
         Contains (live_configs j) cell →
-        (IsGrantedTo j.image (facts_of j).cells cell.id access at place ↔ IsGranted cell access at place) }
+        (IsGrantedTo j.image (facts_of j).cells cell.id access at place ↔ IsGiven cell access at place) }
 {}
 
 /// An access succeeds exactly where its cell is granted each of its bytes, or a subpage region of the cell answers it,

@@ -1,5 +1,5 @@
 //! What holds of the live cells, whatever befalls them: each law is the contract of a function that does nothing.
-ghost use Rattle.std.specs.Prelude.{◌≡◌, ◌↔◌, ◌⊎◌, ◌++◌, ◌∷◌, true, false, ℕ, ℤ, Bool, List, [], remove, slice_get, slice_set, fold, map, Some, None};
+ghost use Rattle.std.specs.Prelude.{◌≡◌, ◌↔◌, ◌⊎◌, true, ℕ, ℤ, Bool, List, [], remove, slice_get, slice_set, fold, map, Some, None};
 ghost use Rattle.std.specs.List.{find};
 ghost use Rattle.jh_num.specs.declared.error.TheConstants.{EBUSY, EEXIST, EINVAL, ENOMEM, EPERM};
 ghost use Rattle.jh_cellcfg.specs.declared.live.Live.{Live};
