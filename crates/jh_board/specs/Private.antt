@@ -2,7 +2,7 @@
 pub mod Closed
 pub mod IsCellRegions
 pub mod IsIndexed
-pub mod Judged
+pub mod FoundCreation
 pub mod KeptCells
 pub mod LiveView
 pub mod Pages

@@ -6,7 +6,7 @@ use Rattle.jh_history.specs.Phases.{may_give, unless_refused}
 use Rattle.jh_shape.specs.Lives.{configs_of}
 use Rattle.jh_history.specs.ReadView.{refusal_by}
 use Rattle.jh_history.proofs.FactsLemmas.{same_function}
-use Rattle.jh_history.proofs.creation.judged.Goals as goal
+use Rattle.jh_history.proofs.creation.creation_by.Goals as goal
 
 pub returns-in_ok-refusal-in-Accepted-clause-told : goal.returns-in_ok-refusal-in-Accepted-clause-told
 returns-in_ok-refusal-in-Accepted-clause-told c = λ f e h.

@@ -50,7 +50,7 @@ fn has_another(owned: u16, caller: u8) -> bool
 
 /// What comes of the configuration, which a create by the caller has read while no live cell is locked. It takes memory
 /// for an index of the new cell's regions, and for nothing else.
-pub fn judge(
+pub fn creation_from(
     image: &IndexedImage,
     held: &Held,
     caller: u8,

@@ -8,7 +8,7 @@ use Rattle.jh_cpu.specs.Changes.{opened}
 use Rattle.jh_num.specs.Bits.{has_bit}
 use Rattle.jh_history.specs.Facts.{Facts}
 use Rattle.jh_history.specs.Lives.{is_on_board}
-use Rattle.jh_board.proofs.judging.cpus_of_root.Goals as goal
+use Rattle.jh_board.proofs.creation.cpus_of_root.Goals as goal
 
 pub loop-cpu-init : goal.loop-cpu-init
 loop-cpu-init c = record {

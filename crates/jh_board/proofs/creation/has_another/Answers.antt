@@ -3,7 +3,7 @@ use Rattle.std.proofs.Common.{◌≡◌, false, sym, refl, ◌∙◌, inl, inr, 
 use Rattle.std.proofs.lemmas.Bool.{false≢true, cases_lt}
 use Rattle.std.proofs.lemmas.Nat.Bits.{bit_at_above}
 use Rattle.jh_num.specs.Bits.{has_bit}
-use Rattle.jh_board.proofs.judging.has_another.Goals as goal
+use Rattle.jh_board.proofs.creation.has_another.Goals as goal
 
 pub returns : goal.returns
 returns c = λ e k bit. elim (cases_lt k 16) [

@@ -16,7 +16,7 @@ use Rattle.jh_history.specs.Phases.{may_give, unless_refused}
 use Rattle.jh_shape.specs.Lives.{configs_of}
 use Rattle.jh_history.specs.ReadView.{refusal_by}
 use Rattle.jh_history.proofs.Public.{same_function}
-use Rattle.jh_board.proofs.judging.judge.Goals as goal
+use Rattle.jh_board.proofs.creation.creation_from.Goals as goal
 
 -- the order of what makes a CPU one that may be given away
 given_so : (on own other : Bool) → ((on && own) && other) ≡ (on && other && own)
