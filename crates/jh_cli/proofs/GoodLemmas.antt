@@ -23,7 +23,7 @@ use Rattle.jh_script.specs.declared.image.Image.{Image}
 use Rattle.jh_script.specs.Numbers.{decimal_of}
 use Rattle.jh_script.specs.Programs.{unless}
 use Rattle.jh_script.specs.Schedules.{has_cpu, cpu_of, items_of, first_refusal, cpus_of, schedule_of}
-use Rattle.jh_script.specs.Words.{words, spaces}
+use Rattle.jh_script.specs.Words.{words, schedule_gaps}
 use Rattle.jh_history.specs.declared.entry.Entry.{Entry}
 use Rattle.jh_history.specs.Items.{items, played}
 use Rattle.jh_text.specs.declared.fault.JournalFault.{JournalFault}
@@ -204,7 +204,7 @@ same_cpu one other same (Some n) = same_if n (has_cpu one n) (has_cpu other n) (
 
 same_items : (one other : ℕ) → ((n : ℕ) → n < 16 → has_cpu one n ≡ has_cpu other n) → (text : List ℕ) → items_of one text ≡ items_of other text
 unfolding items_of
-same_items one other same text = λ i. map (λ word. same_cpu one other same (decimal_of word) i) (words spaces text)
+same_items one other same text = λ i. map (λ word. same_cpu one other same (decimal_of word) i) (words schedule_gaps text)
 
 -- a schedule depends on the board's CPUs alone
 same_schedule : (one other : ℕ) → ((n : ℕ) → n < 16 → has_cpu one n ≡ has_cpu other n) → (text : List ℕ) → schedule_of one text ≡ schedule_of other text

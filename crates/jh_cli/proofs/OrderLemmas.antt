@@ -2,7 +2,7 @@
 use Rattle.std.proofs.Common.{◌≡◌, ◌≢◌, ℕ, ◌<◌, List, [], ◌∷◌, ◌++◌, length, get_or, Option, None, Some, Result, refl, sym, ap, subst, ◌∙◌, inl, inr}
 use Rattle.std.specs.Prelude.{map, take, ⊤}
 use Rattle.jh_outside.specs.Trail.{Ask, Handed, Asks, no_ask, one_more_ask, kept_name, handed, faulted, AsksAll, AsksUntil}
-use Rattle.jh_outside.specs.TrailLaws.{all-both, until-first, until-behind, until-more, names-split}
+use Rattle.jh_outside.proofs.Public.{all_both, until_first, until_behind, until_more, names_split}
 use Rattle.jh_image.specs.declared.fault.ImageCause.{ImageCause}
 use Rattle.jh_image.specs.declared.fault.ImageCause.TheVariants.{ReadFault, Oversize, Json, Member, System, Findings, PoolSmall, Preload as BadPreload, Program as BadProgram}
 use Rattle.jh_image.specs.declared.fault.ImageFault.{ImageFault}
@@ -53,12 +53,12 @@ module _ {S : Type 0} (one : S → Ask → S → Type 0) (failed : S → List �
   pub stops_one : (name text : List ℕ) (s t : S) (stop : CallFault) → Asks one failed s (faulted name ∷ []) t → OnEnded stop (λ reply. reply ≡ record { status = status.ReadFault; text = text }) → OnEnded stop (AsksUntilEnd one failed s t (name ∷ []))
   stops_one name text s t stop asked h =
       on_ended (λ reply. reply ≡ record { status = status.ReadFault; text = text }) (AsksUntilEnd one failed s t (name ∷ [])) stop
-      (λ reply is. subst (AsksUntilEnd one failed s t (name ∷ [])) (sym is) (tt, until-first one failed s t name [] (last_ask status.ReadFault) asked)) h
+      (λ reply is. subst (AsksUntilEnd one failed s t (name ∷ [])) (sym is) (tt, until_first one failed s t name [] (last_ask status.ReadFault) asked)) h
 
   pub refuses_one : (name text : List ℕ) (s t : S) (stop : CallFault) → AsksAll one failed (name ∷ []) s t → OnEnded stop (λ reply. reply ≡ record { status = status.Refused; text = text }) → OnEnded stop (AsksUntilEnd one failed s t (name ∷ []))
   refuses_one name text s t stop asked h =
       on_ended (λ reply. reply ≡ record { status = status.Refused; text = text }) (AsksUntilEnd one failed s t (name ∷ [])) stop
-      (λ reply is. subst (AsksUntilEnd one failed s t (name ∷ [])) (sym is) (tt, until-first one failed s t name [] (last_ask status.Refused) asked)) h
+      (λ reply is. subst (AsksUntilEnd one failed s t (name ∷ [])) (sym is) (tt, until_first one failed s t name [] (last_ask status.Refused) asked)) h
 
   -- ---- a board
 
@@ -67,7 +67,7 @@ module _ {S : Type 0} (one : S → Ask → S → Type 0) (failed : S → List �
       inl (is_stop file cause, subst (λ last. AsksUntil one failed (board ∷ []) last s t) (at_cause file cause) until)
   stops_at_cause contents board more s t file cause (until_a_file listing lists until) =
       let last = last_ask (stopped file cause).status in
-      inr (listing, lists, inr (is_stop file cause, until-more one failed s t (board_files board listing) more last (subst (λ asked. AsksUntil one failed (board_files board listing) asked s t) (at_cause file cause) until)))
+      inr (listing, lists, inr (is_stop file cause, until_more one failed s t (board_files board listing) more last (subst (λ asked. AsksUntil one failed (board_files board listing) asked s t) (at_cause file cause) until)))
 
   -- the call ends at one of a board's files
   pub stops_in_board : (contents : Contents) (board : List ℕ) (more : List (List ℕ)) (s t : S) (fault : ImageFault) → OnRefused (λ file cause. AsksBoardUntil one failed contents board cause s t) fault
@@ -80,8 +80,8 @@ module _ {S : Type 0} (one : S → Ask → S → Type 0) (failed : S → List �
   -- ---- files, and others behind them
 
   reads_behind : (before names : List (List ℕ)) (s t u : S) → AsksAll one failed before s t → (reply : Reply) → AsksIn one failed t u names reply → AsksIn one failed s u (before ++ names) reply
-  reads_behind before names s t u asked reply (inl all) = inl (all-both one failed s t u before names asked all)
-  reads_behind before names s t u asked reply (inr stops) = inr (stops.0, until-behind one failed s t u before names (last_ask reply.status) asked stops.1)
+  reads_behind before names s t u asked reply (inl all) = inl (all_both one failed s t u before names asked all)
+  reads_behind before names s t u asked reply (inr stops) = inr (stops.0, until_behind one failed s t u before names (last_ask reply.status) asked stops.1)
 
   pub file_behind : (name : List ℕ) (names : List (List ℕ)) (s t u : S) → AsksAll one failed (name ∷ []) s t
       → (r : Result Ending CallFault) → OnEnding r (AsksIn one failed t u names) → OnEnding r (AsksIn one failed s u (name ∷ names))
@@ -96,18 +96,18 @@ module _ {S : Type 0} (one : S → Ask → S → Type 0) (failed : S → List �
   -- the call ends at the first of these files
   pub first_stops : (name : List ℕ) (names : List (List ℕ)) (s t : S) (r : CallFault) → OnEnded r (AsksUntilEnd one failed s t (name ∷ [])) → OnEnded r (AsksIn one failed s t (name ∷ names))
   first_stops name names s t r h =
-      on_ended (AsksUntilEnd one failed s t (name ∷ [])) (AsksIn one failed s t (name ∷ names)) r (λ reply stops. inr (stops.0, until-more one failed s t (name ∷ []) names (last_ask reply.status) stops.1)) h
+      on_ended (AsksUntilEnd one failed s t (name ∷ [])) (AsksIn one failed s t (name ∷ names)) r (λ reply stops. inr (stops.0, until_more one failed s t (name ∷ []) names (last_ask reply.status) stops.1)) h
 
   -- the next name's file stops the call; `f` gives a name's bytes
   pub next_stops : {X : Type 0} (f : X → List ℕ) (names : List X) (i : ℕ) (x : X) (s t u : S) → i < length names → x ≡ get_or names i x → AsksAll one failed (map f (take i names)) s t
       → (r : CallFault) → OnEnded r (AsksUntilEnd one failed t u (f x ∷ [])) → OnEnded r (AsksUntilEnd one failed s u (map f names))
   next_stops f names i x s t u lt is before r h =
-      let split = names-split f names i x lt is in
+      let split = names_split f names i x lt is in
       on_ended (AsksUntilEnd one failed t u (f x ∷ [])) (AsksUntilEnd one failed s u (map f names)) r
       (λ reply stops. (
         stops.0,
         subst (λ ns. AsksUntil one failed ns (last_ask reply.status) s u) (sym split.1)
-            (until-behind one failed s t u (map f (take i names)) (f x ∷ split.0) (last_ask reply.status) before (until-more one failed t u (f x ∷ []) split.0 (last_ask reply.status) stops.1)),
+            (until_behind one failed s t u (map f (take i names)) (f x ∷ split.0) (last_ask reply.status) before (until_more one failed t u (f x ∷ []) split.0 (last_ask reply.status) stops.1)),
       )) h
 
 -- ---- reads that all handed out bytes

@@ -14,7 +14,7 @@ ghost use Rattle.jh_cli.specs.Private.Endings.{reply_of, OnEnded, OnEnding};
 
 use crate::boards::open;
 use crate::ending::{CallFault, Ending, read_below, refused_for};
-use crate::limits::MOST_OF_A_JOURNAL;
+use crate::limits::MAX_JOURNAL_READ;
 use crate::status::Status;
 use jh_audit::{Verdict, audit as audit_journal};
 use jh_history::Entry;
@@ -49,7 +49,7 @@ fn judge<F: Files>(
     ensures asked { OnOk result (AsksAll F.asks F.failed (name.now ∷ []) files.old files.new) }
     ensures asked_until { IfErr result (λ stop. OnEnded stop (AsksUntilEnd F.asks F.failed files.old files.new (name.now ∷ []))) }
 {
-    let bytes = read_below(alloc, files, name, MOST_OF_A_JOURNAL)?;
+    let bytes = read_below(alloc, files, name, MAX_JOURNAL_READ)?;
     match audit_journal(alloc, image, bytes.as_slice()) {
         Ok(verdict) => Ok(verdict),
         Err(fault) => Err(unread(alloc, name, &fault)),

@@ -10,7 +10,7 @@ ghost use Rattle.jh_cli.specs.Check.{IsCellFile, CellRefusal, IsSystemFile, Syst
 ghost use Rattle.jh_cli.specs.Private.Endings.{reply_of, OnEnded, OnEnding};
 
 use crate::ending::{CallFault, Ending, read_below, refused_for};
-use crate::limits::MOST;
+use crate::limits::MAX_READ;
 use crate::status::Status;
 use jh_cellcfg::{CellConfig, ConfigFault, SystemConfig, read_cell};
 use jh_check::{Finding, check as check_all};
@@ -29,7 +29,7 @@ fn cell<F: Files>(alloc: Global, files: &mut F, name: &str) -> Result<CellConfig
     ensures asked { OnOk result (AsksAll F.asks F.failed (name.now ∷ []) files.old files.new) }
     ensures asked_until { IfErr result (λ stop. OnEnded stop (AsksUntilEnd F.asks F.failed files.old files.new (name.now ∷ []))) }
 {
-    let bytes = read_below(alloc, files, name, MOST)?;
+    let bytes = read_below(alloc, files, name, MAX_READ)?;
     match read_cell(alloc, bytes.as_slice()) {
         Ok(cell) => Ok(cell),
         Err(ConfigFault::NoMemory) => Err(CallFault::NoMemory),
@@ -47,7 +47,7 @@ fn system<F: Files>(alloc: Global, files: &mut F, name: &str) -> Result<SystemCo
     ensures asked { OnOk result (AsksAll F.asks F.failed (name.now ∷ []) files.old files.new) }
     ensures asked_until { IfErr result (λ stop. OnEnded stop (AsksUntilEnd F.asks F.failed files.old files.new (name.now ∷ []))) }
 {
-    let bytes = read_below(alloc, files, name, MOST)?;
+    let bytes = read_below(alloc, files, name, MAX_READ)?;
     match read_system(alloc, bytes.as_slice()) {
         Ok(system) => Ok(system),
         Err(ConfigFault::NoMemory) => Err(CallFault::NoMemory),

@@ -4,7 +4,7 @@ ghost use Rattle.std.specs.List.{list_all};
 ghost use Rattle.std.specs.Option.{option_map};
 ghost use Rattle.jh_cli.specs.Words.{is_operand, check_of, pack_of, play_of, run_of, map_of, audit_of, soak_of, command_for, command_of, request_by, HasFewCells};
 
-use jh_check::MOST_CELLS;
+use jh_check::MAX_CELLS;
 
 /// A command with its operands.
 #[derive(Clone, Copy)]
@@ -66,7 +66,7 @@ fn check_of(operands: &[String]) -> Option<Command<'_>>
     ensures few { IfSome result HasFewCells }
 {
     match operands {
-        [system, cells @ ..] if cells.len() <= MOST_CELLS => Some(Command::Check {
+        [system, cells @ ..] if cells.len() <= MAX_CELLS => Some(Command::Check {
             system: system.as_str(),
             cells,
         }),

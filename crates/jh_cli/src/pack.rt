@@ -8,7 +8,7 @@ ghost use Rattle.jh_cli.specs.Pack.{IsSpecFile, SpecRefusal, Packs, packed};
 ghost use Rattle.jh_cli.specs.Private.Endings.{reply_of, OnEnded, OnEnding};
 
 use crate::ending::{CallFault, Ending, read_below, refused};
-use crate::limits::MOST;
+use crate::limits::MAX_READ;
 use crate::status::Status;
 use jh_cellcfg::write_cell;
 use jh_num::NoMemory;
@@ -37,7 +37,7 @@ fn spec<F: Files>(alloc: Global, files: &mut F, name: &str) -> Result<Spec, Call
     ensures asked { OnOk result (AsksAll F.asks F.failed (name.now ∷ []) files.old files.new) }
     ensures asked_until { IfErr result (λ stop. OnEnded stop (AsksUntilEnd F.asks F.failed files.old files.new (name.now ∷ []))) }
 {
-    let bytes = read_below(alloc, files, name, MOST)?;
+    let bytes = read_below(alloc, files, name, MAX_READ)?;
     match read_spec(alloc, bytes.as_slice()) {
         Ok(spec) => Ok(spec),
         Err(JsonFault::Json) => Err(refused(alloc, name.as_bytes(), b"json")),

@@ -8,7 +8,8 @@ ghost use Rattle.jh_cli.specs.Play.{AreCpus, IsSchedule, ScheduleRefusal};
 ghost use Rattle.jh_cli.specs.Private.Endings.{OnEnded};
 
 use crate::ending::{CallFault, read_below, refused_for};
-use crate::limits::MOST;
+use crate::limits::MAX_READ;
+use jh_cellcfg::MAX_CPUS;
 use jh_history::is_on_board;
 use jh_num::Seq;
 use jh_outside::Files;
@@ -20,7 +21,7 @@ fn cpus_of(image: &Image) -> u16
     ensures { AreCpus image.now result }
 {
     let mut cpus = 0;
-    for cpu in 0..16u8 {
+    for cpu in 0..MAX_CPUS as u8 {
         if is_on_board(image, cpu) {
             cpus |= 1 << cpu;
         }
@@ -44,7 +45,7 @@ pub fn schedule<F: Files>(
     ensures asked { OnOk result (AsksAll F.asks F.failed (name.now ∷ []) files.old files.new) }
     ensures asked_until { IfErr result (λ stop. OnEnded stop (AsksUntilEnd F.asks F.failed files.old files.new (name.now ∷ []))) }
 {
-    let bytes = read_below(alloc, files, name, MOST)?;
+    let bytes = read_below(alloc, files, name, MAX_READ)?;
     match read_schedule(alloc, bytes.as_slice(), cpus_of(image)) {
         Ok(items) => Ok(items),
         Err(ScheduleFault::NoMemory) => Err(CallFault::NoMemory),
