@@ -23,7 +23,7 @@ use Rattle.jh_cli.specs.Order.{IsFileStatus, last_ask, AsksUntilEnd, AsksIn, Ask
 use Rattle.jh_cli.proofs.StopLemmas.{on_ended, on_ending}
 use Rattle.jh_cli.proofs.BoardLemmas.{nothing}
 
--- ---- a board
+-- ---- the status at a cause
 
 -- the status of a refusal by its cause
 at_cause : (file : List ℕ) (cause : ImageCause) → ask_at cause ≡ last_ask (stopped file cause).status

@@ -29,9 +29,9 @@ module _ {S K : Type 0} (contents : S → Contents) (failed : S → List ℕ) (f
   abbrev pub Ends : Option Request → S → S → K → K → Status → Type 0
   Ends request s t k l status = ((status ≡ NoMemory) × (written l ≡ written k)) ⊎ ((reply : Reply) × IsReplyTo request s t reply × Sent (written k) (written l) reply status)
 
-  -- what a call with these words is: it takes the files from `s` to `t` and the sink from `k` to `l`
+  -- what a call with this request is: it takes the files from `s` to `t` and the sink from `k` to `l`
   pub record IsCall (request : Option Request) (s t : S) (k l : K) (status : Status) : Type 0 where
-    -- the status, and what was appended, are those that the words ask for
+    -- the status, and what was appended, are those of an outcome of the request
     pub ends : Ends request s t k l status
     -- a fault of reading or writing comes only where the count rose in this call
     pub read_fault : status ≡ ReadFault → Rose (faults s) (faults t) × Appended (written k) (written l) (fault_line (failed t))

@@ -1,4 +1,4 @@
--- What a call ends with: the status and the text that the words ask for, by what the files hand out.
+-- What a call ends with: the status and the text of its request, by what the files hand out.
 use Rattle.std.specs.Prelude.{◌≡◌, ℕ, ◌⊎◌, List, Option, Some, None}
 use Rattle.jh_outside.specs.Writes.{Appended, AppendedPart}
 use Rattle.jh_cli.specs.Words.{Request, CheckOf, PackOf, PlayOf, RunOf, MapOf, AuditOf, SoakOf}
@@ -15,7 +15,7 @@ use Rattle.jh_cli.specs.Soak.{Soaks}
 use Rattle.jh_cli.specs.declared.status.Status.{Status}
 use Rattle.jh_cli.specs.declared.status.Status.TheVariants.{Usage, WriteFault}
 
--- what the words ask for, and what a call with them ends with
+-- what a call with this request ends with; without a request the line of usage
 abbrev pub Outcome : Contents → Option Request → Reply → Type 0
 Outcome contents None reply = reply ≡ record { status = Usage; text = usage_line }
 Outcome contents (Some (CheckOf system cells)) reply = Checks contents system cells reply

@@ -5,7 +5,7 @@ use Rattle.std.specs.Cmp.Lexicographic.{pointwise}
 use Rattle.jh_cli.specs.declared.command.Command.{Command}
 use Rattle.jh_cli.specs.declared.command.Command.TheVariants.{Check, Pack, Play, Run, Map, Audit, Soak}
 
--- what a command asks for, with the names of its files, or with the word that tells how many rounds are run
+-- a command with its operands: the names of its files, or the word that tells how many rounds are run
 pub data Request : Type 0 where
   CheckOf : List ℕ → List (List ℕ) → Request
   PackOf : List ℕ → Request
@@ -86,7 +86,7 @@ command_of [] = None
 command_of (name ∷ []) = None
 command_of (name ∷ word ∷ operands) = if list_all is_operand operands then command_for word operands else None
 
--- what the command that was read asks for
+-- the request of the command that was read
 abbrev pub request_by : Command → Request
 request_by (Check system cells) = CheckOf system.now (map string_bytes cells.now)
 request_by (Pack spec) = PackOf spec.now

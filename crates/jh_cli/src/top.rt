@@ -25,7 +25,7 @@ pub fn serial<F: Files, K: Sink>(
     out: &mut K,
 ) -> Status
     requires { IsSerial (command_of (map string_bytes words.now)) }
-    // the status and the text are those that the words ask for, and each failure comes only where its count rose
+    // the status and the text are those of the words' request, and each failure comes only where its count rose
     ensures { IsCall F.contents F.failed F.faults F.asks K.written K.faults (command_of (map string_bytes words.now)) files.old files.new out.old out.new result }
 {
     good_inputs_are_answered();
