@@ -35,22 +35,22 @@ pub record Leaves (xs : List Range) (r left right x y : Range) (at upto last : �
 
 -- the bytes below the range, in it and above it
 low_bytes : (t l r d x a i : Bool) → r ≡ false → d ≡ false → a ≡ false → i ≡ false → l ≡ x → (t || (l || (r || d))) ≡ ((t || (x || a)) && not i)
-low_bytes t l r d x a i hr hd ha hi e = rw (hr, hd, ha, hi, e) (and-true (t || (x || false)))
+low_bytes t l r d x a i hr hd ha hi e = rw (hr, hd, ha, hi, e) (and_true (t || (x || false)))
   where
-    and-true : (v : Bool) → v ≡ (v && true)
-    and-true v = elim v as (λ w. w ≡ (w && true)) [ true ↦ refl | false ↦ refl ]
+    and_true : (v : Bool) → v ≡ (v && true)
+    and_true v = elim v as (λ w. w ≡ (w && true)) [ true ↦ refl | false ↦ refl ]
 
 mid_bytes : (t l r d x i : Bool) → t ≡ false → l ≡ false → r ≡ false → d ≡ false → i ≡ true → (t || (l || (r || d))) ≡ (x && not i)
-mid_bytes t l r d x i ht hl hr hd hi = rw (ht, hl, hr, hd, hi) (and-false x)
+mid_bytes t l r d x i ht hl hr hd hi = rw (ht, hl, hr, hd, hi) (and_false x)
   where
-    and-false : (v : Bool) → false ≡ (v && false)
-    and-false v = elim v as (λ w. false ≡ (w && false)) [ true ↦ refl | false ↦ refl ]
+    and_false : (v : Bool) → false ≡ (v && false)
+    and_false v = elim v as (λ w. false ≡ (w && false)) [ true ↦ refl | false ↦ refl ]
 
 high_bytes : (t l r d y b i : Bool) → t ≡ false → l ≡ false → b ≡ false → i ≡ false → r ≡ y → (t || (l || (r || d))) ≡ ((b || (y || d)) && not i)
-high_bytes t l r d y b i ht hl hb hi e = rw (ht, hl, hb, hi, e) (and-true (y || d))
+high_bytes t l r d y b i ht hl hb hi e = rw (ht, hl, hb, hi, e) (and_true (y || d))
   where
-    and-true : (v : Bool) → v ≡ (v && true)
-    and-true v = elim v as (λ w. w ≡ (w && true)) [ true ↦ refl | false ↦ refl ]
+    and_true : (v : Bool) → v ≡ (v && true)
+    and_true v = elim v as (λ w. w ≡ (w && true)) [ true ↦ refl | false ↦ refl ]
 
 -- a list in four parts
 parts : (t l r d : List Range) (b : ℕ) → has_byte (t ++ (l ++ (r ++ d))) b ≡ (has_byte t b || (has_byte l b || (has_byte r b || has_byte d b)))
