@@ -10,10 +10,10 @@ use std::sync::Mutex;
 
 const ADDRESS_END: u64 = 1 << 39;
 const PAGE: u64 = 4096;
-const MOST_FINDINGS: usize = 1000;
-const MOST_ENTRIES: usize = 262_144;
-const MOST_ITEMS: usize = 262_144;
-const MOST_OPS: usize = 4096;
+const MAX_FINDINGS: usize = 1000;
+const MAX_ENTRIES: usize = 262_144;
+const MAX_ITEMS: usize = 262_144;
+const MAX_OPS: usize = 4096;
 const FILE_LIMIT: usize = 1 << 20;
 const JOURNAL_LIMIT: usize = 32 << 20;
 const USAGE: &str = "usage: jailhouse check SYSTEM CELL... | pack SPEC | play BOARD SCHEDULE | run BOARD | \
@@ -344,14 +344,14 @@ struct Findings(Vec<Finding>);
 impl Findings {
     fn push(&mut self, finding: Finding) {
         self.0.push(finding);
-        if self.0.len() >= 32 * MOST_FINDINGS {
+        if self.0.len() >= 32 * MAX_FINDINGS {
             self.cut();
         }
     }
 
     fn cut(&mut self) {
         self.0.sort();
-        self.0.truncate(MOST_FINDINGS);
+        self.0.truncate(MAX_FINDINGS);
     }
 
     fn list(mut self) -> Vec<Finding> {
@@ -1004,7 +1004,7 @@ fn read_program(text: &[u8]) -> Result<Vec<Op>, String> {
         match read_op(&words) {
             None => return Err(format!("line {}: syntax", i + 1)),
             Some(None) => return Err(format!("line {}: width", i + 1)),
-            Some(Some(_)) if ops.len() == MOST_OPS => return Err("program too long".to_string()),
+            Some(Some(_)) if ops.len() == MAX_OPS => return Err("program too long".to_string()),
             Some(Some(op)) => ops.push(op),
         }
     }
@@ -1015,7 +1015,7 @@ fn read_schedule(text: &[u8], is_cpu: impl Fn(u64) -> bool) -> Result<Vec<u8>, S
     let mut items = Vec::new();
     let words = text.split(|byte| matches!(byte, b' ' | b'\t' | b'\n' | b'\r')).filter(|word| !word.is_empty());
     for word in words {
-        if items.len() == MOST_ITEMS {
+        if items.len() == MAX_ITEMS {
             return Err("schedule too long".to_string());
         }
         match decimal(word).filter(|&cpu| is_cpu(cpu)) {
@@ -1338,7 +1338,7 @@ fn read_journal(text: &[u8]) -> Result<Vec<Entry>, String> {
         });
         match entry {
             None => return Err(format!("line {}", entries.len() + 1)),
-            Some(_) if entries.len() == MOST_ENTRIES => return Err("journal too long".to_string()),
+            Some(_) if entries.len() == MAX_ENTRIES => return Err("journal too long".to_string()),
             Some(entry) => entries.push(entry),
         }
     }
@@ -2555,7 +2555,7 @@ impl Board {
     fn item(&mut self, cpu: u8) -> Turn {
         match self.due(cpu) {
             None => Turn::NotNow,
-            Some(_) if self.entries.len() == MOST_ENTRIES => Turn::Full,
+            Some(_) if self.entries.len() == MAX_ENTRIES => Turn::Full,
             Some(step) => {
                 self.make(step);
                 Turn::Made

@@ -4,7 +4,8 @@ ghost use Rattle.jh_history.specs.Admitted.{IsAdmitted};
 ghost use Rattle.jh_history.specs.declared.entry.Entry.{Entry as TheEntry};
 ghost use Rattle.jh_board.specs.Turns.{MakesDue};
 ghost use Rattle.jh_text.specs.Faults.{IsFault, IsFirstBadLine, IsJournalText, IsTooLong};
-ghost use Rattle.jh_audit.specs.Judges.{Judges, JudgesText, Compares};
+ghost use Rattle.jh_audit.specs.Judges.{Judges, JudgesText};
+ghost use Rattle.jh_audit.specs.Private.Compares.{Compares};
 ghost use Rattle.jh_audit.specs.Private.Rest.{EndsJournal, EndsAtFault};
 
 use crate::compared::Compared;

@@ -34,9 +34,10 @@ use Rattle.jh_history.specs.DueFacts.{NamesCpu, MayLive, IsLive, HasPage, IsOfCe
 use Rattle.jh_board.specs.declared.held.Held.{Held}
 use Rattle.jh_board.specs.declared.indexed.ProgramIndex.{ProgramIndex}
 use Rattle.jh_board.specs.Indexed.{AreProgramIndices}
-use Rattle.jh_board.specs.Pages.{byte_of, HoldsComm, MayHold, MemoryView}
+use Rattle.jh_board.specs.Pages.{byte_of, HoldsComm, MemoryView}
+use Rattle.jh_board.specs.Private.Pages.{MayHold}
 use Rattle.jh_board.specs.Means.{Means, HoldsPageOf, HoldsWords, IsReady, IsReadyIn, IsReadyFor}
-use Rattle.jh_board.specs.Private.Steps.{IsFree, MayWrite, MayWriteOf, MayJoinCells, IsPrepared}
+use Rattle.jh_board.specs.Private.Steps.{NeedsNothingYet, MayWrite, MayWriteOf, MayJoinCells, IsPrepared}
 use Rattle.jh_board.proofs.KeptLemmas.{KeepsPages, comms_kept, words_kept, all_words_kept}
 use Rattle.jh_board.proofs.MadeLemmas.{ready_written}
 
@@ -49,7 +50,7 @@ on_err (Ok value) P h = tt
 on_err (Err fault) P h = h
 
 -- facts that what is held stands for have one open call
-pub free_same : (image : Image) (held : Held) (f g : Facts) (config : CellConfig) → Means image held f → Means image held g → IsFree f (Some config) → IsFree g (Some config)
+pub free_same : (image : Image) (held : Held) (f g : Facts) (config : CellConfig) → Means image held f → Means image held g → NeedsNothingYet f (Some config) → NeedsNothingYet g (Some config)
 free_same image held f g config first second free = λ other. let P : Option OpenCall → Type 0 = IsReady other in subst P (sym first.call ∙ second.call) (free other)
 
 -- ---- what is written is held

@@ -11,7 +11,7 @@ ghost use Rattle.jh_history.specs.declared.place.Place.{Place as ThePlace};
 ghost use Rattle.jh_board.specs.Pages.{byte_of};
 ghost use Rattle.jh_board.specs.Maps.{all_cells, IsMapOrNone};
 ghost use Rattle.jh_board.specs.Means.{Means};
-ghost use Rattle.jh_board.specs.Turns.{Turns, Refuses, MakesDue, Advances};
+ghost use Rattle.jh_board.specs.Turns.{Turns, RefusesTurn, MakesDue, Advances};
 
 use crate::cells::LiveCells;
 use crate::devices::{change_devices, prepare_devices};
@@ -22,7 +22,7 @@ use crate::overview::{cell_at, map_of};
 use crate::state::{any_cpu_due, find_create, next_entry};
 use crate::steps::make;
 use crate::turn::{Turn, TurnFault};
-use jh_cellcfg::CellConfig;
+use jh_cellcfg::{CellConfig, MAX_CPUS};
 use jh_cpu::Cpu;
 use jh_history::{
     DeviceChange, Entry, Journal, Reach, devices_may_change, legal_journals_are_sound,
@@ -129,7 +129,7 @@ fn held_at_opening(alloc: Global, image: &Image) -> Result<Held, NoMemory>
     let cells = LiveCells::new(alloc, &image.system)?;
     Ok(Held {
         memory,
-        cpus: [Cpu::new(image.system.root.id); 16],
+        cpus: [Cpu::new(image.system.root.id); MAX_CPUS],
         cells,
         programs: opening_programs(image),
         endpoints,
@@ -255,7 +255,7 @@ impl Board {
     pub fn make_due(&mut self, cpu: u8) -> Result<Option<Entry>, TurnFault>
         requires { IsTrue (is_on_board self.old.image cpu) }
         ensures ok { IfOk result (λ made. MakesDue self.old cpu made self.new) }
-        ensures err { IfErr result (λ fault. Refuses self.old cpu fault self.new) }
+        ensures err { IfErr result (λ fault. RefusesTurn self.old cpu fault self.new) }
     {
         self.image.has_few_cpus();
         advance(
@@ -273,7 +273,7 @@ impl Board {
     pub fn turn(&mut self, cpu: u8, steps: &mut Steps) -> Result<Turn, TurnFault>
         requires { IsTrue (is_on_board self.old.image cpu) }
         ensures ok { IfOk result (λ turn. Turns self.old cpu turn self.new) }
-        ensures err { IfErr result (λ fault. Refuses self.old cpu fault self.new) }
+        ensures err { IfErr result (λ fault. RefusesTurn self.old cpu fault self.new) }
         ensures steps { steps.new ≡ steps.old }
     {
         match self.make_due(cpu)? {

@@ -65,6 +65,6 @@ pub fn close_again(closed: &mut ByteSet, cells: &[CellRegions], loadable: u16)
 {
     open_all(closed);
     for i in 0..cells.len() {
-        close_cell(closed, &cells[i], has_bit(loadable, i));
+        close_cell(closed, &cells[i], has_bit(u32::from(loadable), i));
     }
 }

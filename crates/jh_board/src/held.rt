@@ -4,6 +4,7 @@ use crate::cell_regions::CellRegions;
 use crate::cells::LiveCells;
 use crate::indexed::ProgramIndex;
 use crate::memory::Memory;
+use jh_cellcfg::MAX_CPUS;
 use jh_cpu::Cpu;
 use jh_history::OpenCall;
 use jh_ivshmem::Endpoints;
@@ -13,10 +14,10 @@ use std::alloc::Global;
 #[derive(Drop)]
 pub struct Held {
     pub memory: Memory,
-    pub cpus: [Cpu; 16],
+    pub cpus: [Cpu; MAX_CPUS],
     pub cells: LiveCells,
     /// Where the program of each CPU is.
-    pub programs: [ProgramIndex; 16],
+    pub programs: [ProgramIndex; MAX_CPUS],
     /// The endpoints of all live cells' devices, root's too.
     pub endpoints: Endpoints,
     pub call: Option<OpenCall>,

@@ -13,7 +13,7 @@ ghost use Rattle.jh_history.specs.Lives.{is_on_board, is_program_of, ops_in, op_
 ghost use Rattle.jh_board.specs.Indexed.{ops_at, AreRootPrograms, AreProgramIndices};
 
 use crate::cells::LiveCells;
-use jh_cellcfg::{CellConfig, Region};
+use jh_cellcfg::{CellConfig, MAX_CPUS, Region};
 use jh_cpu::Cpu;
 use jh_history::{
     Access, Grants, admitted_roots_are_sound, gives, is_on_board, is_program_of, pool_pages,
@@ -35,7 +35,7 @@ pub struct ProgramIndex {
 pub struct IndexedImage {
     image: Image,
     /// Of each CPU the index of root's program among the programs, or their number where it has none.
-    programs: [usize; 16],
+    programs: [usize; MAX_CPUS],
     /// Root's regions.
     regions: RegionIndex,
 }
@@ -65,25 +65,25 @@ fn index_of_program(programs: &[Program], name: &[u8], cpu: u8) -> usize
 }
 
 /// The index of root's program of each CPU.
-fn root_programs(image: &Image) -> [usize; 16]
+fn root_programs(image: &Image) -> [usize; MAX_CPUS]
     ensures { AreRootPrograms image.now result }
 {
     let name = image.system.root.name();
-    let mut indices = [0; 16];
-    for cpu in 0..16u8 {
+    let mut indices = [0; MAX_CPUS];
+    for cpu in 0..MAX_CPUS as u8 {
         indices[cpu as usize] = index_of_program(image.programs.as_slice(), name, cpu);
     }
     indices
 }
 
 /// Where the program of each CPU is while root alone lives.
-pub fn opening_programs(image: &Image) -> [ProgramIndex; 16]
+pub fn opening_programs(image: &Image) -> [ProgramIndex; MAX_CPUS]
     ensures { AreProgramIndices image.now [] result }
 {
     let indices = root_programs(image);
     let owner = image.system.root.id;
-    let mut found = [ProgramIndex { owner, index: 0 }; 16];
-    for cpu in 0..16u8 {
+    let mut found = [ProgramIndex { owner, index: 0 }; MAX_CPUS];
+    for cpu in 0..MAX_CPUS as u8 {
         let index = indices[usize::from(cpu)];
         found[usize::from(cpu)] = ProgramIndex { owner, index };
     }
@@ -209,11 +209,15 @@ impl IndexedImage {
     }
 
     /// Where the programs of CPUs in these states are, where these cells live besides root.
-    pub fn find_programs(&self, cells: &LiveCells, cpus: &[Cpu; 16]) -> [ProgramIndex; 16]
+    pub fn find_programs(
+        &self,
+        cells: &LiveCells,
+        cpus: &[Cpu; MAX_CPUS],
+    ) -> [ProgramIndex; MAX_CPUS]
         ensures { AreProgramIndices self.now cells.now.lives result }
     {
-        let mut found = [ProgramIndex { owner: 0, index: 0 }; 16];
-        for cpu in 0..16u8 {
+        let mut found = [ProgramIndex { owner: 0, index: 0 }; MAX_CPUS];
+        for cpu in 0..MAX_CPUS as u8 {
             let owner = cpus[usize::from(cpu)].owner;
             let index = self.find_program(cells, owner, cpu);
             found[usize::from(cpu)] = ProgramIndex { owner, index };
@@ -222,7 +226,13 @@ impl IndexedImage {
     }
 
     /// Where the CPU's program in the cell with the id is: as it was found, or else as it is found now.
-    fn index_of(&self, cells: &LiveCells, found: &[ProgramIndex; 16], id: u32, cpu: u8) -> usize
+    fn index_of(
+        &self,
+        cells: &LiveCells,
+        found: &[ProgramIndex; MAX_CPUS],
+        id: u32,
+        cpu: u8,
+    ) -> usize
         requires { cpu < 16 }
         ensures { AreProgramIndices self.now cells.now.lives found.now → ops_at self.now result ≡ ops_in self.now cells.now.lives id cpu }
     {
@@ -239,7 +249,7 @@ impl IndexedImage {
     pub fn operation(
         &self,
         cells: &LiveCells,
-        found: &[ProgramIndex; 16],
+        found: &[ProgramIndex; MAX_CPUS],
         cpu: u8,
         state: Cpu,
     ) -> Option<Op>

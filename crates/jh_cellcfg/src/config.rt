@@ -8,6 +8,9 @@ use bitflags::Flags;
 use jh_num::Seq;
 use std::alloc::Global;
 
+/// How many CPUs a board has at most, by their numbers from 0 on.
+pub const MAX_CPUS: usize = 16;
+
 /// A cell's configuration: the fields of the header after its signature and revision, and its parts.
 /// The counts of the header are the lengths of the parts.
 #[derive(Drop)]

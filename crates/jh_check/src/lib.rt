@@ -37,5 +37,5 @@ pub use laws::{
 pub use mask::{mask_of, with_bit};
 pub use refusal::{refusal_of, refusal_without_cpus};
 pub use rule::Rule;
-pub use setup::MOST_CELLS;
+pub use setup::MAX_CELLS;
 pub use verdict::{NewCell, clean_with};

@@ -8,7 +8,7 @@ ghost use Rattle.jh_check.specs.Refusals.{is_namesake, is_known, any_below, is_b
 
 use crate::laws::{beyond_is_a_cpu, sound_bitmaps_name_few_cpus};
 use crate::verdict::{NewCell, clean_with};
-use jh_cellcfg::{CellConfig, SystemConfig, are_zero};
+use jh_cellcfg::{CellConfig, MAX_CPUS, SystemConfig, are_zero};
 use jh_num::error::{EBUSY, EEXIST, EINVAL, ENOMEM};
 use jh_num::{NoMemory, has_bit};
 use std::alloc::Global;
@@ -39,14 +39,14 @@ fn is_beyond(may: u16, cell: &CellConfig, cpu: usize) -> bool
     requires { cpu < 16 }
     ensures { result ≡ is_beyond (has_bit may) cell.now.cpu_set cpu }
 {
-    cell.has_cpu(cpu as u8) && !has_bit(may, cpu)
+    cell.has_cpu(cpu as u8) && !has_bit(u32::from(may), cpu)
 }
 
 /// Whether one of the first 16 CPUs is named and mustn't be.
 fn any_beyond(may: u16, cell: &CellConfig) -> bool
     ensures { result ≡ any_below (is_beyond (has_bit may) cell.now.cpu_set) 16 }
 {
-    for cpu in 0..16 {
+    for cpu in 0..MAX_CPUS {
         if is_beyond(may, cell, cpu) {
             return true;
         }

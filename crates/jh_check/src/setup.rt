@@ -4,7 +4,7 @@ ghost use Rattle.std.specs.Prelude.{◌≡◌, ◌+◌, ◌<◌, ◌≤◌, leng
 use jh_cellcfg::{CellConfig, Region};
 
 /// How many cells may live besides root.
-pub const MOST_CELLS: usize = 15;
+pub const MAX_CELLS: usize = 15;
 
 /// A system and the cells besides root.
 #[derive(Clone, Copy)]

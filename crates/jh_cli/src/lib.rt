@@ -22,6 +22,6 @@ mod top;
 
 pub use command::{Command, command_of};
 pub use laws::{good_inputs_are_answered, words_have_one_outcome};
-pub use limits::{MOST, MOST_OF_A_JOURNAL};
+pub use limits::{MAX_JOURNAL_READ, MAX_READ};
 pub use status::Status;
 pub use top::{jailhouse, serial};

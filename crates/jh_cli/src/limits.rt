@@ -3,7 +3,7 @@
 use jh_image::MAX_FILE_SIZE;
 
 /// How many bytes are asked of a file: one more than a file may have.
-pub const MOST: usize = MAX_FILE_SIZE + 1;
+pub const MAX_READ: usize = MAX_FILE_SIZE + 1;
 
 /// How many bytes are asked of a journal's file: one more than its 32 MiB.
-pub const MOST_OF_A_JOURNAL: usize = 33_554_433;
+pub const MAX_JOURNAL_READ: usize = 33_554_433;

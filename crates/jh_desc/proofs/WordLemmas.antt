@@ -6,8 +6,9 @@ use Rattle.std.proofs.lemmas.Bool.Decides.{nat_tests}
 use Rattle.jh_num.specs.declared.rights.Rights.{Rights}
 use Rattle.jh_desc.specs.declared.descriptor.Descriptor.{Descriptor}
 use Rattle.jh_desc.specs.declared.descriptor.Descriptor.TheVariants.{Invalid, Table, Leaf}
-use Rattle.jh_desc.specs.Descriptors.{bit, address_in, rights_in, is_device, may_block, read_of, where_true, leaf_bits, word_of, IsWritable}
+use Rattle.jh_desc.specs.Descriptors.{address_in, rights_in, is_device, has_blocks, read_of, leaf_bits, word_of, IsWritable}
 use Rattle.jh_num.specs.declared.level.TheConstants.{LAST_LEVEL}
+use Rattle.jh_num.specs.Bits.{bits_where, has_bit}
 use Rattle.jh_num.specs.Levels.{slot_size}
 
 -- a fact as a number
@@ -18,7 +19,7 @@ num_most : (fact : Bool) → num fact ≤ 1
 num_most true = omega arith
 num_most false = omega arith
 
-where_num : (fact : Bool) (n : ℕ) → where_true fact n ≡ n * num fact
+where_num : (fact : Bool) (n : ℕ) → bits_where fact n ≡ n * num fact
 where_num true n = omega arith
 where_num false n = omega arith
 
@@ -87,16 +88,16 @@ same_rights : (a b c : Bool) (rights : Rights) → a ≡ rights.read → b ≡ r
 same_rights a b c rights p q r = rw (p, q, r) refl
 
 -- what a word says, part by part
-block_reads : (level word out : ℕ) (rights : Rights) (device : Bool) → bit word 0 ≡ true → bit word 1 ≡ false → may_block level ≡ true → address_in (slot_size level) word ≡ out → rights_in word ≡ rights → is_device word ≡ device → read_of word level ≡ Leaf out rights device
+block_reads : (level word out : ℕ) (rights : Rights) (device : Bool) → has_bit word 0 ≡ true → has_bit word 1 ≡ false → has_blocks level ≡ true → address_in (slot_size level) word ≡ out → rights_in word ≡ rights → is_device word ≡ device → read_of word level ≡ Leaf out rights device
 block_reads level word out rights device valid block may at can memory = rw (valid, block, may, at, can, memory) refl
 
-page_reads : (level word out : ℕ) (rights : Rights) (device : Bool) → bit word 0 ≡ true → bit word 1 ≡ true → (level == LAST_LEVEL) ≡ true → address_in (slot_size level) word ≡ out → rights_in word ≡ rights → is_device word ≡ device → read_of word level ≡ Leaf out rights device
+page_reads : (level word out : ℕ) (rights : Rights) (device : Bool) → has_bit word 0 ≡ true → has_bit word 1 ≡ true → (level == LAST_LEVEL) ≡ true → address_in (slot_size level) word ≡ out → rights_in word ≡ rights → is_device word ≡ device → read_of word level ≡ Leaf out rights device
 page_reads level word out rights device valid page last at can memory = rw (valid, page, last, at, can, memory) refl
 
 abbrev WordOf : ℕ → ℕ → Rights → Bool → ℕ → Type 0
 WordOf out kind rights device word = IsWord out kind (num rights.read) (num rights.write) (num (not rights.execute)) (num device) word
 
-is_word : (out kind n : ℕ) (rights : Rights) (device : Bool) → n ≡ kind → kind ≤ 2 → kind % 2 ≡ 0 → out % 4096 ≡ 0 → out < 2 ^ 48 → WordOf out kind rights device (out + (1 + n + (if device then 1 else 15) * 2 ^ 2 + where_true rights.read (2 ^ 6) + where_true rights.write (2 ^ 7) + 3 * 2 ^ 8 + 2 ^ 10 + where_true (not rights.execute) (2 ^ 54)))
+is_word : (out kind n : ℕ) (rights : Rights) (device : Bool) → n ≡ kind → kind ≤ 2 → kind % 2 ≡ 0 → out % 4096 ≡ 0 → out < 2 ^ 48 → WordOf out kind rights device (out + (1 + n + (if device then 1 else 15) * 2 ^ 2 + bits_where rights.read (2 ^ 6) + bits_where rights.write (2 ^ 7) + 3 * 2 ^ 8 + 2 ^ 10 + bits_where (not rights.execute) (2 ^ 54)))
 is_word out kind n rights device e small even aligned place = record {
   is = rw (e, where_num rights.read (2 ^ 6), where_num rights.write (2 ^ 7), where_num (not rights.execute) (2 ^ 54), memory_num device) refl;
   small = small;
@@ -109,15 +110,15 @@ is_word out kind n rights device e small even aligned place = record {
   place = place;
 }
 
-valid_of : (out kind word : ℕ) (rights : Rights) (device : Bool) → WordOf out kind rights device word → bit word 0 ≡ true
+valid_of : (out kind word : ℕ) (rights : Rights) (device : Bool) → WordOf out kind rights device word → has_bit word 0 ≡ true
 valid_of out kind word rights device is = is_num true (word / 1 % 2) (word_0 out kind (num rights.read) (num rights.write) (num (not rights.execute)) (num device) word is)
 
-kind_of : (out kind word : ℕ) (rights : Rights) (device page : Bool) → kind / 2 ≡ num page → WordOf out kind rights device word → bit word 1 ≡ page
+kind_of : (out kind word : ℕ) (rights : Rights) (device page : Bool) → kind / 2 ≡ num page → WordOf out kind rights device word → has_bit word 1 ≡ page
 kind_of out kind word rights device page e is = is_num page (word / 2 % 2) (word_1 out kind (num rights.read) (num rights.write) (num (not rights.execute)) (num device) word is ∙ e)
 
 rights_of : (out kind word : ℕ) (rights : Rights) (device : Bool) → WordOf out kind rights device word → rights_in word ≡ rights
 rights_of out kind word rights device is =
-    same_rights (bit word 6) (bit word 7) (not (bit word 54)) rights
+    same_rights (has_bit word 6) (has_bit word 7) (not (has_bit word 54)) rights
     (is_num rights.read (word / 64 % 2) (word_6 out kind (num rights.read) (num rights.write) (num (not rights.execute)) (num device) word is))
     (is_num rights.write (word / 128 % 2) (word_7 out kind (num rights.read) (num rights.write) (num (not rights.execute)) (num device) word is))
     (ap not (is_num (not rights.execute) (word / 18014398509481984 % 2) (word_54 out kind (num rights.read) (num rights.write) (num (not rights.execute)) (num device) word is)) ∙ not_twice rights.execute)
@@ -165,7 +166,7 @@ leaf_by_cases level out rights device low' high aligned place (inr ne) (inr ne')
     let e : level ≡ 3 = omega (arith, low', high, ne, ne') in
     subst (λ l. read_of (word_of (Leaf out rights device) l) l ≡ Leaf out rights device) (sym e) (leaf_3 out rights device (subst (λ l. out % slot_size l ≡ 0) e aligned) place)
 
-table_reads : (level word next : ℕ) → bit word 0 ≡ true → bit word 1 ≡ true → (level == LAST_LEVEL) ≡ false → address_in 4096 word ≡ next → read_of word level ≡ Table next
+table_reads : (level word next : ℕ) → has_bit word 0 ≡ true → has_bit word 1 ≡ true → (level == LAST_LEVEL) ≡ false → address_in 4096 word ≡ next → read_of word level ≡ Table next
 table_reads level word next valid table above at = rw (valid, table, above, at) refl
 
 table_written : (level next : ℕ) → level < 3 → next % 4096 ≡ 0 → next < 2 ^ 48 → read_of (next + 3) level ≡ Table next
@@ -179,7 +180,7 @@ written_reads Invalid level le can = refl
 written_reads (Table next) level le can = table_written level next can.0 can.1 can.2
 written_reads (Leaf out rights device) level le can = leaf_by_cases level out rights device can.0 le can.1 can.2 (cases_eq level 1) (cases_eq level 2)
 
-parts_alike : (a b level : ℕ) → a % 281474976710656 ≡ b % 281474976710656 → bit a 0 ≡ bit b 0 → bit a 1 ≡ bit b 1 → rights_in a ≡ rights_in b → is_device a ≡ is_device b → read_of a level ≡ read_of b level
+parts_alike : (a b level : ℕ) → a % 281474976710656 ≡ b % 281474976710656 → has_bit a 0 ≡ has_bit b 0 → has_bit a 1 ≡ has_bit b 1 → rights_in a ≡ rights_in b → is_device a ≡ is_device b → read_of a level ≡ read_of b level
 parts_alike a b level place valid table can memory = rw (place, valid, table, can, memory) refl
 
 bits_alike : (a b c a' b' c' : Bool) → a ≡ a' → b ≡ b' → c ≡ c' → (let x : Rights = record { read = a; write = b; execute = not c } in x) ≡ record { read = a'; write = b'; execute = not c' }

@@ -13,11 +13,8 @@ use Rattle.jh_num.specs.declared.rights.Rights.{Rights}
 use Rattle.jh_desc.specs.declared.descriptor.Descriptor.{Descriptor}
 use Rattle.jh_desc.specs.declared.descriptor.Descriptor.TheVariants.{Invalid, Table, Leaf}
 use Rattle.jh_num.specs.declared.level.TheConstants.{LAST_LEVEL}
+use Rattle.jh_num.specs.Bits.{bits_where, has_bit}
 use Rattle.jh_num.specs.Levels.{slot_size}
-
--- the bit of that number is set in the word
-abbrev pub bit : ℕ → ℕ → Bool
-bit word n = (word / 2 ^ n % 2) == 1
 
 -- the address in the word, of a slot of that many bytes
 abbrev pub address_in : ℕ → ℕ → ℕ
@@ -25,7 +22,7 @@ address_in size word = word % 2 ^ 48 - word % 2 ^ 48 % size
 
 -- the rights that the word of a leaf gives
 abbrev pub rights_in : ℕ → Rights
-rights_in word = record { read = bit word 6; write = bit word 7; execute = not (bit word 54) }
+rights_in word = record { read = has_bit word 6; write = has_bit word 7; execute = not (has_bit word 54) }
 
 -- the word of a leaf says that its memory is a device's
 abbrev pub is_device : ℕ → Bool
@@ -35,29 +32,25 @@ is_device word = (word / 2 ^ 4 % 4) == 0
 abbrev pub leaf_in : ℕ → ℕ → Descriptor
 leaf_in level word = Leaf (address_in (slot_size level) word) (rights_in word) (is_device word)
 
--- a block may stand at the level, which is 1 or 2
-abbrev pub may_block : ℕ → Bool
-may_block level = nat_lt 0 level && nat_lt level LAST_LEVEL
+-- the level has blocks, as levels 1 and 2 do
+abbrev pub has_blocks : ℕ → Bool
+has_blocks level = nat_lt 0 level && nat_lt level LAST_LEVEL
 
 -- what the word says at the level
 abbrev pub read_of : ℕ → ℕ → Descriptor
 read_of word level =
-    if bit word 0
-    then (if bit word 1
+    if has_bit word 0
+    then (if has_bit word 1
     then (if level == LAST_LEVEL then leaf_in level word else Table (address_in 4096 word))
-    else (if may_block level then leaf_in level word else Invalid))
+    else (if has_blocks level then leaf_in level word else Invalid))
     else Invalid
-
--- the number where the fact holds, else 0
-abbrev pub where_true : Bool → ℕ → ℕ
-where_true fact n = if fact then n else 0
 
 -- the bits of a leaf below its address, and bit 54
 abbrev pub leaf_bits : ℕ → Rights → Bool → ℕ
 leaf_bits level rights device =
-    1 + where_true (level == LAST_LEVEL) 2 + (if device then 1 else 15) * 2 ^ 2
-    + where_true rights.read (2 ^ 6) + where_true rights.write (2 ^ 7) + 3 * 2 ^ 8 + 2 ^ 10
-    + where_true (not rights.execute) (2 ^ 54)
+    1 + bits_where (level == LAST_LEVEL) 2 + (if device then 1 else 15) * 2 ^ 2
+    + bits_where rights.read (2 ^ 6) + bits_where rights.write (2 ^ 7) + 3 * 2 ^ 8 + 2 ^ 10
+    + bits_where (not rights.execute) (2 ^ 54)
 
 -- the word that says the descriptor at the level
 abbrev pub word_of : Descriptor → ℕ → ℕ

@@ -1,6 +1,7 @@
 //! Descriptors as words, and words as descriptors.
 ghost use Rattle.std.specs.Prelude.{◌≡◌, ◌+◌, ◌*◌, ◌^◌, ◌/◌, ◌%◌, ◌<◌, ◌≤◌, ◌==◌};
-ghost use Rattle.jh_desc.specs.Descriptors.{address_in, bit, is_device, leaf_bits, leaf_in, read_of, rights_in, where_true, word_of, IsWritable};
+ghost use Rattle.jh_desc.specs.Descriptors.{address_in, is_device, leaf_bits, leaf_in, read_of, rights_in, word_of, IsWritable};
+ghost use Rattle.jh_num.specs.Bits.{bits_where, has_bit};
 ghost use Rattle.jh_num.specs.Levels.{slot_size};
 
 use crate::descriptor::Descriptor;
@@ -88,8 +89,8 @@ pub fn read(word: u64, level: u8) -> Descriptor
 }
 
 /// The bits where the fact holds, else 0.
-fn where_true(fact: bool, bits: u64) -> u64
-    ensures { result ≡ where_true fact bits }
+fn bits_where(fact: bool, bits: u64) -> u64
+    ensures { result ≡ bits_where fact bits }
 {
     if fact { bits } else { 0 }
 }
@@ -100,10 +101,10 @@ fn leaf_bits(level: u8, rights: Rights, device: bool) -> u64
     ensures value { result ≡ leaf_bits level rights device }
     ensures small { result < 2 ^ 55 }
 {
-    let kind = VALID + where_true(level == LAST_LEVEL, TABLE_OR_PAGE);
+    let kind = VALID + bits_where(level == LAST_LEVEL, TABLE_OR_PAGE);
     let memory = if device { DEVICE } else { NORMAL };
-    let access = where_true(rights.read, READ) + where_true(rights.write, WRITE);
-    let never = where_true(!rights.execute, EXECUTE_NEVER);
+    let access = bits_where(rights.read, READ) + bits_where(rights.write, WRITE);
+    let never = bits_where(!rights.execute, EXECUTE_NEVER);
     kind + memory + access + INNER_SHAREABLE + ACCESSED + never
 }
 

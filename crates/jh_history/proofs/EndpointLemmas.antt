@@ -7,7 +7,7 @@ use Rattle.std.proofs.lemmas.List.Elements.{All-cons, All-head, All-tail, All-fi
 use Rattle.jh_num.proofs.Public.{Contains_head, Contains_tail}
 use Rattle.jh_vpci.specs.Space.{Space, has_vectors}
 use Rattle.jh_vpci.specs.Windows.{AreWindows}
-use Rattle.jh_vpci.specs.Words.{word_of, word_at}
+use Rattle.jh_vpci.specs.Words.{word_of, word_offset}
 use Rattle.jh_vpci.specs.Writes.{with_word, spliced, written as config_written}
 use Rattle.jh_ivshmem.specs.declared.endpoint.Endpoint.{Endpoint}
 use Rattle.jh_ivshmem.specs.declared.spec.EndpointSpec.{EndpointSpec}
@@ -159,7 +159,7 @@ follow_stays t f stays list = follow_changed t f (λ e. (stays e).spec) (λ e. s
 space_sound : (e x : Endpoint) (at width value : ℕ) → x.spec ≡ e.spec → IsSoundEndpoint e → IsSoundEndpoint x
     → IsSoundEndpoint (record x { space = config_written e.space at width value })
 space_sound e x at width value same sound whole =
-    let put = word_space e.space (word_at at) (spliced (word_of e.space (word_at at)) at width value) in
+    let put = word_space e.space (word_offset at) (spliced (word_of e.space (word_offset at)) at width value) in
     record {
       within = whole.within;
       function = put.spec ∙ sound.function ∙ ap (λ (s : EndpointSpec). s.function) (sym same);

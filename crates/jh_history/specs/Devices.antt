@@ -10,6 +10,7 @@ use Rattle.jh_check.specs.Devices.{is_shmem}
 use Rattle.jh_mmio.specs.declared.hitting.Window.{Window}
 use Rattle.jh_vpci.specs.declared.function.FunctionSpec.{FunctionSpec}
 use Rattle.jh_vpci.specs.Space.{Space, window_of}
+use Rattle.jh_vpci.specs.Windows.{window_size}
 use Rattle.jh_ivshmem.specs.declared.spec.EndpointSpec.{EndpointSpec}
 use Rattle.jh_ivshmem.specs.declared.endpoint.Endpoint.{Endpoint}
 use Rattle.jh_ivshmem.specs.Links.{endpoint_at}
@@ -38,12 +39,12 @@ pub record IsInConfig (bytes : InConfig) : Type 0 where
 pub record IsInWindow (register : InWindow) : Type 0 where
   pub bar : register.bar < 2
   pub aligned : register.at % 4 ≡ 0
-  pub within : register.at < (if register.bar == 0 then 4096 else 512)
+  pub within : register.at < window_size register.bar
 
 -- the window is one of BAR 0 or of BAR 1, and has the size of that
 pub record IsGoodWindow (window : Window) : Type 0 where
   pub bar : window.bar < 2
-  pub size : window.size ≡ (if window.bar == 0 then 4096 else 512)
+  pub size : window.size ≡ window_size window.bar
 
 -- ---- endpoints
 

@@ -1,5 +1,6 @@
 //! What an access is, and what it may reach.
-ghost use Rattle.std.specs.Prelude.{◌≡◌, ◌/◌, ◌%◌, ◌-◌, ◌^◌, ◌==◌, ◌<◌, ◌⊎◌, if◌then◌else◌};
+ghost use Rattle.std.specs.Prelude.{◌≡◌, ◌/◌, ◌%◌, ◌-◌, ◌^◌, ◌<◌, ◌⊎◌};
+ghost use Rattle.jh_vpci.specs.Windows.{window_size};
 ghost use Rattle.jh_history.specs.Devices.{IsInConfig, IsInWindow};
 
 use crate::place::Places;
@@ -137,7 +138,7 @@ impl Register {
     pub(crate) fn at(&self) -> u32
         ensures value { result ≡ self.now.at }
         ensures aligned { result % 4 ≡ 0 }
-        ensures within { result < (if self.now.bar == 0 then 4096 else 512) }
+        ensures within { result < window_size self.now.bar }
     {
         self.at
     }

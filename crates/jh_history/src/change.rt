@@ -13,6 +13,7 @@ use crate::cells::{is_on_board, program_of};
 use crate::entry::{Act, Entry, Settled};
 use crate::phases::is_named;
 use jh_call::Call;
+use jh_cellcfg::MAX_CPUS;
 use jh_cpu::{Cpu, Mode};
 use jh_script::Image;
 
@@ -214,7 +215,7 @@ fn act_on_all(image: &Image, call: Option<&OpenCall>, entry: &Entry, cpus: &mut 
     requires cpus { length cpus.old ≡ 16 }
     ensures { (i : ℕ) (state : TheCpu) → slice_get cpus.old i ≡ Some state → slice_get cpus.new i ≡ Some (acted image.now (option_copied call.entry) entry.now.act entry.now.cpu i state) }
 {
-    for i in 0..16u8 {
+    for i in 0..MAX_CPUS as u8 {
         act_on(image, call, entry, i, &mut cpus[usize::from(i)]);
     }
 }
@@ -228,7 +229,7 @@ pub fn cpus_after(cpus: &mut [Cpu], image: &Image, call: Option<&OpenCall>, entr
 {
     if is_for_many(&entry.act) {
         act_on_all(image, call, entry, cpus);
-    } else if entry.cpu < 16 {
+    } else if usize::from(entry.cpu) < MAX_CPUS {
         Change::of(&entry.act).apply(&mut cpus[usize::from(entry.cpu)]);
     }
 }

@@ -14,8 +14,8 @@ use crate::call::Creation;
 use crate::cells::is_on_board;
 use crate::counting::sum_of_pages;
 use crate::laws::admitted_roots_are_sound;
-use jh_cellcfg::CellConfig;
-use jh_check::{MOST_CELLS, refusal_of, refusal_without_cpus, with_bit};
+use jh_cellcfg::{CellConfig, MAX_CPUS};
+use jh_check::{MAX_CELLS, refusal_of, refusal_without_cpus, with_bit};
 use jh_cpu::Cpu;
 use jh_num::NoMemory;
 use jh_script::Image;
@@ -37,7 +37,7 @@ fn given(image: &Image, cpus: &[Cpu], caller: u8) -> u16
 {
     admitted_roots_are_sound(image);
     let mut may = 0;
-    for cpu in 0..16u8 {
+    for cpu in 0..MAX_CPUS as u8 {
         let index = usize::from(cpu);
         may = with_bit(may, index, may_give(image, cpus[index], caller, cpu));
     }
@@ -58,7 +58,7 @@ fn refusal_with(
     requires kept { length cells.now ≡ 15 → may ≡ 0 }
     ensures { IfOk result (λ refusal. refusal ≡ refusal_of image.now.system cells.now config.now (has_bit may) pages (pool_pages image.now.system)) }
 {
-    if cells.len() == MOST_CELLS {
+    if cells.len() == MAX_CELLS {
         return Ok(refusal_without_cpus(&image.system, cells, config));
     }
     let pool = pool_pages(&image.system);
@@ -96,7 +96,7 @@ pub fn unless_refused(config: BoxedCell, refusal: Option<i64>) -> Creation
 /// What comes of a create by the caller which has read this, beside 15 cells at most. `None` is told where a CPU may be
 /// given away beside 15 of them, which never is: each has a CPU for itself, and the caller is another. It takes memory
 /// for an index of the new cell's regions, and for nothing else.
-pub(crate) fn judged(
+pub(crate) fn creation_by(
     alloc: Global,
     image: &Image,
     cells: &[CellConfig],
@@ -114,7 +114,7 @@ pub(crate) fn judged(
     match read {
         Creation::Accepted { config } => {
             let may = given(image, cpus, caller);
-            if cells.len() == MOST_CELLS && may != 0 {
+            if cells.len() == MAX_CELLS && may != 0 {
                 return Ok(None);
             }
             let refusal = refusal_by(alloc, image, cells, may, &config)?;

@@ -12,6 +12,7 @@ use crate::entry::Act;
 use crate::known::Known;
 use crate::phases::state_word;
 use jh_call::{Call, CpuSeen, Seen, answer, decode};
+use jh_cellcfg::MAX_CPUS;
 use jh_cpu::{Cpu, Mode};
 
 /// The state word of the live cell with the id, 0 for root; `None` where no live cell has it.
@@ -53,7 +54,7 @@ fn cpu_seen_by<K: Known>(known: &K, cell: u32, root: bool, cpu: u64) -> CpuSeen
     ensures own { root ≡ true → result ≢ CpuSeen.Foreign }
 {
     known.has_few_cpus();
-    if cpu >= 16 || !known.has_cpu(cpu as u8) {
+    if cpu >= MAX_CPUS as u64 || !known.has_cpu(cpu as u8) {
         return CpuSeen::Absent;
     }
     let state = known.cpu(cpu as u8);

@@ -19,7 +19,7 @@ use crate::cells::is_on_board;
 use crate::comm::{PageChange, PageWrite};
 use crate::entry::{Act, Entry, Heard, Settled};
 use jh_call::Call;
-use jh_cellcfg::CellConfig;
+use jh_cellcfg::{CellConfig, MAX_CPUS};
 use jh_comm::{
     MESSAGE_RECONFIG_COMPLETED, MESSAGE_SHUTDOWN_REQUEST, STATE_FAILED, STATE_RUNNING,
     STATE_SHUT_DOWN,
@@ -75,7 +75,7 @@ fn is_any_left(image: &Image, cell: u32, cpus: &[Cpu]) -> bool
     requires { length cpus.now ≡ 16 }
     ensures { (state : ℕ → TheCpu) → ((i : ℕ) → i < 16 → slice_get cpus.now i ≡ Some (state i)) → result ≡ any_below (λ i. is_on_board image.now i && is_left cell (state i)) 16 }
 {
-    for i in 0..16u8 {
+    for i in 0..MAX_CPUS as u8 {
         if is_on_board(image, i) && is_left(cell, cpus[usize::from(i)]) {
             return true;
         }

@@ -7,7 +7,7 @@ use Rattle.jh_spec.specs.declared.fault.JsonFault.{JsonFault}
 use Rattle.jh_spec.specs.declared.fault.JsonFault.TheVariants as boards
 use Rattle.jh_image.specs.declared.fault.ImageCause.{ImageCause}
 use Rattle.jh_image.specs.Files.{Contents, Lists}
-use Rattle.jh_image.specs.Causes.{IsBoardRefusal}
+use Rattle.jh_image.specs.Private.Causes.{IsBoardRefusal}
 use Rattle.jh_image.specs.Order.{ask_for, preload_name, program_name, board_files, AsksBoardUntil, until_the_board, until_a_file}
 
 -- a cause that is no failed read is found in what was handed out

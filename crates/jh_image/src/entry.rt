@@ -6,7 +6,7 @@ ghost use Rattle.jh_image.specs.Boards.{preload_told, program_told, is_cell_name
 
 use crate::board::{PreloadFile, ProgramFile};
 use crate::file_name::FileName;
-use jh_cellcfg::are_printable;
+use jh_cellcfg::{MAX_CPUS, are_printable};
 use jh_num::{NoMemory, Seq};
 use jh_spec::json::{has_only, number_at, number_below, text_at};
 use serde_json::Value;
@@ -55,7 +55,7 @@ fn cell_at<'v>(object: &'v Value, name: &str) -> Option<&'v str>
 fn cpu_at(object: &Value, name: &str) -> Option<u8>
     ensures { result ≡ told_at (number_below 16) name.now (view object.now) }
 {
-    let number = number_below(object.get(name)?, 16)?;
+    let number = number_below(object.get(name)?, MAX_CPUS as u64)?;
     Some(number as u8)
 }
 

@@ -8,7 +8,8 @@ use Rattle.jh_ivshmem.specs.declared.endpoint.Endpoint.{Endpoint}
 use Rattle.jh_ivshmem.specs.declared.spec.EndpointSpec.{EndpointSpec}
 use Rattle.jh_ivshmem.specs.Specs.{is_device, is_peer, AreEndpointsApart}
 use Rattle.jh_ivshmem.specs.Changes.{changed}
-use Rattle.jh_ivshmem.specs.Keys.{key_of, is_key_apart}
+use Rattle.jh_ivshmem.specs.Keys.{key_of}
+use Rattle.jh_ivshmem.specs.Private.Keys.{is_key_apart}
 
 -- the two numbers that name an endpoint
 pub device_is : (cell device : ℕ) (a : EndpointSpec) → is_device cell device a ≡ true → (a.cell ≡ cell) × (a.device ≡ device)

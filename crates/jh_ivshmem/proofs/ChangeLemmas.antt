@@ -6,7 +6,7 @@ use Rattle.jh_ivshmem.specs.declared.change.EndpointChange.TheVariants.{Raise, W
 use Rattle.jh_ivshmem.specs.declared.endpoint.Endpoint.{Endpoint}
 use Rattle.jh_ivshmem.specs.Endpoint.{raised, taken, cleared, is_open}
 use Rattle.jh_ivshmem.specs.Registers.{register_written, is_in_table}
-use Rattle.jh_ivshmem.specs.Changes.{after}
+use Rattle.jh_ivshmem.specs.Private.Changes.{after}
 use Rattle.jh_ivshmem.specs.Specs.{IsInItsLimits}
 use Rattle.jh_ivshmem.specs.Keys.{IsWholeEndpoint}
 

@@ -16,8 +16,9 @@ use Rattle.jh_ivshmem.specs.declared.endpoint.Endpoint.{Endpoint}
 use Rattle.jh_ivshmem.specs.declared.spec.EndpointSpec.{EndpointSpec}
 use Rattle.jh_ivshmem.specs.declared.key.Key.{Key}
 use Rattle.jh_ivshmem.specs.Specs.{AreEndpointsApart, IsBefore}
-use Rattle.jh_ivshmem.specs.Changes.{is_meant}
-use Rattle.jh_ivshmem.specs.Keys.{key_of, is_key_meant, IsWholeEndpoint, AreKept}
+use Rattle.jh_ivshmem.specs.Private.Changes.{is_meant}
+use Rattle.jh_ivshmem.specs.Keys.{key_of, IsWholeEndpoint, AreKept}
+use Rattle.jh_ivshmem.specs.Private.Keys.{is_key_meant}
 
 pub key_meant : (whom : Whom) (e : Endpoint) → is_key_meant whom (key_of e) ≡ is_meant whom e.spec
 key_meant (Device cell device) e = refl

@@ -7,7 +7,7 @@ use Rattle.jh_vpci.proofs.Public.{differs}
 use Rattle.jh_ivshmem.specs.declared.endpoint.Endpoint.{Endpoint}
 use Rattle.jh_ivshmem.specs.declared.vector.Vector.{Vector}
 use Rattle.jh_ivshmem.specs.declared.spec.EndpointSpec.{EndpointSpec}
-use Rattle.jh_ivshmem.specs.Specs.{count_of, is_device, is_peer, is_other}
+use Rattle.jh_ivshmem.specs.Specs.{vector_count, is_device, is_peer, is_other}
 use Rattle.jh_ivshmem.specs.Endpoint.{is_open, raised, cleared, vector_at, fresh_vector}
 use Rattle.jh_ivshmem.specs.Registers.{register_written, with_word, is_in_table}
 use Rattle.jh_ivshmem.specs.Changes.{changed}
@@ -42,15 +42,15 @@ part_4 true false c d h = refl
 part_4 false b c d h = refl
 
 pub closed_control : (v : ℕ) (e : Endpoint) → e.control ≡ false → raised v e ≡ e
-closed_control v e h = closed v e (part_1 e.control (nat_lt v (count_of e.spec)) (is_function_open e.space)
+closed_control v e h = closed v e (part_1 e.control (nat_lt v (vector_count e.spec)) (is_function_open e.space)
     (not (has_vectors e.spec.function) || not (vector_at e v).masked) h)
 
-pub closed_count : (v : ℕ) (e : Endpoint) → count_of e.spec ≤ v → raised v e ≡ e
-closed_count v e h = closed v e (part_2 e.control (nat_lt v (count_of e.spec)) (is_function_open e.space)
-    (not (has_vectors e.spec.function) || not (vector_at e v).masked) (not_below v (count_of e.spec) h))
+pub closed_count : (v : ℕ) (e : Endpoint) → vector_count e.spec ≤ v → raised v e ≡ e
+closed_count v e h = closed v e (part_2 e.control (nat_lt v (vector_count e.spec)) (is_function_open e.space)
+    (not (has_vectors e.spec.function) || not (vector_at e v).masked) (not_below v (vector_count e.spec) h))
 
 pub closed_function : (v : ℕ) (e : Endpoint) → is_function_open e.space ≡ false → raised v e ≡ e
-closed_function v e h = closed v e (part_3 e.control (nat_lt v (count_of e.spec)) (is_function_open e.space)
+closed_function v e h = closed v e (part_3 e.control (nat_lt v (vector_count e.spec)) (is_function_open e.space)
     (not (has_vectors e.spec.function) || not (vector_at e v).masked) h)
 
 silent : (vectors master enabled masked : Bool) → vectors ≡ true → (master && enabled && not masked) ≡ false
@@ -91,7 +91,7 @@ shut true false h g = cc
 shut false b h g = cc
 
 pub closed_vector : (v : ℕ) (e : Endpoint) → has_vectors e.spec.function ≡ true → (vector_at e v).masked ≡ true → raised v e ≡ e
-closed_vector v e some h = closed v e (part_4 e.control (nat_lt v (count_of e.spec)) (is_function_open e.space)
+closed_vector v e some h = closed v e (part_4 e.control (nat_lt v (vector_count e.spec)) (is_function_open e.space)
     (not (has_vectors e.spec.function) || not (vector_at e v).masked)
     (shut (has_vectors e.spec.function) (vector_at e v).masked some h))
 

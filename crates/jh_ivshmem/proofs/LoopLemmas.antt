@@ -12,8 +12,10 @@ use Rattle.jh_ivshmem.specs.declared.change.Whom.TheVariants.{Device}
 use Rattle.jh_ivshmem.specs.Specs.{is_device}
 use Rattle.jh_ivshmem.specs.declared.key.Key.{Key}
 use Rattle.jh_ivshmem.specs.declared.endpoint.Endpoint.{Endpoint}
-use Rattle.jh_ivshmem.specs.Changes.{changed, after, is_meant}
-use Rattle.jh_ivshmem.specs.Keys.{IsWholeEndpoint, AreKept, key_of, is_key_meant}
+use Rattle.jh_ivshmem.specs.Changes.{changed}
+use Rattle.jh_ivshmem.specs.Private.Changes.{after, is_meant}
+use Rattle.jh_ivshmem.specs.Keys.{IsWholeEndpoint, AreKept, key_of}
+use Rattle.jh_ivshmem.specs.Private.Keys.{is_key_meant}
 use Rattle.jh_ivshmem.proofs.ChangeLemmas.{after_keeps, after_sound}
 use Rattle.jh_ivshmem.proofs.KeyLemmas.{key_meant, kept_set, found_within, found_none}
 use Rattle.jh_ivshmem.proofs.ApartLemmas.{set_device}

@@ -16,7 +16,8 @@ use Rattle.jh_ivshmem.specs.declared.key.Key.{Key}
 use Rattle.jh_ivshmem.specs.Specs.{AreEndpointsApart, IsBefore, is_device, is_before}
 use Rattle.jh_ivshmem.specs.Endpoint.{fresh}
 use Rattle.jh_ivshmem.specs.Links.{joined, earlier}
-use Rattle.jh_ivshmem.specs.Keys.{AreKept, AreInOrder, IsWholeEndpoint, key_of, is_key_before, is_key_meant, is_search_end, pending_by}
+use Rattle.jh_ivshmem.specs.Keys.{AreKept, IsWholeEndpoint, key_of}
+use Rattle.jh_ivshmem.specs.Private.Keys.{AreInOrder, is_key_before, is_key_meant, is_search_end, pending_by}
 use Rattle.jh_ivshmem.proofs.ApartLemmas.{peer_turned, device_turned}
 
 -- two numbers, the first of which counts first, are lower than two others

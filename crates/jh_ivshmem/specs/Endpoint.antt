@@ -4,7 +4,7 @@ use Rattle.jh_vpci.specs.Space.{has_vectors, is_open as is_function_open, fresh 
 use Rattle.jh_ivshmem.specs.declared.spec.EndpointSpec.{EndpointSpec}
 use Rattle.jh_ivshmem.specs.declared.vector.Vector.{Vector}
 use Rattle.jh_ivshmem.specs.declared.endpoint.Endpoint.{Endpoint}
-use Rattle.jh_ivshmem.specs.Specs.{count_of}
+use Rattle.jh_ivshmem.specs.Specs.{vector_count}
 
 -- a vector as after reset: masked, its words 0, not pending
 abbrev pub fresh_vector : Vector
@@ -22,7 +22,7 @@ vector_at e v = slice_index_or e.vectors v fresh_vector
 -- masked
 abbrev pub is_open : Endpoint → ℕ → Bool
 is_open e v =
-    e.control && nat_lt v (count_of e.spec) && is_function_open e.space
+    e.control && nat_lt v (vector_count e.spec) && is_function_open e.space
     && (not (has_vectors e.spec.function) || not (vector_at e v).masked)
 
 -- the endpoint after a raise: an open vector becomes pending, and one-shot turns interrupt control off; any other raise

@@ -6,3 +6,4 @@ pub mod Changes
 pub mod Links
 pub mod Keys
 pub mod Lending
+pub mod Private

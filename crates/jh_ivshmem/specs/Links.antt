@@ -75,9 +75,13 @@ earlier None other = other
 earlier (Some one) None = Some one
 earlier (Some one) (Some other) = if nat_lt other.0 one.0 then Some other else Some one
 
+-- the endpoint's device with the vector, if there is one, where the endpoint is the cell's
+abbrev pub vector_for : ℕ → EndpointSpec → Option ℕ → Option (ℕ × ℕ)
+vector_for cell spec vector = if spec.cell == cell then option_map (λ v. (spec.device, v)) vector else None
+
 -- the endpoint's device with its lowest pending vector, where it is the cell's
 abbrev pub pending_at : ℕ → Endpoint → Option (ℕ × ℕ)
-pending_at cell e = if e.spec.cell == cell then option_map (λ v. (e.spec.device, v)) (pending_in e) else None
+pending_at cell e = vector_for cell e.spec (pending_in e)
 
 -- the cell's pending vector of the lowest device, then of the lowest number
 abbrev pub pending_of : ℕ → List Endpoint → Option (ℕ × ℕ)

@@ -41,8 +41,8 @@ pub record AreEndpointsApart (one other : EndpointSpec) : Type 0 where
   pub peers : is_peer one.bdf one.id other ≡ false
 
 -- how many vectors the endpoint has: those of MSI-X, or a single one without
-abbrev pub count_of : EndpointSpec → ℕ
-count_of spec = if has_vectors spec.function then spec.function.vectors else 1
+abbrev pub vector_count : EndpointSpec → ℕ
+vector_count spec = if has_vectors spec.function then spec.function.vectors else 1
 
 -- the write of the value to the endpoint's word of its state table
 abbrev pub slot_of : EndpointSpec → ℕ → Slot

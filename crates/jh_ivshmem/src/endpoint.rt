@@ -2,6 +2,7 @@
 ghost use Rattle.std.specs.Prelude.{◌≡◌, ◌<◌, ◌≤◌, ◌+◌, length, position, IfSome};
 
 use crate::change::EndpointChange;
+use crate::registers::{ID, INTERRUPT_CONTROL, PEERS, STATE};
 use crate::spec::EndpointSpec;
 use crate::vector::Vector;
 use jh_vpci::ConfigSpace;
@@ -17,9 +18,6 @@ pub struct Endpoint {
     pub vectors: [Vector; 16],
 }
 
-/// Where the register of interrupt control stands in BAR 0.
-const INTERRUPT_CONTROL: u32 = 0x08;
-
 /// The first of the vectors that is pending.
 fn first_pending(vectors: &[Vector]) -> Option<usize>
     ensures value { result ≡ position (λ vector. vector.pending) vectors.now }
@@ -29,7 +27,7 @@ fn first_pending(vectors: &[Vector]) -> Option<usize>
 }
 
 impl Endpoint {
-    ghost use Rattle.jh_ivshmem.specs.Changes.{after};
+    ghost use Rattle.jh_ivshmem.specs.Private.Changes.{after};
     ghost use Rattle.jh_ivshmem.specs.Endpoint.{fresh, is_open, raised, taken, cleared, pending_in};
     ghost use Rattle.jh_ivshmem.specs.Keys.{IsWholeEndpoint};
     ghost use Rattle.jh_ivshmem.specs.Registers.{register_of, register_written, is_in_table};
@@ -53,7 +51,7 @@ impl Endpoint {
         ensures value { result ≡ is_open self.now v }
     {
         self.control
-            && v < usize::from(self.spec.count())
+            && v < usize::from(self.spec.vector_count())
             && self.space.open()
             && (!self.spec.function.has_vectors() || !self.vectors[v].masked)
     }
@@ -120,10 +118,10 @@ impl Endpoint {
     {
         if bar == 0 {
             match at {
-                0x00 => u32::from(self.spec.id),
-                0x04 => u32::from(self.spec.peers),
+                ID => u32::from(self.spec.id),
+                PEERS => u32::from(self.spec.peers),
                 INTERRUPT_CONTROL => u32::from(self.control),
-                0x10 => self.state,
+                STATE => self.state,
                 _ => 0,
             }
         } else if self.is_in_table(at) {

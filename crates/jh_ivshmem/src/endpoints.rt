@@ -3,27 +3,25 @@ ghost use Rattle.std.specs.Prelude.{◌≡◌, ℕ, ◌+◌, ◌*◌, ◌%◌, �
 ghost use Rattle.std.specs.List.{list_all, insert};
 ghost use Rattle.std.specs.List.Sorted.{IsPartitionPoint};
 ghost use Rattle.jh_vpci.specs.Space.{Space};
+ghost use Rattle.jh_vpci.specs.Windows.{window_size};
 ghost use Rattle.jh_ivshmem.specs.Specs.{IsInItsLimits, AreEndpointsApart, is_device, is_concerned, slot_of};
 ghost use Rattle.jh_ivshmem.specs.Registers.{register_of};
-ghost use Rattle.jh_ivshmem.specs.Changes.{changed, is_meant, after};
+ghost use Rattle.jh_ivshmem.specs.Changes.{changed};
+ghost use Rattle.jh_ivshmem.specs.Private.Changes.{is_meant, after};
 ghost use Rattle.jh_ivshmem.specs.declared.change.Whom.TheVariants.{Device};
-ghost use Rattle.jh_ivshmem.specs.Keys.{AreKept, AreInOrder, IsWholeEndpoint, is_key_apart, is_key_before, is_key_meant, pending_by};
+ghost use Rattle.jh_ivshmem.specs.Keys.{AreKept, IsWholeEndpoint};
+ghost use Rattle.jh_ivshmem.specs.Private.Keys.{AreInOrder, is_key_apart, is_key_before, is_key_meant, pending_by};
 ghost use Rattle.jh_ivshmem.specs.Links.{endpoint_at, ForEndpoint, besides, joined, told_of, rung, state_written, written, slot_written, reset_of, left_by, pending_of, taken_of, earlier};
 
 use crate::change::{EndpointChange, Whom};
 use crate::endpoint::Endpoint;
 use crate::key::Key;
+use crate::registers::{DOORBELL, STATE};
 use crate::spec::{EndpointSpec, Slot};
 use jh_num::{NoMemory, make_room};
 use jh_vpci::ConfigSpace;
 use std::alloc::Global;
 use std::marker::Model;
-
-/// Where the doorbell register stands in BAR 0.
-const DOORBELL: u32 = 0x0c;
-
-/// Where the state register stands in BAR 0.
-const STATE: u32 = 0x10;
 
 /// The endpoints, in the order of their cells and in each of its devices. One is found by halving, and so
 /// are those of a cell; all of a link by one pass over the keys; joining and leaving move those behind.
@@ -155,14 +153,14 @@ fn drop_key(keys: &mut Vec<Key>, whom: Whom)
     keys.retain(|key| !key.is_meant(whom));
 }
 
-/// Whether the register is the doorbell: offset 0x0c of BAR 0.
+/// Whether the register is the doorbell of BAR 0.
 fn is_doorbell(bar: u8, at: u32) -> bool
     ensures { result ≡ ((bar == 0) && (at == 0x0c)) }
 {
     bar == 0 && at == DOORBELL
 }
 
-/// Whether the register is the state: offset 0x10 of BAR 0.
+/// Whether the register is the state in BAR 0.
 fn is_state(bar: u8, at: u32) -> bool
     ensures { result ≡ ((bar == 0) && (at == 0x10)) }
 {
@@ -352,7 +350,7 @@ impl Endpoints {
         requires there { IsSome (endpoint_at cell device self.now.list) }
         requires bar { bar < 2 }
         requires aligned { at % 4 ≡ 0 }
-        requires within { at < (if bar == 0 then 4096 else 512) }
+        requires within { at < window_size bar }
         ensures { ForEndpoint cell device self.now.list (λ e. result ≡ register_of e bar at) }
     {
         self.named(cell, device).register(bar, at)
@@ -364,7 +362,7 @@ impl Endpoints {
         requires there { IsSome (endpoint_at cell device self.old.list) }
         requires bar { bar < 2 }
         requires aligned { at % 4 ≡ 0 }
-        requires within { at < (if bar == 0 then 4096 else 512) }
+        requires within { at < window_size bar }
         ensures list { ForEndpoint cell device self.old.list (λ e. self.new.list ≡ written e bar at value self.old.list) }
         ensures others { ForEndpoint cell device self.old.list (λ e. besides (is_concerned e.spec) self.new.list ≡ besides (is_concerned e.spec) self.old.list) }
         ensures slot { ForEndpoint cell device self.old.list (λ e. result ≡ slot_written e bar at value) }

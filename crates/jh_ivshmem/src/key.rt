@@ -17,7 +17,8 @@ pub(crate) struct Key {
 }
 
 impl Key {
-    ghost use Rattle.jh_ivshmem.specs.Keys.{key_of, IsWholeEndpoint, is_key_apart, is_key_before, is_key_meant, is_search_end, pending_by};
+    ghost use Rattle.jh_ivshmem.specs.Keys.{key_of, IsWholeEndpoint};
+    ghost use Rattle.jh_ivshmem.specs.Private.Keys.{is_key_apart, is_key_before, is_key_meant, is_search_end, pending_by};
 
     /// The names of the endpoint, and its lowest pending vector.
     pub(crate) fn of(endpoint: &Endpoint) -> Key
@@ -73,6 +74,14 @@ impl Key {
     pub(crate) fn is_apart(&self, s: &EndpointSpec) -> bool
         ensures { result ≡ is_key_apart s.now self.now }
     {
-        !(self.cell == s.cell && self.device == s.device) && !(self.bdf == s.bdf && self.id == s.id)
+        let device = Whom::Device {
+            cell: s.cell,
+            device: s.device,
+        };
+        let peer = Whom::Peer {
+            bdf: s.bdf,
+            id: u16::from(s.id),
+        };
+        !self.is_meant(device) && !self.is_meant(peer)
     }
 }

@@ -2,7 +2,7 @@
 //! its contract is the law.
 ghost use Rattle.std.specs.Prelude.{◌≡◌, ◌≢◌, ℕ, ◌<◌, ◌≤◌, true, false, not, All, Some, List, length, slice_index_or};
 ghost use Rattle.jh_vpci.specs.Space.{Space, has_vectors};
-ghost use Rattle.jh_ivshmem.specs.Specs.{AreEndpointsApart, count_of, is_device, is_peer};
+ghost use Rattle.jh_ivshmem.specs.Specs.{AreEndpointsApart, vector_count, is_device, is_peer};
 ghost use Rattle.jh_ivshmem.specs.Endpoint.{is_open, raised, vector_at};
 ghost use Rattle.jh_ivshmem.specs.Changes.{changed};
 ghost use Rattle.jh_ivshmem.specs.Links.{ForEndpoint, IsOnAnotherLink, is_pending, joined, rung, written, reset_of, left_by, pending_of, taken_of};
@@ -16,7 +16,7 @@ use crate::spec::EndpointSpec;
 /// is masked, or the vector is.
 pub fn a_raise_of_a_closed_vector_is_forgotten()
     ensures control { (v : ℕ) (e : Endpoint) → e.control ≡ false → raised v e ≡ e }
-    ensures count { (v : ℕ) (e : Endpoint) → count_of e.spec ≤ v → raised v e ≡ e }
+    ensures count { (v : ℕ) (e : Endpoint) → vector_count e.spec ≤ v → raised v e ≡ e }
     ensures bus_master { (v : ℕ) (e : Endpoint) → has_vectors e.space.spec ≡ true → e.space.bus_master ≡ false → raised v e ≡ e }
     ensures enabled { (v : ℕ) (e : Endpoint) → has_vectors e.space.spec ≡ true → e.space.enabled ≡ false → raised v e ≡ e }
     ensures function_mask { (v : ℕ) (e : Endpoint) → has_vectors e.space.spec ≡ true → e.space.masked ≡ true → raised v e ≡ e }

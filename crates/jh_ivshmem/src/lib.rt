@@ -7,6 +7,7 @@ mod endpoint;
 mod endpoints;
 mod key;
 mod laws;
+mod registers;
 mod spec;
 mod vector;
 

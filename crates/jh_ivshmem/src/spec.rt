@@ -24,11 +24,11 @@ pub struct Slot {
 }
 
 impl EndpointSpec {
-    ghost use Rattle.jh_ivshmem.specs.Specs.{count_of, slot_of};
+    ghost use Rattle.jh_ivshmem.specs.Specs.{vector_count, slot_of};
 
     /// How many vectors the endpoint has: those of MSI-X, or a single one without.
-    pub fn count(&self) -> u8
-        ensures { result ≡ count_of self.now }
+    pub fn vector_count(&self) -> u8
+        ensures { result ≡ vector_count self.now }
     {
         if self.function.has_vectors() {
             self.function.vectors

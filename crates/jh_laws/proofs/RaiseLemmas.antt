@@ -8,7 +8,7 @@ use Rattle.jh_vpci.specs.Space.{Space, has_vectors, is_open as is_function_open}
 use Rattle.jh_vpci.specs.Writes.{written as config_written}
 use Rattle.jh_ivshmem.specs.declared.endpoint.Endpoint.{Endpoint}
 use Rattle.jh_ivshmem.specs.declared.vector.Vector.{Vector}
-use Rattle.jh_ivshmem.specs.Specs.{is_device, is_peer, is_other, count_of}
+use Rattle.jh_ivshmem.specs.Specs.{is_device, is_peer, is_other, vector_count}
 use Rattle.jh_ivshmem.specs.Changes.{changed}
 use Rattle.jh_ivshmem.specs.Endpoint.{is_open, raised, taken, vector_at, fresh_vector}
 use Rattle.jh_ivshmem.specs.Registers.{register_written, with_word, is_in_table}
@@ -72,11 +72,11 @@ become_same image f entry e b spec same quiet stays own = record {
 -- an open vector is one of the sixteen
 open_within : (e : Endpoint) (v : ℕ) → IsSoundEndpoint e → is_open e v ≡ true → v < length e.vectors
 open_within e v sound opened =
-    let most = and_parts (e.control && nat_lt v (count_of e.spec) && is_function_open e.space) (not (has_vectors e.spec.function) || not (vector_at e v).masked) opened in
-    let more = and_parts (e.control && nat_lt v (count_of e.spec)) (is_function_open e.space) most.0 in
-    let lt : v < count_of e.spec = ltb-true v (count_of e.spec) (and_parts e.control (nat_lt v (count_of e.spec)) more.0).1 in
+    let most = and_parts (e.control && nat_lt v (vector_count e.spec) && is_function_open e.space) (not (has_vectors e.spec.function) || not (vector_at e v).masked) opened in
+    let more = and_parts (e.control && nat_lt v (vector_count e.spec)) (is_function_open e.space) most.0 in
+    let lt : v < vector_count e.spec = ltb-true v (vector_count e.spec) (and_parts e.control (nat_lt v (vector_count e.spec)) more.0).1 in
     let few : e.spec.function.vectors ≤ 16 = sound.within.vectors in
-    let count : count_of e.spec ≤ 16 = count_few (has_vectors e.spec.function) in
+    let count : vector_count e.spec ≤ 16 = count_few (has_vectors e.spec.function) in
     let long : length e.vectors ≡ 16 = sound.vectors in
     omega arith
   where

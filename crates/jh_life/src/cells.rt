@@ -13,7 +13,7 @@ use crate::copy::copy_of_system;
 use crate::counting::refusal_by_pages;
 use crate::cpus::free_cpus;
 use jh_cellcfg::{CellConfig, SystemConfig};
-use jh_check::{MOST_CELLS, mask_of, refusal_of, refusal_without_cpus};
+use jh_check::{MAX_CELLS, mask_of, refusal_of, refusal_without_cpus};
 use jh_num::error::EPERM;
 use jh_num::{NoMemory, make_room};
 use jh_shape::{cell_pages, pages_of};
@@ -128,7 +128,7 @@ impl Cells {
             return Ok(Some(EPERM));
         }
         let live = self.configs.as_slice();
-        if live.len() == MOST_CELLS {
+        if live.len() == MAX_CELLS {
             return Ok(refusal_without_cpus(&self.system, live, new));
         }
         let free = free_cpus(owned, caller);

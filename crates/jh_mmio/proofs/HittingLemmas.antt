@@ -11,8 +11,9 @@ use Rattle.jh_cellcfg.specs.Regions.{has_address, has_size, is_page_mapped, virt
 use Rattle.jh_cellcfg.proofs.Public.{has_address_from}
 use Rattle.jh_mmio.specs.declared.hitting.Window.{Window}
 use Rattle.jh_mmio.specs.declared.hitting.Hitting.TheVariants.{Subpage, Nothing}
-use Rattle.jh_mmio.specs.Index.{IsNumberAt, IsRegionAt}
-use Rattle.jh_mmio.specs.Dispatch.{lies_between, is_at_closed, takes_all, has_whole, unless_closed, has_right, lets_through, by_subpage, by_ecam, by_window, window_has, behind_regions, hitting}
+use Rattle.jh_mmio.specs.Index.{IsRegionAt}
+use Rattle.jh_mmio.specs.Private.Numbers.{IsNumberAt}
+use Rattle.jh_mmio.specs.Dispatch.{lies_between, is_at_closed, takes_all, has_whole, unless_closed, has_right, lets_through, by_subpage, by_ecam, by_window, window_has, hitting_behind_regions, hitting}
 use Rattle.jh_num.specs.Numbers.{item_number}
 use Rattle.jh_mmio.proofs.AccessLemmas.{lies_parts}
 
@@ -96,19 +97,19 @@ pub whole_none : (regions : List Region) (at n : ℕ) → 0 < n → IsRegionAt r
 whole_none regions at n some is closed = none_by regions closed at n (find (takes_all closed at n) regions) some is refl
 
 -- behind the regions, by the window that is found
-pub behind_window : (ecam : Range) (windows : List Window) (at n : ℕ) (first : Option ℕ) → lies_between ecam.start ecam.end at n ≡ false → first ≡ position (window_has at n) windows → option_map_or (by_window at n) first Nothing ≡ behind_regions ecam windows at n
+pub behind_window : (ecam : Range) (windows : List Window) (at n : ℕ) (first : Option ℕ) → lies_between ecam.start ecam.end at n ≡ false → first ≡ position (window_has at n) windows → option_map_or (by_window at n) first Nothing ≡ hitting_behind_regions ecam.start ecam.end windows at n
 behind_window ecam windows at n first past is =
     ap (λ (o : Option ℕ). option_map_or (by_window at n) o Nothing) is
-    ∙ sym (ap (λ b. cond b (by_ecam ecam at n) (option_map_or (by_window at n) (position (window_has at n) windows) Nothing)) past)
+    ∙ sym (ap (λ b. cond b (by_ecam ecam.start at n) (option_map_or (by_window at n) (position (window_has at n) windows) Nothing)) past)
 
-pub behind_ecam : (ecam : Range) (windows : List Window) (at n : ℕ) → lies_between ecam.start ecam.end at n ≡ true → by_ecam ecam at n ≡ behind_regions ecam windows at n
-behind_ecam ecam windows at n lies = sym (ap (λ b. cond b (by_ecam ecam at n) (option_map_or (by_window at n) (position (window_has at n) windows) Nothing)) lies)
+pub behind_ecam : (ecam : Range) (windows : List Window) (at n : ℕ) → lies_between ecam.start ecam.end at n ≡ true → by_ecam ecam.start at n ≡ hitting_behind_regions ecam.start ecam.end windows at n
+behind_ecam ecam windows at n lies = sym (ap (λ b. cond b (by_ecam ecam.start at n) (option_map_or (by_window at n) (position (window_has at n) windows) Nothing)) lies)
 
 -- and all of it
 pub hitting_first : (regions : List Region) (closed : ℕ → Bool) (ecam : Range) (windows : List Window) (at n : ℕ) (write : Bool) (first : Option ℕ) → first ≡ position (takes_all closed at n) regions
-    → option_map_or (by_subpage regions at n write) first (behind_regions ecam windows at n) ≡ hitting regions closed ecam windows at n write
+    → option_map_or (by_subpage regions at n write) first (hitting_behind_regions ecam.start ecam.end windows at n) ≡ hitting regions closed ecam windows at n write
 unfolding hitting
-hitting_first regions closed ecam windows at n write first is = ap (λ (o : Option ℕ). option_map_or (by_subpage regions at n write) o (behind_regions ecam windows at n)) is
+hitting_first regions closed ecam windows at n write first is = ap (λ (o : Option ℕ). option_map_or (by_subpage regions at n write) o (hitting_behind_regions ecam.start ecam.end windows at n)) is
 
 -- an access of no bytes is no access
 no_bytes_through : (b : Bool) (k : ℕ) → Nothing ≡ cond (b && false) (Subpage (item_number k)) Nothing
@@ -119,7 +120,7 @@ no_bytes_at : (at k : ℕ) (write : Bool) (o : Option Region) → Nothing ≡ co
 no_bytes_at at k write None = refl
 no_bytes_at at k write (Some r) = no_bytes_through (has_right write r) k
 
-no_bytes_by : (regions : List Region) (ecam : Range) (windows : List Window) (at : ℕ) (write : Bool) (first : Option ℕ) → Nothing ≡ option_map_or (by_subpage regions at 0 write) first (behind_regions ecam windows at 0)
+no_bytes_by : (regions : List Region) (ecam : Range) (windows : List Window) (at : ℕ) (write : Bool) (first : Option ℕ) → Nothing ≡ option_map_or (by_subpage regions at 0 write) first (hitting_behind_regions ecam.start ecam.end windows at 0)
 no_bytes_by regions ecam windows at write None = refl
 no_bytes_by regions ecam windows at write (Some k) = no_bytes_at at k write (slice_get regions k)
 

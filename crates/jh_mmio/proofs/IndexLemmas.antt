@@ -10,7 +10,8 @@ use Rattle.std.proofs.lemmas.List.Sorted.{Contains-permutation, All-permutation}
 use Rattle.jh_cellcfg.specs.declared.region.Region.{Region}
 use Rattle.jh_cellcfg.specs.Regions.{has_address, SharesNoAddress}
 use Rattle.jh_cellcfg.proofs.Public.{has_address_first, has_address_last, has_address_from}
-use Rattle.jh_mmio.specs.Index.{IsNumberAt, AreNumbers, IsOrder, size_at, start_at}
+use Rattle.jh_mmio.specs.Index.{AreNumbers, IsOrder, size_at, start_at}
+use Rattle.jh_mmio.specs.Private.Numbers.{IsNumberAt}
 
 pub leb_at : (a b : ℕ) → leb a b ≡ true → a ≤ b
 leb_at a b h = grind (arith, nat_tests)
@@ -49,7 +50,7 @@ place_before regions order at n is point k r k_is has =
     let high = has_address_last r at has in
     let size : size_at regions k ≡ r.size = ap (λ (o : Option Region). option_map_or (λ (x : Region). x.size) o 0) k_is in
     let start : start_at regions k ≡ r.virt_start = ap (λ (o : Option Region). option_map_or (λ (x : Region). x.virt_start) o 0) k_is in
-    let listed : Contains order k = is.whole k (omega arith) in
+    let listed : Contains order k = is.numbers.whole k (omega arith) in
     let j : ℕ = listed.0 in
     let j_lt : j < length order = listed.1 in
     let j_is : get_or order j 0 ≡ k = number_read order j k j_lt listed.2 in
@@ -79,12 +80,12 @@ only_before regions order at n is apart point some within k r k_is has =
     let k_first : start_at regions k ≤ start_at regions c = subst K place.3 sorted in
     let k_start : start_at regions k ≡ r.virt_start = ap (λ (o : Option Region). option_map_or (λ (x : Region). x.virt_start) o 0) k_is in
     let c_low : start_at regions c ≤ at = leb_at (start_at regions c) at (point.0 (n - 1) 0 (omega arith) (omega arith)) in
-    let found = some_of (slice_get regions c) (is.some (n - 1) 0 last) in
+    let found = some_of (slice_get regions c) (is.numbers.some (n - 1) 0 last) in
     let s : Region = found.0 in
     let c_is : slice_get regions c ≡ Some s = found.1 in
     let c_size : size_at regions c ≡ s.size = ap (λ (o : Option Region). option_map_or (λ (x : Region). x.size) o 0) c_is in
     let c_start : start_at regions c ≡ s.virt_start = ap (λ (o : Option Region). option_map_or (λ (x : Region). x.virt_start) o 0) c_is in
-    let c_some : 0 < size_at regions c = is.some (n - 1) 0 last in
+    let c_some : 0 < size_at regions c = is.numbers.some (n - 1) 0 last in
     let high = has_address_last r at has in
     one_number regions k c r s s.virt_start apart k_is c_is (has_address_from r s.virt_start (omega arith) (omega arith)) (has_address_from s s.virt_start (omega arith) (omega arith))
 
@@ -99,7 +100,7 @@ pub IsNumberAt_some : (regions : List Region) (order : List ℕ) (at n : ℕ) �
     → 0 < n → n ≤ length order → IsNumberAt regions at (Some (get_or order (n - 1) 0))
 IsNumberAt_some regions order at n is apart point some within =
     let last : n - 1 < length order = omega arith in
-    let found = some_of (slice_get regions (get_or order (n - 1) 0)) (is.some (n - 1) 0 last) in record {
+    let found = some_of (slice_get regions (get_or order (n - 1) 0)) (is.numbers.some (n - 1) 0 last) in record {
       own = slice_get_within regions (get_or order (n - 1) 0) found.0 found.1;
       only = λ k r k_is has. ap Some (only_before regions order at n is apart point some within k r k_is has);
     }
@@ -107,7 +108,9 @@ IsNumberAt_some regions order at n is apart point some within =
 -- the numbers in order
 pub IsOrder_sorted : (regions : List Region) (numbers order : List ℕ) → AreNumbers regions numbers → IsPermutation numbers order → IsNonDecreasingBy (start_at regions) order → IsOrder regions order
 IsOrder_sorted regions numbers order are moved sorted = record {
-  some = All-permutation (λ k. 0 < size_at regions k) numbers order moved are.some;
-  whole = λ k h. Contains-permutation numbers order k moved (are.whole k h);
+  numbers = record {
+    some = All-permutation (λ k. 0 < size_at regions k) numbers order moved are.some;
+    whole = λ k h. Contains-permutation numbers order k moved (are.whole k h);
+  };
   sorted = sorted;
 }

@@ -13,7 +13,7 @@ use Rattle.jh_cellcfg.specs.Regions.{has_address, has_size, is_page_mapped, is_c
 use Rattle.jh_cellcfg.proofs.Public.{no_region}
 use Rattle.jh_mmio.specs.declared.hitting.Window.{Window}
 use Rattle.jh_mmio.specs.declared.hitting.Hitting.TheVariants.{Subpage, Ecam, Bar, Nothing}
-use Rattle.jh_mmio.specs.Dispatch.{IsLetThrough, lies_between, is_at_closed, takes_all, lets_through, by_subpage, by_ecam, by_window, window_has, behind_regions, hitting}
+use Rattle.jh_mmio.specs.Dispatch.{IsLetThrough, lies_between, is_at_closed, takes_all, lets_through, by_subpage, by_ecam, by_window, window_has, hitting_behind_regions, hitting}
 use Rattle.jh_num.specs.Numbers.{item_number}
 use Rattle.jh_mmio.proofs.AccessLemmas.{byte_of}
 use Rattle.jh_mmio.proofs.IndexLemmas.{one_number}
@@ -44,7 +44,7 @@ no_windows : (at n : ℕ) (o : Option ℕ) (k : ℕ) → option_map_or (by_windo
 no_windows at n None k h = cc
 no_windows at n (Some m) k h = no_window _ (item_number m) k h
 
-no_region_by : (ecam : Range) (at n : ℕ) (o : Option ℕ) (b : Bool) (k : ℕ) → cond b (by_ecam ecam at n) (option_map_or (by_window at n) o Nothing) ≡ Subpage k → ⊥
+no_region_by : (ecam : Range) (at n : ℕ) (o : Option ℕ) (b : Bool) (k : ℕ) → cond b (by_ecam ecam.start at n) (option_map_or (by_window at n) o Nothing) ≡ Subpage k → ⊥
 no_region_by ecam at n o true k h = no_ecam _ k h
 no_region_by ecam at n o false k h = no_windows at n o k h
 
@@ -61,7 +61,7 @@ let_through at n write regions m told true e h =
     record { number = m; it = refl; tells = same; lets = e }
 let_through at n write regions m told false e h = absurd (no_window false m told h)
 
-answers_by : (regions : List Region) (ecam : Range) (windows : List Window) (at n : ℕ) (write : Bool) (first : Option ℕ) (told : ℕ) → option_map_or (by_subpage regions at n write) first (behind_regions ecam windows at n) ≡ Subpage told → IsAnsweredBy regions at n write first told
+answers_by : (regions : List Region) (ecam : Range) (windows : List Window) (at n : ℕ) (write : Bool) (first : Option ℕ) (told : ℕ) → option_map_or (by_subpage regions at n write) first (hitting_behind_regions ecam.start ecam.end windows at n) ≡ Subpage told → IsAnsweredBy regions at n write first told
 answers_by regions ecam windows at n write None told h = absurd (no_region_by ecam at n (position (window_has at n) windows) (lies_between ecam.start ecam.end at n) told h)
 answers_by regions ecam windows at n write (Some m) told h = let_through at n write regions m told _ refl h
 
@@ -94,7 +94,7 @@ refusal_ends regions closed ecam windows at n write k r apart some is takes refu
     (λ j before. false_from_ne_true (takes_all closed at n (get_or regions j r)) (λ h.
     let same : j ≡ k = one_number regions k j r (get_or regions j r) at apart is (slice_get-get_or regions j r (omega arith)) (takes_all_has closed at n r some takes) (takes_all_has closed at n (get_or regions j r) some h) in omega arith))
     (ap (takes_all closed at n) at_k ∙ takes) in
-    sym (ap (λ (o : Option ℕ). option_map_or (by_subpage regions at n write) o (behind_regions ecam windows at n)) first)
+    sym (ap (λ (o : Option ℕ). option_map_or (by_subpage regions at n write) o (hitting_behind_regions ecam.start ecam.end windows at n)) first)
     ∙ ap (λ (o : Option Region). cond (option_map_or (lets_through at n write) o false) (Subpage (item_number k)) Nothing) is
     ∙ ap (λ b. cond b (Subpage (item_number k)) Nothing) refuses
 

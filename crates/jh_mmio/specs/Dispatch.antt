@@ -69,12 +69,8 @@ by_subpage regions at width write k =
     if option_map_or (lets_through at width write) (slice_get regions k) false then Subpage (item_number k) else Nothing
 
 -- the answer of configuration space, whose window begins at the start
-abbrev pub by_ecam_at : ℕ → ℕ → ℕ → Hitting
-by_ecam_at start at width = if (width == 1 || width == 2 || width == 4) && ((at - start) % width == 0) then Ecam else Nothing
-
--- the answer of configuration space, by the ECAM window
-abbrev pub by_ecam : Range → ℕ → ℕ → Hitting
-by_ecam ecam at width = by_ecam_at ecam.start at width
+abbrev pub by_ecam : ℕ → ℕ → ℕ → Hitting
+by_ecam start at width = if (width == 1 || width == 2 || width == 4) && ((at - start) % width == 0) then Ecam else Nothing
 
 -- the answer of the window with the number
 abbrev pub by_window : ℕ → ℕ → ℕ → Hitting
@@ -84,18 +80,16 @@ by_window at width k = if width == 4 && (at % 4 == 0) then Bar (item_number k) e
 abbrev pub window_has : ℕ → ℕ → Window → Bool
 window_has at width w = lies_between w.start (w.start + w.size) at width
 
--- what answers where no subpage region has the access; the ECAM window begins at the start, and ends before the end
-abbrev pub behind_between : ℕ → ℕ → List Window → ℕ → ℕ → Hitting
-behind_between start end windows at width =
+-- what answers where no subpage region has the access, by the ECAM window, which begins at the start and ends before the
+-- end, and the windows of devices
+abbrev pub hitting_behind_regions : ℕ → ℕ → List Window → ℕ → ℕ → Hitting
+hitting_behind_regions start end windows at width =
     if lies_between start end at width
-    then by_ecam_at start at width
+    then by_ecam start at width
     else option_map_or (by_window at width) (position (window_has at width) windows) Nothing
-
--- what answers where no subpage region has the access, by the ECAM window and the windows of devices
-abbrev pub behind_regions : Range → List Window → ℕ → ℕ → Hitting
-behind_regions ecam windows at width = behind_between ecam.start ecam.end windows at width
 
 -- what answers the access; `write` tells a write from a read
 unfoldable pub hitting : List Region → (ℕ → Bool) → Range → List Window → ℕ → ℕ → Bool → Hitting
 hitting regions closed ecam windows at width write =
-    option_map_or (by_subpage regions at width write) (position (takes_all closed at width) regions) (behind_regions ecam windows at width)
+    option_map_or (by_subpage regions at width write) (position (takes_all closed at width) regions)
+    (hitting_behind_regions ecam.start ecam.end windows at width)

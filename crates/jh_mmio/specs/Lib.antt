@@ -2,3 +2,4 @@ pub mod Index
 pub mod IsIndex
 pub mod Dispatch
 pub mod Lookups
+pub mod Private

@@ -19,8 +19,8 @@ pub record Lookup : Type 0 where
   pub write : Bool
 
 -- what answers it
-abbrev pub answer_to : Lookup → Hitting
-answer_to l = hitting l.regions l.closed l.ecam l.windows l.at l.width l.write
+abbrev pub hitting_of_lookup : Lookup → Hitting
+hitting_of_lookup l = hitting l.regions l.closed l.ecam l.windows l.at l.width l.write
 
 -- the region of that number isn't a communication region, and a byte of the access is at a closed place there
 pub record IsPartlyClosed (l : Lookup) (number : ℕ) (region : Region) : Type 0 where

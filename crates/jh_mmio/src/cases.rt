@@ -4,7 +4,7 @@ ghost use Rattle.std.specs.Option.{option_map_or};
 ghost use Rattle.jh_num.specs.Bytes.{has_byte};
 ghost use Rattle.jh_cellcfg.specs.declared.region.Region.{Region as TheRegion};
 ghost use Rattle.jh_cellcfg.specs.Regions.{virt_end, has_address, IsInRange};
-ghost use Rattle.jh_mmio.specs.Dispatch.{lies_between, is_at_closed, takes_all, has_whole, lets_through, by_subpage, by_ecam, by_window, window_has, behind_regions, hitting};
+ghost use Rattle.jh_mmio.specs.Dispatch.{lies_between, is_at_closed, takes_all, has_whole, lets_through, by_subpage, by_ecam, by_window, window_has, hitting_behind_regions, hitting};
 
 use crate::hitting::{Hitting, Window};
 use jh_cellcfg::Region;
@@ -89,7 +89,7 @@ fn by_number(regions: &[Region], number: usize, at: u64, width: u8, write: bool)
 /// What configuration space answers to an access that lies in the ECAM window.
 fn by_ecam(ecam: Range, at: u64, width: u8) -> Hitting
     requires { ecam.start ≤ at }
-    ensures { result ≡ by_ecam ecam at width }
+    ensures { result ≡ by_ecam ecam.start at width }
 {
     match width {
         1 | 2 | 4 if (at - ecam.start) % u64::from(width) == 0 => Hitting::Ecam,
@@ -122,9 +122,9 @@ fn by_window(number: usize, at: u64, width: u8) -> Hitting
 
 /// What answers an access that no subpage region has: the ECAM window, else the first of these windows that has it
 /// whole, if the width and the address suit it; else nothing.
-pub fn behind(ecam: Range, windows: &[Window], at: u64, width: u8) -> Hitting
+pub fn hitting_behind_regions(ecam: Range, windows: &[Window], at: u64, width: u8) -> Hitting
     requires some { 0 < width }
-    ensures { result ≡ behind_regions ecam windows.now at width }
+    ensures { result ≡ hitting_behind_regions ecam.start ecam.end windows.now at width }
 {
     if lies_in_range(ecam, at, width) {
         return by_ecam(ecam, at, width);
@@ -146,11 +146,11 @@ pub(crate) fn by_first(
     write: bool,
 ) -> Hitting
     requires some { 0 < width }
-    ensures { result ≡ option_map_or (by_subpage regions.now at width write) first (behind_regions ecam windows.now at width) }
+    ensures { result ≡ option_map_or (by_subpage regions.now at width write) first (hitting_behind_regions ecam.start ecam.end windows.now at width) }
 {
     match first {
         Some(number) => by_number(regions, number, at, width, write),
-        None => behind(ecam, windows, at, width),
+        None => hitting_behind_regions(ecam, windows, at, width),
     }
 }
 

@@ -4,7 +4,8 @@ ghost use Rattle.jh_num.specs.Bytes.{has_byte};
 ghost use Rattle.jh_cellcfg.specs.declared.region.Region.{Region as TheRegion};
 ghost use Rattle.jh_cellcfg.specs.Regions.{has_address, IsInRange, SharesNoAddress};
 ghost use Rattle.jh_mmio.specs.Dispatch.{takes_all, unless_closed, hitting};
-ghost use Rattle.jh_mmio.specs.Index.{IsRegionAt, IsNumberAt, AreNumbers, IsOrder, size_at, start_at};
+ghost use Rattle.jh_mmio.specs.Index.{IsRegionAt, AreNumbers, IsOrder, size_at, start_at};
+ghost use Rattle.jh_mmio.specs.Private.Numbers.{IsNumberAt};
 
 use crate::cases::{by_first, has_whole, takes_all};
 use crate::hitting::{Hitting, Window};

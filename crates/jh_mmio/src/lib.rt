@@ -6,7 +6,7 @@ mod hitting;
 mod index;
 mod laws;
 
-pub use cases::{behind, dispatch, has_whole, lets_through};
+pub use cases::{dispatch, has_whole, hitting_behind_regions, lets_through};
 pub use hitting::{Hitting, Window};
 pub use index::RegionIndex;
 pub use laws::{

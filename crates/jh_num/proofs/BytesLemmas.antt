@@ -6,7 +6,8 @@ use Rattle.std.proofs.Math.Bool.{or-true, or-false}
 use Rattle.std.proofs.lemmas.List.Folds.{list_any-append}
 use Rattle.std.proofs.lemmas.List.{take-append-drop, length-take-le, get_or-take}
 use Rattle.jh_num.specs.declared.range.Range.{Range}
-use Rattle.jh_num.specs.Bytes.{in_range, has_byte, pieces, AreApartFrom}
+use Rattle.jh_num.specs.Bytes.{in_range, has_byte, AreApartFrom}
+use Rattle.jh_num.specs.Private.Pieces.{pieces}
 use Rattle.jh_num.proofs.Booleans.{or_assoc}
 
 pub has_byte_append : (xs ys : List Range) (b : ℕ) → has_byte (xs ++ ys) b ≡ (has_byte xs b || has_byte ys b)

@@ -5,7 +5,8 @@ use Rattle.std.proofs.lemmas.Bool.{cases_lt, lt-ltb, le-ltb}
 use Rattle.std.proofs.lemmas.List.{at_drop_more, get_or_read}
 use Rattle.std.proofs.lemmas.List.Elements.{All-append, All-nil, All-cons}
 use Rattle.jh_num.specs.declared.range.Range.{Range}
-use Rattle.jh_num.specs.Bytes.{in_range, has_byte, pieces, AreApartFrom, AreApart}
+use Rattle.jh_num.specs.Bytes.{in_range, has_byte, AreApartFrom, AreApart}
+use Rattle.jh_num.specs.Private.Pieces.{pieces}
 use Rattle.jh_num.proofs.BytesLemmas.{has_byte_append, has_byte_pieces, below_range, above_range, within_range, AreApartFrom_append, AreApartFrom_after, absent_below, ends_before, same_byte}
 use Rattle.jh_num.proofs.Booleans.{and_comm}
 use Rattle.std.proofs.Math.Bool.{or-false}

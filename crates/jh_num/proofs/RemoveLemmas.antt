@@ -1,9 +1,11 @@
 -- A range taken out of a list of ranges that are apart.
 use Rattle.std.proofs.Common.{◌≡◌, ℕ, ◌+◌, ◌<◌, ◌≤◌, suc, min, max, Bool, true, false, not, ◌&&◌, ◌||◌, List, ◌++◌, length, get_or, take, drop, sym, refl, ap, ◌∙◌, ⊎_elim, arith}
+use Rattle.std.proofs.Math.Bool.{and-false, and-true}
 use Rattle.std.proofs.lemmas.Bool.{cases_lt}
 use Rattle.std.proofs.lemmas.List.{get_or_read}
 use Rattle.jh_num.specs.declared.range.Range.{Range}
-use Rattle.jh_num.specs.Bytes.{in_range, has_byte, pieces, AreApartFrom, AreApart}
+use Rattle.jh_num.specs.Bytes.{in_range, has_byte, AreApartFrom, AreApart}
+use Rattle.jh_num.specs.Private.Pieces.{pieces}
 use Rattle.jh_num.proofs.BytesLemmas.{has_byte_append, has_byte_pieces, below_range, above_range, within_range, AreApartFrom_lower, AreApartFrom_take, AreApartFrom_pieces, absent_below, absent_above, not_empty_at, ends_before, AreApartFrom_from, AreApartFrom_after, AreApartFrom_append, has_byte_split_at, has_byte_cut, get_or_of_take, same_byte}
 
 -- the new list has the bytes of the old one that aren't in the range, and is apart
@@ -35,22 +37,13 @@ pub record Leaves (xs : List Range) (r left right x y : Range) (at upto last : �
 
 -- the bytes below the range, in it and above it
 low_bytes : (t l r d x a i : Bool) → r ≡ false → d ≡ false → a ≡ false → i ≡ false → l ≡ x → (t || (l || (r || d))) ≡ ((t || (x || a)) && not i)
-low_bytes t l r d x a i hr hd ha hi e = rw (hr, hd, ha, hi, e) (and_true (t || (x || false)))
-  where
-    and_true : (v : Bool) → v ≡ (v && true)
-    and_true v = elim v as (λ w. w ≡ (w && true)) [ true ↦ refl | false ↦ refl ]
+low_bytes t l r d x a i hr hd ha hi e = rw (hr, hd, ha, hi, e) (sym (and-true (t || (x || false))))
 
 mid_bytes : (t l r d x i : Bool) → t ≡ false → l ≡ false → r ≡ false → d ≡ false → i ≡ true → (t || (l || (r || d))) ≡ (x && not i)
-mid_bytes t l r d x i ht hl hr hd hi = rw (ht, hl, hr, hd, hi) (and_false x)
-  where
-    and_false : (v : Bool) → false ≡ (v && false)
-    and_false v = elim v as (λ w. false ≡ (w && false)) [ true ↦ refl | false ↦ refl ]
+mid_bytes t l r d x i ht hl hr hd hi = rw (ht, hl, hr, hd, hi) (sym (and-false x))
 
 high_bytes : (t l r d y b i : Bool) → t ≡ false → l ≡ false → b ≡ false → i ≡ false → r ≡ y → (t || (l || (r || d))) ≡ ((b || (y || d)) && not i)
-high_bytes t l r d y b i ht hl hb hi e = rw (ht, hl, hb, hi, e) (and_true (y || d))
-  where
-    and_true : (v : Bool) → v ≡ (v && true)
-    and_true v = elim v as (λ w. w ≡ (w && true)) [ true ↦ refl | false ↦ refl ]
+high_bytes t l r d y b i ht hl hb hi e = rw (ht, hl, hb, hi, e) (sym (and-true (y || d)))
 
 -- a list in four parts
 parts : (t l r d : List Range) (b : ℕ) → has_byte (t ++ (l ++ (r ++ d))) b ≡ (has_byte t b || (has_byte l b || (has_byte r b || has_byte d b)))
@@ -155,7 +148,7 @@ removed_none xs r at upto h e b =
     (cases_lt b r.start)
   where
     kept : (v i : Bool) → i ≡ false → v ≡ (v && not i)
-    kept v i h = rw h (elim v as (λ w. w ≡ (w && true)) [ true ↦ refl | false ↦ refl ])
+    kept v i h = rw h (sym (and-true v))
 
     both : (v w : Bool) → v ≡ false → w ≡ false → (v || w) ≡ false
     both v w h k = rw (h, k) refl

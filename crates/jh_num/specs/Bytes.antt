@@ -1,5 +1,5 @@
 -- Which bytes ranges have, and when a list of ranges is the one form of its set of bytes.
-use Rattle.std.specs.Prelude.{ℕ, ◌+◌, ◌<◌, ◌≤◌, Bool, ◌&&◌, nat_lt, nat_le, List, [], ◌∷◌, if◌then◌else◌}
+use Rattle.std.specs.Prelude.{ℕ, ◌+◌, ◌<◌, ◌≤◌, Bool, ◌&&◌, nat_lt, nat_le, List, [], ◌∷◌}
 use Rattle.std.specs.List.{list_any}
 use Rattle.jh_num.specs.declared.range.Range.{Range}
 
@@ -21,7 +21,3 @@ AreApartFrom low (range ∷ ranges) =
 -- the ranges are in order, none is empty, and between one and the next is a byte at least
 abbrev pub AreApart : List Range → Type 0
 AreApart = AreApartFrom 0
-
--- the range alone, where it isn't empty, and else none
-abbrev pub pieces : Range → List Range
-pieces range = if nat_lt range.start range.end then range ∷ [] else []

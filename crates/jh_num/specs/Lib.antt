@@ -7,3 +7,4 @@ pub mod Levels
 pub mod Memory
 pub mod Numbers
 pub mod Pages
+pub mod Private

@@ -1,7 +1,8 @@
 //! Where a range meets a sorted list, and what stands there afterwards.
 ghost use Rattle.std.specs.Prelude.{◌≡◌, ℕ, ◌+◌, ◌-◌, ◌<◌, ◌≤◌, ◌&&◌, ◌||◌, ◌∷◌, ◌++◌, length, take, drop, nat_le, nat_lt, slice_index_or, vec_len, vec_capacity, true, false, IsTrue, IsOk, IfOk, OnOk, OnErr};
 ghost use Rattle.std.specs.List.{list_any};
-ghost use Rattle.jh_num.specs.Bytes.{in_range, has_byte, pieces, AreApart};
+ghost use Rattle.jh_num.specs.Bytes.{in_range, has_byte, AreApart};
+ghost use Rattle.jh_num.specs.Private.Pieces.{pieces};
 
 use crate::no_memory::NoMemory;
 use crate::range::Range;

@@ -1,6 +1,7 @@
 //! Descriptor reads, counted, and the last of them.
-ghost use Rattle.std.specs.Prelude.{◌≡◌, ◌+◌, ◌-◌, ◌^◌, [], ◌∷◌, ◌++◌, drop, length, min};
+ghost use Rattle.std.specs.Prelude.{◌≡◌, [], ◌∷◌, ◌++◌};
 ghost use Rattle.jh_num.specs.Counted.{last_eight};
+ghost use Rattle.jh_num.specs.Numbers.{counted_up};
 
 use std::marker::Model;
 
@@ -48,7 +49,7 @@ impl Steps {
 
     /// Counts one more read, as far as a `u64` goes, and keeps it as the newest of the last eight.
     pub fn probe(&mut self, p: Probe)
-        ensures count { self.new.count ≡ min (self.old.count + 1) (2 ^ 64 - 1) }
+        ensures count { self.new.count ≡ counted_up self.old.count }
         ensures probes { self.new.probes ≡ last_eight (self.old.probes ++ p ∷ []) }
     {
         self.count = self.count.saturating_add(1);

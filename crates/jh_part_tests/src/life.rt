@@ -2,7 +2,7 @@
 //! shown by the rows.
 
 use jh_cellcfg::{CellConfig, Region, SystemConfig};
-use jh_check::MOST_CELLS;
+use jh_check::MAX_CELLS;
 use jh_life::Cells;
 use jh_num::{NoMemory, Seq};
 use std::alloc::Global;
@@ -53,7 +53,7 @@ fn alone(alloc: Global) -> Result<Cells, NoMemory> {
 
 /// Adds the cell where it may join; tells whether it did.
 fn join(alloc: Global, cells: &mut Cells, new: CellConfig) -> Result<bool, NoMemory> {
-    if cells.list().len() >= MOST_CELLS {
+    if cells.list().len() >= MAX_CELLS {
         return Ok(false);
     }
     match cells.verdict(alloc, false, &new, 0, 0xffff, 0xffff)? {

@@ -9,7 +9,7 @@ use Rattle.jh_history.specs.Due.{due, due_at, IsQuiet}
 use Rattle.jh_history.proofs.Public.{by_cpu}
 use Rattle.jh_turn.specs.Histories.{Grows}
 use Rattle.jh_board.specs.BoardView.{BoardView}
-use Rattle.jh_board.specs.Turns.{Turns, Refuses}
+use Rattle.jh_board.specs.Turns.{Turns, RefusesTurn}
 use Rattle.jh_run.specs.Origins.{Origin}
 use Rattle.jh_run.specs.Turns.{Takes}
 use Rattle.jh_run.specs.Running.{whose_entry, IsTurnAnswer}
@@ -35,7 +35,7 @@ abbrev entries : BoardView → List Entry
 entries board = board.entries
 
 -- what a board's turn answers or is refused for is what is taken
-pub takes_so : (old : BoardView) (cpu : ℕ) (answer : Result Turn TurnFault) (new : BoardView) → IfOk answer (λ turn. Turns old cpu turn new) → IfErr answer (λ fault. Refuses old cpu fault new) → Takes old cpu answer new
+pub takes_so : (old : BoardView) (cpu : ℕ) (answer : Result Turn TurnFault) (new : BoardView) → IfOk answer (λ turn. Turns old cpu turn new) → IfErr answer (λ fault. RefusesTurn old cpu fault new) → Takes old cpu answer new
 takes_so old cpu (Ok turn) new ok err = ok
 takes_so old cpu (Err fault) new ok err = err
 

@@ -9,6 +9,7 @@ ghost use Rattle.jh_run.specs.Private.Ran.{Ran};
 
 use crate::ended::{Ended, how_ended};
 use jh_board::{Board, TurnFault};
+use jh_cellcfg::MAX_CPUS;
 use jh_history::is_on_board;
 use jh_laws::{items_run_until_one_is_cut_short, played_journals_are_quiet_or_full};
 use jh_num::NoMemory;
@@ -22,7 +23,7 @@ pub fn cpus_of(alloc: Global, image: &Image) -> Result<Vec<u8>, NoMemory>
     ensures present { IfOk result (λ cpus. All (λ cpu. IsTrue (is_on_board image.now cpu)) cpus.items) }
 {
     let mut cpus = Vec::new(alloc);
-    for cpu in 0..16u8 {
+    for cpu in 0..MAX_CPUS as u8 {
         if is_on_board(image, cpu) {
             cpus.push(cpu)?;
         }

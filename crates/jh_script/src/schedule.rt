@@ -6,11 +6,12 @@ ghost use Rattle.jh_script.specs.Numbers.{decimal_of};
 use crate::fault::{MAX_ITEMS, ScheduleFault};
 use crate::number::decimal;
 use crate::words::next_word;
+use jh_cellcfg::MAX_CPUS;
 use jh_num::Seq;
 use std::alloc::Global;
 
 /// The bytes that part the items of a schedule.
-const SPACES: &[u8] = b" \t\n\r";
+const SCHEDULE_GAPS: &[u8] = b" \t\n\r";
 
 /// The CPUs of a schedule's text: decimal numbers from 0 to 15 without leading zeros, parted by spaces, tabs, line
 /// feeds and carriage returns. Bit n of `cpus` says that the board has CPU n.
@@ -48,7 +49,7 @@ fn first_item(text: &[u8], cpus: u16) -> Option<(Option<u8>, &[u8])>
     ensures present { IfSome result (λ x. IfSome x.0 (IsPresent cpus)) }
     ensures shorter { IfSome result (λ x. length x.1.now < length text.now) }
 {
-    let (word, rest) = next_word(SPACES, text)?;
+    let (word, rest) = next_word(SCHEDULE_GAPS, text)?;
     Some((cpu(word, cpus), rest))
 }
 
@@ -58,7 +59,7 @@ fn cpu(word: &[u8], cpus: u16) -> Option<u8>
     ensures present { IfSome result (IsPresent cpus) }
 {
     let n = decimal(word)?;
-    if n < 16 && (cpus >> n) & 1 == 1 {
+    if n < MAX_CPUS as u64 && (cpus >> n) & 1 == 1 {
         Some(n as u8)
     } else {
         None

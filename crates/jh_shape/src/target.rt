@@ -39,7 +39,7 @@ impl<'a> Target<'a> {
         ensures { result ≡ are_cut (claims_of self.now).holders place size }
     {
         for (i, cell) in self.cells.iter().enumerate() {
-            if has_bit(self.held, i) && any_in_part(cell.memory_regions.as_slice(), place, size) {
+            if has_bit(u32::from(self.held), i) && any_in_part(cell.memory_regions.as_slice(), place, size) {
                 return true;
             }
         }
@@ -55,10 +55,10 @@ impl<'a> Target<'a> {
         ensures { result ≡ is_closed (claims_of self.now).holders place }
     {
         for (i, cell) in self.cells.iter().enumerate() {
-            if has_bit(self.held, i)
+            if has_bit(u32::from(self.held), i)
                 && any_takes(
                     cell.memory_regions.as_slice(),
-                    has_bit(self.loadable, i),
+                    has_bit(u32::from(self.loadable), i),
                     place,
                 )
             {

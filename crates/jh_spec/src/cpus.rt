@@ -1,11 +1,14 @@
 //! The CPU bitmap.
-ghost use Rattle.std.specs.Prelude.{◌≡◌, ◌≤◌, ◌<◌, ◌+◌, length, IfOk, IfSome, is_some, get_or, false, if◌then◌else◌, []};
+ghost use Rattle.std.specs.Prelude.{◌≡◌, ◌≤◌, ◌<◌, ◌+◌, length, IfOk, IfSome, is_some, get_or, false, []};
 ghost use Rattle.serde_json.specs.View.{view};
-ghost use Rattle.jh_spec.specs.Cpus.{bitmap_of, are_new, mark_byte, AreMarks};
+ghost use Rattle.jh_num.specs.Bits.{bits_where};
+ghost use Rattle.jh_spec.specs.Cpus.{bitmap_of, are_new};
+ghost use Rattle.jh_spec.specs.Private.Cpus.{mark_byte, AreMarks};
 ghost use Rattle.jh_spec.specs.Cells.{cpu_set_size, cpu_set_in, size_told};
 
 use crate::from_json::FromJson;
 use crate::list::list;
+use jh_cellcfg::MAX_CPU_SET_BYTES;
 use jh_num::{NoMemory, Seq};
 use serde_json::Value;
 use std::alloc::Global;
@@ -29,7 +32,7 @@ fn size_told(value: &Value) -> Option<u32>
     ensures most { IfSome result (λ bytes. bytes ≤ 64) }
 {
     let bytes = u32::from_json(value)?;
-    if bytes > 0 && bytes <= 64 {
+    if bytes > 0 && bytes <= MAX_CPU_SET_BYTES {
         Some(bytes)
     } else {
         None
@@ -55,12 +58,12 @@ fn marks(alloc: Global, limit: usize, cpus: &[u64]) -> Result<Option<Vec<bool>>,
     Ok(Some(marks))
 }
 
-/// The weight where the CPU is marked, else 0.
-fn bit(mark: bool, weight: u8) -> u8
-    ensures value { result ≡ (if mark then weight else 0) }
-    ensures most { result ≤ weight }
+/// The bits where the fact holds, else 0.
+fn bits_where(fact: bool, bits: u8) -> u8
+    ensures value { result ≡ bits_where fact bits }
+    ensures most { result ≤ bits }
 {
-    if mark { weight } else { 0 }
+    if fact { bits } else { 0 }
 }
 
 /// The byte of eight marks, from this one on.
@@ -68,14 +71,14 @@ fn byte_of(marks: &[bool], first: usize) -> u8
     requires { first + 8 ≤ length marks.now }
     ensures { result ≡ mark_byte marks.now first }
 {
-    bit(marks[first], 1)
-        + bit(marks[first + 1], 2)
-        + bit(marks[first + 2], 4)
-        + bit(marks[first + 3], 8)
-        + bit(marks[first + 4], 16)
-        + bit(marks[first + 5], 32)
-        + bit(marks[first + 6], 64)
-        + bit(marks[first + 7], 128)
+    bits_where(marks[first], 1)
+        + bits_where(marks[first + 1], 2)
+        + bits_where(marks[first + 2], 4)
+        + bits_where(marks[first + 3], 8)
+        + bits_where(marks[first + 4], 16)
+        + bits_where(marks[first + 5], 32)
+        + bits_where(marks[first + 6], 64)
+        + bits_where(marks[first + 7], 128)
 }
 
 /// The bitmap of the CPUs in so many bytes.

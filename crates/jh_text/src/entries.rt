@@ -7,6 +7,7 @@ ghost use Rattle.jh_text.specs.Private.Reading.{Reads, attempt_of, read_of, writ
 
 use crate::outcomes::{read_decision, read_got, read_heard, read_ok, read_settled};
 use crate::reader::Reader;
+use jh_cellcfg::MAX_CPUS;
 use jh_history::{Act, Entry};
 use jh_script::max_of_width;
 
@@ -17,13 +18,13 @@ pub(crate) fn entry(text: &mut Reader) -> Option<Entry>
     ensures readable { IfSome result IsReadable }
     ensures spelled { IfSome result (λ entry. text.old ≡ line entry ++ text.new) }
 {
-    let cpu = text.decimal(b' ', 15)? as u8;
+    let cpu = text.decimal(b' ', MAX_CPUS as u64 - 1)? as u8;
     let cell = text.decimal(b' ', u32::MAX as u64)? as u32;
     let act = act(text)?;
     Some(Entry { cpu, cell, act })
 }
 
-/// The act of a program.
+/// An act: an access, an interrupt, or one of a call.
 #[tactic(auto, unfolding(crate::specs::Private::Reading::act_of))]
 fn act(text: &mut Reader) -> Option<Act>
     ensures value { Reads result text.new (act_of text.old) }

@@ -6,10 +6,10 @@ ghost use Rattle.jh_text.specs.Text.{hexadecimal};
 use jh_num::NoMemory;
 
 /// As many digits as a number of 64 bits has at most, in base 10 or above.
-const MOST_DIGITS: usize = 20;
+const MAX_DIGITS: usize = 20;
 
 /// Room for the digits of a number, and for two bytes before them.
-const ROOM: usize = MOST_DIGITS + 2;
+const ROOM: usize = MAX_DIGITS + 2;
 
 /// Puts the decimal digits of the number at the end. Most numbers of a journal have one.
 #[inline(always)]
@@ -61,7 +61,7 @@ pub(crate) fn push_signed(text: &mut Vec<u8>, n: i64) -> Result<(), NoMemory>
 fn write_digits(base: u64, room: &mut [u8; ROOM], n: u64) -> usize
     requires low { 2 ≤ base }
     requires high { base ≤ 16 }
-    requires fits { n < base ^ MOST_DIGITS }
+    requires fits { n < base ^ MAX_DIGITS }
     ensures before { 2 ≤ result }
     ensures within { result ≤ ROOM }
     ensures written { drop result room.new ≡ digits base false n }

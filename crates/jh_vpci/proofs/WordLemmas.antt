@@ -4,15 +4,15 @@ use Rattle.std.specs.Int.{bit_at}
 use Rattle.std.proofs.lemmas.Bool.{cases_eq, cases_lt, cases_Bool}
 use Rattle.jh_vpci.specs.Space.{Space, has_vectors}
 use Rattle.jh_vpci.specs.Windows.{AreWindows}
-use Rattle.jh_vpci.specs.Words.{word_of, word_at, read_of}
-use Rattle.jh_vpci.specs.Writes.{with_word, written, mask_of, IsPut, spliced}
+use Rattle.jh_vpci.specs.Words.{word_of, word_offset, read_of}
+use Rattle.jh_vpci.specs.Writes.{with_word, written, writable_bits, IsPut, spliced}
 use Rattle.jh_vpci.proofs.BitLemmas.{Mixes, differs, bar0_mixes, bar1_mixes, command_mixes, capability_mixes, control_mixes, nothing_mixes}
 use Rattle.jh_vpci.proofs.SplicedLemmas.{placed_below, placed_inside, placed_above, part_bit}
 
 -- the word at the offset has this word's bits where they can be written
 abbrev PutAt : Space → ℕ → ℕ → ℕ → Type 0
 PutAt space word k offset =
-    Mixes (mask_of space offset) (word_of space offset) (word_of (with_word space offset word) offset) word k
+    Mixes (writable_bits space offset) (word_of space offset) (word_of (with_word space offset word) offset) word k
 
 at_command : (space : Space) (word k : ℕ) → k < 32 → PutAt space word k 0x04
 unfolding word_of with_word
@@ -54,12 +54,12 @@ without_vectors space word offset none (inl e) = rw (e, none) refl
 without_vectors space word offset none (inr e) = rw (e, none) refl
 
 none_put : (space : Space) (word k : ℕ) → has_vectors space.spec ≡ false
-    → Mixes (mask_of space 0x60) (word_of space 0x60) (word_of space 0x60) word k
+    → Mixes (writable_bits space 0x60) (word_of space 0x60) (word_of space 0x60) word k
 unfolding word_of
 none_put space word k none = rw none (nothing_mixes 0 word k)
 
 control_put : (space : Space) (word k : ℕ) → has_vectors space.spec ≡ true → space.spec.vectors < 256 → k < 32
-    → Mixes (mask_of space 0x60) (word_of space 0x60)
+    → Mixes (writable_bits space 0x60) (word_of space 0x60)
     (word_of (record space { masked = bit_at word 30 == 1; enabled = bit_at word 31 == 1 }) 0x60) word k
 unfolding word_of
 control_put space word k some small lt =
@@ -70,10 +70,10 @@ unfolding word_of with_word
 at_control space word k small lt =
     elim (cases_Bool (has_vectors space.spec)) as (λ _. PutAt space word k 0x60) [
       | inl some ↦
-          let P : Space → Type 0 = λ new. Mixes (mask_of space 0x60) (word_of space 0x60) (word_of new 0x60) word k in
+          let P : Space → Type 0 = λ new. Mixes (writable_bits space 0x60) (word_of space 0x60) (word_of new 0x60) word k in
           subst P (sym (with_control space word some)) (control_put space word k some small lt)
       | inr none ↦
-          let P : Space → Type 0 = λ new. Mixes (mask_of space 0x60) (word_of space 0x60) (word_of new 0x60) word k in
+          let P : Space → Type 0 = λ new. Mixes (writable_bits space 0x60) (word_of space 0x60) (word_of new 0x60) word k in
           subst P (sym (without_vectors space word 0x60 none (inr refl))) (none_put space word k none)
     ]
 
@@ -177,47 +177,47 @@ others_stay space word other offset =
 
 -- the bits of the word after a write
 abbrev after : Space → ℕ → ℕ → ℕ → ℕ → ℕ
-after space at width value k = bit_at (word_of (written space at width value) (word_at at)) k
+after space at width value k = bit_at (word_of (written space at width value) (word_offset at)) k
 
 mixes_written : (space : Space) (at width value k : ℕ) → AreWindows space.bar0 space.bar1 → space.spec.vectors < 256 → k < 32
-    → Mixes (mask_of space (word_at at)) (word_of space (word_at at)) (word_of (written space at width value) (word_at at))
-    (spliced (word_of space (word_at at)) at width value) k
+    → Mixes (writable_bits space (word_offset at)) (word_of space (word_offset at)) (word_of (written space at width value) (word_offset at))
+    (spliced (word_of space (word_offset at)) at width value) k
 mixes_written space at width value k aligned small lt =
-    word_mixes space (spliced (word_of space (word_at at)) at width value) k (word_at at) aligned small lt
+    word_mixes space (spliced (word_of space (word_offset at)) at width value) k (word_offset at) aligned small lt
 
 pub written_put : (space : Space) (at width value k : ℕ) → AreWindows space.bar0 space.bar1 → space.spec.vectors < 256 → k < 32
     → IsPut space at width k → after space at width value k ≡ bit_at value (k - 8 * (at % 4))
 written_put space at width value k aligned small lt put =
     (mixes_written space at width value k aligned small lt).inside put.0
-    ∙ placed_inside (word_of space (word_at at)) (8 * (at % 4)) (8 * width) value k put.1 put.2
+    ∙ placed_inside (word_of space (word_offset at)) (8 * (at % 4)) (8 * width) value k put.1 put.2
 
 pub written_kept : (space : Space) (at width value k : ℕ) → AreWindows space.bar0 space.bar1 → space.spec.vectors < 256 → k < 32
-    → ¬ IsPut space at width k → after space at width value k ≡ bit_at (word_of space (word_at at)) k
+    → ¬ IsPut space at width k → after space at width value k ≡ bit_at (word_of space (word_offset at)) k
 written_kept space at width value k aligned small lt none =
     let mixes = mixes_written space at width value k aligned small lt in
-    let old = word_of space (word_at at) in
+    let old = word_of space (word_offset at) in
     let low = 8 * (at % 4) in
-    elim (cases_eq (bit_at (mask_of space (word_at at)) k) 1)
-    as (λ _. after space at width value k ≡ bit_at (word_of space (word_at at)) k) [
+    elim (cases_eq (bit_at (writable_bits space (word_offset at)) k) 1)
+    as (λ _. after space at width value k ≡ bit_at (word_of space (word_offset at)) k) [
       | inr lacks ↦ mixes.outside lacks
       | inl has ↦ elim (cases_lt k (8 * (at % 4)))
-          as (λ _. after space at width value k ≡ bit_at (word_of space (word_at at)) k) [
-            | inl below ↦ mixes.inside has ∙ placed_below (word_of space (word_at at)) (8 * (at % 4)) (8 * width) value k below
+          as (λ _. after space at width value k ≡ bit_at (word_of space (word_offset at)) k) [
+            | inl below ↦ mixes.inside has ∙ placed_below (word_of space (word_offset at)) (8 * (at % 4)) (8 * width) value k below
             | inr above ↦ elim (cases_lt k (8 * (at % 4) + 8 * width))
-                as (λ _. after space at width value k ≡ bit_at (word_of space (word_at at)) k) [
+                as (λ _. after space at width value k ≡ bit_at (word_of space (word_offset at)) k) [
                   | inl inside ↦ absurd (none (has, above, inside))
-                  | inr past ↦ mixes.inside has ∙ placed_above (word_of space (word_at at)) (8 * (at % 4)) (8 * width) value k past
+                  | inr past ↦ mixes.inside has ∙ placed_above (word_of space (word_offset at)) (8 * (at % 4)) (8 * width) value k past
                 ]
           ]
     ]
 
 -- what a read shows of the word
 read_bit : (space : Space) (at width k : ℕ) → k < 8 * width
-    → bit_at (read_of space at width) k ≡ bit_at (word_of space (word_at at)) (8 * (at % 4) + k)
-read_bit space at width k below = part_bit (word_of space (word_at at)) (8 * (at % 4)) (8 * width) k below
+    → bit_at (read_of space at width) k ≡ bit_at (word_of space (word_offset at)) (8 * (at % 4) + k)
+read_bit space at width k below = part_bit (word_of space (word_offset at)) (8 * (at % 4)) (8 * width) k below
 
 pub read_put : (space : Space) (at width value k : ℕ) → AreWindows space.bar0 space.bar1 → space.spec.vectors < 256
-    → 8 * (at % 4) + 8 * width ≤ 32 → k < 8 * width → bit_at (mask_of space (word_at at)) (8 * (at % 4) + k) ≡ 1
+    → 8 * (at % 4) + 8 * width ≤ 32 → k < 8 * width → bit_at (writable_bits space (word_offset at)) (8 * (at % 4) + k) ≡ 1
     → bit_at (read_of (written space at width value) at width) k ≡ bit_at value k
 read_put space at width value k aligned small within below has =
     read_bit (written space at width value) at width k below
@@ -225,7 +225,7 @@ read_put space at width value k aligned small within below has =
     ∙ ap (λ n. bit_at value n) (let e : 8 * (at % 4) + k - 8 * (at % 4) ≡ k = omega arith in e)
 
 pub read_kept : (space : Space) (at width value k : ℕ) → AreWindows space.bar0 space.bar1 → space.spec.vectors < 256
-    → 8 * (at % 4) + 8 * width ≤ 32 → k < 8 * width → bit_at (mask_of space (word_at at)) (8 * (at % 4) + k) ≢ 1
+    → 8 * (at % 4) + 8 * width ≤ 32 → k < 8 * width → bit_at (writable_bits space (word_offset at)) (8 * (at % 4) + k) ≢ 1
     → bit_at (read_of (written space at width value) at width) k ≡ bit_at (read_of space at width) k
 read_kept space at width value k aligned small within below lacks =
     read_bit (written space at width value) at width k below

@@ -3,7 +3,7 @@ use Rattle.std.specs.Prelude.{ℕ, ◌+◌, ◌*◌, ◌/◌, ◌%◌, ◌^◌, 
 use Rattle.std.specs.Int.{bit_at}
 use Rattle.jh_num.specs.Bits.{has_bit}
 use Rattle.jh_vpci.specs.Space.{Space, has_vectors}
-use Rattle.jh_vpci.specs.Words.{word_of, word_at, with_vectors}
+use Rattle.jh_vpci.specs.Words.{word_of, word_offset, with_vectors}
 
 -- the word with the lowest bytes of the value in place of its bytes from `at` on
 abbrev pub spliced : ℕ → ℕ → ℕ → ℕ → ℕ
@@ -32,13 +32,13 @@ with_word space offset word =
 -- the space after a write of so many bytes at `at`
 abbrev pub written : Space → ℕ → ℕ → ℕ → Space
 written space at width value =
-    with_word space (word_at at) (spliced (word_of space (word_at at)) at width value)
+    with_word space (word_offset at) (spliced (word_of space (word_offset at)) at width value)
 
 -- the bits of the word at the offset that can be written: bits 1, 2 and 10 of command, all of BAR 0 from bit
 -- 12 on, all of BAR 1 from bit 9 on, bit 0 of privileged control, bits 14 and 15 of control of MSI-X; BAR 1
 -- and MSI-X only with vectors
-abbrev pub mask_of : Space → ℕ → ℕ
-mask_of space offset =
+abbrev pub writable_bits : Space → ℕ → ℕ
+writable_bits space offset =
     if offset == 0x04 then 0x0406
     else (if offset == 0x10 then 0xfffff000
     else (if offset == 0x14 then with_vectors space.spec 0xfffffe00
@@ -49,4 +49,4 @@ mask_of space offset =
 -- the bit of a word is one of the written bytes' and can be written
 abbrev pub IsPut : Space → ℕ → ℕ → ℕ → Type 0
 IsPut space at width k =
-    (bit_at (mask_of space (word_at at)) k ≡ 1) × (8 * (at % 4) ≤ k) × (k < 8 * (at % 4) + 8 * width)
+    (bit_at (writable_bits space (word_offset at)) k ≡ 1) × (8 * (at % 4) ≤ k) × (k < 8 * (at % 4) + 8 * width)

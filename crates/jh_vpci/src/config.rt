@@ -1,14 +1,20 @@
 //! Configuration space, read and written.
-ghost use Rattle.std.specs.Prelude.{◌≡◌, ◌+◌, ◌*◌, ◌/◌, ◌%◌, ◌^◌, ◌<◌, ◌≤◌, ◌⊎◌, ◌↔◌, false, IsNone, option_map, if◌then◌else◌};
+ghost use Rattle.std.specs.Prelude.{◌≡◌, ◌+◌, ◌*◌, ◌/◌, ◌%◌, ◌^◌, ◌<◌, ◌≤◌, ◌⊎◌, ◌↔◌, false, IsNone, option_map};
 ghost use Rattle.jh_vpci.specs.Space.{fresh, is_open, window_of, ends_of, has_vectors};
-ghost use Rattle.jh_vpci.specs.Words.{command_of, control_of, with_vectors, word_of, word_at, read_of};
-ghost use Rattle.jh_num.specs.Bits.{has_bit};
+ghost use Rattle.jh_vpci.specs.Words.{command_bits, control_bits, with_vectors, word_of, word_offset, read_of};
+ghost use Rattle.jh_num.specs.Bits.{bits_where, has_bit};
 ghost use Rattle.jh_vpci.specs.Writes.{with_word, written};
 
 use crate::function::FunctionSpec;
-use crate::word::{bytes_at, has_bit, high, low, set, window_from, with_bytes};
-use jh_num::Range;
+use crate::word::{bits_where, bytes_at, high, low, window_from, with_bytes};
+use jh_num::{Range, has_bit};
 use std::marker::Model;
+
+/// How many bytes the window of BAR 0 has, in which the registers stand.
+const REGISTERS_SIZE: u32 = 0x1000;
+
+/// How many bytes the window of BAR 1 has, in which the table of vectors stands.
+const TABLE_SIZE: u32 = 0x200;
 
 /// The configuration space of one ivshmem function: 4,096 bytes, of which these are kept and the others
 /// are fixed (PCI Local Bus Specification 3.0, section 6, with MSI-X of section 6.8.2; the vendor's
@@ -67,28 +73,30 @@ impl ConfigSpace {
 
     /// Command: bit 1 the windows of the BARs, bit 2 bus master, bit 10 interrupts off.
     fn command(&self) -> u32
-        ensures value { result ≡ command_of self.now }
+        ensures value { result ≡ command_bits self.now }
         ensures bound { result < 2 ^ 16 }
     {
-        set(0x2, self.memory) + set(0x4, self.bus_master) + set(0x400, self.interrupts_off)
+        bits_where(self.memory, 0x2)
+            + bits_where(self.bus_master, 0x4)
+            + bits_where(self.interrupts_off, 0x400)
     }
 
     /// Control of MSI-X: the vectors less 1, bit 14 the function mask, bit 15 enable.
     fn control(&self) -> u32
-        ensures value { result ≡ control_of self.now }
+        ensures value { result ≡ control_bits self.now }
         ensures bound { result < 2 ^ 16 }
     {
         u32::from(self.spec.vectors.saturating_sub(1))
-            + set(0x4000, self.masked)
-            + set(0x8000, self.enabled)
+            + bits_where(self.masked, 0x4000)
+            + bits_where(self.enabled, 0x8000)
     }
 
     /// Privileged control above the capability's length, offset of the next one and kind.
     fn capability(&self) -> u32
-        ensures { result ≡ (if self.now.one_shot then 1 else 0) * 2 ^ 24 + 0x20 * 2 ^ 16 + with_vectors self.now.spec 0x60 * 2 ^ 8 + 0x09 }
+        ensures { result ≡ bits_where self.now.one_shot 1 * 2 ^ 24 + 0x20 * 2 ^ 16 + with_vectors self.now.spec 0x60 * 2 ^ 8 + 0x09 }
     {
-        let next = set(0x60, self.spec.has_vectors());
-        set(1, self.one_shot) * 0x100_0000 + 0x20_0000 + next * 0x100 + 0x09
+        let next = bits_where(self.spec.has_vectors(), 0x60);
+        bits_where(self.one_shot, 1) * 0x100_0000 + 0x20_0000 + next * 0x100 + 0x09
     }
 
     /// The class of the function above its protocol and revision.
@@ -112,7 +120,7 @@ impl ConfigSpace {
             0x10 => self.bar0,
             0x14 => self.bar1,
             0x34 => 0x40,
-            0x3c => set(0x100, !vectors),
+            0x3c => bits_where(!vectors, 0x100),
             0x40 => self.capability(),
             0x44 => spec.state_size,
             0x48 => low(spec.rw_size),
@@ -121,9 +129,9 @@ impl ConfigSpace {
             0x54 => high(spec.out_size),
             0x58 => low(spec.address),
             0x5c => high(spec.address),
-            0x60 => set(self.control() * 0x1_0000 + 0x11, vectors),
-            0x64 => set(0x001, vectors),
-            0x68 => set(0x101, vectors),
+            0x60 => bits_where(vectors, self.control() * 0x1_0000 + 0x11),
+            0x64 => bits_where(vectors, 0x001),
+            0x68 => bits_where(vectors, 0x101),
             _ => 0,
         }
     }
@@ -161,9 +169,9 @@ impl ConfigSpace {
         if offset == 0x04 {
             self.put_command(word);
         } else if offset == 0x10 {
-            self.bar0 = word / 0x1000 * 0x1000;
+            self.bar0 = word / REGISTERS_SIZE * REGISTERS_SIZE;
         } else if offset == 0x14 && vectors {
-            self.bar1 = word / 0x200 * 0x200;
+            self.bar1 = word / TABLE_SIZE * TABLE_SIZE;
         } else if offset == 0x40 {
             self.put_privileged(word);
         } else if offset == 0x60 && vectors {
@@ -203,8 +211,8 @@ impl ConfigSpace {
             return None;
         }
         match bar {
-            0 => Some(window_from(self.bar0, 4096)),
-            1 if self.spec.has_vectors() => Some(window_from(self.bar1, 512)),
+            0 => Some(window_from(self.bar0, REGISTERS_SIZE)),
+            1 if self.spec.has_vectors() => Some(window_from(self.bar1, TABLE_SIZE)),
             _ => None,
         }
     }

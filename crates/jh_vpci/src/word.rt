@@ -1,6 +1,6 @@
-//! Parts of a word of 32 bits: the bytes of one access, and single bits.
-ghost use Rattle.std.specs.Prelude.{◌≡◌, ◌+◌, ◌*◌, ◌/◌, ◌%◌, ◌^◌, ◌<◌, ◌≤◌, if◌then◌else◌};
-ghost use Rattle.jh_num.specs.Bits.{has_bit};
+//! Parts of a word of 32 bits: the bytes of one access, its halves, and bits by facts.
+ghost use Rattle.std.specs.Prelude.{◌≡◌, ◌+◌, ◌*◌, ◌/◌, ◌%◌, ◌^◌, ◌<◌, ◌≤◌};
+ghost use Rattle.jh_num.specs.Bits.{bits_where};
 ghost use Rattle.jh_vpci.specs.Writes.{spliced};
 
 use jh_num::Range;
@@ -44,19 +44,11 @@ pub(crate) fn with_bytes(word: u32, at: u16, width: u8, value: u32) -> u32
     (low + put + high) as u32
 }
 
-/// Whether the bit is 1.
-pub(crate) fn has_bit(word: u32, bit: u8) -> bool
-    requires { bit < 32 }
-    ensures { result ≡ has_bit word bit }
+/// The bits where the fact holds, else 0.
+pub(crate) fn bits_where(fact: bool, bits: u32) -> u32
+    ensures { result ≡ bits_where fact bits }
 {
-    (word >> bit) % 2 == 1
-}
-
-/// `n` where `on`, else 0.
-pub(crate) fn set(n: u32, on: bool) -> u32
-    ensures { result ≡ (if on then n else 0) }
-{
-    if on { n } else { 0 }
+    if fact { bits } else { 0 }
 }
 
 /// The lower half.

@@ -1,5 +1,6 @@
 -- One cell more.
 use Rattle.std.proofs.Common.{◌≡◌, List, length, get_or, ap, ◌∙◌, arith}
+use Rattle.jh_num.specs.Bits.{has_bit}
 use Rattle.jh_num.specs.Bytes.{has_byte}
 use Rattle.jh_cellcfg.specs.declared.region.Region.{Region}
 use Rattle.jh_board.proofs.ClosedLemmas.{closed_step, closed_all, few_regions}
@@ -16,7 +17,7 @@ loop-i-preserved c =
     let more = c.close_cell.ensures.few in
     record {
       bytes = λ lives same marks place.
-          closed_step lives cells i c.has_bit.result cell (has_byte c.loop-i.closed.ranges place) (has_byte c.close_cell.new.closed.ranges place) place same c.loop-i-test.true c.index-cells-i.is (c.has_bit.ensures ∙ marks i)
+          closed_step lives cells i c.has_bit.result cell (has_byte c.loop-i.closed.ranges place) (has_byte c.close_cell.new.closed.ranges place) place same c.loop-i-test.true c.index-cells-i.is (c.has_bit.ensures ∙ ap (λ mask. has_bit mask i) c.from.ensures ∙ marks i)
           (c.loop-i.invariant.bytes lives same marks place)
           (c.close_cell.ensures.bytes place);
       few = (let sum = counts.0 in omega arith);

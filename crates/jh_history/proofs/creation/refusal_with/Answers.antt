@@ -10,9 +10,9 @@ use Rattle.jh_history.proofs.creation.refusal_with.Goals as goal
 none_given : (may : ℕ) → may ≡ 0 → (cpu : ℕ) → nobody cpu ≡ has_bit may cpu
 none_given may none cpu = rw (none, bit_at-zero cpu) refl
 
-pub returns-then-cells-eq-MOST_CELLS : goal.returns-then-cells-eq-MOST_CELLS
-returns-then-cells-eq-MOST_CELLS c =
+pub returns-then-cells-eq-MAX_CELLS : goal.returns-then-cells-eq-MAX_CELLS
+returns-then-cells-eq-MAX_CELLS c =
     let system = c.args.image.now.system in
     let may = c.args.may in
     c.refusal_without_cpus.ensures.value c.args.pages (pool_pages system)
-    ∙ ap (λ (m : ℕ → Bool). refusal_of system c.args.cells.now c.args.config.now m c.args.pages (pool_pages system)) (same_function nobody (has_bit may) (none_given may (c.requires.kept c.if-cells-eq-MOST_CELLS.true)))
+    ∙ ap (λ (m : ℕ → Bool). refusal_of system c.args.cells.now c.args.config.now m c.args.pages (pool_pages system)) (same_function nobody (has_bit may) (none_given may (c.requires.kept c.if-cells-eq-MAX_CELLS.true)))

@@ -1,7 +1,8 @@
 -- The endpoint at the index of the device's key is changed, or none is.
 use Rattle.std.proofs.Common.{◌∙◌, position, set, sym, ap, subst}
 use Rattle.jh_ivshmem.specs.declared.change.Whom.TheVariants.{Device}
-use Rattle.jh_ivshmem.specs.Keys.{AreInOrder, IsWholeEndpoint, key_of, is_key_meant}
+use Rattle.jh_ivshmem.specs.Keys.{IsWholeEndpoint, key_of}
+use Rattle.jh_ivshmem.specs.Private.Keys.{AreInOrder, is_key_meant}
 use Rattle.jh_ivshmem.proofs.ChangeLemmas.{after_sound}
 use Rattle.jh_ivshmem.proofs.LoopLemmas.{device_at, change_found, change_none, sound_at}
 use Rattle.jh_ivshmem.proofs.OrderLemmas.{keys_in_order}

@@ -1,7 +1,7 @@
 -- No key so far tells of a pending vector of the cell.
 use Rattle.std.proofs.Common.{◌≡◌, None, fold, take}
 use Rattle.jh_ivshmem.specs.declared.key.Key.{Key}
-use Rattle.jh_ivshmem.specs.Keys.{pending_by}
+use Rattle.jh_ivshmem.specs.Private.Keys.{pending_by}
 use Rattle.jh_ivshmem.specs.Links.{earlier}
 use Rattle.jh_ivshmem.proofs.endpoints.first_pending.Given as goal
 

@@ -1,7 +1,7 @@
 -- The search finds the first key that isn't before the device.
 use Rattle.std.proofs.Common.{rules}
 use Rattle.std.proofs.lemmas.List.Sorted.{IsPartitionPoint-from_clause}
-use Rattle.jh_ivshmem.specs.Keys.{is_key_before}
+use Rattle.jh_ivshmem.specs.Private.Keys.{is_key_before}
 use Rattle.jh_ivshmem.proofs.OrderLemmas.{keys_partitioned}
 use Rattle.jh_ivshmem.proofs.endpoints.insertion_index.Goals as goal
 

@@ -2,7 +2,7 @@ use Rattle.std.proofs.Common.{◌<◌, arith, subst, ap}
 use Rattle.jh_vpci.specs.Space.{Space}
 use Rattle.jh_vpci.specs.Windows.{AreWindows}
 use Rattle.jh_vpci.specs.Writes.{spliced}
-use Rattle.jh_vpci.specs.Words.{word_of, word_at}
+use Rattle.jh_vpci.specs.Words.{word_of, word_offset}
 use Rattle.jh_vpci.proofs.WordLemmas.{written_put, written_kept, others_stay}
 use Rattle.jh_vpci.proofs.laws.a_write_reaches_its_writable_bits.Goals as goal
 
@@ -26,5 +26,5 @@ returns-clause-kept c =
 pub returns-clause-others : goal.returns-clause-others
 returns-clause-others c = λ offset other.
     others_stay c.args._space.now
-    (spliced (word_of c.args._space.now (word_at c.args._at)) c.args._at c.args._width c.args._value)
-    offset (word_at c.args._at) other
+    (spliced (word_of c.args._space.now (word_offset c.args._at)) c.args._at c.args._width c.args._value)
+    offset (word_offset c.args._at) other

@@ -1,6 +1,6 @@
 use Rattle.std.proofs.Common.{length, arith, ap}
 use Rattle.std.proofs.lemmas.List.{length-map}
-use Rattle.jh_ivshmem.specs.Changes.{is_meant, after}
+use Rattle.jh_ivshmem.specs.Private.Changes.{is_meant, after}
 use Rattle.jh_ivshmem.specs.Specs.{is_device}
 use Rattle.jh_ivshmem.specs.Keys.{key_of}
 use Rattle.jh_ivshmem.specs.EndpointsView.{EndpointsView}

@@ -2,7 +2,7 @@ use Rattle.std.proofs.Common.{is_some, position, sym, ◌∙◌, ap, subst}
 use Rattle.jh_ivshmem.specs.declared.change.Whom.TheVariants.{Device}
 use Rattle.jh_ivshmem.specs.EndpointsView.{EndpointsView}
 use Rattle.jh_ivshmem.specs.Links.{endpoint_at}
-use Rattle.jh_ivshmem.specs.Keys.{is_key_meant, AreInOrder}
+use Rattle.jh_ivshmem.specs.Private.Keys.{is_key_meant, AreInOrder}
 use Rattle.jh_ivshmem.proofs.KeyLemmas.{found_some}
 use Rattle.jh_ivshmem.proofs.OrderLemmas.{keys_in_order}
 use Rattle.jh_ivshmem.proofs.endpoints.Endpoints.has.Goals as goal

@@ -4,7 +4,8 @@ use Rattle.jh_ivshmem.specs.declared.change.Whom.TheVariants.{Device}
 use Rattle.jh_ivshmem.specs.declared.endpoint.Endpoint.{Endpoint}
 use Rattle.jh_ivshmem.specs.EndpointsView.{EndpointsView}
 use Rattle.jh_ivshmem.specs.Links.{endpoint_at}
-use Rattle.jh_ivshmem.specs.Keys.{key_of, is_key_meant, AreInOrder}
+use Rattle.jh_ivshmem.specs.Keys.{key_of}
+use Rattle.jh_ivshmem.specs.Private.Keys.{is_key_meant, AreInOrder}
 use Rattle.jh_ivshmem.proofs.KeyLemmas.{found_at, found_none, found_within}
 use Rattle.jh_ivshmem.proofs.OrderLemmas.{keys_in_order}
 use Rattle.jh_ivshmem.proofs.endpoints.Endpoints.index_of.Goals as goal

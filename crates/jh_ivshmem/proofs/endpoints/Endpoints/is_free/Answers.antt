@@ -3,7 +3,8 @@ use Rattle.std.specs.List.{list_all}
 use Rattle.std.proofs.lemmas.List.Folds.{list_all-map}
 use Rattle.std.proofs.lemmas.List.Sums.{AllPass-from_list_all, list_all-from_AllPass}
 use Rattle.jh_ivshmem.specs.declared.endpoint.Endpoint.{Endpoint}
-use Rattle.jh_ivshmem.specs.Keys.{key_of, is_key_apart}
+use Rattle.jh_ivshmem.specs.Keys.{key_of}
+use Rattle.jh_ivshmem.specs.Private.Keys.{is_key_apart}
 use Rattle.jh_ivshmem.specs.EndpointsView.{EndpointsView}
 use Rattle.jh_ivshmem.proofs.ApartLemmas.{apart_of_key, key_of_apart}
 use Rattle.jh_ivshmem.proofs.endpoints.Endpoints.is_free.Goals as goal

@@ -4,7 +4,7 @@ use Rattle.jh_ivshmem.specs.declared.endpoint.Endpoint.{Endpoint}
 use Rattle.jh_ivshmem.specs.declared.key.Key.{Key}
 use Rattle.jh_ivshmem.specs.Specs.{AreEndpointsApart, is_device}
 use Rattle.jh_ivshmem.specs.EndpointsView.{EndpointsView}
-use Rattle.jh_ivshmem.specs.Keys.{AreInOrder}
+use Rattle.jh_ivshmem.specs.Private.Keys.{AreInOrder}
 use Rattle.jh_ivshmem.specs.Links.{besides, joined}
 use Rattle.jh_ivshmem.proofs.BesidesLemmas.{besides_joined, own_device}
 use Rattle.jh_ivshmem.proofs.OrderLemmas.{IsIndex, Joins, joins, keys_in_order}

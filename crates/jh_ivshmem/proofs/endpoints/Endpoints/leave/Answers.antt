@@ -5,7 +5,8 @@ use Rattle.jh_ivshmem.specs.declared.spec.EndpointSpec.{EndpointSpec}
 use Rattle.jh_ivshmem.specs.declared.key.Key.{Key}
 use Rattle.jh_ivshmem.specs.Specs.{is_device, is_concerned}
 use Rattle.jh_ivshmem.specs.EndpointsView.{EndpointsView}
-use Rattle.jh_ivshmem.specs.Keys.{AreKept, is_key_meant}
+use Rattle.jh_ivshmem.specs.Keys.{AreKept}
+use Rattle.jh_ivshmem.specs.Private.Keys.{is_key_meant}
 use Rattle.jh_ivshmem.specs.Links.{told_of, besides}
 use Rattle.jh_ivshmem.proofs.BesidesLemmas.{besides_left}
 use Rattle.jh_ivshmem.proofs.KeyLemmas.{kept_filter}

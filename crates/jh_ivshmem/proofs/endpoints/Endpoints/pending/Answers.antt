@@ -1,7 +1,8 @@
 use Rattle.std.proofs.Common.{None, fold, sym, ◌∙◌, ap, subst}
 use Rattle.std.proofs.lemmas.List.Folds.{fold-map}
 use Rattle.jh_ivshmem.specs.declared.key.Key.{Key}
-use Rattle.jh_ivshmem.specs.Keys.{key_of, pending_by, AreInOrder}
+use Rattle.jh_ivshmem.specs.Keys.{key_of}
+use Rattle.jh_ivshmem.specs.Private.Keys.{pending_by, AreInOrder}
 use Rattle.jh_ivshmem.specs.Links.{earlier, pending_of}
 use Rattle.jh_ivshmem.specs.EndpointsView.{EndpointsView}
 use Rattle.jh_ivshmem.proofs.OrderLemmas.{keys_in_order}
