@@ -260,7 +260,7 @@ Means_made image old mid new f entry coming prepared written called =
     let means = prepared.means in
     let call : mid.call ≡ f.call = written.call ∙ means.call in
     let lives : mid.cells.lives ≡ f.cells = rw written.cells means.cells in
-    let after-call : new.call ≡ call_after image f entry = called.call ∙ ap (λ (c : Option OpenCall). call_by mid.cells.lives coming c entry act) call ∙ ap (λ (cs : List Live). call_by cs coming f.call entry act) lives ∙ prepared.read in
+    let after_call : new.call ≡ call_after image f entry = called.call ∙ ap (λ (c : Option OpenCall). call_by mid.cells.lives coming c entry act) call ∙ ap (λ (cs : List Live). call_by cs coming f.call entry act) lives ∙ prepared.read in
     let pages : KeepsPages old.memory new.memory = λ q held. rw called.memory (written.pages q held) in
     let living : new.cells.lives ≡ cells_by f.call f.cells act = called.lives ∙ ap (λ (c : Option OpenCall). cells_by c mid.cells.lives act) call ∙ ap (λ (cs : List Live). cells_by f.call cs act) lives in
     let F : List ProgramIndex → Type 0 = AreProgramIndices image f.cells in
@@ -273,7 +273,7 @@ Means_made image old mid new f entry coming prepared written called =
       system = called.system ∙ rw written.cells means.system;
       cells = living;
       endpoints = ap (λ (es : EndpointsView). es.list) called.endpoints ∙ written.endpoints;
-      call = after-call;
+      call = after_call;
       pages = all_made (λ (config : CellConfig). HoldsComm new.memory.comms config.id) f.call f.cells act
           (All-weaker (HoldsPageOf old) (HoldsPageOf new) (λ live. comms_kept old.memory new.memory live.config.id pages) f.cells means.pages)
           (if_some (created_by f.call act) (λ (config : CellConfig). HoldsComm new.memory.comms config.id) (λ config made.
@@ -286,5 +286,5 @@ Means_made image old mid new f entry coming prepared written called =
       root_words = words_kept old.memory new.memory (specs_of image.system.root) pages means.root_words;
       named = all_made NamesCpu f.call f.cells act means.named (rw call at called.named);
       programs = subst G living (called.programs f.call f.cells (subst F (sym written.programs) means.programs) living);
-      ready = subst S after-call (called.ready (subst R (sym after-call) (ready_written old mid f.cells (coming_of image f) f.call entry act written.index written.cells written.spare written.pages prepared.ready)));
+      ready = subst S after_call (called.ready (subst R (sym after_call) (ready_written old mid f.cells (coming_of image f) f.call entry act written.index written.cells written.spare written.pages prepared.ready)));
     }

@@ -13,7 +13,8 @@ use Rattle.jh_board.specs.Turns.{Turns, RefusesTurn}
 use Rattle.jh_run.specs.Origins.{Origin}
 use Rattle.jh_run.specs.Turns.{Takes}
 use Rattle.jh_run.specs.Running.{whose_entry, IsTurnAnswer}
-use Rattle.jh_run.specs.Drives.{ExplainsEnd, end_after}
+use Rattle.jh_run.specs.Drives.{ExplainsEnd}
+use Rattle.jh_run.specs.Private.Driving.{end_after}
 use Rattle.jh_board.specs.declared.turn.Turn.{Turn}
 use Rattle.jh_board.specs.declared.turn.Turn.TheVariants.{Made, Edited, NotNow, Done}
 use Rattle.jh_board.specs.declared.turn.TurnFault.{TurnFault}

@@ -11,7 +11,8 @@ use Rattle.jh_run.specs.Ends.{IsFullAndBusy}
 use Rattle.jh_run.specs.Origins.{Origin}
 use Rattle.jh_run.specs.Plays.{IsBoardOf}
 use Rattle.jh_run.proofs.TurnLemmas.{board_origin}
-use Rattle.jh_run.specs.Drives.{ExplainsEnd, refusal_of}
+use Rattle.jh_run.specs.Drives.{ExplainsEnd}
+use Rattle.jh_run.specs.Private.Driving.{last_fault}
 use Rattle.jh_run.specs.declared.ended.Ended.{Ended}
 use Rattle.jh_run.specs.declared.ended.Ended.TheVariants.{Quiet as EndedQuiet, Full as EndedFull}
 use Rattle.jh_board.specs.declared.turn.TurnFault.{TurnFault}
@@ -60,11 +61,11 @@ QuietExactly ended image entries = (ended ≡ EndedQuiet) ↔ IsQuiet image entr
 abbrev pub FullExactly : Ended → Image → ℕ → List Entry → Type 0
 FullExactly ended image limit entries = (ended ≡ EndedFull) ↔ IsFullAndBusy image limit entries
 
-pub quiet_exactly : (origin : Origin) (ended : Ended) (entries : List Entry) → ExplainsEnd origin (refusal_of ended) entries → QuietExactly ended origin.image entries
+pub quiet_exactly : (origin : Origin) (ended : Ended) (entries : List Entry) → ExplainsEnd origin (last_fault ended) entries → QuietExactly ended origin.image entries
 quiet_exactly origin EndedQuiet entries quiet = (λ e. quiet, λ h. refl)
 quiet_exactly origin EndedFull entries full = (λ e. absurd (cc e), λ quiet. absurd (full.1 quiet))
 
-pub full_exactly : (origin : Origin) (ended : Ended) (entries : List Entry) → ExplainsEnd origin (refusal_of ended) entries → FullExactly ended origin.image origin.limit entries
+pub full_exactly : (origin : Origin) (ended : Ended) (entries : List Entry) → ExplainsEnd origin (last_fault ended) entries → FullExactly ended origin.image origin.limit entries
 full_exactly origin EndedQuiet entries quiet = (λ e. absurd (cc e), λ h. absurd (h.1 quiet))
 full_exactly origin EndedFull entries full = (λ e. full, λ h. refl)
 

@@ -1,9 +1,7 @@
 -- What ports have seen once they are driven no more.
-use Rattle.std.specs.Prelude.{◌≡◌, List, Contains, Option, Some, None, Result, Ok, Err}
+use Rattle.std.specs.Prelude.{List, Contains, Option, Some, None}
 use Rattle.jh_history.specs.declared.entry.Entry.{Entry}
 use Rattle.jh_history.specs.Due.{IsQuiet}
-use Rattle.jh_board.specs.declared.turn.Turn.{Turn}
-use Rattle.jh_board.specs.declared.turn.Turn.TheVariants.{Made, Edited, NotNow, Done}
 use Rattle.jh_board.specs.declared.turn.TurnFault.{TurnFault}
 use Rattle.jh_board.specs.declared.turn.TurnFault.TheVariants.{Full, NoMemory}
 use Rattle.jh_turn.specs.declared.turner.Turner.{Ghosts}
@@ -11,21 +9,6 @@ use Rattle.jh_turn.specs.declared.shared.Port.{Port}
 use Rattle.jh_turn.specs.Ports.{seen_by}
 use Rattle.jh_run.specs.Ends.{IsFullAndBusy}
 use Rattle.jh_run.specs.Origins.{Origin}
-use Rattle.jh_run.specs.declared.ended.Ended.{Ended}
-use Rattle.jh_run.specs.declared.ended.Ended.TheVariants.{Quiet as EndedQuiet, Full as EndedFull}
-
--- whether no turn follows the one that answers this, and then for what it was refused, if it was
-abbrev pub end_after : Result Turn TurnFault → Option (Option TurnFault)
-end_after (Ok (Made entry)) = None
-end_after (Ok (Edited left)) = None
-end_after (Ok (NotNow other)) = None
-end_after (Ok Done) = Some None
-end_after (Err fault) = Some (Some fault)
-
--- for what the last turn of a run was refused that ended so, if it was
-abbrev pub refusal_of : Ended → Option TurnFault
-refusal_of EndedQuiet = None
-refusal_of EndedFull = Some Full
 
 -- the entries tell why ports are driven no more, by what a turn was refused for: none was where they are quiet; full, where
 -- they are at the limit and not quiet; and want of memory comes at any

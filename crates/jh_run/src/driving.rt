@@ -2,7 +2,8 @@
 ghost use Rattle.std.specs.Prelude.{◌≡◌, ◌<◌, All, IfSome, length, None, Some};
 ghost use Rattle.jh_turn.specs.Ports.{IsPortOf, port_caller, opened_value};
 ghost use Rattle.jh_turn.specs.PortSets.{IsSameSet};
-ghost use Rattle.jh_run.specs.Drives.{Shows, SomeShows, end_after};
+ghost use Rattle.jh_run.specs.Drives.{Shows, SomeShows};
+ghost use Rattle.jh_run.specs.Private.Driving.{end_after};
 ghost use Rattle.jh_run.specs.Running.{origin_of};
 
 use crate::running::Running;

@@ -4,9 +4,10 @@ ghost use Rattle.jh_history.specs.Admitted.{IsAdmitted};
 ghost use Rattle.jh_history.specs.Due.{IsLegal, IsQuiet};
 ghost use Rattle.jh_history.specs.Lives.{is_on_board};
 ghost use Rattle.jh_turn.specs.Ports.{AreAllPorts, opened_value};
-ghost use Rattle.jh_run.specs.Drives.{SomeShows, refusal_of};
+ghost use Rattle.jh_run.specs.Drives.{SomeShows};
 ghost use Rattle.jh_run.specs.Ends.{IsFullAndBusy};
 ghost use Rattle.jh_run.specs.Plays.{IsBoardOf};
+ghost use Rattle.jh_run.specs.Private.Driving.{last_fault};
 ghost use Rattle.jh_run.specs.Running.{origin_of};
 
 use crate::ended::Ended;
@@ -63,7 +64,7 @@ fn open_run(
 
 /// How a run ended in which a turn was refused for this, if one was.
 fn ended_by(refused: Option<TurnFault>) -> Result<Ended, NoMemory>
-    ensures { IfOk result (λ ended. refused ≡ refusal_of ended) }
+    ensures { IfOk result (λ ended. refused ≡ last_fault ended) }
 {
     match refused {
         None => Ok(Ended::Quiet),
