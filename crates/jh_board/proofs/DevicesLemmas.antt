@@ -19,7 +19,8 @@ use Rattle.jh_ivshmem.specs.Specs.{IsInItsLimits, AreEndpointsApart, is_before}
 use Rattle.jh_history.specs.declared.device_change.DeviceChange.{DeviceChange}
 use Rattle.jh_history.specs.declared.device_change.DeviceChange.TheVariants.{Join}
 use Rattle.jh_history.specs.declared.place.Place.{Place}
-use Rattle.jh_history.specs.Devices.{is_endpoint, section_at, place_of_section, spec_of, specs_from, specs_of, specs_by, specs_at}
+use Rattle.jh_history.specs.Devices.{is_endpoint, section_at, place_of_section, spec_of, specs_from, specs_of}
+use Rattle.jh_history.specs.Private.DeviceViews.{specs_by, specs_at}
 use Rattle.jh_history.specs.Endpoints.{HasGoodDevices, MayJoinThem, MayChange, endpoint_changed, endpoints_changed, with_words}
 use Rattle.jh_history.proofs.Public.{same_function, kind_from, All_from_held}
 use Rattle.jh_board.specs.Private.Closed.{AreInRange}

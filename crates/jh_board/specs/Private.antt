@@ -7,3 +7,4 @@ pub mod KeptCells
 pub mod LiveView
 pub mod StateView
 pub mod Steps
+pub mod Advances

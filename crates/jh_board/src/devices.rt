@@ -6,7 +6,8 @@ ghost use Rattle.jh_ivshmem.specs.declared.spec.Slot.{Slot as TheSlot};
 ghost use Rattle.jh_history.specs.declared.place.Place.{Place as ThePlace};
 ghost use Rattle.jh_history.specs.declared.device_change.DeviceChange.TheVariants.{Join as Joins};
 ghost use Rattle.jh_history.specs.Access.{with_slot_if};
-ghost use Rattle.jh_history.specs.Devices.{specs_of, specs_at};
+ghost use Rattle.jh_history.specs.Devices.{specs_of};
+ghost use Rattle.jh_history.specs.Private.DeviceViews.{specs_at};
 ghost use Rattle.jh_history.specs.Endpoints.{endpoints_changed, with_words, HasGoodDevices, MayJoinThem, MayChange};
 ghost use Rattle.jh_board.specs.Pages.{byte_of, HoldsPlace, HoldsSlot, HoldsWord};
 

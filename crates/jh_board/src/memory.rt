@@ -4,7 +4,8 @@ ghost use Rattle.jh_num.specs.Memory.{spelled, stored};
 ghost use Rattle.jh_history.specs.declared.place.Place.{Place as ThePlace};
 ghost use Rattle.jh_history.specs.Access.{with_slot};
 ghost use Rattle.jh_history.specs.Pages.{with_page};
-ghost use Rattle.jh_history.specs.Places.{number_of, places_in_row, places_of_row, IsRow, with_byte, written, over};
+ghost use Rattle.jh_history.specs.Places.{number_of, places_in_row, places_of_row, IsRow, with_byte, written};
+ghost use Rattle.jh_history.specs.Private.Overlaid.{over};
 ghost use Rattle.jh_board.specs.Pages.{byte_of, HoldsComm, HoldsPlace, HoldsSlot, MayHold};
 ghost use Rattle.jh_num.specs.Pages.{paged_byte};
 

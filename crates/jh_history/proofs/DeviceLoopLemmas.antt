@@ -16,7 +16,8 @@ use Rattle.jh_ivshmem.specs.Links.{joined}
 use Rattle.jh_ivshmem.specs.Specs.{is_before, slot_of, IsInItsLimits, AreEndpointsApart}
 use Rattle.jh_history.specs.declared.device_change.DeviceChange.{DeviceChange}
 use Rattle.jh_history.specs.declared.device_change.DeviceChange.TheVariants.{Join}
-use Rattle.jh_history.specs.Devices.{is_endpoint, spec_of, specs_from, specs_of, specs_by, specs_at}
+use Rattle.jh_history.specs.Devices.{is_endpoint, spec_of, specs_from, specs_of}
+use Rattle.jh_history.specs.Private.DeviceViews.{specs_by, specs_at}
 use Rattle.jh_history.specs.declared.place.Place.{Place}
 use Rattle.jh_history.specs.Access.{with_slot}
 use Rattle.jh_history.specs.Endpoints.{endpoint_changed, endpoints_changed, with_words, MayJoinThem, MayChange}

@@ -10,7 +10,7 @@ use Rattle.jh_history.specs.declared.entry.Entry.{Entry}
 use Rattle.jh_history.specs.declared.access.Reach.{Reach}
 use Rattle.jh_history.specs.declared.access.Reach.TheVariants.{Memory, Subpage, Config, Window, Nothing}
 use Rattle.jh_history.specs.declared.access.Wanted.{Wanted}
-use Rattle.jh_history.specs.Places.{further, places_in_row, over, written}
+use Rattle.jh_history.specs.Places.{further, places_in_row, written}
 use Rattle.jh_cellcfg.specs.declared.config.PciDevice.{PciDevice}
 use Rattle.jh_cellcfg.specs.declared.live.Live.{Live}
 use Rattle.jh_ivshmem.specs.declared.endpoint.Endpoint.{Endpoint}
@@ -24,6 +24,7 @@ use Rattle.jh_history.specs.Endpoints.{endpoints_put, endpoints_after}
 use Rattle.jh_history.specs.History.{after, cells_after, call_after}
 use Rattle.jh_history.specs.Wants.{reach_of}
 use Rattle.jh_history.specs.Private.PlainView.{PlainView, overwritten, last_byte, Represents}
+use Rattle.jh_history.specs.Private.Overlaid.{over}
 use Rattle.std.proofs.lemmas.List.{append-nil}
 use Rattle.jh_history.proofs.PlaceLemmas.{row_next, written_over}
 

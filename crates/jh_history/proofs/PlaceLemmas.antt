@@ -2,7 +2,8 @@
 use Rattle.std.proofs.Common.{◌≡◌, ℕ, suc, ◌+◌, ◌-◌, ◌/◌, ◌%◌, ◌<◌, List, [], ◌∷◌, refl, ap, ◌∙◌, arith}
 use Rattle.jh_history.specs.declared.place.Place.{Place}
 use Rattle.jh_history.specs.declared.place.Place.TheVariants.{Physical, Page}
-use Rattle.jh_history.specs.Places.{further, places_in_row, written, over, with_byte}
+use Rattle.jh_history.specs.Places.{further, places_in_row, written, with_byte}
+use Rattle.jh_history.specs.Private.Overlaid.{over}
 
 -- no further is the place itself
 pub further_none : (p : Place) → further p 0 ≡ p

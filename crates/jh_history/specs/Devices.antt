@@ -40,11 +40,6 @@ pub record IsInWindow (register : InWindow) : Type 0 where
   pub aligned : register.at % 4 ≡ 0
   pub within : register.at < (if register.bar == 0 then 4096 else 512)
 
--- the window is one of BAR 0 or of BAR 1, and has the size of that
-pub record IsGoodWindow (window : Window) : Type 0 where
-  pub bar : window.bar < 2
-  pub size : window.size ≡ (if window.bar == 0 then 4096 else 512)
-
 -- ---- endpoints
 
 -- the device of that number is an ivshmem device; a number has 32 bits
@@ -99,15 +94,6 @@ specs_from config n (device ∷ devices) =
 -- the endpoints of all ivshmem devices of the cell, in order of device
 unfoldable pub specs_of : CellConfig → List EndpointSpec
 specs_of config = specs_from config 0 config.pci_devices
-
--- the endpoint of the device of that number, where it is an ivshmem device
-abbrev pub specs_by : CellConfig → ℕ → Option PciDevice → List EndpointSpec
-specs_by config n None = []
-specs_by config n (Some device) = if is_endpoint n device then spec_of config n device ∷ [] else []
-
--- the endpoint of the cell's device of that number, where it is an ivshmem device
-abbrev pub specs_at : CellConfig → ℕ → List EndpointSpec
-specs_at config n = specs_by config n (slice_get config.pci_devices n)
 
 -- ---- the devices of a cell, at a moment
 

@@ -2,7 +2,7 @@
 ghost use Rattle.std.specs.Prelude.{◌≡◌, ℕ, ◌+◌, ◌<◌, ◌^◌, length, fold, IfOk, IfSome, OnOk};
 ghost use Rattle.jh_script.specs.declared.image.Image.{Image as TheImage};
 ghost use Rattle.jh_history.specs.declared.place.Place.{Place as ThePlace};
-ghost use Rattle.jh_history.specs.Places.{over, places_of_row, IsRow};
+ghost use Rattle.jh_history.specs.Places.{places_of_row, IsRow};
 ghost use Rattle.jh_ivshmem.specs.declared.spec.Slot.{Slot as TheSlot};
 ghost use Rattle.jh_history.specs.Access.{with_slot, with_slot_if};
 ghost use Rattle.jh_history.specs.Bytes.{preloaded, loaded_byte};
@@ -10,6 +10,7 @@ ghost use Rattle.jh_history.specs.declared.comm.PageChange.TheVariants.{State, M
 ghost use Rattle.jh_history.specs.Pages.{with_page, with_page_write};
 ghost use Rattle.jh_history.specs.Admitted.{IsAdmitted};
 ghost use Rattle.jh_history.specs.Private.PlainView.{last_byte, put_in_page, IsRest};
+ghost use Rattle.jh_history.specs.Private.Overlaid.{over};
 
 use crate::comm::{PageChange, PageWrite};
 use crate::device_write::slot_places;

@@ -8,7 +8,8 @@ use Rattle.jh_num.proofs.Public.{same_number, little_endian_first}
 use Rattle.jh_num.specs.Memory.{spelled, little_endian}
 use Rattle.jh_history.specs.declared.place.Place.{Place}
 use Rattle.jh_history.specs.declared.place.Place.TheVariants.{Physical, Page}
-use Rattle.jh_history.specs.Places.{is_same, over}
+use Rattle.jh_history.specs.Places.{is_same}
+use Rattle.jh_history.specs.Private.Overlaid.{over}
 use Rattle.jh_history.specs.Access.{places_from}
 
 -- the first so many places

@@ -15,7 +15,8 @@ use Rattle.jh_history.specs.declared.entry.Entry.{Entry}
 use Rattle.jh_history.specs.declared.place.Place.{Place}
 use Rattle.jh_history.specs.declared.place.Place.TheVariants.{Physical, Page}
 use Rattle.jh_history.specs.declared.written.WrittenByte.{WrittenByte}
-use Rattle.jh_history.specs.Places.{is_same, over}
+use Rattle.jh_history.specs.Places.{is_same}
+use Rattle.jh_history.specs.Private.Overlaid.{over}
 use Rattle.jh_history.specs.declared.access.Access.TheVariants.{Read}
 use Rattle.jh_history.specs.Access.{reach_by, memory_read, slot_of_reach}
 use Rattle.jh_history.specs.Grants.{granted_in}
@@ -25,7 +26,7 @@ use Rattle.jh_history.specs.Endpoints.{change_by, changing_by, specs_changing, w
 use Rattle.jh_history.specs.Facts.{Facts}
 use Rattle.jh_history.specs.Bytes.{loaded_byte}
 use Rattle.jh_history.specs.History.{coming_of}
-use Rattle.jh_history.specs.Admitted.{IsAdmitted}
+use Rattle.jh_history.specs.Admitted.{IsAdmitted, IsWellFormedAct}
 use Rattle.jh_shape.specs.Lives.{configs_of}
 use Rattle.jh_history.specs.Due.{due_at}
 use Rattle.jh_history.specs.Sound.{AreSoundCells, IsSound}
@@ -119,3 +120,7 @@ pub record MayBeFollowed (plain : PlainView) (entry : Entry) : Type 0 where
   pub words : HasWords plain
   pub commit : MayCommit plain entry.act
   pub next : IsNextOf entry.cell plain.endpoints entry.act
+
+-- the entry's act, where it is a read or a write, has at most 8 bytes
+abbrev pub IsWellFormedEntry : Entry → Type 0
+IsWellFormedEntry entry = IsWellFormedAct entry.act

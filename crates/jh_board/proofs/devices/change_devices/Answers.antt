@@ -7,7 +7,7 @@ use Rattle.jh_ivshmem.specs.declared.spec.EndpointSpec.{EndpointSpec}
 use Rattle.jh_ivshmem.specs.Specs.{IsInItsLimits}
 use Rattle.jh_history.specs.declared.device_change.DeviceChange.{DeviceChange}
 use Rattle.jh_history.specs.declared.device_change.DeviceChange.TheVariants.{Join}
-use Rattle.jh_history.specs.Devices.{specs_at}
+use Rattle.jh_history.specs.Private.DeviceViews.{specs_at}
 use Rattle.jh_history.specs.Endpoints.{endpoints_changed, with_words, MayJoinThem, MayChange}
 use Rattle.jh_board.specs.Pages.{byte_of, HoldsWord}
 use Rattle.jh_board.proofs.DevicesLemmas.{specs_before, specs_more, specs_all, specs_count, all_at, may_join_next, changed_more, words_more}

@@ -4,7 +4,7 @@ use Rattle.std.specs.Prelude.{All}
 use Rattle.std.proofs.lemmas.List.Elements.{All-append}
 use Rattle.jh_ivshmem.specs.declared.spec.EndpointSpec.{EndpointSpec}
 use Rattle.jh_ivshmem.specs.Specs.{IsInItsLimits}
-use Rattle.jh_history.specs.Devices.{specs_at}
+use Rattle.jh_history.specs.Private.DeviceViews.{specs_at}
 use Rattle.jh_board.specs.Pages.{HoldsWord}
 use Rattle.jh_board.proofs.DevicesLemmas.{specs_before, specs_more, specs_all, specs_few, all_at}
 use Rattle.jh_board.proofs.KeptLemmas.{words_kept}

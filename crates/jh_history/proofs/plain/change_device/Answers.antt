@@ -4,7 +4,7 @@ use Rattle.jh_ivshmem.specs.declared.spec.EndpointSpec.{EndpointSpec}
 use Rattle.jh_ivshmem.specs.declared.spec.Slot.{Slot}
 use Rattle.jh_ivshmem.specs.Specs.{IsInItsLimits}
 use Rattle.jh_history.specs.Access.{with_slot}
-use Rattle.jh_history.specs.Devices.{specs_at}
+use Rattle.jh_history.specs.Private.DeviceViews.{specs_at}
 use Rattle.jh_history.specs.Endpoints.{endpoints_changed, with_words, MayJoinThem}
 use Rattle.jh_history.specs.Private.PlainView.{last_byte}
 use Rattle.jh_history.proofs.DeviceLoopLemmas.{at_some, at_none, first, word_ends}

@@ -2,8 +2,9 @@
 use Rattle.std.proofs.Common.{◌≡◌, ◌-◌, ◌++◌, List}
 use Rattle.jh_script.specs.declared.image.Image.{Image}
 use Rattle.jh_history.specs.declared.place.Place.{Place}
-use Rattle.jh_history.specs.Places.{further, places_in_row, over}
+use Rattle.jh_history.specs.Places.{further, places_in_row}
 use Rattle.jh_history.specs.Private.PlainView.{last_byte}
+use Rattle.jh_history.specs.Private.Overlaid.{over}
 use Rattle.jh_history.proofs.written.write_row.Given as goal
 
 abbrev pub invariant-loop-k : goal.invariant-loop-k

@@ -1,7 +1,8 @@
 -- What is left to write over the bytes as they stand gives all that is to be written, and all places are held.
 use Rattle.std.proofs.Common.{◌≡◌, ◌-◌, ◌++◌, List}
 use Rattle.jh_history.specs.declared.place.Place.{Place}
-use Rattle.jh_history.specs.Places.{further, places_in_row, over}
+use Rattle.jh_history.specs.Places.{further, places_in_row}
+use Rattle.jh_history.specs.Private.Overlaid.{over}
 use Rattle.jh_board.specs.Pages.{byte_of, HoldsPlace}
 use Rattle.jh_board.proofs.memory.Memory.write_row.Given as goal
 

@@ -5,8 +5,8 @@ use Rattle.jh_history.specs.declared.access.Reach.TheVariants.{Memory, Subpage}
 use Rattle.jh_history.specs.Access.{write_of}
 use Rattle.jh_history.specs.Endpoints.{endpoints_put}
 use Rattle.jh_history.specs.Grants.{devices_of}
-use Rattle.jh_history.specs.Places.{over}
 use Rattle.jh_history.specs.Private.PlainView.{PlainView, last_byte}
+use Rattle.jh_history.specs.Private.Overlaid.{over}
 use Rattle.jh_history.proofs.KeptLemmas.{kept_write, kept_write_subpage, reach_kept, is_device, device_write, others_put}
 use Rattle.jh_history.proofs.plain.Plain.write_at.Goals as goal
 
