@@ -111,7 +111,7 @@ pub answer_no_bytes : (behind : Behind) (wanted : Wanted) → wanted.width ≡ 0
 unfolding answer
 answer_no_bytes behind wanted none =
     let P : ℕ → Type 0 = λ n.
-        let short : Wanted = record wanted { width = n } in
-        cond (leb (wanted.at + n) ADDRESS_END) (answer_behind (asked_by behind short) short) Nothing ≡ Nothing
+    let short : Wanted = record wanted { width = n } in
+    cond (leb (wanted.at + n) ADDRESS_END) (answer_behind (asked_by behind short) short) Nothing ≡ Nothing
     in
     subst P (sym none) (no_bytes_within (asked_by behind (no_bytes wanted.access wanted.at)) wanted.access wanted.at (leb (wanted.at + 0) ADDRESS_END))

@@ -150,7 +150,12 @@ fn region_or_window(
 
 /// What answers the access of the cell with these devices where no memory does; `region` is the subpage region that has
 /// it, where one does, and the cell is kept from none of its bytes.
-pub fn answer_behind(devices: &Devices, region: Option<Region>, ecam: Range, wanted: &Wanted) -> Reach
+pub fn answer_behind(
+    devices: &Devices,
+    region: Option<Region>,
+    ecam: Range,
+    wanted: &Wanted,
+) -> Reach
     requires some { 0 < wanted.now.width }
     requires few { wanted.now.width ≤ 8 }
     requires within { IfSome region IsInRange }
