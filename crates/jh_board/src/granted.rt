@@ -19,8 +19,8 @@ use crate::cells::LiveCells;
 use crate::indexed::{IndexedImage, giving};
 use jh_cellcfg::{PciDevice, Region};
 use jh_history::{
-    Access, Devices, Grants, Place, Places, Reach, Row, Wanted, answer_behind, ecam_of, first_of_row,
-    is_within, places_in,
+    Access, Devices, Grants, Place, Places, Reach, Row, Wanted, answer_behind, ecam_of,
+    first_of_row, is_within, places_in,
 };
 use jh_ivshmem::Endpoints;
 use jh_num::Range;

@@ -8,10 +8,10 @@ ghost use Rattle.jh_history.specs.Wants.{IsReachOfEntry};
 ghost use Rattle.jh_board.specs.Means.{Means};
 ghost use Rattle.jh_board.specs.Private.FoundCreation.{IsFoundCreation};
 
+use crate::creation::creation_from;
 use crate::granted::{reach, row_of_root};
 use crate::held::Held;
 use crate::indexed::IndexedImage;
-use crate::creation::creation_from;
 use jh_call::Call;
 use jh_cellcfg::CellConfig;
 use jh_cpu::Cpu;
