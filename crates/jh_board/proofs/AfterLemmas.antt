@@ -36,7 +36,7 @@ use Rattle.jh_board.specs.declared.indexed.ProgramIndex.{ProgramIndex}
 use Rattle.jh_board.specs.Indexed.{AreProgramIndices}
 use Rattle.jh_board.specs.Pages.{byte_of, HoldsComm, MemoryView}
 use Rattle.jh_board.specs.Private.Pages.{MayHold}
-use Rattle.jh_board.specs.Means.{Means, HoldsPageOf, HoldsWords, IsReady, IsReadyIn, IsReadyFor}
+use Rattle.jh_board.specs.Means.{Means, HoldsPageOf, HoldsWords, IsReadyToGoOn, IsReadyIn, IsReadyFor}
 use Rattle.jh_board.specs.Private.Steps.{NeedsNothingYet, MayWrite, MayWriteOf, MayJoinCells, IsPrepared}
 use Rattle.jh_board.proofs.KeptLemmas.{KeepsPages, comms_kept, words_kept, all_words_kept}
 use Rattle.jh_board.proofs.MadeLemmas.{ready_written}
@@ -51,7 +51,7 @@ on_err (Err fault) P h = h
 
 -- facts that what is held stands for have one open call
 pub free_same : (image : Image) (held : Held) (f g : Facts) (config : CellConfig) → Means image held f → Means image held g → NeedsNothingYet f (Some config) → NeedsNothingYet g (Some config)
-free_same image held f g config first second free = λ other. let P : Option OpenCall → Type 0 = IsReady other in subst P (sym first.call ∙ second.call) (free other)
+free_same image held f g config first second free = λ other. let P : Option OpenCall → Type 0 = IsReadyToGoOn other in subst P (sym first.call ∙ second.call) (free other)
 
 -- ---- what is written is held
 
@@ -132,9 +132,9 @@ pub created_is : (call : Option OpenCall) (act : Act) (config : CellConfig) → 
 created_is None act config h = absurd (none-some config h)
 created_is (Some o) act config h = record { begun = o; is = refl; phase = created_act o act config h }
 
-pub ready_coming : (held : Held) (call : Option OpenCall) (o : OpenCall) (config : CellConfig) → IsReady held call → call ≡ Some o → o.phase ≡ ToCreate config → IsReadyFor held config
+pub ready_coming : (held : Held) (call : Option OpenCall) (o : OpenCall) (config : CellConfig) → IsReadyToGoOn held call → call ≡ Some o → o.phase ≡ ToCreate config → IsReadyFor held config
 ready_coming held call o config ready is phase =
-    let P : Option OpenCall → Type 0 = IsReady held in
+    let P : Option OpenCall → Type 0 = IsReadyToGoOn held in
     let Q : Phase → Type 0 = IsReadyIn held in
     subst Q phase (subst P is ready)
 
@@ -238,7 +238,7 @@ pub record IsCalled (image : Image) (mid new : Held) (entry : Entry) (coming : O
   pub named : IfSome (created_by mid.call entry.act) NamesCpu
   pub call : new.call ≡ call_by mid.cells.lives coming mid.call entry entry.act
   pub programs : (call : Option OpenCall) (lives : List Live) → AreProgramIndices image lives mid.programs → new.cells.lives ≡ cells_by call lives entry.act → AreProgramIndices image new.cells.lives new.programs
-  pub ready : IsReady mid new.call → IsReady new new.call
+  pub ready : IsReadyToGoOn mid new.call → IsReadyToGoOn new new.call
 
 -- and the steps before it, memory, devices and CPUs
 pub record IsWritten (image : Image) (old mid : Held) (f : Facts) (entry : Entry) : Type 0 where
@@ -265,8 +265,8 @@ Means_made image old mid new f entry coming prepared written called =
     let living : new.cells.lives ≡ cells_by f.call f.cells act = called.lives ∙ ap (λ (c : Option OpenCall). cells_by c mid.cells.lives act) call ∙ ap (λ (cs : List Live). cells_by f.call cs act) lives in
     let F : List ProgramIndex → Type 0 = AreProgramIndices image f.cells in
     let G : List Live → Type 0 = λ cs. AreProgramIndices image cs new.programs in
-    let R : Option OpenCall → Type 0 = IsReady mid in
-    let S : Option OpenCall → Type 0 = IsReady new in
+    let R : Option OpenCall → Type 0 = IsReadyToGoOn mid in
+    let S : Option OpenCall → Type 0 = IsReadyToGoOn new in
     record {
       bytes = λ q. rw called.memory (written.bytes q);
       cpus = λ i lt. rw called.cpus (written.cpus i lt);

@@ -7,7 +7,7 @@ use Rattle.std.proofs.lemmas.List.{append-nil}
 use Rattle.std.proofs.lemmas.List.Elements.{recursion_from_All, All-from_recursion}
 use Rattle.jh_history.specs.declared.place.Place.{Place}
 use Rattle.jh_history.specs.declared.place.Place.TheVariants.{Physical, Page}
-use Rattle.jh_history.specs.Places.{further, places_in_row, with_byte, over, written}
+use Rattle.jh_history.specs.Places.{further, places_in_row, with_byte, written, overlaid}
 use Rattle.jh_history.proofs.Public.{further_none, further_next, row_next, written_over}
 use Rattle.jh_board.specs.Pages.{byte_of, HoldsPage, HoldsPlace, MemoryView}
 use Rattle.jh_board.specs.Private.Pages.{MayHold}
@@ -63,15 +63,15 @@ All_high Q xs ys all = All-from_recursion Q ys (high_of xs (recursion_from_All Q
 
 -- one byte of a write
 pub over_more : (old new : MemoryView) (p at : Place) (byte k n rest : ℕ) (places : List Place) (q : Place) → k < n → at ≡ further p k → byte ≡ rest % 256 → byte_of new q ≡ with_byte (byte_of old) at byte q
-    → over (places_in_row (further p (k + 1)) (n - (k + 1)) ++ places) (rest / 256) q (byte_of new q) ≡ over (places_in_row (further p k) (n - k) ++ places) rest q (byte_of old q)
+    → overlaid (places_in_row (further p (k + 1)) (n - (k + 1)) ++ places) (rest / 256) q (byte_of new q) ≡ overlaid (places_in_row (further p k) (n - k) ++ places) rest q (byte_of old q)
 over_more old new p at byte k n rest places q lt is_at is_byte is =
-    rw (is, is_at, is_byte) (ap (λ (ps : List Place). over (ps ++ places) rest q (byte_of old q)) (sym (row_next p k n lt)))
+    rw (is, is_at, is_byte) (ap (λ (ps : List Place). overlaid (ps ++ places) rest q (byte_of old q)) (sym (row_next p k n lt)))
 
 -- the two rows of a write
 pub written_rows : (old middle new : MemoryView) (low high places : List Place) (value rest last : ℕ) (q : Place) → places ≡ low ++ high
-    → ((ps : List Place) → over ps rest q (byte_of middle q) ≡ over (low ++ ps) value q (byte_of old q))
-    → ((ps : List Place) → over ps last q (byte_of new q) ≡ over (high ++ ps) rest q (byte_of middle q))
+    → ((ps : List Place) → overlaid ps rest q (byte_of middle q) ≡ overlaid (low ++ ps) value q (byte_of old q))
+    → ((ps : List Place) → overlaid ps last q (byte_of new q) ≡ overlaid (high ++ ps) rest q (byte_of middle q))
     → byte_of new q ≡ written (byte_of old) places value q
 written_rows old middle new low high places value rest last q is first second =
-    second [] ∙ first (high ++ []) ∙ ap (λ (ps : List Place). over (low ++ ps) value q (byte_of old q)) (append-nil high)
-    ∙ ap (λ (ps : List Place). over ps value q (byte_of old q)) (sym is) ∙ sym (written_over (byte_of old) places value q)
+    second [] ∙ first (high ++ []) ∙ ap (λ (ps : List Place). overlaid (low ++ ps) value q (byte_of old q)) (append-nil high)
+    ∙ ap (λ (ps : List Place). overlaid ps value q (byte_of old q)) (sym is) ∙ sym (written_over (byte_of old) places value q)

@@ -21,7 +21,7 @@ use Rattle.jh_board.specs.declared.held.Held.{Held}
 use Rattle.jh_board.specs.declared.indexed.ProgramIndex.{ProgramIndex}
 use Rattle.jh_board.specs.Indexed.{AreProgramIndices}
 use Rattle.jh_board.specs.Pages.{byte_of, HoldsComm, HoldsPlace, HoldsWord, MemoryView}
-use Rattle.jh_board.specs.Means.{Means, HoldsPageOf, HoldsWords, IsReadyFor, IsReadyIn, IsReady}
+use Rattle.jh_board.specs.Means.{Means, HoldsPageOf, HoldsWords, IsReadyFor, IsReadyIn, IsReadyToGoOn}
 
 -- the pages that are held stay so
 abbrev pub KeepsPages : MemoryView → MemoryView → Type 0
@@ -55,7 +55,7 @@ ready_in_kept old new (ToNote id about answer) index cells spare pages h = tt
 ready_in_kept old new (ToNoted id about answer waited) index cells spare pages h = tt
 ready_in_kept old new (ToFinish answer) index cells spare pages h = tt
 
-pub ready_kept : (old new : Held) (call : Option OpenCall) → new.index ≡ old.index → new.cells ≡ old.cells → old.endpoints.spare ≤ new.endpoints.spare → KeepsPages old.memory new.memory → IsReady old call → IsReady new call
+pub ready_kept : (old new : Held) (call : Option OpenCall) → new.index ≡ old.index → new.cells ≡ old.cells → old.endpoints.spare ≤ new.endpoints.spare → KeepsPages old.memory new.memory → IsReadyToGoOn old call → IsReadyToGoOn new call
 ready_kept old new None index cells spare pages h = tt
 ready_kept old new (Some o) index cells spare pages h = ready_in_kept old new o.phase index cells spare pages h
 
@@ -67,7 +67,7 @@ all_words_kept old new cells pages h =
     All-weaker (λ (live : Live). HoldsWords old live.config) (λ (live : Live). HoldsWords new live.config) (λ live. words_kept old.memory new.memory (specs_of live.config) pages) cells h
 
 pub Means_kept : (image : Image) (old new : Held) (f : Facts) → ((q : Place) → byte_of new.memory q ≡ byte_of old.memory q) → KeepsPages old.memory new.memory → new.cpus ≡ old.cpus
-    → new.cells.system ≡ old.cells.system → new.cells.lives ≡ old.cells.lives → new.programs ≡ old.programs → new.endpoints.list ≡ old.endpoints.list → new.call ≡ old.call → IsReady new f.call → Means image old f → Means image new f
+    → new.cells.system ≡ old.cells.system → new.cells.lives ≡ old.cells.lives → new.programs ≡ old.programs → new.endpoints.list ≡ old.endpoints.list → new.call ≡ old.call → IsReadyToGoOn new f.call → Means image old f → Means image new f
 Means_kept image old new f bytes pages cpus system lives programs endpoints call ready h = record {
   bytes = λ q. bytes q ∙ h.bytes q;
   cpus = λ i lt. ap (λ (states : List Cpu). slice_get states i) cpus ∙ h.cpus i lt;

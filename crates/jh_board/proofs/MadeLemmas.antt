@@ -18,7 +18,7 @@ use Rattle.jh_history.specs.Endpoints.{changing_at, changing_by}
 use Rattle.jh_board.specs.declared.held.Held.{Held}
 use Rattle.jh_board.specs.declared.steps.CellsChange.{CellsChange}
 use Rattle.jh_board.specs.declared.steps.CellsChange.TheVariants.{Keep}
-use Rattle.jh_board.specs.Means.{IsReady}
+use Rattle.jh_board.specs.Means.{IsReadyToGoOn}
 use Rattle.jh_board.specs.Private.Steps.{change_of_call, change_of_cells, changed_cells, joined_cells}
 use Rattle.jh_board.proofs.ReadyLemmas.{ready_committed}
 use Rattle.jh_board.proofs.KeptLemmas.{KeepsPages, ready_kept}
@@ -105,13 +105,13 @@ nothing_made call cells (Finish answer) other = absurd (true≢false other)
 abbrev pub KeepsCells : Held → Held → Option CellConfig → CellsChange → Type 0
 KeepsCells old new made change = made ≡ None → change ≡ Keep → (new.cells ≡ old.cells) × (new.index ≡ old.index)
 
-ready_committed_call : (held : Held) (cells : List Live) (coming : Option CellConfig) (call : Option OpenCall) (entry : Entry) → IsReady held (call_by cells coming call entry Commit)
+ready_committed_call : (held : Held) (cells : List Live) (coming : Option CellConfig) (call : Option OpenCall) (entry : Entry) → IsReadyToGoOn held (call_by cells coming call entry Commit)
 ready_committed_call held cells coming None entry = tt
 ready_committed_call held cells coming (Some o) entry = ready_committed held o.call cells o.phase
 
 -- what is held stays ready for what the call goes on to do
 pub ready_made : (old new : Held) (cells : List Live) (coming : Option CellConfig) (call : Option OpenCall) (entry : Entry) (act : Act) → old.endpoints.spare ≤ new.endpoints.spare → KeepsPages old.memory new.memory
-    → KeepsCells old new (created_by call act) (change_of_cells call act) → IsReady old (call_by cells coming call entry act) → IsReady new (call_by cells coming call entry act)
+    → KeepsCells old new (created_by call act) (change_of_cells call act) → IsReadyToGoOn old (call_by cells coming call entry act) → IsReadyToGoOn new (call_by cells coming call entry act)
 ready_made old new cells coming call entry (Read width at got) spare pages same h = let kept = same (none_made call (Read width at got) (λ o. refl)) refl in ready_kept old new (call_by cells coming call entry (Read width at got)) kept.1 kept.0 spare pages h
 ready_made old new cells coming call entry (Write width at value ok) spare pages same h = let kept = same (none_made call (Write width at value ok) (λ o. refl)) refl in ready_kept old new (call_by cells coming call entry (Write width at value ok)) kept.1 kept.0 spare pages h
 ready_made old new cells coming call entry (Fetch at got) spare pages same h = let kept = same (none_made call (Fetch at got) (λ o. refl)) refl in ready_kept old new (call_by cells coming call entry (Fetch at got)) kept.1 kept.0 spare pages h
@@ -136,14 +136,14 @@ abbrev pub KeepsRoom : Held → Held → Option CellConfig → Type 0
 KeepsRoom old new changing = changing ≡ None → new.endpoints.spare ≡ old.endpoints.spare
 
 ready_room : (old new : Held) (call changed : Option OpenCall) (cells : List Live) (act : Act) → new.index ≡ old.index → new.cells ≡ old.cells → KeepsRoom old new (changing_by cells call act) → KeepsPages old.memory new.memory
-    → ((o : OpenCall) → changing_at cells o act ≡ None) → IsReady old changed → IsReady new changed
+    → ((o : OpenCall) → changing_at cells o act ≡ None) → IsReadyToGoOn old changed → IsReadyToGoOn new changed
 ready_room old new call changed cells act index same room pages none h =
     let kept : new.endpoints.spare ≡ old.endpoints.spare = room (not_changing cells call act none) in
     ready_kept old new changed index same (omega arith) pages h
 
 -- so it does after what the act does to memory and to devices
 pub ready_written : (old new : Held) (cells : List Live) (coming : Option CellConfig) (call : Option OpenCall) (entry : Entry) (act : Act) → new.index ≡ old.index → new.cells ≡ old.cells
-    → KeepsRoom old new (changing_by cells call act) → KeepsPages old.memory new.memory → IsReady old (call_by cells coming call entry act) → IsReady new (call_by cells coming call entry act)
+    → KeepsRoom old new (changing_by cells call act) → KeepsPages old.memory new.memory → IsReadyToGoOn old (call_by cells coming call entry act) → IsReadyToGoOn new (call_by cells coming call entry act)
 ready_written old new cells coming call entry (Read width at got) index same room pages h = ready_room old new call (call_by cells coming call entry (Read width at got)) cells (Read width at got) index same room pages (λ o. refl) h
 ready_written old new cells coming call entry (Write width at value ok) index same room pages h = ready_room old new call (call_by cells coming call entry (Write width at value ok)) cells (Write width at value ok) index same room pages (λ o. refl) h
 ready_written old new cells coming call entry (Fetch at got) index same room pages h = ready_room old new call (call_by cells coming call entry (Fetch at got)) cells (Fetch at got) index same room pages (λ o. refl) h

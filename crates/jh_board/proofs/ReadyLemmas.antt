@@ -22,7 +22,7 @@ use Rattle.jh_history.specs.Phases.{refused_by}
 use Rattle.jh_history.specs.History.{coming_by, coming_of, call_after}
 use Rattle.jh_history.specs.Calls.{telling, first_recipient, decided, after_commit, call_by}
 use Rattle.jh_board.specs.declared.held.Held.{Held}
-use Rattle.jh_board.specs.Means.{IsReadyIn, IsReady, IsReadyFor}
+use Rattle.jh_board.specs.Means.{IsReadyIn, IsReadyToGoOn, IsReadyFor}
 use Rattle.jh_board.specs.Private.Steps.{decides_to_go_on, create_of}
 
 -- ---- readiness
@@ -87,20 +87,20 @@ coming_is image f o at config is create reads =
 
 -- it is ready for what comes
 pub ready_create : (held : Held) (image : Image) (f : Facts) (entry : Entry) (o : OpenCall) (at : ℕ) (config : CellConfig) → f.call ≡ Some o → o.call ≡ Create at → coming_of image f ≡ Some config → entry.act ≡ Decide None
-    → IsReadyFor held config → IsReady held (call_after image f entry)
+    → IsReadyFor held config → IsReadyToGoOn held (call_after image f entry)
 ready_create held image f entry o at config is create coming act ready =
     let e : call_after image f entry ≡ call_by f.cells (Some config) (Some o) entry (Decide None) =
     ap (λ (c : Option CellConfig). call_by f.cells c f.call entry entry.act) coming
     ∙ ap (λ (k : Option OpenCall). call_by f.cells (Some config) k entry entry.act) is
     ∙ ap (λ (a : Act). call_by f.cells (Some config) (Some o) entry a) act in
-    let P : Option OpenCall → Type 0 = IsReady held in
+    let P : Option OpenCall → Type 0 = IsReadyToGoOn held in
     let Q : Call → Type 0 = λ call. IsReadyIn held (decided call (Some config) None) in
     subst P (sym e) (subst Q (sym create) ready)
 
 -- a call that waits for its Decide needs nothing
-pub ready_early : (held : Held) (call : Option OpenCall) (o : OpenCall) → call ≡ Some o → o.phase ≡ ToDecide → IsReady held call
+pub ready_early : (held : Held) (call : Option OpenCall) (o : OpenCall) → call ≡ Some o → o.phase ≡ ToDecide → IsReadyToGoOn held call
 ready_early held call o is early =
-    let P : Option OpenCall → Type 0 = IsReady held in
+    let P : Option OpenCall → Type 0 = IsReadyToGoOn held in
     let Q : Phase → Type 0 = IsReadyIn held in
     subst P (sym is) (subst Q (sym early) tt)
 

@@ -38,9 +38,9 @@ IsReadyIn held (ToCreate config) = IsReadyFor held config
 IsReadyIn held phase = Unit {0}
 
 -- what is held is ready for what the open call goes on to do: for the cell that a create is about to make
-abbrev pub IsReady : Held → Option OpenCall → Type 0
-IsReady held None = Unit {0}
-IsReady held (Some o) = IsReadyIn held o.phase
+abbrev pub IsReadyToGoOn : Held → Option OpenCall → Type 0
+IsReadyToGoOn held None = Unit {0}
+IsReadyToGoOn held (Some o) = IsReadyIn held o.phase
 
 -- what is held is as the facts say, and needs no memory for what the open call goes on to do
 pub record Means (image : Image) (held : Held) (facts : Facts) : Type 0 where
@@ -55,4 +55,4 @@ pub record Means (image : Image) (held : Held) (facts : Facts) : Type 0 where
   pub root_words : HoldsWords held image.system.root
   pub named : All (λ (live : Live). NamesCpu live.config) facts.cells
   pub programs : AreProgramIndices image facts.cells held.programs
-  pub ready : IsReady held facts.call
+  pub ready : IsReadyToGoOn held facts.call

@@ -8,3 +8,4 @@ pub mod LiveView
 pub mod Pages
 pub mod StateView
 pub mod Steps
+pub mod Advances

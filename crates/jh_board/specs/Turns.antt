@@ -1,6 +1,5 @@
 -- What a turn of a CPU answers.
-use Rattle.std.specs.Prelude.{◌≡◌, ℕ, ◌<◌, List, [], ◌∷◌, ◌++◌, length, Option, Some, None, IsSome}
-use Rattle.jh_script.specs.declared.image.Image.{Image}
+use Rattle.std.specs.Prelude.{◌≡◌, ℕ, ◌<◌, [], ◌∷◌, ◌++◌, length, Option, Some, None, IsSome}
 use Rattle.jh_history.specs.declared.entry.Entry.{Entry}
 use Rattle.jh_history.specs.Due.{due, IsQuiet}
 use Rattle.jh_board.specs.BoardView.{BoardView}
@@ -8,11 +7,6 @@ use Rattle.jh_board.specs.declared.turn.Turn.{Turn}
 use Rattle.jh_board.specs.declared.turn.Turn.TheVariants.{Made, Edited, NotNow, Done}
 use Rattle.jh_board.specs.declared.turn.TurnFault.{TurnFault}
 use Rattle.jh_board.specs.declared.turn.TurnFault.TheVariants.{Full, NoMemory}
-
--- the entry due to the CPU, if any, is made, where the limit lets it
-abbrev pub Advances : Image → ℕ → List Entry → ℕ → Option Entry → List Entry → Type 0
-Advances image limit old cpu None new = (due image old cpu ≡ None) × (new ≡ old)
-Advances image limit old cpu (Some entry) new = (due image old cpu ≡ Some entry) × (length old < limit) × (new ≡ old ++ entry ∷ [])
 
 -- what is made for the CPU from `old` is the entry that is due to it, and leaves `new`; or nothing is due, and nothing
 -- changes

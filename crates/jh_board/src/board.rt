@@ -11,7 +11,8 @@ ghost use Rattle.jh_history.specs.declared.place.Place.{Place as ThePlace};
 ghost use Rattle.jh_board.specs.Pages.{byte_of};
 ghost use Rattle.jh_board.specs.Maps.{all_cells, IsMapOrNone};
 ghost use Rattle.jh_board.specs.Means.{Means};
-ghost use Rattle.jh_board.specs.Turns.{Turns, RefusesTurn, MakesDue, Advances};
+ghost use Rattle.jh_board.specs.Turns.{Turns, RefusesTurn, MakesDue};
+ghost use Rattle.jh_board.specs.Private.Advances.{Advances};
 
 use crate::cells::LiveCells;
 use crate::devices::{change_devices, prepare_devices};

@@ -4,7 +4,7 @@ ghost use Rattle.jh_num.specs.Memory.{spelled, stored};
 ghost use Rattle.jh_history.specs.declared.place.Place.{Place as ThePlace};
 ghost use Rattle.jh_history.specs.Access.{with_slot};
 ghost use Rattle.jh_history.specs.Pages.{with_page};
-ghost use Rattle.jh_history.specs.Places.{number_of, places_in_row, places_of_row, IsRow, with_byte, written, over};
+ghost use Rattle.jh_history.specs.Places.{number_of, places_in_row, places_of_row, IsRow, with_byte, written, overlaid};
 ghost use Rattle.jh_board.specs.Pages.{byte_of, HoldsComm, HoldsPlace, HoldsSlot};
 ghost use Rattle.jh_board.specs.Private.Pages.{MayHold};
 ghost use Rattle.jh_num.specs.Pages.{paged_byte};
@@ -168,12 +168,12 @@ impl Memory {
         }
     }
 
-    /// Writes the value over the places of the row, which are held, the lowest byte first, and tells what
+    /// Writes the value overlaid the places of the row, which are held, the lowest byte first, and tells what
     /// is left of it.
     fn write_row(&mut self, row: Row, value: u64) -> u64
         requires row { IsRow row }
         requires held { All (HoldsPlace self.old) (places_of_row row) }
-        ensures bytes { (places : List ThePlace) (q : ThePlace) → over places result q (byte_of self.new q) ≡ over (places_of_row row ++ places) value q (byte_of self.old q) }
+        ensures bytes { (places : List ThePlace) (q : ThePlace) → overlaid places result q (byte_of self.new q) ≡ overlaid (places_of_row row ++ places) value q (byte_of self.old q) }
         ensures held { (q : ThePlace) → HoldsPlace self.old q → HoldsPlace self.new q }
     {
         let mut rest = value;
@@ -184,7 +184,7 @@ impl Memory {
         rest
     }
 
-    /// Writes the value over places that are held, the lowest byte first.
+    /// Writes the value overlaid places that are held, the lowest byte first.
     fn write_places(&mut self, places: &Places, value: u64)
         requires { All (HoldsPlace self.old) places.now }
         ensures bytes { (q : ThePlace) → byte_of self.new q ≡ written (byte_of self.old) places.now value q }
@@ -196,7 +196,7 @@ impl Memory {
         let _rest = self.write_row(high, rest);
     }
 
-    /// Writes the value over the places, the lowest byte first.
+    /// Writes the value overlaid the places, the lowest byte first.
     pub fn write_value(&mut self, places: &Places, value: u64) -> Result<(), NoMemory>
         requires { All (MayHold self.old) places.now }
         ensures ok { OnOk result ((q : ThePlace) → byte_of self.new q ≡ written (byte_of self.old) places.now value q) }

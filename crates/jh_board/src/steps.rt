@@ -21,8 +21,8 @@ ghost use Rattle.jh_history.specs.Wants.{IsReachOfEntry};
 ghost use Rattle.jh_board.specs.Pages.{byte_of, HoldsComm, HoldsPlace};
 ghost use Rattle.jh_board.specs.Indexed.{AreProgramIndices};
 ghost use Rattle.jh_board.specs.Private.FoundCreation.{IsFoundCreation};
-ghost use Rattle.jh_board.specs.Means.{Means, IsReady, IsReadyFor};
-ghost use Rattle.jh_board.specs.Private.Steps.{decides_to_go_on, create_of, change_of_call, change_of_cells, changed_cells, IsNext, IsRead, NeedsNothingYet, WillBeReady, IsPrepared, MayWrite, MayWriteOf, MayWriteSlot, MayCommit, MayJoinCells, IsSameButDevices, joined_cells, devices_held, memory_written, memory_after, slot_after, endpoints_acted_by};
+ghost use Rattle.jh_board.specs.Means.{Means, IsReadyToGoOn, IsReadyFor};
+ghost use Rattle.jh_board.specs.Private.Steps.{decides_to_go_on, create_of, change_of_call, change_of_cells, changed_cells, IsNextEntry, IsRead, NeedsNothingYet, WillBeReady, IsPrepared, MayWrite, MayWriteOf, MayWriteSlot, MayCommit, MayJoinCells, IsSameButDevices, joined_cells, devices_held, memory_written, memory_after, slot_after, endpoints_acted_by};
 
 use crate::cell_regions::CellRegions;
 use crate::cells::LiveCells;
@@ -115,7 +115,7 @@ fn coming_of(
     entry: &Entry,
     found: &mut Option<FoundCreation>,
 ) -> Result<Option<BoxedCell>, NoMemory>
-    requires next { IsNext image.now held.now entry.now }
+    requires next { IsNextEntry image.now held.now entry.now }
     requires found { IfSome found.old (IsFoundCreation image.now held.now) }
     ensures read { (f : Facts) → Means image.now held.now f → due_at image.now f entry.now.cpu ≡ Some entry.now → IfOk result (IsRead image.now f entry.now) }
     ensures ready { (f : Facts) → Means image.now held.now f → due_at image.now f entry.now.cpu ≡ Some entry.now → IfOk result (WillBeReady image.now f entry.now) }
@@ -165,7 +165,7 @@ fn prepare(
     entry: &Entry,
     found: &mut Option<FoundCreation>,
 ) -> Result<Option<BoxedCell>, NoMemory>
-    requires next { IsNext image.now held.old entry.now }
+    requires next { IsNextEntry image.now held.old entry.now }
     requires found { IfSome found.old (IsFoundCreation image.now held.old) }
     ensures means { (f : Facts) → Means image.now held.old f → Means image.now held.new f }
     ensures ok { (f : Facts) → Means image.now held.old f → due_at image.now f entry.now.cpu ≡ Some entry.now → IfOk result (IsPrepared image.now held.new f entry.now) }
@@ -315,7 +315,7 @@ fn make_call(held: &mut Held, entry: &Entry, coming: Option<BoxedCell>)
     ensures lives { held.new.cells.lives ≡ cells_by held.old.call held.old.cells.lives entry.now.act }
     ensures named { IfSome (created_by held.old.call entry.now.act) NamesCpu }
     ensures call { held.new.call ≡ call_by held.old.cells.lives coming held.old.call entry.now entry.now.act }
-    ensures ready { IsReady held.old held.new.call → IsReady held.new held.new.call }
+    ensures ready { IsReadyToGoOn held.old held.new.call → IsReadyToGoOn held.new held.new.call }
 {
     if !is_call(&entry.act) {
         count_entry(&mut held.call, entry);
@@ -361,7 +361,7 @@ pub fn make(
     reach: &Reach,
     found: &mut Option<FoundCreation>,
 ) -> Result<(), NoMemory>
-    requires next { IsNext image.now held.old entry.now }
+    requires next { IsNextEntry image.now held.old entry.now }
     requires found { IfSome found.old (IsFoundCreation image.now held.old) }
     requires reached { (f : Facts) → Means image.now held.old f → IsReachOfEntry image.now f entry.now reach.now }
     ensures ok { OnOk result ((f : Facts) → Means image.now held.old f → due_at image.now f entry.now.cpu ≡ Some entry.now → Means image.now held.new (after image.now f entry.now)) }

@@ -10,7 +10,7 @@ use Rattle.jh_history.specs.declared.entry.Entry.{Entry}
 use Rattle.jh_history.specs.declared.access.Reach.{Reach}
 use Rattle.jh_history.specs.declared.access.Reach.TheVariants.{Memory, Subpage, Config, Window, Nothing}
 use Rattle.jh_history.specs.declared.access.Wanted.{Wanted}
-use Rattle.jh_history.specs.Places.{further, places_in_row, over, written}
+use Rattle.jh_history.specs.Places.{further, places_in_row, written, overlaid}
 use Rattle.jh_cellcfg.specs.declared.config.PciDevice.{PciDevice}
 use Rattle.jh_cellcfg.specs.declared.live.Live.{Live}
 use Rattle.jh_ivshmem.specs.declared.endpoint.Endpoint.{Endpoint}
@@ -33,17 +33,17 @@ last_byte_push image bytes one q = fold-append (overwritten q) (loaded_byte imag
 
 -- one byte of a write
 pub over_more : (image : Image) (old new : List WrittenByte) (p at : Place) (byte k n rest : ℕ) (places : List Place) (q : Place) → k < n → at ≡ further p k → byte ≡ rest % 256 → new ≡ old ++ record { place = at; byte = byte } ∷ []
-    → over (places_in_row (further p (k + 1)) (n - (k + 1)) ++ places) (rest / 256) q (last_byte image new q) ≡ over (places_in_row (further p k) (n - k) ++ places) rest q (last_byte image old q)
+    → overlaid (places_in_row (further p (k + 1)) (n - (k + 1)) ++ places) (rest / 256) q (last_byte image new q) ≡ overlaid (places_in_row (further p k) (n - k) ++ places) rest q (last_byte image old q)
 over_more image old new p at byte k n rest places q lt is_at is_byte is =
-    rw (is, last_byte_push, is_at, is_byte) (ap (λ (ps : List Place). over (ps ++ places) rest q (last_byte image old q)) (sym (row_next p k n lt)))
+    rw (is, last_byte_push, is_at, is_byte) (ap (λ (ps : List Place). overlaid (ps ++ places) rest q (last_byte image old q)) (sym (row_next p k n lt)))
 
 -- the two rows of a write
 pub over_rows : (image : Image) (old middle new : List WrittenByte) (low high places : List Place) (value rest last : ℕ) (q : Place) → places ≡ low ++ high
-    → ((ps : List Place) → over ps rest q (last_byte image middle q) ≡ over (low ++ ps) value q (last_byte image old q))
-    → ((ps : List Place) → over ps last q (last_byte image new q) ≡ over (high ++ ps) rest q (last_byte image middle q))
-    → last_byte image new q ≡ over places value q (last_byte image old q)
+    → ((ps : List Place) → overlaid ps rest q (last_byte image middle q) ≡ overlaid (low ++ ps) value q (last_byte image old q))
+    → ((ps : List Place) → overlaid ps last q (last_byte image new q) ≡ overlaid (high ++ ps) rest q (last_byte image middle q))
+    → last_byte image new q ≡ overlaid places value q (last_byte image old q)
 over_rows image old middle new low high places value rest last q is first second =
-    second [] ∙ first (high ++ []) ∙ ap (λ (ps : List Place). over (low ++ ps) value q (last_byte image old q)) (append-nil high) ∙ ap (λ (ps : List Place). over ps value q (last_byte image old q)) (sym is)
+    second [] ∙ first (high ++ []) ∙ ap (λ (ps : List Place). overlaid (low ++ ps) value q (last_byte image old q)) (append-nil high) ∙ ap (λ (ps : List Place). overlaid ps value q (last_byte image old q)) (sym is)
 
 abbrev pub is_device : Reach → Bool
 is_device (Config bytes) = true
@@ -58,16 +58,16 @@ no_put devices (Window register) value is = absurd (both_ways true is refl)
 no_put devices Nothing value is = refl
 
 -- a write where it reaches memory, or a subpage region
-written_at : (i : Image) (f : Facts) (places : List Place) (value : ℕ) (q : Place) (old : PlainView) → Represents old i f → over places value q (last_byte i old.bytes q) ≡ written f.byte places value q
-written_at i f places value q old stands = ap (over places value q) (sym (stands.bytes q)) ∙ sym (written_over f.byte places value q)
+written_at : (i : Image) (f : Facts) (places : List Place) (value : ℕ) (q : Place) (old : PlainView) → Represents old i f → overlaid places value q (last_byte i old.bytes q) ≡ written f.byte places value q
+written_at i f places value q old stands = ap (overlaid places value q) (sym (stands.bytes q)) ∙ sym (written_over f.byte places value q)
 
 pub kept_write : (i : Image) (f : Facts) (cell : ℕ) (wanted : Wanted) (found : Reach) (places : List Place) (value : ℕ) (q : Place) (old : PlainView) → Represents old i f → found ≡ reach_of i f cell wanted → found ≡ Memory places
-    → over places value q (last_byte i old.bytes q) ≡ write_of f.byte (devices_of i f cell) (reach_of i f cell wanted) value q
+    → overlaid places value q (last_byte i old.bytes q) ≡ write_of f.byte (devices_of i f cell) (reach_of i f cell wanted) value q
 kept_write i f cell wanted found places value q old stands is_found is =
     written_at i f places value q old stands ∙ ap (λ (r : Reach). write_of f.byte (devices_of i f cell) r value q) (sym is ∙ is_found)
 
 pub kept_write_subpage : (i : Image) (f : Facts) (cell : ℕ) (wanted : Wanted) (found : Reach) (places : List Place) (value : ℕ) (q : Place) (old : PlainView) → Represents old i f → found ≡ reach_of i f cell wanted → found ≡ Subpage places
-    → over places value q (last_byte i old.bytes q) ≡ write_of f.byte (devices_of i f cell) (reach_of i f cell wanted) value q
+    → overlaid places value q (last_byte i old.bytes q) ≡ write_of f.byte (devices_of i f cell) (reach_of i f cell wanted) value q
 kept_write_subpage i f cell wanted found places value q old stands is_found is =
     written_at i f places value q old stands ∙ ap (λ (r : Reach). write_of f.byte (devices_of i f cell) r value q) (sym is ∙ is_found)
 

@@ -1,8 +1,8 @@
--- Places in a row, and writes over places.
+-- Places in a row, and writes overlaid places.
 use Rattle.std.proofs.Common.{◌≡◌, ℕ, suc, ◌+◌, ◌-◌, ◌/◌, ◌%◌, ◌<◌, List, [], ◌∷◌, refl, ap, ◌∙◌, arith}
 use Rattle.jh_history.specs.declared.place.Place.{Place}
 use Rattle.jh_history.specs.declared.place.Place.TheVariants.{Physical, Page}
-use Rattle.jh_history.specs.Places.{further, places_in_row, written, over, with_byte}
+use Rattle.jh_history.specs.Places.{further, places_in_row, written, with_byte, overlaid}
 
 -- no further is the place itself
 pub further_none : (p : Place) → further p 0 ≡ p
@@ -25,6 +25,6 @@ row_next p k n lt =
     ap (places_in_row (further p k)) e ∙ ap (λ (q : Place). further p k ∷ places_in_row q (n - (k + 1))) (further_more p k)
 
 -- a write at one place depends on the byte that was there alone
-pub written_over : (f : Place → ℕ) (places : List Place) (value : ℕ) (q : Place) → written f places value q ≡ over places value q (f q)
+pub written_over : (f : Place → ℕ) (places : List Place) (value : ℕ) (q : Place) → written f places value q ≡ overlaid places value q (f q)
 written_over f [] value q = refl
 written_over f (place ∷ places) value q = written_over (with_byte f place (value % 256)) places (value / 256) q

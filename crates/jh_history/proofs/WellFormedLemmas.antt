@@ -33,7 +33,8 @@ use Rattle.jh_history.specs.Facts.{Facts}
 use Rattle.jh_history.specs.Wants.{pending_op, goes_on}
 use Rattle.jh_history.specs.Due.{due_at, call_of, is_idle_but, caller_act, state_act, next_act, act_of, await_of, got_by, entry_by}
 use Rattle.jh_script.specs.Operations.{IsWellFormed}
-use Rattle.jh_history.specs.Admitted.{IsAdmitted, IsWellFormedAct, IsWellFormedEntry}
+use Rattle.jh_history.specs.Admitted.{IsAdmitted, IsWellFormedAct}
+use Rattle.jh_history.specs.Private.PlainView.{IsWellFormedEntry}
 use Rattle.jh_history.proofs.AdmittedLemmas.{program_of_well_formed, width_le}
 use Rattle.jh_history.proofs.DueLemmas.{due_at_absent, due_at_present}
 

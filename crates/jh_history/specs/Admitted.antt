@@ -15,7 +15,6 @@ use Rattle.jh_script.specs.Limits.{most_ops}
 use Rattle.jh_script.specs.Operations.{IsWellFormed}
 use Rattle.jh_history.specs.declared.entry.Act.{Act}
 use Rattle.jh_history.specs.declared.entry.Act.TheVariants.{Read as ReadAct, Write as WriteAct}
-use Rattle.jh_history.specs.declared.entry.Entry.{Entry}
 use Rattle.jh_history.specs.Lives.{is_program_of}
 
 -- the pages that root takes before any cell is created
@@ -75,7 +74,3 @@ abbrev pub IsWellFormedAct : Act → Type 0
 IsWellFormedAct (ReadAct width at got) = width ≤ 8
 IsWellFormedAct (WriteAct width at value ok) = width ≤ 8
 IsWellFormedAct _ = Unit {0}
-
--- the entry's act, where it is a read or a write, has at most 8 bytes
-abbrev pub IsWellFormedEntry : Entry → Type 0
-IsWellFormedEntry entry = IsWellFormedAct entry.act

@@ -41,11 +41,6 @@ pub record IsInWindow (register : InWindow) : Type 0 where
   pub aligned : register.at % 4 ≡ 0
   pub within : register.at < window_size register.bar
 
--- the window is one of BAR 0 or of BAR 1, and has the size of that
-pub record IsGoodWindow (window : Window) : Type 0 where
-  pub bar : window.bar < 2
-  pub size : window.size ≡ window_size window.bar
-
 -- ---- endpoints
 
 -- the device of that number is an ivshmem device; a number has 32 bits

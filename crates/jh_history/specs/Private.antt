@@ -1,3 +1,5 @@
 -- Definitions that mirror the code: clauses of private functions alone cite them, and no public clause rests on them.
 pub mod Apart
 pub mod PlainView
+pub mod Wanted
+pub mod DeviceViews

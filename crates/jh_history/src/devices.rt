@@ -3,7 +3,8 @@ ghost use Rattle.std.specs.Prelude.{◌≡◌, ◌<◌, ◌++◌, find, IfSome};
 ghost use Rattle.jh_mmio.specs.Dispatch.{window_has};
 ghost use Rattle.jh_history.specs.Access.{config_value, register_value};
 ghost use Rattle.jh_history.specs.Behind.{window_of_access};
-ghost use Rattle.jh_history.specs.Devices.{Devices as TheDevices, IsGoodWindow, number_from, number_at, space_window, device_windows};
+ghost use Rattle.jh_history.specs.Devices.{Devices as TheDevices, number_from, number_at, space_window, device_windows};
+ghost use Rattle.jh_history.specs.Private.DeviceViews.{IsGoodWindow};
 
 use crate::access::{ConfigBytes, Register, Wanted};
 use crate::device_specs::is_endpoint;

@@ -24,8 +24,8 @@ ghost use Rattle.jh_history.specs.Facts.{Facts};
 ghost use Rattle.jh_history.specs.Bytes.{byte_written, byte_after};
 ghost use Rattle.jh_history.specs.History.{facts, after, start, coming_by, coming_of};
 ghost use Rattle.jh_history.specs.Due.{due, IsLegal, IsQuiet};
-ghost use Rattle.jh_history.specs.Admitted.{IsAdmitted, IsWellFormedAct, IsWellFormedEntry};
-ghost use Rattle.jh_history.specs.Private.PlainView.{last_byte, Represents, HasBytes, HasWritten, IsComing, IsSameBut, IsDueBeside, HasWords, MayCommit, MayBeFollowed};
+ghost use Rattle.jh_history.specs.Admitted.{IsAdmitted, IsWellFormedAct};
+ghost use Rattle.jh_history.specs.Private.PlainView.{last_byte, Represents, HasBytes, HasWritten, IsComing, IsSameBut, IsDueBeside, HasWords, MayCommit, MayBeFollowed, IsWellFormedEntry};
 
 use crate::access::{Access, Reach, Wanted};
 use crate::boxed::BoxedCell;

@@ -2,7 +2,7 @@
 ghost use Rattle.std.specs.Prelude.{◌≡◌, ℕ, ◌+◌, ◌<◌, ◌^◌, length, fold, IfOk, IfSome, OnOk};
 ghost use Rattle.jh_script.specs.declared.image.Image.{Image as TheImage};
 ghost use Rattle.jh_history.specs.declared.place.Place.{Place as ThePlace};
-ghost use Rattle.jh_history.specs.Places.{over, places_of_row, IsRow};
+ghost use Rattle.jh_history.specs.Places.{places_of_row, IsRow, overlaid};
 ghost use Rattle.jh_ivshmem.specs.declared.spec.Slot.{Slot as TheSlot};
 ghost use Rattle.jh_history.specs.Access.{with_slot, with_slot_if};
 ghost use Rattle.jh_history.specs.Bytes.{preloaded, loaded_byte};
@@ -62,7 +62,7 @@ pub(crate) fn loaded_byte(image: &Image, place: Place) -> u8
     }
 }
 
-/// Writes the value over the places of the row, the lowest byte first, and tells what is left of it.
+/// Writes the value overlaid the places of the row, the lowest byte first, and tells what is left of it.
 fn write_row(bytes: &mut Vec<WrittenByte>, row: Row, value: u64) -> Result<u64, NoMemory>
     requires { IsRow row }
     ensures { IfOk result (IsRest bytes.old.items bytes.new.items (places_of_row row) value) }
@@ -78,13 +78,13 @@ fn write_row(bytes: &mut Vec<WrittenByte>, row: Row, value: u64) -> Result<u64, 
     Ok(rest)
 }
 
-/// Writes the value over the places, the lowest byte first.
+/// Writes the value overlaid the places, the lowest byte first.
 pub(crate) fn write_places(
     bytes: &mut Vec<WrittenByte>,
     places: &Places,
     value: u64,
 ) -> Result<(), NoMemory>
-    ensures { OnOk result ((image : TheImage) (q : ThePlace) → last_byte image bytes.new.items q ≡ over places.now value q (last_byte image bytes.old.items q)) }
+    ensures { OnOk result ((image : TheImage) (q : ThePlace) → last_byte image bytes.new.items q ≡ overlaid places.now value q (last_byte image bytes.old.items q)) }
 {
     let (low, high) = places.rows();
     let rest = write_row(bytes, low, value)?;

@@ -32,7 +32,7 @@ use Rattle.jh_history.specs.Lives.{live_in}
 use Rattle.jh_shape.specs.Lives.{configs_of}
 use Rattle.jh_history.specs.Sound.{IsOfDevice, HasEndpoint, IsInPhase, IsSoundEndpoint, IsSound}
 use Rattle.jh_history.proofs.Public.{specs_pairs, held_numbered, other_id, opened_call, call_open, spec_cell}
-use Rattle.jh_laws.specs.Vectors.{PutsRegister, IsAbout, Clears}
+use Rattle.jh_laws.specs.Vectors.{PutsRegister, IsStartOrDestroyOf, Clears}
 use Rattle.jh_laws.proofs.CallLemmas.{Expects, phase_of_due, phase_expects, not_same}
 use Rattle.jh_history.specs.Due.{due_at, is_idle_but}
 use Rattle.jh_laws.specs.Ways.{is_phase}
@@ -97,11 +97,11 @@ commit_after image f entry o is commits =
     ap (λ (act : Act). endpoints_changed (change_by f.call) (option_map_or specs_of (changing_by f.cells f.call act) []) (endpoints_acted image f entry.cell act)) commits
     ∙ ap (λ (c : Option OpenCall). endpoints_changed (change_by c) (option_map_or specs_of (changing_by f.cells c Commit) []) f.endpoints) is
 
-about_of : (f : Facts) (entry : Entry) (o : OpenCall) (k : ℕ) → f.call ≡ Some o → Clears f entry k → IsAbout o.call k
-about_of f entry o k is clears = let P : OpenCall → Type 0 = λ c. IsAbout c.call k in subst P (same_Some clears.call o (sym clears.begun ∙ is)) clears.about
+about_of : (f : Facts) (entry : Entry) (o : OpenCall) (k : ℕ) → f.call ≡ Some o → Clears f entry k → IsStartOrDestroyOf o.call k
+about_of f entry o k is clears = let P : OpenCall → Type 0 = λ c. IsStartOrDestroyOf c.call k in subst P (same_Some clears.call o (sym clears.begun ∙ is)) clears.about
 
 clear_case : (image : Image) (f : Facts) (entry : Entry) (caller id : ℕ) (call : Call) (config : CellConfig) → IsSound image f → f.call ≡ Some (opened_call caller call ToCommit) → entry.act ≡ Commit → IsClearing (device_change call)
-    → ((k : ℕ) → IsAbout call k → k ≡ id) → IsAbout call id → Contains (configs_of f.cells) config → config.id ≡ id
+    → ((k : ℕ) → IsStartOrDestroyOf call k → k ≡ id) → IsStartOrDestroyOf call id → Contains (configs_of f.cells) config → config.id ≡ id
     → endpoints_after image f entry ≡ endpoints_changed (device_change call) (option_map_or specs_of (live_in f.cells id) []) f.endpoints → IsClear image f entry
 clear_case image f entry caller id call config sound is commits clearing only about lives named after =
     let found : live_in f.cells id ≡ Some config = ap (live_in f.cells) (sym named) ∙ found_by_id image f.cells config sound.cells lives in

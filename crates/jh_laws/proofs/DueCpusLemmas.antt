@@ -43,7 +43,7 @@ use Rattle.jh_history.specs.Due.{due_at, entry_of, next_act, state_act, act_of, 
 use Rattle.jh_history.specs.Admitted.{IsAdmitted}
 use Rattle.jh_history.specs.Sound.{AreSoundCells, IsHalted, IsAsked, IsHalting, IsCaller, IsOpen, IsSound, IsCalm}
 use Rattle.jh_laws.specs.Ends.{IsAnswered, IsReadBy, IsGotBy}
-use Rattle.jh_laws.specs.Ready.{IsDueIn, NothingElse, HasHeard, RootHasStopped, IsPhaseDue, IsReadyCaller, IsReadyProgram, IsReadyAt}
+use Rattle.jh_laws.specs.Ready.{IsDueIn, NothingElseIsDue, HasHeard, RootHasStopped, IsPhaseDue, IsReadyCaller, IsReadyProgram, IsReadyAt}
 use Rattle.jh_history.proofs.Public.{goes_calm, goes_running, running_mode, root_unnamed, board_few, halted_to_decide, halted_to_commit, named_board, IsOfProgram, state_parts, call_open, is_some_entry}
 use Rattle.jh_laws.proofs.HeldLemmas.{found_by_id, live_found}
 use Rattle.jh_laws.proofs.PendingLemmas.{next_some_holds, next_is}
@@ -162,7 +162,7 @@ none_of (Some x) h = absurd (false≢true (sym h))
 abbrev waits_for : Image → Facts → ℕ → ℕ → Bool
 waits_for image f caller i = is_on_board image i && not (eqb i caller) && is_some (state_act image f (f.cpu i) i)
 
-pub idle_nothing : (image : Image) (f : Facts) (o : OpenCall) → AreSoundCells image.system (configs_of f.cells) → f.call ≡ Some o → is_idle_but image f o.caller ≡ true → NothingElse image f o.caller
+pub idle_nothing : (image : Image) (f : Facts) (o : OpenCall) → AreSoundCells image.system (configs_of f.cells) → f.call ≡ Some o → is_idle_but image f o.caller ≡ true → NothingElseIsDue image f o.caller
 idle_nothing image f o sound is idle cpu other =
     ⊎_elim
     (λ (on : is_on_board image cpu ≡ true).
@@ -177,7 +177,7 @@ idle_nothing image f o sound is idle cpu other =
     (λ (off : is_on_board image cpu ≡ false). none_of (due_at image f cpu) (due_off image f cpu off))
     (cases_Bool (is_on_board image cpu))
 
-nothing_idle : (image : Image) (f : Facts) (o : OpenCall) → f.call ≡ Some o → NothingElse image f o.caller → is_idle_but image f o.caller ≡ true
+nothing_idle : (image : Image) (f : Facts) (o : OpenCall) → f.call ≡ Some o → NothingElseIsDue image f o.caller → is_idle_but image f o.caller ≡ true
 nothing_idle image f o is nothing =
     not_from_false (any_below (waits_for image f o.caller) 16)
     (false_from_ne_true (any_below (waits_for image f o.caller) 16)

@@ -16,7 +16,7 @@ use Rattle.jh_history.specs.History.{facts}
 use Rattle.jh_history.specs.Lives.{op_at}
 use Rattle.jh_history.proofs.Public.{interrupt_next, due_split, IsLegal_begin, legal_sound}
 use Rattle.jh_laws.specs.Ready.{IsDueIn, IsAtInterrupt, IsReadyCaller, IsReadyProgram, IsReadyAt}
-use Rattle.jh_laws.specs.Vectors.{HasPending, IsNext}
+use Rattle.jh_laws.specs.Vectors.{HasPending, IsNextVector}
 use Rattle.jh_laws.proofs.PendingLemmas.{next_is}
 
 -- a CPU that is ready, and is at an interrupt, has a vector pending
@@ -42,7 +42,7 @@ pending_ready image f cpu is pending = record {
 }
 
 -- an interrupt takes the next
-pub interrupt_is : (image : Image) (before rest : List Entry) (entry : Entry) (n v : ℕ) → IsAdmitted image → IsLegal image (before ++ entry ∷ rest) → entry.act ≡ Irq n v → IsNext (facts image before) entry.cell n v
+pub interrupt_is : (image : Image) (before rest : List Entry) (entry : Entry) (n v : ℕ) → IsAdmitted image → IsLegal image (before ++ entry ∷ rest) → entry.act ≡ Irq n v → IsNextVector (facts image before) entry.cell n v
 interrupt_is image before rest entry n v admitted legal is =
     let f : Facts = facts image before in
     let sound = legal_sound image before admitted (IsLegal_begin image before (entry ∷ rest) legal) in

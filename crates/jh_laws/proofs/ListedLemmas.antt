@@ -8,7 +8,7 @@ use Rattle.jh_num.proofs.Public.{same_number, little_endian_first}
 use Rattle.jh_num.specs.Memory.{spelled, little_endian}
 use Rattle.jh_history.specs.declared.place.Place.{Place}
 use Rattle.jh_history.specs.declared.place.Place.TheVariants.{Physical, Page}
-use Rattle.jh_history.specs.Places.{is_same, over}
+use Rattle.jh_history.specs.Places.{is_same, overlaid}
 use Rattle.jh_history.specs.Access.{places_from}
 
 -- the first so many places
@@ -80,18 +80,18 @@ is_same_ne p q ne = elim (cases_Bool (is_same p q)) [
 
 -- the first place, written or not
 one_over : (place : ℕ → Place) (count value : ℕ) (q : Place) (b : ℕ) (t : Bool) → is_same q (place 0) ≡ t
-    → over (listed place (suc count)) value q b ≡ over (listed (λ k. place (k + 1)) count) (value / 256) q (cond t (value % 256) b)
-one_over place count value q b t e = ap (λ (t' : Bool). over (listed (λ k. place (k + 1)) count) (value / 256) q (cond t' (value % 256) b)) e
+    → overlaid (listed place (suc count)) value q b ≡ overlaid (listed (λ k. place (k + 1)) count) (value / 256) q (cond t (value % 256) b)
+one_over place count value q b t e = ap (λ (t' : Bool). overlaid (listed (λ k. place (k + 1)) count) (value / 256) q (cond t' (value % 256) b)) e
 
 -- a place that isn't one of those written keeps its byte
-pub over_other : (place : ℕ → Place) (count value : ℕ) (q : Place) (b : ℕ) → ((k : ℕ) → k < count → q ≢ place k) → over (listed place count) value q b ≡ b
+pub over_other : (place : ℕ → Place) (count value : ℕ) (q : Place) (b : ℕ) → ((k : ℕ) → k < count → q ≢ place k) → overlaid (listed place count) value q b ≡ b
 over_other place zero value q b other = refl
 over_other place (suc count) value q b other =
     one_over place count value q b false (is_same_ne q (place 0) (other 0 (omega arith)))
     ∙ over_other (λ k. place (k + 1)) count (value / 256) q b (λ k lt. other (k + 1) (omega arith))
 
 -- the place of index k gets byte k of the value
-pub over_at : (place : ℕ → Place) (count value : ℕ) (q : Place) (b k : ℕ) → k < count → q ≡ place k → ((j : ℕ) → j < count → q ≡ place j → j ≡ k) → over (listed place count) value q b ≡ value / 256 ^ k % 256
+pub over_at : (place : ℕ → Place) (count value : ℕ) (q : Place) (b k : ℕ) → k < count → q ≡ place k → ((j : ℕ) → j < count → q ≡ place j → j ≡ k) → overlaid (listed place count) value q b ≡ value / 256 ^ k % 256
 over_at place zero value q b k lt same only = absurd (omega arith)
 over_at place (suc count) value q b zero lt same only =
     let whole : value / 256 ^ zero ≡ value = div-one value in
@@ -102,6 +102,6 @@ over_at place (suc count) value q b (suc k) lt same only =
     let ne : is_same q (place 0) ≡ false = is_same_ne q (place 0) (λ h. let e : 0 ≡ suc k = only 0 (omega arith) h in absurd (omega arith)) in
     let part : value / 256 / 256 ^ k ≡ value / 256 ^ suc k = div-div-eq-div-mul value 256 (256 ^ k) ∙ ap (λ (n : ℕ). value / n) (sym (pow-succ' 256 k)) in
     let next : q ≡ place (k + 1) = same ∙ ap place (sym (add-one k)) in
-    let rest : over (listed (λ k. place (k + 1)) count) (value / 256) q b ≡ value / 256 / 256 ^ k % 256 = over_at (λ k. place (k + 1)) count (value / 256) q b k (omega arith) next
+    let rest : overlaid (listed (λ k. place (k + 1)) count) (value / 256) q b ≡ value / 256 / 256 ^ k % 256 = over_at (λ k. place (k + 1)) count (value / 256) q b k (omega arith) next
     (λ j below h. let e : j + 1 ≡ suc k = only (j + 1) (omega arith) h in omega arith) in
     one_over place count value q b false ne ∙ rest ∙ ap (λ (n : ℕ). n % 256) part

@@ -19,7 +19,7 @@ use Rattle.jh_history.specs.Facts.{Facts}
 use Rattle.jh_history.specs.Sound.{IsSound}
 use Rattle.jh_history.proofs.Public.{one_of_pairs}
 use Rattle.jh_script.specs.declared.image.Image.{Image}
-use Rattle.jh_laws.specs.Vectors.{IsPendingIn, IsNext}
+use Rattle.jh_laws.specs.Vectors.{IsPendingIn, IsNextVector}
 
 -- ---- one endpoint
 
@@ -194,7 +194,7 @@ next_some_holds f id n v h =
     endpoint_held g cell m o is = (IsFound_from_find (λ (q : Endpoint). is_device cell m q.spec) g.endpoints o is).held
 
 -- what is next is pending, and lowest
-pub next_is : (image : Image) (f : Facts) (id n v : ℕ) → IsSound image f → pending_of id f.endpoints ≡ Some (n, v) → IsNext f id n v
+pub next_is : (image : Image) (f : Facts) (id n v : ℕ) → IsSound image f → pending_of id f.endpoints ≡ Some (n, v) → IsNextVector f id n v
 next_is image f id n v sound is =
     ⊎_elim
     (λ (none : None ≡ Some (n, v)). absurd (none-some (n, v) none))

@@ -40,7 +40,7 @@ use Rattle.jh_history.specs.Commits.{cells_by, is_commit}
 use Rattle.jh_history.specs.Devices.{place_of_section, specs_of}
 use Rattle.jh_history.specs.Endpoints.{changing, changing_by, specs_changing, with_words}
 use Rattle.jh_history.specs.Facts.{Facts}
-use Rattle.jh_history.specs.Places.{is_same, with_byte, written, is_physical, number_of}
+use Rattle.jh_history.specs.Places.{is_same, with_byte, written, number_of}
 use Rattle.jh_history.specs.Pages.{page_after, with_page_write, page_write_by}
 use Rattle.jh_history.specs.Bytes.{byte_written, byte_after}
 use Rattle.jh_history.specs.History.{cells_after, facts}
@@ -57,7 +57,7 @@ use Rattle.jh_laws.specs.Ends.{AreItsPlaces, IsAnsweredByRegister}
 use Rattle.jh_laws.proofs.WindowLemmas.{spec_is}
 use Rattle.jh_laws.proofs.DevicesLemmas.{endpoint_held}
 use Rattle.jh_laws.proofs.EndsLemmas.{IsSmallAct, small_at}
-use Rattle.jh_laws.proofs.WordLemmas.{IsByteAt, IsApart, slot_cases, slot_other, value_fits, state_put, IsInWords, AreApart, words_kept, words_or, words_page, specs_none}
+use Rattle.jh_laws.proofs.WordLemmas.{IsByteAt, IsApart, slot_cases, slot_other, value_fits, state_put, IsInWords, AreApart, words_kept, words_or, words_page, specs_none, is_physical}
 use Rattle.jh_laws.proofs.HeldLemmas.{at_same}
 use Rattle.jh_laws.proofs.StoredLemmas.{IsGivenTo, listed_at, byte_put, IsStored, IsWord, placed, places_given}
 use Rattle.jh_laws.proofs.FactsLemmas.{byte_after_holds}

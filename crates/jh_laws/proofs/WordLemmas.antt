@@ -19,12 +19,17 @@ use Rattle.jh_history.specs.declared.entry.Act.{Act}
 use Rattle.jh_history.specs.declared.entry.Act.TheVariants.{Read, Write, Fetch, Await, Irq, Hvc, Begin, Stop, Decide, Settle, Commit, Note, Noted, Finish}
 use Rattle.jh_history.specs.Facts.{Facts}
 use Rattle.jh_history.specs.Devices.{specs_of}
-use Rattle.jh_history.specs.Places.{is_physical, number_of, places_in_row, written}
+use Rattle.jh_history.specs.Places.{number_of, places_in_row, written}
 use Rattle.jh_history.specs.Access.{with_slot}
 use Rattle.jh_history.specs.Endpoints.{changing_at, changing_by, specs_changing, with_words}
 use Rattle.jh_history.proofs.Public.{same_function, written_over}
 use Rattle.jh_history.specs.Commits.{is_commit}
 use Rattle.jh_laws.proofs.ListedLemmas.{over_at, over_other, listed}
+
+-- the place is one of physical memory
+abbrev pub is_physical : Place → Bool
+is_physical (Physical p) = true
+is_physical (Page cell offset) = false
 
 -- ---- one word
 

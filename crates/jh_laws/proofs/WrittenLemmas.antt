@@ -26,7 +26,7 @@ use Rattle.jh_history.specs.declared.entry.Act.TheVariants.{Read, Write, Fetch, 
 use Rattle.jh_history.specs.Access.{place_in_cell, with_slot_if}
 use Rattle.jh_history.specs.Endpoints.{specs_changing, with_words}
 use Rattle.jh_history.specs.Facts.{Facts}
-use Rattle.jh_history.specs.Places.{further, is_physical, number_of}
+use Rattle.jh_history.specs.Places.{further, number_of}
 use Rattle.jh_history.specs.Lives.{cell_in}
 use Rattle.jh_history.specs.Pages.{page_after, with_page_write, page_write_by}
 use Rattle.jh_history.specs.Bytes.{byte_written, byte_after}
@@ -45,7 +45,7 @@ use Rattle.jh_laws.specs.Ends.{AreItsPlaces, GivesPlaces, IsAnsweredByRegister}
 use Rattle.jh_laws.proofs.HeldLemmas.{live_cell, number_of_holds}
 use Rattle.jh_laws.proofs.EndsLemmas.{IsSmallAct, small_at}
 use Rattle.jh_laws.proofs.StoredLemmas.{byte_put, write_stored, register_stored, IsStored, IsWord, placed}
-use Rattle.jh_laws.proofs.WordLemmas.{IsByteAt, IsApart, state_word, value_fits, state_put, slot_at, slot_other, zero_byte, words_put, words_kept, words_page, specs_none}
+use Rattle.jh_laws.proofs.WordLemmas.{IsByteAt, IsApart, state_word, value_fits, state_put, slot_at, slot_other, zero_byte, words_put, words_kept, words_page, specs_none, is_physical}
 use Rattle.jh_laws.proofs.PlacesHeldLemmas.{physical_kept, byte_behind}
 use Rattle.jh_history.specs.Commits.{is_commit}
 

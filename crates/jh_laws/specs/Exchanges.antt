@@ -13,7 +13,7 @@ use Rattle.jh_history.specs.declared.entry.Heard.TheVariants.{Received, Down, Ot
 use Rattle.jh_history.specs.Facts.{Facts}
 use Rattle.jh_history.specs.Calls.{is_named}
 use Rattle.jh_history.specs.Phases.{state_word, reply_word, is_down}
-use Rattle.jh_laws.specs.Ready.{NothingElse}
+use Rattle.jh_laws.specs.Ready.{NothingElseIsDue}
 
 -- how many of the entries pass the test
 abbrev pub how_many : (Entry → Bool) → List Entry → ℕ
@@ -30,7 +30,7 @@ made_by_cell id entries = min (how_many (λ (e : Entry). e.cell == id) entries) 
 
 -- the cell's time is over: its CPUs have made so many entries, or nothing is due to any CPU but the caller
 abbrev pub IsTimeOver : Image → Facts → ℕ → CellConfig → ℕ → Type 0
-IsTimeOver image f caller config waited = ((config.msg_reply_timeout ≢ 0) × (config.msg_reply_timeout ≤ waited)) ⊎ NothingElse image f caller
+IsTimeOver image f caller config waited = ((config.msg_reply_timeout ≢ 0) × (config.msg_reply_timeout ≤ waited)) ⊎ NothingElseIsDue image f caller
 
 -- how the cell met the request to shut down: it agrees where it is passive, down or says so; any other reply denies;
 -- without a reply its time was over

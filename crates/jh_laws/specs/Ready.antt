@@ -28,8 +28,8 @@ IsDueIn image f id IrqOp = HasPending f id
 IsDueIn image f id _ = Unit {0}
 
 -- nothing is due to any CPU but the caller
-abbrev pub NothingElse : Image → Facts → ℕ → Type 0
-NothingElse image f caller = (cpu : ℕ) → cpu ≢ caller → due_at image f cpu ≡ None
+abbrev pub NothingElseIsDue : Image → Facts → ℕ → Type 0
+NothingElseIsDue image f caller = (cpu : ℕ) → cpu ≢ caller → due_at image f cpu ≡ None
 
 -- the cell that was told has answered, or its time is over: it is down, there is a reply, so many entries of its CPUs
 -- were made, or nothing is due to any other CPU
@@ -38,7 +38,7 @@ HasHeard image f caller config waited =
     (is_down (state_word f config.id) ≡ true)
     ⊎ (reply_word f config.id ≢ 0)
     ⊎ ((config.msg_reply_timeout ≢ 0) × (config.msg_reply_timeout ≤ waited))
-    ⊎ NothingElse image f caller
+    ⊎ NothingElseIsDue image f caller
 
 -- each CPU of root on the board but the caller has stopped, where it was asked to
 abbrev pub RootHasStopped : Image → Facts → ℕ → Type 0

@@ -27,7 +27,7 @@ HasPending f id = (n : ℕ) × (v : ℕ) × IsPendingIn f id n v
 
 -- the vector is the one that the cell's next interrupt takes: no pending vector of the cell is of a lower device, nor a
 -- lower one of the same device
-pub record IsNext (f : Facts) (id n v : ℕ) : Type 0 where
+pub record IsNextVector (f : Facts) (id n v : ℕ) : Type 0 where
   pub pending : IsPendingIn f id n v
   pub device : (m u : ℕ) → IsPendingIn f id m u → n ≤ m
   pub vector : (u : ℕ) → IsPendingIn f id n u → v ≤ u
@@ -52,16 +52,16 @@ pub record Rings (image : Image) (f : Facts) (entry : Entry) (peer : Endpoint) (
 -- ---- states
 
 -- the call is a start or a destroy of the cell
-abbrev pub IsAbout : Call → ℕ → Type 0
-IsAbout (Start cell) id = cell ≡ id
-IsAbout (Destroy cell) id = cell ≡ id
-IsAbout call id = ⊥
+abbrev pub IsStartOrDestroyOf : Call → ℕ → Type 0
+IsStartOrDestroyOf (Start cell) id = cell ≡ id
+IsStartOrDestroyOf (Destroy cell) id = cell ≡ id
+IsStartOrDestroyOf call id = ⊥
 
 -- the entry resets the devices of the cell, or has them leave: it commits a start or a destroy of it
 pub record Clears (f : Facts) (entry : Entry) (id : ℕ) : Type 0 where
   pub call : OpenCall
   pub begun : f.call ≡ Some call
-  pub about : IsAbout call.call id
+  pub about : IsStartOrDestroyOf call.call id
   pub commits : entry.act ≡ Commit
 
 -- by the entry the state of the endpoint becomes another: its cell writes another value to its state register, or its

@@ -8,7 +8,7 @@ ghost use Rattle.jh_history.specs.declared.entry.Act.TheVariants.{Irq};
 ghost use Rattle.jh_history.specs.Due.{due};
 ghost use Rattle.jh_laws.specs.Moments.{AdmittedJournal, AdmittedMoment, facts_of, facts_before, facts_behind, owner_of};
 ghost use Rattle.jh_laws.specs.Ready.{IsAtInterrupt};
-ghost use Rattle.jh_laws.specs.Vectors.{HasPending, IsPendingIn, IsNext, Raises, Drops, Clears, IsKeptByOthers};
+ghost use Rattle.jh_laws.specs.Vectors.{HasPending, IsPendingIn, IsNextVector, Raises, Drops, Clears, IsKeptByOthers};
 
 /// A CPU of the board that goes on with its program, and is at the wait for an interrupt, has an entry due exactly
 /// where a vector of a device of its cell is pending. The entry takes the next: the lowest vector of the lowest device
@@ -17,7 +17,7 @@ pub fn interrupts_are_due_where_a_vector_is_pending()
     ensures due { (j : AdmittedJournal) (cpu : ℕ) → IsAtInterrupt j.image (facts_of j) cpu →
         IsSome (due j.image j.entries cpu) ↔ HasPending (facts_of j) (owner_of j cpu) }
     ensures next { (m : AdmittedMoment) (n v : ℕ) → m.entry.act ≡ Irq n v →
-        IsNext (facts_before m) m.entry.cell n v }
+        IsNextVector (facts_before m) m.entry.cell n v }
 {}
 
 /// At opening no vector is pending. Behind an entry a vector is pending exactly where the entry raises it, while it is

@@ -38,7 +38,7 @@ use Rattle.jh_board.specs.declared.steps.CellsChange.TheVariants.{Keep, Mark, Re
 use Rattle.jh_board.specs.declared.held.Held.{Held}
 use Rattle.jh_board.specs.Private.Closed.{AreInRange}
 use Rattle.jh_board.specs.Private.LiveView.{LiveView}
-use Rattle.jh_board.specs.Means.{Means, HoldsWords, IsReady, IsReadyFor}
+use Rattle.jh_board.specs.Means.{Means, HoldsWords, IsReadyToGoOn, IsReadyFor}
 use Rattle.jh_board.specs.Pages.{MemoryView, HoldsPlace, HoldsSlot}
 use Rattle.jh_board.specs.Private.Pages.{MayHold}
 
@@ -155,7 +155,7 @@ pub record MayJoinCells (live : LiveView) (found : Option (List Region)) (config
   pub regions : length config.memory_regions ≤ live.regions
 
 -- the entry is due where what is held stands for sound facts of an admitted image
-pub record IsNext (image : Image) (held : Held) (entry : Entry) : Type 0 where
+pub record IsNextEntry (image : Image) (held : Held) (entry : Entry) : Type 0 where
   pub facts : Facts
   pub admitted : IsAdmitted image
   pub means : Means image held facts
@@ -168,14 +168,14 @@ IsRead image facts entry coming = call_by facts.cells coming facts.call entry en
 
 -- where the configuration of a cell comes, the open call isn't yet about to make one: whatever is held is ready for it
 abbrev pub NeedsNothingYet : Facts → Option CellConfig → Type 0
-NeedsNothingYet facts coming = IfSome coming (λ config. (held : Held) → IsReady held facts.call)
+NeedsNothingYet facts coming = IfSome coming (λ config. (held : Held) → IsReadyToGoOn held facts.call)
 
 -- what is held is ready for what the call goes on to do, where it is ready for the cell that comes
 abbrev pub WillBeReady : Image → Facts → Entry → Option CellConfig → Type 0
-WillBeReady image facts entry coming = (held : Held) → IsReady held facts.call → IfSome coming (IsReadyFor held) → IsReady held (call_after image facts entry)
+WillBeReady image facts entry coming = (held : Held) → IsReadyToGoOn held facts.call → IfSome coming (IsReadyFor held) → IsReadyToGoOn held (call_after image facts entry)
 
 -- the entry has all memory that it and the rest of its call take, but for its write
 pub record IsPrepared (image : Image) (held : Held) (facts : Facts) (entry : Entry) (coming : Option CellConfig) : Type 0 where
   pub means : Means image held facts
   pub read : IsRead image facts entry coming
-  pub ready : IsReady held (call_after image facts entry)
+  pub ready : IsReadyToGoOn held (call_after image facts entry)

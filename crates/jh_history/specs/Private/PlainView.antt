@@ -15,7 +15,7 @@ use Rattle.jh_history.specs.declared.entry.Entry.{Entry}
 use Rattle.jh_history.specs.declared.place.Place.{Place}
 use Rattle.jh_history.specs.declared.place.Place.TheVariants.{Physical, Page}
 use Rattle.jh_history.specs.declared.written.WrittenByte.{WrittenByte}
-use Rattle.jh_history.specs.Places.{is_same, over}
+use Rattle.jh_history.specs.Places.{is_same, overlaid}
 use Rattle.jh_history.specs.declared.access.Access.TheVariants.{Read}
 use Rattle.jh_history.specs.Access.{reach_by, memory_read, slot_of_reach}
 use Rattle.jh_history.specs.Grants.{granted_in}
@@ -25,7 +25,7 @@ use Rattle.jh_history.specs.Endpoints.{change_by, changing_by, specs_changing, w
 use Rattle.jh_history.specs.Facts.{Facts}
 use Rattle.jh_history.specs.Bytes.{loaded_byte}
 use Rattle.jh_history.specs.History.{coming_of}
-use Rattle.jh_history.specs.Admitted.{IsAdmitted}
+use Rattle.jh_history.specs.Admitted.{IsAdmitted, IsWellFormedAct}
 use Rattle.jh_shape.specs.Lives.{configs_of}
 use Rattle.jh_history.specs.Due.{due_at}
 use Rattle.jh_history.specs.Sound.{AreSoundCells, IsSound}
@@ -76,7 +76,7 @@ pub record Represents (plain : PlainView) (image : Image) (facts : Facts) : Type
 abbrev pub HasBytes : PlainView → PlainView → (Image → Facts → Place → ℕ) → Type 0
 HasBytes old new byte = (i : Image) (f : Facts) → Represents old i f → (q : Place) → last_byte i new.bytes q ≡ byte i f q
 
--- the words that the act clears in state tables are written over the bytes of the old one, by its cells and its call
+-- the words that the act clears in state tables are written overlaid the bytes of the old one, by its cells and its call
 abbrev pub HasWritten : PlainView → PlainView → Act → Type 0
 HasWritten old new act =
     (i : Image) (f : Facts) → f.cells ≡ old.cells → f.call ≡ old.call → (q : Place) → last_byte i new.bytes q ≡ with_words (specs_changing f act) (last_byte i old.bytes) q
@@ -89,7 +89,7 @@ IsComing plain entry coming =
 -- the row of places has the lowest bytes of the value, and the rest of it is left for the places behind
 abbrev pub IsRest : List WrittenByte → List WrittenByte → List Place → ℕ → ℕ → Type 0
 IsRest old new row value rest =
-    (image : Image) (places : List Place) (q : Place) → over places rest q (last_byte image new q) ≡ over (row ++ places) value q (last_byte image old q)
+    (image : Image) (places : List Place) (q : Place) → overlaid places rest q (last_byte image new q) ≡ overlaid (row ++ places) value q (last_byte image old q)
 
 -- all but the bytes and the endpoints stay
 pub record IsSameBut (old new : PlainView) : Type 0 where
@@ -119,3 +119,7 @@ pub record MayBeFollowed (plain : PlainView) (entry : Entry) : Type 0 where
   pub words : HasWords plain
   pub commit : MayCommit plain entry.act
   pub next : IsNextOf entry.cell plain.endpoints entry.act
+
+-- the entry's act, where it is a read or a write, has at most 8 bytes
+abbrev pub IsWellFormedEntry : Entry → Type 0
+IsWellFormedEntry entry = IsWellFormedAct entry.act

@@ -9,7 +9,7 @@ use Rattle.jh_history.specs.Calls.{call_by}
 use Rattle.jh_history.specs.DueFacts.{NamesCpu}
 use Rattle.jh_board.specs.declared.held.Held.{Held}
 use Rattle.jh_board.specs.declared.steps.CellsChange.{CellsChange}
-use Rattle.jh_board.specs.Means.{IsReady}
+use Rattle.jh_board.specs.Means.{IsReadyToGoOn}
 use Rattle.jh_board.specs.Private.Steps.{change_of_cells, changed_cells, joined_cells}
 use Rattle.jh_board.proofs.KeptLemmas.{ready_kept}
 use Rattle.jh_board.proofs.MadeLemmas.{cells_made, nothing_made, ready_made, KeepsCells}
@@ -55,7 +55,7 @@ returns-clause-ready c = λ h.
     let change : c.change_of_cells-change.result ≡ change_of_cells old.call act = c.change_of_cells-change.ensures ∙ ap (λ (k : Option OpenCall). change_of_cells k act) c.as_ref.ensures.value in
     let call : c.call_after-call.result.call ≡ call_by lives c.args.coming old.call entry act =
     c.call_after-call.ensures.call lives (sym c.list.ensures.value) ∙ ap (λ (k : Option OpenCall). call_by lives c.args.coming k entry act) c.take-begun.ensures.value in
-    let P : Option OpenCall → Type 0 = IsReady old in
-    let Q : Option OpenCall → Type 0 = IsReady new in
+    let P : Option OpenCall → Type 0 = IsReadyToGoOn old in
+    let Q : Option OpenCall → Type 0 = IsReadyToGoOn new in
     let same : KeepsCells old new (created_by old.call act) (change_of_cells old.call act) = λ none keep. c.make_cells.ensures.kept (made ∙ none) (change ∙ keep) in
     subst Q (sym call) (ready_made old new lives c.args.coming old.call entry act (omega arith) (λ q held. held) same (subst P call h))

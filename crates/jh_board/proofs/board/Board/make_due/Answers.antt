@@ -6,7 +6,8 @@ use Rattle.jh_history.specs.declared.entry.Entry.{Entry}
 use Rattle.jh_history.specs.Due.{due}
 use Rattle.jh_history.specs.Lives.{is_on_board}
 use Rattle.jh_board.specs.BoardView.{BoardView}
-use Rattle.jh_board.specs.Turns.{Advances, MakesDue, RefusesTurn}
+use Rattle.jh_board.specs.Turns.{MakesDue, RefusesTurn}
+use Rattle.jh_board.specs.Private.Advances.{Advances}
 use Rattle.jh_board.specs.declared.turn.TurnFault.{TurnFault}
 use Rattle.jh_board.specs.declared.turn.TurnFault.TheVariants.{Full, NoMemory}
 use Rattle.jh_board.proofs.board.Board.make_due.Goals as goal

@@ -5,8 +5,8 @@ use Rattle.jh_history.specs.declared.access.Reach.TheVariants.{Memory, Subpage}
 use Rattle.jh_history.specs.Access.{write_of}
 use Rattle.jh_history.specs.Endpoints.{endpoints_put}
 use Rattle.jh_history.specs.Grants.{devices_of}
-use Rattle.jh_history.specs.Places.{over}
 use Rattle.jh_history.specs.Private.PlainView.{PlainView, last_byte}
+use Rattle.jh_history.specs.Places.{overlaid}
 use Rattle.jh_history.proofs.KeptLemmas.{kept_write, kept_write_subpage, reach_kept, is_device, device_write, others_put}
 use Rattle.jh_history.proofs.plain.Plain.write_at.Goals as goal
 
@@ -16,7 +16,7 @@ returns-in_ok-write_places-in-Memory-clause-bytes c = λ i f h q.
     let found = reach_kept i c.self.inside.image.now f c.self.inside.cells c.self.inside.endpoints.list c.args.cell wanted c.reach_in-reach.result
     (ap (λ (p : PlainView). p.image) c.self.view_is ∙ sym h.same) (ap (λ (p : PlainView). p.cells) c.self.view_is ∙ sym h.cells) (ap (λ (p : PlainView). p.endpoints) c.self.view_is ∙ sym h.endpoints) c.reach_in-reach.ensures in
     c.in_ok-write_places-in-Memory.ensures i q
-    ∙ ap (λ (p : PlainView). over c.in-Memory.places c.args.value q (last_byte i p.bytes q)) c.self.view_is
+    ∙ ap (λ (p : PlainView). overlaid c.in-Memory.places c.args.value q (last_byte i p.bytes q)) c.self.view_is
     ∙ ⊎_elim
     (λ (is : c.reach_in-reach.result ≡ Memory c.in-Memory.places). kept_write i f c.args.cell wanted c.reach_in-reach.result c.in-Memory.places c.args.value q c.args.self.now h found is)
     (λ (is : c.reach_in-reach.result ≡ Subpage c.in-Memory.places). kept_write_subpage i f c.args.cell wanted c.reach_in-reach.result c.in-Memory.places c.args.value q c.args.self.now h found is)
