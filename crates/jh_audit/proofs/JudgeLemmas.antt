@@ -31,6 +31,6 @@ pub is_illegal : (image : Image) (text : List ℕ) (before : List Entry) (entry 
     → JudgesText image text (Illegal line expected)
 is_illegal image text before entry lines line expected read counted ends legal was_due differs = record {
   entries = (before ++ entry ∷ []) ++ ends.rest;
-  told = ends.told text (before ++ entry ∷ []) read;
+  spelled = ends.spelled text (before ++ entry ∷ []) read;
   judged = is_first image before entry ends.rest line expected (counted ∙ read.counted) legal was_due differs;
 }

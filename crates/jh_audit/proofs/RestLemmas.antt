@@ -19,11 +19,11 @@ Refused = (text : List ℕ) (entries : List Entry) (old new : LinesView) (fault 
 pub reads_on : GoesOn → (first old new : LinesView) (entry : Entry) → ReadsOn first old → PassesLine old (Some entry) new → ReadsOn first new
 reads_on goes_on first old new entry so_far passes = record {
   between = so_far.between ++ entry ∷ [];
-  told = λ text before h.
+  reads = λ text before h.
       subst (λ (es : List Entry). IsReadTo text es new) (append_assoc before so_far.between (entry ∷ []))
-      (goes_on text (before ++ so_far.between) old new entry (so_far.told text before h) passes);
+      (goes_on text (before ++ so_far.between) old new entry (so_far.reads text before h) passes);
 }
 
 -- a line is refused for the fault of the text
 pub ends_at : Refused → (first old new : LinesView) (fault : JournalFault) → ReadsOn first old → RefusesLine old fault new → EndsAtFault first fault
-ends_at refused first old new fault so_far refuses = λ text before h. refused text (before ++ so_far.between) old new fault (so_far.told text before h) refuses
+ends_at refused first old new fault so_far refuses = λ text before h. refused text (before ++ so_far.between) old new fault (so_far.reads text before h) refuses

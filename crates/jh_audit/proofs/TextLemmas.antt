@@ -29,21 +29,21 @@ OneLine = (text : List ℕ) (m n : ℕ) → IsFirstBadLine text m → IsFirstBad
 -- an answer that is right is the one that is right
 pub only_verdict : OneJournal → NoBadLine → NotLong → (image : Image) (text : List ℕ) (r : Result Verdict JournalFault) → IfOk r (JudgesText image text) → IfErr r (IsFault text) → r ≢ Err NoMemory
     → (entries : List Entry) → IsJournalText text entries → IsOkAnd r (Judges image entries)
-only_verdict one no_bad not_long image text (Ok verdict) ok err room entries j = subst (λ (es : List Entry). Judges image es verdict) (one text ok.entries entries ok.told j) ok.judged
+only_verdict one no_bad not_long image text (Ok verdict) ok err room entries j = subst (λ (es : List Entry). Judges image es verdict) (one text ok.entries entries ok.spelled j) ok.judged
 only_verdict one no_bad not_long image text (Err (Line number)) ok err room entries j = absurd (no_bad text entries number j err)
 only_verdict one no_bad not_long image text (Err TooLong) ok err room entries j = absurd (not_long text entries j err)
 only_verdict one no_bad not_long image text (Err NoMemory) ok err room entries j = absurd (room refl)
 
 pub only_line : NoBadLine → NotBoth → OneLine → (image : Image) (text : List ℕ) (r : Result Verdict JournalFault) → IfOk r (JudgesText image text) → IfErr r (IsFault text) → r ≢ Err NoMemory
     → (number : ℕ) → IsFirstBadLine text number → r ≡ Err (Line number)
-only_line no_bad not_both one_line image text (Ok verdict) ok err room number b = absurd (no_bad text ok.entries number ok.told b)
+only_line no_bad not_both one_line image text (Ok verdict) ok err room number b = absurd (no_bad text ok.entries number ok.spelled b)
 only_line no_bad not_both one_line image text (Err (Line other)) ok err room number b = ap (λ n. Err (Line n)) (one_line text other number err b)
 only_line no_bad not_both one_line image text (Err TooLong) ok err room number b = absurd (not_both text number b err)
 only_line no_bad not_both one_line image text (Err NoMemory) ok err room number b = absurd (room refl)
 
 pub only_too_long : NotLong → NotBoth → (image : Image) (text : List ℕ) (r : Result Verdict JournalFault) → IfOk r (JudgesText image text) → IfErr r (IsFault text) → r ≢ Err NoMemory
     → IsTooLong text → r ≡ Err TooLong
-only_too_long not_long not_both image text (Ok verdict) ok err room t = absurd (not_long text ok.entries ok.told t)
+only_too_long not_long not_both image text (Ok verdict) ok err room t = absurd (not_long text ok.entries ok.spelled t)
 only_too_long not_long not_both image text (Err (Line other)) ok err room t = absurd (not_both text other err t)
 only_too_long not_long not_both image text (Err TooLong) ok err room t = refl
 only_too_long not_long not_both image text (Err NoMemory) ok err room t = absurd (room refl)

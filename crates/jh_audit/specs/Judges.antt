@@ -1,12 +1,9 @@
 -- What an audit finds of a journal.
-use Rattle.std.specs.Prelude.{◌≡◌, ◌≢◌, ℕ, ◌+◌, ◌↔◌, List, [], ◌∷◌, ◌++◌, length, Option, Some, IsTrue}
+use Rattle.std.specs.Prelude.{◌≡◌, ◌≢◌, ℕ, ◌+◌, ◌↔◌, List, ◌∷◌, ◌++◌, length, Option, Some, IsTrue}
 use Rattle.jh_script.specs.declared.image.Image.{Image}
 use Rattle.jh_history.specs.declared.entry.Entry.{Entry}
 use Rattle.jh_history.specs.Due.{due, IsLegal, IsQuiet}
 use Rattle.jh_text.specs.Faults.{IsJournalText}
-use Rattle.jh_board.specs.BoardView.{BoardView}
-use Rattle.jh_audit.specs.declared.compared.Compared.{Compared}
-use Rattle.jh_audit.specs.declared.compared.Compared.TheVariants.{Same, Differs}
 use Rattle.jh_audit.specs.declared.verdict.Verdict.{Verdict}
 use Rattle.jh_audit.specs.declared.verdict.Verdict.TheVariants.{Legal, Illegal}
 
@@ -31,11 +28,5 @@ Judges image entries (Illegal line expected) = IsFirstIllegal image entries line
 -- the text is that of a journal, and the verdict is that on its entries
 pub record JudgesText (image : Image) (text : List ℕ) (verdict : Verdict) : Type 0 where
   pub entries : List Entry
-  pub told : IsJournalText text entries
+  pub spelled : IsJournalText text entries
   pub judged : Judges image entries verdict
-
--- from `old` the entry is the one due to its CPU, and is made; or it isn't, behind legal entries, and what was due is
--- told
-abbrev pub Compares : BoardView → Entry → Compared → BoardView → Type 0
-Compares old entry Same new = (due old.image old.entries entry.cpu ≡ Some entry) × (new ≡ record old { entries = old.entries ++ entry ∷ [] })
-Compares old entry (Differs expected) new = IsLegal old.image old.entries × (due old.image old.entries entry.cpu ≡ expected) × (expected ≢ Some entry)

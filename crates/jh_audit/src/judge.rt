@@ -4,7 +4,8 @@ ghost use Rattle.jh_history.specs.Admitted.{IsAdmitted};
 ghost use Rattle.jh_history.specs.declared.entry.Entry.{Entry as TheEntry};
 ghost use Rattle.jh_board.specs.Turns.{MakesDue};
 ghost use Rattle.jh_text.specs.Faults.{IsFault, IsFirstBadLine, IsJournalText, IsTooLong};
-ghost use Rattle.jh_audit.specs.Judges.{Judges, JudgesText, Compares};
+ghost use Rattle.jh_audit.specs.Judges.{Judges, JudgesText};
+ghost use Rattle.jh_audit.specs.Private.Compares.{Compares};
 ghost use Rattle.jh_audit.specs.Private.Rest.{EndsJournal, EndsAtFault};
 
 use crate::compared::Compared;
@@ -18,7 +19,7 @@ use jh_text::{
 };
 use std::alloc::Global;
 
-/// How many bytes the shortest line has: `0 0 stop`, and a line feed.
+/// How many bytes the shortest line has: `0 0 stop`, and a line feed. Only how much room is taken at once goes by it.
 const SHORTEST_LINE: usize = 9;
 
 /// Makes what is due to the entry's CPU, and tells it. A CPU that the board lacks makes nothing.
@@ -89,8 +90,8 @@ fn whole_verdict(board: &Board, count: u32) -> Verdict
     }
 }
 
-/// The most entries that the text can be a journal of.
-fn most_entries(text: &[u8]) -> usize {
+/// How many entries room is taken for at once: as many as the text can have by its length.
+fn room_for(text: &[u8]) -> usize {
     (text.len() / SHORTEST_LINE).min(MAX_ENTRIES)
 }
 
@@ -115,7 +116,7 @@ fn judge_text(board: &mut Board, text: &[u8]) -> Result<Verdict, JournalFault>
 {
     // for the proof: what is read is read of the whole text
     lines_tell_the_text();
-    board.reserve(most_entries(text))?;
+    board.reserve(room_for(text))?;
     let mut lines = JournalLines::new(text);
     while let Some(entry) = lines.next()? {
         if let Compared::Differs { expected } = compare(board, &entry)? {

@@ -34,9 +34,10 @@ use Rattle.jh_history.specs.DueFacts.{NamesCpu, MayLive, IsLive, HasPage, IsOfCe
 use Rattle.jh_board.specs.declared.held.Held.{Held}
 use Rattle.jh_board.specs.declared.indexed.ProgramIndex.{ProgramIndex}
 use Rattle.jh_board.specs.Indexed.{AreProgramIndices}
-use Rattle.jh_board.specs.Pages.{byte_of, HoldsComm, MayHold, MemoryView}
+use Rattle.jh_board.specs.Pages.{byte_of, HoldsComm, MemoryView}
+use Rattle.jh_board.specs.Private.Pages.{MayHold}
 use Rattle.jh_board.specs.Means.{Means, HoldsPageOf, HoldsWords, IsReady, IsReadyIn, IsReadyFor}
-use Rattle.jh_board.specs.Private.Steps.{IsFree, MayWrite, MayWriteOf, MayJoinCells, IsPrepared}
+use Rattle.jh_board.specs.Private.Steps.{NeedsNothingYet, MayWrite, MayWriteOf, MayJoinCells, IsPrepared}
 use Rattle.jh_board.proofs.KeptLemmas.{KeepsPages, comms_kept, words_kept, all_words_kept}
 use Rattle.jh_board.proofs.MadeLemmas.{ready_written}
 
@@ -49,7 +50,7 @@ on_err (Ok value) P h = tt
 on_err (Err fault) P h = h
 
 -- facts that what is held stands for have one open call
-pub free_same : (image : Image) (held : Held) (f g : Facts) (config : CellConfig) → Means image held f → Means image held g → IsFree f (Some config) → IsFree g (Some config)
+pub free_same : (image : Image) (held : Held) (f g : Facts) (config : CellConfig) → Means image held f → Means image held g → NeedsNothingYet f (Some config) → NeedsNothingYet g (Some config)
 free_same image held f g config first second free = λ other. let P : Option OpenCall → Type 0 = IsReady other in subst P (sym first.call ∙ second.call) (free other)
 
 -- ---- what is written is held
@@ -259,7 +260,7 @@ Means_made image old mid new f entry coming prepared written called =
     let means = prepared.means in
     let call : mid.call ≡ f.call = written.call ∙ means.call in
     let lives : mid.cells.lives ≡ f.cells = rw written.cells means.cells in
-    let after-call : new.call ≡ call_after image f entry = called.call ∙ ap (λ (c : Option OpenCall). call_by mid.cells.lives coming c entry act) call ∙ ap (λ (cs : List Live). call_by cs coming f.call entry act) lives ∙ prepared.read in
+    let after_call : new.call ≡ call_after image f entry = called.call ∙ ap (λ (c : Option OpenCall). call_by mid.cells.lives coming c entry act) call ∙ ap (λ (cs : List Live). call_by cs coming f.call entry act) lives ∙ prepared.read in
     let pages : KeepsPages old.memory new.memory = λ q held. rw called.memory (written.pages q held) in
     let living : new.cells.lives ≡ cells_by f.call f.cells act = called.lives ∙ ap (λ (c : Option OpenCall). cells_by c mid.cells.lives act) call ∙ ap (λ (cs : List Live). cells_by f.call cs act) lives in
     let F : List ProgramIndex → Type 0 = AreProgramIndices image f.cells in
@@ -272,7 +273,7 @@ Means_made image old mid new f entry coming prepared written called =
       system = called.system ∙ rw written.cells means.system;
       cells = living;
       endpoints = ap (λ (es : EndpointsView). es.list) called.endpoints ∙ written.endpoints;
-      call = after-call;
+      call = after_call;
       pages = all_made (λ (config : CellConfig). HoldsComm new.memory.comms config.id) f.call f.cells act
           (All-weaker (HoldsPageOf old) (HoldsPageOf new) (λ live. comms_kept old.memory new.memory live.config.id pages) f.cells means.pages)
           (if_some (created_by f.call act) (λ (config : CellConfig). HoldsComm new.memory.comms config.id) (λ config made.
@@ -285,5 +286,5 @@ Means_made image old mid new f entry coming prepared written called =
       root_words = words_kept old.memory new.memory (specs_of image.system.root) pages means.root_words;
       named = all_made NamesCpu f.call f.cells act means.named (rw call at called.named);
       programs = subst G living (called.programs f.call f.cells (subst F (sym written.programs) means.programs) living);
-      ready = subst S after-call (called.ready (subst R (sym after-call) (ready_written old mid f.cells (coming_of image f) f.call entry act written.index written.cells written.spare written.pages prepared.ready)));
+      ready = subst S after_call (called.ready (subst R (sym after_call) (ready_written old mid f.cells (coming_of image f) f.call entry act written.index written.cells written.spare written.pages prepared.ready)));
     }

@@ -9,7 +9,8 @@ use Rattle.jh_history.specs.declared.place.Place.{Place}
 use Rattle.jh_history.specs.declared.place.Place.TheVariants.{Physical, Page}
 use Rattle.jh_history.specs.Places.{further, places_in_row, with_byte, over, written}
 use Rattle.jh_history.proofs.Public.{further_none, further_next, row_next, written_over}
-use Rattle.jh_board.specs.Pages.{byte_of, HoldsPage, HoldsPlace, MayHold, MemoryView}
+use Rattle.jh_board.specs.Pages.{byte_of, HoldsPage, HoldsPlace, MemoryView}
+use Rattle.jh_board.specs.Private.Pages.{MayHold}
 use Rattle.jh_num.specs.Pages.{page_at}
 
 abbrev Pages : Type 0

@@ -12,7 +12,8 @@ use Rattle.jh_history.specs.declared.place.Place.{Place}
 use Rattle.jh_history.specs.declared.place.Place.TheVariants.{Physical, Page}
 use Rattle.jh_history.specs.Places.{places_in_row, with_byte, written}
 use Rattle.jh_history.proofs.Public.{row_length}
-use Rattle.jh_board.specs.Pages.{bytes_from, byte_of, comm_byte, MemoryView}
+use Rattle.jh_board.specs.Pages.{byte_of, comm_byte, MemoryView}
+use Rattle.jh_board.specs.Private.Pages.{bytes_from}
 use Rattle.jh_num.specs.Pages.{page_at, byte_of_page, paged_byte}
 use Rattle.jh_num.proofs.Public.{stored_before, stored_behind}
 

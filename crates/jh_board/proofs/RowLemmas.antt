@@ -4,7 +4,8 @@ use Rattle.std.specs.Prelude.{slice_index, slice_range}
 use Rattle.std.proofs.lemmas.List.{append-nil, append_assoc, drop_more}
 use Rattle.jh_history.specs.declared.place.Place.TheVariants.{Page}
 use Rattle.jh_history.specs.Places.{places_in_row}
-use Rattle.jh_board.specs.Pages.{bytes_from, byte_of, comm_byte, MemoryView}
+use Rattle.jh_board.specs.Pages.{byte_of, comm_byte, MemoryView}
+use Rattle.jh_board.specs.Private.Pages.{bytes_from}
 
 -- a piece of a list
 pub list_piece : (xs : List ℕ) (offset n : ℕ) → offset + n ≤ length xs → take n (drop offset xs) ≡ bytes_from (slice_index xs) offset n

@@ -2,8 +2,9 @@
 pub mod Closed
 pub mod IsCellRegions
 pub mod IsIndexed
-pub mod Judged
+pub mod FoundCreation
 pub mod KeptCells
 pub mod LiveView
+pub mod Pages
 pub mod StateView
 pub mod Steps

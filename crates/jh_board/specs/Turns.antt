@@ -28,6 +28,6 @@ Turns old cpu (NotNow other) new = (due old.image old.entries cpu ≡ None) × I
 Turns old cpu Done new = IsQuiet old.image old.entries × (new ≡ old)
 
 -- from old, a turn of the CPU may be refused by this and leave new
-abbrev pub Refuses : BoardView → ℕ → TurnFault → BoardView → Type 0
-Refuses old cpu Full new = IsSome (due old.image old.entries cpu) × (length old.entries ≡ old.limit) × (new ≡ old)
-Refuses old cpu NoMemory new = new ≡ old
+abbrev pub RefusesTurn : BoardView → ℕ → TurnFault → BoardView → Type 0
+RefusesTurn old cpu Full new = IsSome (due old.image old.entries cpu) × (length old.entries ≡ old.limit) × (new ≡ old)
+RefusesTurn old cpu NoMemory new = new ≡ old

@@ -11,7 +11,7 @@ ghost use Rattle.jh_history.specs.declared.place.Place.{Place as ThePlace};
 ghost use Rattle.jh_board.specs.Pages.{byte_of};
 ghost use Rattle.jh_board.specs.Maps.{all_cells, IsMapOrNone};
 ghost use Rattle.jh_board.specs.Means.{Means};
-ghost use Rattle.jh_board.specs.Turns.{Turns, Refuses, MakesDue, Advances};
+ghost use Rattle.jh_board.specs.Turns.{Turns, RefusesTurn, MakesDue, Advances};
 
 use crate::cells::LiveCells;
 use crate::devices::{change_devices, prepare_devices};
@@ -255,7 +255,7 @@ impl Board {
     pub fn make_due(&mut self, cpu: u8) -> Result<Option<Entry>, TurnFault>
         requires { IsTrue (is_on_board self.old.image cpu) }
         ensures ok { IfOk result (λ made. MakesDue self.old cpu made self.new) }
-        ensures err { IfErr result (λ fault. Refuses self.old cpu fault self.new) }
+        ensures err { IfErr result (λ fault. RefusesTurn self.old cpu fault self.new) }
     {
         self.image.has_few_cpus();
         advance(
@@ -273,7 +273,7 @@ impl Board {
     pub fn turn(&mut self, cpu: u8, steps: &mut Steps) -> Result<Turn, TurnFault>
         requires { IsTrue (is_on_board self.old.image cpu) }
         ensures ok { IfOk result (λ turn. Turns self.old cpu turn self.new) }
-        ensures err { IfErr result (λ fault. Refuses self.old cpu fault self.new) }
+        ensures err { IfErr result (λ fault. RefusesTurn self.old cpu fault self.new) }
         ensures steps { steps.new ≡ steps.old }
     {
         match self.make_due(cpu)? {

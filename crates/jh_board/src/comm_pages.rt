@@ -2,7 +2,8 @@
 ghost use Rattle.std.specs.Prelude.{◌≡◌, ◌≢◌, ℕ, ◌+◌, ◌^◌, ◌<◌, ◌≤◌, ◌++◌, OnOk};
 ghost use Rattle.jh_num.specs.Memory.{spelled};
 ghost use Rattle.jh_history.specs.Pages.{page_after};
-ghost use Rattle.jh_board.specs.Pages.{bytes_from, comm_byte, HoldsComm};
+ghost use Rattle.jh_board.specs.Pages.{comm_byte, HoldsComm};
+ghost use Rattle.jh_board.specs.Private.Pages.{bytes_from};
 
 use crate::page::Page;
 use indexmap::IndexMap;

@@ -17,7 +17,7 @@ use jh_ivshmem::{EndpointSpec, Endpoints, Slot};
 use jh_num::NoMemory;
 
 /// The endpoint's word of its state table, with the value 0.
-fn word_of(spec: &EndpointSpec) -> Slot
+fn cleared_word(spec: &EndpointSpec) -> Slot
     requires { IsInItsLimits spec.now }
     ensures { result ≡ slot_of spec.now 0 }
 {
@@ -46,7 +46,7 @@ fn hold_device(memory: &mut Memory, config: &CellConfig, number: usize) -> Resul
     ensures others { (q : ThePlace) → HoldsPlace memory.old q → HoldsPlace memory.new q }
 {
     match spec_at(config, number) {
-        Some(spec) => memory.hold_slot(&word_of(&spec)),
+        Some(spec) => memory.hold_slot(&cleared_word(&spec)),
         None => Ok(()),
     }
 }

@@ -1,5 +1,5 @@
 //! What live cells are granted.
-ghost use Rattle.std.specs.Prelude.{◌≡◌, ◌+◌, ◌%◌, ◌^◌, ◌<◌, ◌≤◌, ℕ, Bool, List, IfSome, IsTrue, find, option_map};
+ghost use Rattle.std.specs.Prelude.{◌≡◌, ◌+◌, ◌%◌, ◌^◌, ◌<◌, ◌≤◌, ℕ, Bool, IfSome, IsTrue, find, option_map};
 ghost use Rattle.jh_num.specs.declared.address.TheConstants.{ADDRESS_END};
 ghost use Rattle.std.specs.List.{list_any};
 ghost use Rattle.jh_script.specs.declared.image.Image.{Image as TheImage};
@@ -19,8 +19,8 @@ use crate::cells::LiveCells;
 use crate::indexed::{IndexedImage, giving};
 use jh_cellcfg::{PciDevice, Region};
 use jh_history::{
-    Access, Devices, Grants, Place, Places, Reach, Row, Wanted, answer_of, ecam_of, first_of_row,
-    is_within, places_in,
+    Access, Devices, Grants, Place, Places, Reach, Row, Wanted, answer_behind, ecam_of,
+    first_of_row, is_within, places_in,
 };
 use jh_ivshmem::Endpoints;
 use jh_num::Range;
@@ -179,7 +179,7 @@ pub fn devices_of<'a>(image: &'a IndexedImage, cells: &'a LiveCells, cell: u32) 
 
 /// What answers the cell's access where no memory does, where these cells live besides root, and all have these
 /// endpoints.
-fn behind(
+fn behind_in(
     image: &IndexedImage,
     cells: &LiveCells,
     endpoints: &Endpoints,
@@ -192,7 +192,7 @@ fn behind(
     if is_within(wanted) {
         let region = open_whole(image, cells, cell, wanted);
         let devices = Devices::new(cell, devices_of(image, cells, cell), endpoints);
-        answer_of(&devices, region, ecam_of(&image.image().system), wanted)
+        answer_behind(&devices, region, ecam_of(&image.image().system), wanted)
     } else {
         Reach::Nothing
     }
@@ -211,6 +211,6 @@ pub fn reach(
 {
     match memory(image, cells, cell, wanted) {
         Some(places) => Reach::Memory(places),
-        None => behind(image, cells, endpoints, cell, wanted),
+        None => behind_in(image, cells, endpoints, cell, wanted),
     }
 }

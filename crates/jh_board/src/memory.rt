@@ -5,7 +5,8 @@ ghost use Rattle.jh_history.specs.declared.place.Place.{Place as ThePlace};
 ghost use Rattle.jh_history.specs.Access.{with_slot};
 ghost use Rattle.jh_history.specs.Pages.{with_page};
 ghost use Rattle.jh_history.specs.Places.{number_of, places_in_row, places_of_row, IsRow, with_byte, written, over};
-ghost use Rattle.jh_board.specs.Pages.{byte_of, HoldsComm, HoldsPlace, HoldsSlot, MayHold};
+ghost use Rattle.jh_board.specs.Pages.{byte_of, HoldsComm, HoldsPlace, HoldsSlot};
+ghost use Rattle.jh_board.specs.Private.Pages.{MayHold};
 ghost use Rattle.jh_num.specs.Pages.{paged_byte};
 
 use crate::comm_pages::{CommPages, Word};
@@ -52,7 +53,7 @@ fn piece_of(places: &Places) -> Option<Piece>
 }
 
 /// The word of a communication page that the places are, if they are one.
-fn word_of(places: &Places) -> Option<Word>
+fn word_of_page(places: &Places) -> Option<Word>
     ensures within { IfSome result (λ word. word.offset + word.count ≤ 4096) }
     ensures few { IfSome result (λ word. word.count ≤ 8) }
     ensures places { IfSome result (λ word. places.now ≡ places_in_row (ThePlace.Page word.cell word.offset) word.count) }
@@ -94,7 +95,7 @@ impl Memory {
         if let Some(piece) = piece_of(places) {
             return self.physical.value(piece);
         }
-        match word_of(places) {
+        match word_of_page(places) {
             Some(word) => self.comms.value(word),
             None => value_of(self, places),
         }

@@ -2,7 +2,7 @@
 ghost use Rattle.std.specs.Prelude.{◌≡◌, ◌≢◌, ℕ, ◌+◌, ◌<◌, ◌≤◌, ◌^◌, ◌++◌, length, slice_index, IfOk, OnOk};
 ghost use Rattle.jh_num.specs.Memory.{spelled, stored};
 ghost use Rattle.jh_history.specs.Pages.{page_after};
-ghost use Rattle.jh_board.specs.Pages.{bytes_from};
+ghost use Rattle.jh_board.specs.Private.Pages.{bytes_from};
 
 use jh_comm::{fresh, send, set_state};
 use jh_history::PageChange;

@@ -1,7 +1,8 @@
 //! Bytes of physical memory; a page that isn't held is zero.
 ghost use Rattle.std.specs.Prelude.{◌≡◌, ◌≢◌, ℕ, ◌+◌, ◌%◌, ◌<◌, ◌≤◌, ◌^◌, ◌++◌, OnOk, OnErr, length};
 ghost use Rattle.jh_num.specs.Memory.{spelled, stored};
-ghost use Rattle.jh_board.specs.Pages.{bytes_from, HoldsPage};
+ghost use Rattle.jh_board.specs.Pages.{HoldsPage};
+ghost use Rattle.jh_board.specs.Private.Pages.{bytes_from};
 ghost use Rattle.jh_num.specs.Pages.{paged_byte};
 
 use crate::page::Page;

@@ -1,7 +1,6 @@
 //! What an entry does to what a board holds.
-ghost use Rattle.std.specs.Prelude.{◌≡◌, ℕ, ◌<◌, ◌≤◌, List, Option, All, AllPairs, OnOk, OnErr, IfOk, IfSome, Some, None, false, option_copied};
+ghost use Rattle.std.specs.Prelude.{◌≡◌, ℕ, List, Option, All, AllPairs, OnOk, OnErr, IfOk, IfSome, Some, None, false, option_copied};
 ghost use Rattle.std.specs.Option.{option_map_or};
-ghost use Rattle.jh_cellcfg.specs.declared.config.CellConfig.{CellConfig as TheConfig};
 ghost use Rattle.jh_ivshmem.specs.Specs.{IsInItsLimits};
 ghost use Rattle.jh_cellcfg.specs.Regions.{SharesNoAddress};
 ghost use Rattle.jh_script.specs.declared.image.Image.{Image};
@@ -21,9 +20,9 @@ ghost use Rattle.jh_history.specs.Due.{due_at};
 ghost use Rattle.jh_history.specs.Wants.{IsReachOfEntry};
 ghost use Rattle.jh_board.specs.Pages.{byte_of, HoldsComm, HoldsPlace};
 ghost use Rattle.jh_board.specs.Indexed.{AreProgramIndices};
-ghost use Rattle.jh_board.specs.Private.Judged.{IsJudged};
+ghost use Rattle.jh_board.specs.Private.FoundCreation.{IsFoundCreation};
 ghost use Rattle.jh_board.specs.Means.{Means, IsReady, IsReadyFor};
-ghost use Rattle.jh_board.specs.Private.Steps.{decides_to_go_on, create_of, change_of_call, change_of_cells, changed_cells, IsNext, IsRead, IsFree, WillBeReady, IsPrepared, MayWrite, MayWriteOf, MayWriteSlot, MayCommit, MayJoinCells, IsSameButDevices, joined_cells, devices_held, memory_written, memory_after, slot_after, endpoints_acted_by};
+ghost use Rattle.jh_board.specs.Private.Steps.{decides_to_go_on, create_of, change_of_call, change_of_cells, changed_cells, IsNext, IsRead, NeedsNothingYet, WillBeReady, IsPrepared, MayWrite, MayWriteOf, MayWriteSlot, MayCommit, MayJoinCells, IsSameButDevices, joined_cells, devices_held, memory_written, memory_after, slot_after, endpoints_acted_by};
 
 use crate::cell_regions::CellRegions;
 use crate::cells::LiveCells;
@@ -32,7 +31,7 @@ use crate::granted::devices_of;
 use crate::held::Held;
 use crate::indexed::{IndexedImage, ProgramIndex};
 use crate::memory::Memory;
-use crate::state::{JudgedCreate, creation_by};
+use crate::state::{FoundCreation, creation_by};
 use jh_call::Call;
 use jh_cellcfg::{CellConfig, MAX_CPUS};
 use jh_cpu::Cpu;
@@ -114,13 +113,13 @@ fn coming_of(
     image: &IndexedImage,
     held: &Held,
     entry: &Entry,
-    found: &mut Option<JudgedCreate>,
+    found: &mut Option<FoundCreation>,
 ) -> Result<Option<BoxedCell>, NoMemory>
     requires next { IsNext image.now held.now entry.now }
-    requires found { IfSome found.old (IsJudged image.now held.now) }
+    requires found { IfSome found.old (IsFoundCreation image.now held.now) }
     ensures read { (f : Facts) → Means image.now held.now f → due_at image.now f entry.now.cpu ≡ Some entry.now → IfOk result (IsRead image.now f entry.now) }
     ensures ready { (f : Facts) → Means image.now held.now f → due_at image.now f entry.now.cpu ≡ Some entry.now → IfOk result (WillBeReady image.now f entry.now) }
-    ensures free { (f : Facts) → Means image.now held.now f → due_at image.now f entry.now.cpu ≡ Some entry.now → IfOk result (IsFree f) }
+    ensures free { (f : Facts) → Means image.now held.now f → due_at image.now f entry.now.cpu ≡ Some entry.now → IfOk result (NeedsNothingYet f) }
     ensures apart { IfOk result (λ coming. IfSome coming (λ config. AllPairs SharesNoAddress config.memory_regions)) }
     ensures devices { IfOk result (λ coming. IfSome coming HasGoodDevices) }
     ensures tables { IfOk result (λ coming. IfSome coming (λ config. All IsInItsLimits (specs_of config))) }
@@ -150,7 +149,7 @@ fn make_ready(held: &mut Held, config: &CellConfig) -> Result<(), NoMemory>
     requires devices { HasGoodDevices config.now }
     requires tables { All IsInItsLimits (specs_of config.now) }
     ensures ready { OnOk result (IsReadyFor held.new config.now) }
-    ensures means { (i : Image) (f : Facts) → IsFree f (Some config.now) → Means i held.old f → Means i held.new f }
+    ensures means { (i : Image) (f : Facts) → NeedsNothingYet f (Some config.now) → Means i held.old f → Means i held.new f }
 {
     let index = held.cells.prepare(held.alloc, config)?;
     held.memory.hold_page(config.id)?;
@@ -164,10 +163,10 @@ fn prepare(
     image: &IndexedImage,
     held: &mut Held,
     entry: &Entry,
-    found: &mut Option<JudgedCreate>,
+    found: &mut Option<FoundCreation>,
 ) -> Result<Option<BoxedCell>, NoMemory>
     requires next { IsNext image.now held.old entry.now }
-    requires found { IfSome found.old (IsJudged image.now held.old) }
+    requires found { IfSome found.old (IsFoundCreation image.now held.old) }
     ensures means { (f : Facts) → Means image.now held.old f → Means image.now held.new f }
     ensures ok { (f : Facts) → Means image.now held.old f → due_at image.now f entry.now.cpu ≡ Some entry.now → IfOk result (IsPrepared image.now held.new f entry.now) }
 {
@@ -344,7 +343,8 @@ fn renew_programs(
     act: &Act,
     programs: &mut [ProgramIndex; MAX_CPUS],
 )
-    ensures { (call : Option TheOpenCall) (lives : List TheLive) → AreProgramIndices image.now lives programs.old → cells.now.lives ≡ cells_by call lives act.now → AreProgramIndices image.now cells.now.lives programs.new }
+    ensures { (call : Option TheOpenCall) (lives : List TheLive) → AreProgramIndices image.now lives programs.old
+        → cells.now.lives ≡ cells_by call lives act.now → AreProgramIndices image.now cells.now.lives programs.new }
 {
     if !is_commit(act) {
         return;
@@ -359,10 +359,10 @@ pub fn make(
     held: &mut Held,
     entry: &Entry,
     reach: &Reach,
-    found: &mut Option<JudgedCreate>,
+    found: &mut Option<FoundCreation>,
 ) -> Result<(), NoMemory>
     requires next { IsNext image.now held.old entry.now }
-    requires found { IfSome found.old (IsJudged image.now held.old) }
+    requires found { IfSome found.old (IsFoundCreation image.now held.old) }
     requires reached { (f : Facts) → Means image.now held.old f → IsReachOfEntry image.now f entry.now reach.now }
     ensures ok { OnOk result ((f : Facts) → Means image.now held.old f → due_at image.now f entry.now.cpu ≡ Some entry.now → Means image.now held.new (after image.now f entry.now)) }
     ensures err { OnErr result ((f : Facts) → Means image.now held.old f → Means image.now held.new f) }

@@ -41,16 +41,16 @@ info_of kind seen =
     else EINVAL))
 
 -- what a request for the state of a cell is answered, by the cell's state word, if a live cell has the id
-abbrev pub state_told : Option ℕ → ℤ
-state_told None = ENOENT
-state_told (Some state) = if nat_le state 4 then pos state else EINVAL
+abbrev pub state_answer : Option ℕ → ℤ
+state_answer None = ENOENT
+state_answer (Some state) = if nat_le state 4 then pos state else EINVAL
 
 -- what a request for information about a CPU is answered, by its kind and by what is seen of the CPU
-abbrev pub cpu_told : ℕ → CpuSeen → ℤ
-cpu_told kind Absent = EINVAL
-cpu_told kind Foreign = EPERM
-cpu_told kind Fine = if kind == 0 then pos 0 else EINVAL
-cpu_told kind Failed = if kind == 0 then pos 2 else EINVAL
+abbrev pub cpu_answer : ℕ → CpuSeen → ℤ
+cpu_answer kind Absent = EINVAL
+cpu_answer kind Foreign = EPERM
+cpu_answer kind Fine = if kind == 0 then pos 0 else EINVAL
+cpu_answer kind Failed = if kind == 0 then pos 2 else EINVAL
 
 -- what the call is answered at once, by what is seen; of calls that manage cells only those of cells besides root are
 abbrev pub answer_of : Call → Seen → ℤ
@@ -59,6 +59,6 @@ answer_of (Start id) seen = EPERM
 answer_of (Loadable id) seen = EPERM
 answer_of (Destroy id) seen = EPERM
 answer_of (Info kind) seen = info_of kind seen
-answer_of (State id) seen = if seen.root then state_told seen.state else EPERM
-answer_of (CpuInfo cpu kind) seen = cpu_told kind seen.cpu
+answer_of (State id) seen = if seen.root then state_answer seen.state else EPERM
+answer_of (CpuInfo cpu kind) seen = cpu_answer kind seen.cpu
 answer_of Unknown seen = ENOSYS

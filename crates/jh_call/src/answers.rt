@@ -1,7 +1,7 @@
 //! What is answered at once.
 ghost use Rattle.std.specs.Prelude.{◌≡◌, ◌≢◌, true, false};
 ghost use Rattle.jh_call.specs.Calls.{is_management};
-ghost use Rattle.jh_call.specs.Answers.{answer_of, info_of, state_told, cpu_told};
+ghost use Rattle.jh_call.specs.Answers.{answer_of, info_of, state_answer, cpu_answer};
 
 use crate::call::Call;
 use crate::seen::{CpuSeen, Seen};
@@ -35,8 +35,8 @@ fn info(kind: u64, seen: &Seen) -> i64
 }
 
 /// A cell's state, where a live cell has one that there is.
-fn told_state(state: Option<u32>) -> i64
-    ensures { result ≡ state_told state }
+fn state_answer(state: Option<u32>) -> i64
+    ensures { result ≡ state_answer state }
 {
     match state {
         None => ENOENT,
@@ -46,8 +46,8 @@ fn told_state(state: Option<u32>) -> i64
 }
 
 /// What a CPU is at. Kind 0 is all that there is to know of one.
-fn told_cpu(kind: u64, cpu: CpuSeen) -> i64
-    ensures { result ≡ cpu_told kind cpu }
+fn cpu_answer(kind: u64, cpu: CpuSeen) -> i64
+    ensures { result ≡ cpu_answer kind cpu }
 {
     match cpu {
         CpuSeen::Absent => EINVAL,
@@ -69,8 +69,8 @@ pub fn answer(c: &Call, seen: &Seen) -> i64
             EPERM,
         Call::Info { kind } => info(kind, seen),
         Call::State { .. } if !seen.root => EPERM,
-        Call::State { .. } => told_state(seen.state),
-        Call::CpuInfo { kind, .. } => told_cpu(kind, seen.cpu),
+        Call::State { .. } => state_answer(seen.state),
+        Call::CpuInfo { kind, .. } => cpu_answer(kind, seen.cpu),
         Call::Unknown => ENOSYS,
     }
 }

@@ -32,7 +32,10 @@ impl Flags for RegionFlags {
 
     ghost exact = { ⊤ };
 
-    ghost table = { (codes "READ", 0x1) ∷ (codes "WRITE", 0x2) ∷ (codes "EXECUTE", 0x4) ∷ (codes "DMA", 0x8) ∷ (codes "IO", 0x10) ∷ (codes "COMM_REGION", 0x20) ∷ (codes "LOADABLE", 0x40) ∷ (codes "ROOTSHARED", 0x80) ∷ (codes "NO_HUGEPAGES", 0x100) ∷ (codes "IO_UNALIGNED", 0x8000) ∷ (codes "IO_8", 0x10000) ∷ (codes "IO_16", 0x20000) ∷ (codes "IO_32", 0x40000) ∷ (codes "IO_64", 0x80000) ∷ [] };
+    ghost table = { (codes "READ", 0x1) ∷ (codes "WRITE", 0x2) ∷ (codes "EXECUTE", 0x4) ∷ (codes "DMA", 0x8)
+        ∷ (codes "IO", 0x10) ∷ (codes "COMM_REGION", 0x20) ∷ (codes "LOADABLE", 0x40) ∷ (codes "ROOTSHARED", 0x80)
+        ∷ (codes "NO_HUGEPAGES", 0x100) ∷ (codes "IO_UNALIGNED", 0x8000) ∷ (codes "IO_8", 0x10000) ∷ (codes "IO_16", 0x20000)
+        ∷ (codes "IO_32", 0x40000) ∷ (codes "IO_64", 0x80000) ∷ [] };
 
     ghost set_of = { λ p. p.0 };
 

@@ -1,12 +1,20 @@
 //! The header of a cell's configuration.
 
+use crate::record::Record;
+
 /// What a cell's configuration begins with.
 pub const SIGNATURE: &[u8; 6] = b"JHCELL";
 
 /// The revision of the format: the number behind a file's signature.
 pub const REVISION: u16 = 13;
 
-/// The header's fields from the name to the console: 124 bytes.
+/// How many bytes the signature and the revision have.
+pub const START_SIZE: usize = SIGNATURE.len() + size_of::<u16>();
+
+/// How many bytes a whole header has, from the signature on.
+pub const HEADER_SIZE: usize = START_SIZE + Header::SIZE;
+
+/// The header's fields from the name to the console.
 #[derive(Clone, Copy, PartialEq, Eq, Debug)]
 pub struct Header {
     pub name: [u8; 32],

@@ -19,13 +19,17 @@ mod writer;
 pub use config::{CellConfig, Console, Irqchip, MAX_CPUS, PciDevice, SystemConfig};
 pub use fault::{ConfigFault, Part};
 pub use flags::{CellFlags, RegionFlags};
-pub use header::{Counts, Header, REVISION};
+pub use header::{Counts, HEADER_SIZE, Header, REVISION, START_SIZE};
 pub use laws::{
     a_body_tells_its_configuration, a_spelling_tells_its_configuration, body_has_no_fault,
     no_fault_is_a_body, no_fault_is_a_spelling, one_body, one_spelling, size_is_length,
     spelling_has_no_fault,
 };
-pub use limits::{are_printable, are_zero, fits, is_name};
+pub use limits::{
+    MAX_CACHE_REGIONS, MAX_CONFIG_SIZE, MAX_CPU_SET_BYTES, MAX_IRQCHIPS, MAX_MEMORY_REGIONS,
+    MAX_PCI_CAPS, MAX_PCI_DEVICES, MAX_PIO_REGIONS, MAX_STREAM_IDS, are_printable, are_zero,
+    is_name, is_within_limits,
+};
 pub use live::Live;
 pub use read::{cell_size, check_start, read_body, read_cell};
 pub use reader::Reader;

@@ -1,12 +1,41 @@
 //! How many records a part may have, how large the whole may be, and what a name is.
 ghost use Rattle.std.specs.Prelude.{◌≡◌, ◌≤◌, ◌<◌, ◌↔◌, length, IfOk, IfSome, IfErr, OnOk, OnErr, IsTrue};
 ghost use Rattle.std.specs.List.{list_all, position};
-ghost use Rattle.jh_cellcfg.specs.Limits.{is_name, is_printable, is_zero, whole_size, AreWithinLimits, IsWithinLimits};
+ghost use Rattle.jh_cellcfg.specs.Limits.{is_name, is_printable, is_zero, parts_size, whole_size, AreWithinLimits, IsWithinLimits};
 ghost use Rattle.jh_cellcfg.specs.Faults.{count_fault, limits_fault, fault_of, refusal};
 
-use crate::config::CellConfig;
+use crate::config::{CellConfig, Irqchip, PciDevice};
 use crate::fault::{ConfigFault, Part};
-use crate::header::{Counts, Header};
+use crate::header::{Counts, HEADER_SIZE, Header};
+use crate::record::Record;
+use crate::region::Region;
+
+/// The most bytes of a CPU bitmap.
+pub const MAX_CPU_SET_BYTES: u32 = 64;
+
+/// The most memory regions of a cell.
+pub const MAX_MEMORY_REGIONS: u32 = 1024;
+
+/// The most cache regions of a cell.
+pub const MAX_CACHE_REGIONS: u32 = 1024;
+
+/// The most interrupt controllers of a cell.
+pub const MAX_IRQCHIPS: u32 = 64;
+
+/// The most port ranges of a cell.
+pub const MAX_PIO_REGIONS: u32 = 1024;
+
+/// The most PCI devices of a cell.
+pub const MAX_PCI_DEVICES: u32 = 256;
+
+/// The most capabilities of a cell's devices.
+pub const MAX_PCI_CAPS: u32 = 1024;
+
+/// The most stream ids of a cell.
+pub const MAX_STREAM_IDS: u32 = 1024;
+
+/// The most bytes of a whole configuration.
+pub const MAX_CONFIG_SIZE: u32 = 0x1_0000;
 
 /// Whether the bytes are a name: 1 to 31 printable characters, and then zero bytes.
 #[tactic(auto, unfolding(crate::specs::Limits::is_name))]
@@ -54,6 +83,20 @@ fn within(part: Part, most: u32, found: u32) -> Result<(), ConfigFault>
 }
 
 impl Counts {
+    /// How many bytes the parts have by their counts.
+    fn parts_size(&self) -> u64
+        ensures { result ≡ parts_size self.now }
+    {
+        u64::from(self.cpu_set)
+            + Region::SIZE as u64 * u64::from(self.memory_regions)
+            + <[u8; 12]>::SIZE as u64 * u64::from(self.cache_regions)
+            + Irqchip::SIZE as u64 * u64::from(self.irqchips)
+            + <[u8; 4]>::SIZE as u64 * u64::from(self.pio_regions)
+            + PciDevice::SIZE as u64 * u64::from(self.pci_devices)
+            + <[u8; 8]>::SIZE as u64 * u64::from(self.pci_caps)
+            + u32::SIZE as u64 * u64::from(self.stream_ids)
+    }
+
     /// The bytes of the whole, from the signature on; or the first count past its limit.
     #[tactic(auto, unfolding(crate::specs::Faults::count_fault))]
     pub fn size(&self) -> Result<u32, ConfigFault>
@@ -68,24 +111,16 @@ impl Counts {
                 found: 0,
             });
         }
-        within(Part::CpuSet, 64, self.cpu_set)?;
-        within(Part::MemoryRegions, 1024, self.memory_regions)?;
-        within(Part::CacheRegions, 1024, self.cache_regions)?;
-        within(Part::Irqchips, 64, self.irqchips)?;
-        within(Part::PioRegions, 1024, self.pio_regions)?;
-        within(Part::PciDevices, 256, self.pci_devices)?;
-        within(Part::PciCaps, 1024, self.pci_caps)?;
-        within(Part::StreamIds, 1024, self.stream_ids)?;
-        let size = 132
-            + self.cpu_set
-            + 32 * self.memory_regions
-            + 12 * self.cache_regions
-            + 32 * self.irqchips
-            + 4 * self.pio_regions
-            + 56 * self.pci_devices
-            + 8 * self.pci_caps
-            + 4 * self.stream_ids;
-        within(Part::Total, 65536, size)?;
+        within(Part::CpuSet, MAX_CPU_SET_BYTES, self.cpu_set)?;
+        within(Part::MemoryRegions, MAX_MEMORY_REGIONS, self.memory_regions)?;
+        within(Part::CacheRegions, MAX_CACHE_REGIONS, self.cache_regions)?;
+        within(Part::Irqchips, MAX_IRQCHIPS, self.irqchips)?;
+        within(Part::PioRegions, MAX_PIO_REGIONS, self.pio_regions)?;
+        within(Part::PciDevices, MAX_PCI_DEVICES, self.pci_devices)?;
+        within(Part::PciCaps, MAX_PCI_CAPS, self.pci_caps)?;
+        within(Part::StreamIds, MAX_STREAM_IDS, self.stream_ids)?;
+        let size = HEADER_SIZE as u32 + self.parts_size() as u32;
+        within(Part::Total, MAX_CONFIG_SIZE, size)?;
         Ok(size)
     }
 }
@@ -108,27 +143,18 @@ impl Header {
 }
 
 /// Whether the configuration is within the limits, so that it can be written.
-pub fn fits(config: &CellConfig) -> bool
+pub fn is_within_limits(config: &CellConfig) -> bool
     ensures { IsTrue result ↔ IsWithinLimits config.now }
 {
     is_name(&config.name)
         && !config.cpu_set.is_empty()
-        && config.cpu_set.len() <= 64
-        && config.memory_regions.len() <= 1024
-        && config.cache_regions.len() <= 1024
-        && config.irqchips.len() <= 64
-        && config.pio_regions.len() <= 1024
-        && config.pci_devices.len() <= 256
-        && config.pci_caps.len() <= 1024
-        && config.stream_ids.len() <= 1024
-        && 132
-            + config.cpu_set.len()
-            + 32 * config.memory_regions.len()
-            + 12 * config.cache_regions.len()
-            + 32 * config.irqchips.len()
-            + 4 * config.pio_regions.len()
-            + 56 * config.pci_devices.len()
-            + 8 * config.pci_caps.len()
-            + 4 * config.stream_ids.len()
-            <= 65536
+        && config.cpu_set.len() <= MAX_CPU_SET_BYTES as usize
+        && config.memory_regions.len() <= MAX_MEMORY_REGIONS as usize
+        && config.cache_regions.len() <= MAX_CACHE_REGIONS as usize
+        && config.irqchips.len() <= MAX_IRQCHIPS as usize
+        && config.pio_regions.len() <= MAX_PIO_REGIONS as usize
+        && config.pci_devices.len() <= MAX_PCI_DEVICES as usize
+        && config.pci_caps.len() <= MAX_PCI_CAPS as usize
+        && config.stream_ids.len() <= MAX_STREAM_IDS as usize
+        && HEADER_SIZE as u64 + Counts::of(config).parts_size() <= u64::from(MAX_CONFIG_SIZE)
 }

@@ -9,7 +9,7 @@ ghost use Rattle.jh_cellcfg.specs.declared.config.CellConfig.{CellConfig};
 
 use crate::config::CellConfig;
 use crate::fault::ConfigFault;
-use crate::header::{Header, REVISION, SIGNATURE};
+use crate::header::{HEADER_SIZE, Header, REVISION, SIGNATURE, START_SIZE};
 use crate::reader::Reader;
 use crate::record::{Record, read_list};
 use jh_num::{NoMemory, Seq};
@@ -87,7 +87,7 @@ pub fn read_body(alloc: Global, front: u32, body: &[u8]) -> Result<CellConfig, C
     ensures fault { refusal result ≡ body_fault front body.now }
 {
     let (header, parts) = header_at(body);
-    let need = front + (header.size()? - 8);
+    let need = front + (header.size()? - START_SIZE as u32);
     let len = front as u64 + body.len() as u64;
     if len < need as u64 {
         return Err(ConfigFault::Short { need });
@@ -126,11 +126,13 @@ fn read_whole(alloc: Global, bytes: &[u8]) -> Result<CellConfig, ConfigFault>
     ensures spelled { IfOk result (λ config. bytes.now ≡ spelling config) }
     ensures fault { refusal result ≡ first_fault bytes.now }
 {
-    if bytes.len() < 132 {
-        return Err(ConfigFault::Short { need: 132 });
+    if bytes.len() < HEADER_SIZE {
+        return Err(ConfigFault::Short {
+            need: HEADER_SIZE as u32,
+        });
     }
     check_start(bytes, SIGNATURE)?;
-    read_body(alloc, 8, &bytes[8..])
+    read_body(alloc, START_SIZE as u32, &bytes[START_SIZE..])
 }
 
 /// Reads a cell's configuration, all of the bytes. A refusal is the first fault: fewer bytes than a
@@ -153,12 +155,12 @@ pub fn read_cell(alloc: Global, bytes: &[u8]) -> Result<CellConfig, ConfigFault>
 
 /// How many bytes the whole configuration has, by its header; or the header's first fault, from the signature to the
 /// total.
-pub fn cell_size(header: &[u8; 132]) -> Result<u32, ConfigFault>
+pub fn cell_size(header: &[u8; HEADER_SIZE]) -> Result<u32, ConfigFault>
     ensures size { IfOk result (λ size. size ≡ header_size header.now) }
     ensures fault { fault_of result ≡ header_fault header.now }
 {
     let bytes = header.as_slice();
     check_start(bytes, SIGNATURE)?;
-    let (header, _) = header_at(&bytes[8..]);
+    let (header, _) = header_at(&bytes[START_SIZE..]);
     header.size()
 }

@@ -67,6 +67,7 @@ impl<'a> Reader<'a> {
         bytes.copy_from_slice(front);
         bytes
     }
+
     /// Takes `count` bytes at the front as a slice, without copying them.
     pub fn bytes(&mut self, count: usize) -> &'a [u8]
         requires { count ≤ length self.old.rest.now }

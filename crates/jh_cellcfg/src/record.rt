@@ -22,6 +22,7 @@ pub trait Record: Copy {
     /// Its numbers are below the ends of their types.
     ghost Fits: { Self → Type 0 };
 
+    /// How many bytes it has.
     const SIZE: usize;
 
     /// Takes the record at the front.
@@ -255,7 +256,7 @@ impl Record for Header {
 
     ghost Fits = { IsHeader };
 
-    const SIZE: usize = 124;
+    const SIZE: usize = 32 + 4 + 4 + Counts::SIZE + 4 + 8 + 8 + 32;
 
     fn read(reader: &mut Reader) -> Header {
         Header {

@@ -2,6 +2,7 @@
 ghost use Rattle.std.specs.Prelude.{◌≡◌, ◌++◌, IfOk, OnOk};
 ghost use Rattle.jh_cellcfg.specs.Spelling.{counts_of, header_of, parts_bytes, body_bytes, spelling};
 ghost use Rattle.jh_cellcfg.specs.Limits.{AreWithinLimits, IsWithinLimits};
+ghost use Rattle.jh_cellcfg.specs.Widths.{AreCounts};
 
 use crate::config::CellConfig;
 use crate::header::{Counts, Header, REVISION, SIGNATURE};
@@ -34,7 +35,7 @@ impl Header {
 impl Counts {
     /// The lengths of a configuration's parts.
     pub fn of(config: &CellConfig) -> Counts
-        requires { AreWithinLimits (counts_of config.now) }
+        requires { AreCounts (counts_of config.now) }
         ensures { result ≡ counts_of config.now }
     {
         Counts {
@@ -73,7 +74,7 @@ fn write_parts(config: &CellConfig, out: Writer) -> Result<Writer, NoMemory>
     write_list(&config.stream_ids, out)
 }
 
-/// The one spelling of a configuration that [`fits`](crate::fits).
+/// The one spelling of a configuration that [is within the limits](crate::is_within_limits).
 pub fn write_cell(alloc: Global, config: &CellConfig) -> Result<Vec<u8>, NoMemory>
     requires { IsWithinLimits config.now }
     ensures { IfOk result (λ bytes. bytes.items ≡ spelling config.now) }

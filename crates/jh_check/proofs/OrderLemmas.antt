@@ -59,9 +59,9 @@ ordered_from {X} found n (x ∷ xs) each cross =
 
 ordered_from0 : {X : Type 0} (found : ℕ → X → List Finding) (xs : List X) → ((i : ℕ) (x : X) → slice_get xs i ≡ Some x → Ordered (found i x)) → ((i j : ℕ) (x y : X) (f g : Finding) → i < j → slice_get xs i ≡ Some x → slice_get xs j ≡ Some y → Contains (found i x) f → Contains (found j y) g → Precedes f g) → Ordered (found_from found 0 xs)
 ordered_from0 found xs each cross =
-    let zero-less = λ (i : ℕ). let e : 0 + i ≡ i = omega arith in e in
-    ordered_from found 0 xs (λ i x h. subst (λ m. Ordered (found m x)) (sym (zero-less i)) (each i x h)) (λ i j x y f g l h k c d.
-    cross i j x y f g l h k (subst (λ m. Contains (found m x) f) (zero-less i) c) (subst (λ m. Contains (found m y) g) (zero-less j) d))
+    let zero_less = λ (i : ℕ). let e : 0 + i ≡ i = omega arith in e in
+    ordered_from found 0 xs (λ i x h. subst (λ m. Ordered (found m x)) (sym (zero_less i)) (each i x h)) (λ i j x y f g l h k c d.
+    cross i j x y f g l h k (subst (λ m. Contains (found m x) f) (zero_less i) c) (subst (λ m. Contains (found m y) g) (zero_less j) d))
 
 ordered_only : (test : Bool) (f : Finding) → Ordered (only_if test f)
 unfolding only_if Ordered

@@ -81,14 +81,14 @@ named_beyond may set cpu t f =
 -- a CPU from 16 on stands behind the second byte
 high_named : (set : List ℕ) (cpu : ℕ) → 16 ≤ cpu → is_cpu_set set cpu ≡ true → not (list_all is_zero (drop 2 set)) ≡ true
 high_named set cpu l t =
-    not_from_false (list_all is_zero (drop 2 set)) (false-by (list_all is_zero (drop 2 set)) (λ e.
+    not_from_false (list_all is_zero (drop 2 set)) (false_by (list_all is_zero (drop 2 set)) (λ e.
     let place : 2 + (cpu / 8 - 2) ≡ cpu / 8 = omega arith in
     let none : get_or set (cpu / 8) 0 ≡ 0 = subst (λ i. get_or set i 0 ≡ 0) place (sym (get_or-drop 2 set (cpu / 8 - 2) 0) ∙ each_zero (drop 2 set) e (cpu / 8 - 2)) in
     false≢true (sym (zero_names set cpu none) ∙ t)))
   where
-    false-by : (b : Bool) → (b ≡ true → ⊥) → b ≡ false
-    false-by true h = absurd (h refl)
-    false-by false h = refl
+    false_by : (b : Bool) → (b ≡ true → ⊥) → b ≡ false
+    false_by true h = absurd (h refl)
+    false_by false h = refl
 
 pub beyond_by : (mask : ℕ) (set : List ℕ) → mask < 2 ^ 16 → ((i : ℕ) → get_or set i 0 < 256) → (any_below (is_beyond (has_bit mask) set) 16 || not (list_all is_zero (drop 2 set))) ≡ names_beyond (has_bit mask) set
 beyond_by mask set small bytes =

@@ -15,7 +15,7 @@ use Rattle.jh_check.specs.Regions.{Spot, pair_breaks, region_breaks, breaks_alon
 use Rattle.jh_check.specs.Devices.{is_shmem, are_same_section, is_good_shmem, device_breaks, cpus_break}
 use Rattle.jh_check.specs.Findings.{spot, findings}
 use Rattle.jh_check.specs.Clean.{IsSameSection}
-use Rattle.jh_check.specs.Broken.{Located, BreakTogether, HasEarlierComm, BreaksAlone, BreaksMemory, IsPairFinding, IsRegionFinding, IsMemoryFinding, IsDeviceFinding, IsCpuFinding, IsFindingOf, IsBroken}
+use Rattle.jh_check.specs.Broken.{BreakTogether, HasEarlierComm, BreaksAlone, BreaksMemory, IsPairFinding, IsRegionFinding, IsMemoryFinding, IsDeviceFinding, IsCpuFinding, IsFindingOf, IsBroken}
 use Rattle.jh_check.proofs.BreakLemmas.{share_parts, within_parts}
 use Rattle.jh_check.proofs.CleanLemmas.{positive, not_zero, get_take, take_get, any_at, any_of, virt_common, phys_common, common_virt, common_phys, shared, same_section_from, same_section_to}
 use Rattle.jh_check.proofs.DeviceLemmas.{good_words, words_good, bitmap_from, bitmap_to}
@@ -24,100 +24,94 @@ use Rattle.jh_check.proofs.FindingLemmas.{tested_from_listed, listed_from_tested
 
 -- ---- two regions
 
-abbrev located : ℕ → CellConfig → ℕ → Region → Located
-located a cell r x = record { a = a; cell = cell; r = r; region = x }
+no_section : (one : Spot) (other : Spot) → are_same_section one.config one.item other.config other.item ≡ false → IsSameSection one.config one.item other.config other.item → ⊥
+no_section one other f h = both_ways (are_same_section one.config one.item other.config other.item) f (same_section_to one.config one.item other.config other.item h)
 
-abbrev at_spot : Located → Spot
-at_spot l = spot l.a l.cell l.r l.region
-
-no_section : (one : Located) (other : Located) → are_same_section one.cell one.r other.cell other.r ≡ false → IsSameSection one.cell one.r other.cell other.r → ⊥
-no_section one other f h = both_ways (are_same_section one.cell one.r other.cell other.r) f (same_section_to one.cell one.r other.cell other.r h)
-
-no_test : (one : Located) (other : Located) → (IsSameSection one.cell one.r other.cell other.r → ⊥) → not (are_same_section one.cell one.r other.cell other.r) ≡ true
+no_test : (one : Spot) (other : Spot) → (IsSameSection one.config one.item other.config other.item → ⊥) → not (are_same_section one.config one.item other.config other.item) ≡ true
 no_test one other n =
-    elim (cases_Bool (are_same_section one.cell one.r other.cell other.r)) [
-      | inl t ↦ absurd (n (same_section_from one.cell one.r other.cell other.r t))
-      | inr f ↦ not_from_false (are_same_section one.cell one.r other.cell other.r) f
+    elim (cases_Bool (are_same_section one.config one.item other.config other.item)) [
+      | inl t ↦ absurd (n (same_section_from one.config one.item other.config other.item t))
+      | inr f ↦ not_from_false (are_same_section one.config one.item other.config other.item) f
     ]
 
-pair_words : (rule : Rule) (one other : Located) → pair_breaks rule (at_spot one) (at_spot other) ≡ true → BreakTogether rule one other
+pair_words : (rule : Rule) (one other : Spot) → pair_breaks rule one other ≡ true → BreakTogether rule one other
 unfolding pair_breaks
 pair_words VirtOverlap one other t =
-    let p = within_parts (at_spot one) (at_spot other) (virt_meet one.region other.region) t in
-    ((eqb-true one.a other.a p.0, ltb-true one.r other.r p.1), common_virt one.region other.region p.2)
+    let p = within_parts one other (virt_meet one.region other.region) t in
+    ((eqb-true one.cell other.cell p.0, ltb-true one.item other.item p.1), common_virt one.region other.region p.2)
 pair_words PhysOverlap one other t =
-    let p = within_parts (at_spot one) (at_spot other) (share_places one.region other.region) t in
+    let p = within_parts one other (share_places one.region other.region) t in
     let q = share_parts one.region other.region p.2 in
-    ((eqb-true one.a other.a p.0, ltb-true one.r other.r p.1), (not-true (is_comm one.region) q.0, not-true (is_comm other.region) q.1), common_phys one.region other.region q.2)
+    ((eqb-true one.cell other.cell p.0, ltb-true one.item other.item p.1), (not-true (is_comm one.region) q.0, not-true (is_comm other.region) q.1), common_phys one.region other.region q.2)
 pair_words SubpageTaken one other t =
     let x = one.region in
     let y = other.region in
     let last = is_page_mapped y && phys_meet x y in
-    let p = and_parts (not (one.a == 0)) ((other.a == 0) && takes_pages x y) t in
-    let q = and_parts (other.a == 0) (takes_pages x y) p.1 in
+    let p = and_parts (not (one.cell == 0)) ((other.cell == 0) && takes_pages x y) t in
+    let q = and_parts (other.cell == 0) (takes_pages x y) p.1 in
     let u = and_parts (is_unshared x) (not (is_page_mapped x) && last) q.1 in
     let v = and_parts (not (is_page_mapped x)) last u.1 in
     let w = and_parts (is_page_mapped y) (phys_meet x y) v.1 in
-    ((positive one.a p.0, eqb-true other.a 0 q.0), (u.0, not-true (is_page_mapped x) v.0, w.0), common_phys x y w.1)
+    ((positive one.cell p.0, eqb-true other.cell 0 q.0), (u.0, not-true (is_page_mapped x) v.0, w.0), common_phys x y w.1)
 pair_words CellsOverlap one other t =
     let x = one.region in
     let y = other.region in
-    let section = are_same_section one.cell one.r other.cell other.r in
+    let section = are_same_section one.config one.item other.config other.item in
     let last = not (both_shared x y) && not section in
     let rest = share_places x y && last in
-    let p = and_parts (nat_lt 0 one.a) (nat_lt one.a other.a && rest) t in
-    let q = and_parts (nat_lt one.a other.a) rest p.1 in
+    let p = and_parts (nat_lt 0 one.cell) (nat_lt one.cell other.cell && rest) t in
+    let q = and_parts (nat_lt one.cell other.cell) rest p.1 in
     let u = and_parts (share_places x y) last q.1 in
     let v = and_parts (not (both_shared x y)) (not section) u.1 in
     let w = share_parts x y u.0 in
-    ((ltb-true 0 one.a p.0, ltb-true one.a other.a q.0), (not-true (is_comm x) w.0, not-true (is_comm y) w.1), common_phys x y w.2, not-true (both_shared x y) v.0, no_section one other (not-true section v.1))
+    ((ltb-true 0 one.cell p.0, ltb-true one.cell other.cell q.0), (not-true (is_comm x) w.0, not-true (is_comm y) w.1), common_phys x y w.2, not-true (both_shared x y) v.0, no_section one other (not-true section v.1))
 pair_words _ one other t = absurd (false≢true t)
 
-words_pair : (rule : Rule) (one other : Located) → BreakTogether rule one other → pair_breaks rule (at_spot one) (at_spot other) ≡ true
+words_pair : (rule : Rule) (one other : Spot) → BreakTogether rule one other → pair_breaks rule one other ≡ true
 unfolding pair_breaks
 words_pair VirtOverlap one other w =
     let x = one.region in
     let y = other.region in
-    and_from (one.a == other.a) (nat_lt one.r other.r && virt_meet x y) (eq-eqb one.a other.a w.0.0) (
-    and_from (nat_lt one.r other.r) (virt_meet x y) (lt-ltb one.r other.r w.0.1) (virt_common x y w.1.0 w.1.1 w.1.2))
+    and_from (one.cell == other.cell) (nat_lt one.item other.item && virt_meet x y) (eq-eqb one.cell other.cell w.0.0) (
+    and_from (nat_lt one.item other.item) (virt_meet x y) (lt-ltb one.item other.item w.0.1) (virt_common x y w.1.0 w.1.1 w.1.2))
 words_pair PhysOverlap one other w =
     let x = one.region in
     let y = other.region in
-    and_from (one.a == other.a) (nat_lt one.r other.r && share_places x y) (eq-eqb one.a other.a w.0.0) (
-    and_from (nat_lt one.r other.r) (share_places x y) (lt-ltb one.r other.r w.0.1) (shared x y w.1.0 w.1.1 (phys_common x y w.2.0 w.2.1 w.2.2)))
+    and_from (one.cell == other.cell) (nat_lt one.item other.item && share_places x y) (eq-eqb one.cell other.cell w.0.0) (
+    and_from (nat_lt one.item other.item) (share_places x y) (lt-ltb one.item other.item w.0.1) (shared x y w.1.0 w.1.1 (phys_common x y w.2.0 w.2.1 w.2.2)))
 words_pair SubpageTaken one other w =
     let x = one.region in
     let y = other.region in
     let last = is_page_mapped y && phys_meet x y in
-    and_from (not (one.a == 0)) ((other.a == 0) && takes_pages x y) (not_zero one.a w.0.0) (
-    and_from (other.a == 0) (takes_pages x y) (eq-eqb other.a 0 w.0.1) (
+    and_from (not (one.cell == 0)) ((other.cell == 0) && takes_pages x y) (not_zero one.cell w.0.0) (
+    and_from (other.cell == 0) (takes_pages x y) (eq-eqb other.cell 0 w.0.1) (
     and_from (is_unshared x) (not (is_page_mapped x) && last) w.1.0 (
     and_from (not (is_page_mapped x)) last (not_from_false (is_page_mapped x) w.1.1) (
     and_from (is_page_mapped y) (phys_meet x y) w.1.2 (phys_common x y w.2.0 w.2.1 w.2.2)))))
 words_pair CellsOverlap one other w =
     let x = one.region in
     let y = other.region in
-    let section = are_same_section one.cell one.r other.cell other.r in
+    let section = are_same_section one.config one.item other.config other.item in
     let last = not (both_shared x y) && not section in
     let rest = share_places x y && last in
-    and_from (nat_lt 0 one.a) (nat_lt one.a other.a && rest) (lt-ltb 0 one.a w.0.0) (
-    and_from (nat_lt one.a other.a) rest (lt-ltb one.a other.a w.0.1) (
+    and_from (nat_lt 0 one.cell) (nat_lt one.cell other.cell && rest) (lt-ltb 0 one.cell w.0.0) (
+    and_from (nat_lt one.cell other.cell) rest (lt-ltb one.cell other.cell w.0.1) (
     and_from (share_places x y) last (shared x y w.1.0 w.1.1 (phys_common x y w.2.0 w.2.1 w.2.2)) (
     and_from (not (both_shared x y)) (not section) (not_from_false (both_shared x y) w.3) (no_test one other w.4))))
 words_pair _ one other w = absurd w
 
 -- ---- one region
 
-earlier_words : (l : Located) → list_any is_counted_comm (take l.r l.cell.memory_regions) ≡ true → HasEarlierComm l
+earlier_words : (l : Spot) → list_any is_counted_comm (take l.item l.config.memory_regions) ≡ true → HasEarlierComm l
 earlier_words l t =
-    let w = any_of is_counted_comm (take l.r l.cell.memory_regions) t in
-    let g = get_take l.r l.cell.memory_regions w.0 w.1 w.2 in
+    let w = any_of is_counted_comm (take l.item l.config.memory_regions) t in
+    let g = get_take l.item l.config.memory_regions w.0 w.1 w.2 in
     let c = and_parts (has_size w.1) (is_comm w.1) w.3 in
     (w.0, w.1, g.0, g.1, ltb-true 0 w.1.size c.0, c.1)
 
-words_earlier : (l : Located) → HasEarlierComm l → list_any is_counted_comm (take l.r l.cell.memory_regions) ≡ true
+words_earlier : (l : Spot) → HasEarlierComm l → list_any is_counted_comm (take l.item l.config.memory_regions) ≡ true
 words_earlier l h =
-    any_at is_counted_comm (take l.r l.cell.memory_regions) h.0 h.1 (take_get l.r l.cell.memory_regions h.0 h.1 h.2 h.3) (and_from (has_size h.1) (is_comm h.1) (lt-ltb 0 h.1.size h.4) h.5)
+    any_at is_counted_comm (take l.item l.config.memory_regions) h.0 h.1 (take_get l.item l.config.memory_regions h.0 h.1 h.2 h.3) (and_from (has_size h.1) (is_comm h.1) (lt-ltb 0 h.1.size h.4) h.5)
 
 -- two numbers that aren't equal
 unequal : (m n : ℕ) → not (m == n) ≡ true → m ≢ n
@@ -126,10 +120,10 @@ unequal m n t = eqb-false m n (not-true (m == n) t)
 unequal_test : (m n : ℕ) → m ≢ n → not (m == n) ≡ true
 unequal_test m n h = not_from_false (m == n) (ne_eqb m n h)
 
-shape_words : (l : Located) → is_misshapen (take l.r l.cell.memory_regions) l.region ≡ true → (l.region.size ≢ PAGE_SIZE) ⊎ ((l.region.virt_start % PAGE_SIZE ≢ 0) ⊎ HasEarlierComm l)
+shape_words : (l : Spot) → is_misshapen (take l.item l.config.memory_regions) l.region ≡ true → (l.region.size ≢ PAGE_SIZE) ⊎ ((l.region.virt_start % PAGE_SIZE ≢ 0) ⊎ HasEarlierComm l)
 shape_words l t =
     let x = l.region in
-    let seen = list_any is_counted_comm (take l.r l.cell.memory_regions) in
+    let seen = list_any is_counted_comm (take l.item l.config.memory_regions) in
     let odd = not (x.virt_start % PAGE_SIZE == 0) in
     elim (or_cases (not (x.size == PAGE_SIZE)) (odd || seen) t) [
       | inl e ↦ inl (unequal x.size PAGE_SIZE e)
@@ -139,10 +133,10 @@ shape_words l t =
       ]
     ]
 
-words_shape : (l : Located) → (l.region.size ≢ PAGE_SIZE) ⊎ ((l.region.virt_start % PAGE_SIZE ≢ 0) ⊎ HasEarlierComm l) → is_misshapen (take l.r l.cell.memory_regions) l.region ≡ true
+words_shape : (l : Spot) → (l.region.size ≢ PAGE_SIZE) ⊎ ((l.region.virt_start % PAGE_SIZE ≢ 0) ⊎ HasEarlierComm l) → is_misshapen (take l.item l.config.memory_regions) l.region ≡ true
 words_shape l w =
     let x = l.region in
-    let seen = list_any is_counted_comm (take l.r l.cell.memory_regions) in
+    let seen = list_any is_counted_comm (take l.item l.config.memory_regions) in
     let odd = not (x.virt_start % PAGE_SIZE == 0) in
     elim w [
       | inl e ↦ or_left (not (x.size == PAGE_SIZE)) (odd || seen) (unequal_test x.size PAGE_SIZE e)
@@ -152,7 +146,7 @@ words_shape l w =
       ])
     ]
 
-alone_words : (rule : Rule) (h : Region) (l : Located) → breaks_alone rule h l.a (take l.r l.cell.memory_regions) l.region ≡ true → BreaksAlone rule h l
+alone_words : (rule : Rule) (h : Region) (l : Spot) → breaks_alone rule h l.cell (take l.item l.config.memory_regions) l.region ≡ true → BreaksAlone rule h l
 alone_words Hypervisor h l t =
     let p = and_parts (not (is_comm l.region)) (phys_meet l.region h) t in
     (not-true (is_comm l.region) p.0, common_phys l.region h p.1)
@@ -165,17 +159,17 @@ alone_words OutOfRange h l t =
     ]
 alone_words RootNotIdentity h l t =
     let x = l.region in
-    let p = and_parts (l.a == 0) (not (x.phys_start == x.virt_start)) t in
-    (eqb-true l.a 0 p.0, unequal x.phys_start x.virt_start p.1)
+    let p = and_parts (l.cell == 0) (not (x.phys_start == x.virt_start)) t in
+    (eqb-true l.cell 0 p.0, unequal x.phys_start x.virt_start p.1)
 alone_words CommInRoot h l t =
-    let p = and_parts (l.a == 0) (is_comm l.region) t in
-    (eqb-true l.a 0 p.0, p.1)
+    let p = and_parts (l.cell == 0) (is_comm l.region) t in
+    (eqb-true l.cell 0 p.0, p.1)
 alone_words CommShape h l t =
     let x = l.region in
-    let bad = is_misshapen (take l.r l.cell.memory_regions) x in
-    let p = and_parts (not (l.a == 0)) (is_comm x && bad) t in
+    let bad = is_misshapen (take l.item l.config.memory_regions) x in
+    let p = and_parts (not (l.cell == 0)) (is_comm x && bad) t in
     let q = and_parts (is_comm x) bad p.1 in
-    (positive l.a p.0, q.0, shape_words l q.1)
+    (positive l.cell p.0, q.0, shape_words l q.1)
 alone_words ExecuteWithoutRead h l t =
     let p = and_parts (has_flags 0x4 l.region) (not (has_flags 0x1 l.region)) t in
     (p.0, not-true (has_flags 0x1 l.region) p.1)
@@ -187,7 +181,7 @@ alone_words PhysAlign h l t =
     (p.0, not-true (is_comm x) q.0, unequal (x.phys_start % PAGE_SIZE) 0 q.1)
 alone_words _ h l t = absurd (false≢true t)
 
-words_alone : (rule : Rule) (h : Region) (l : Located) → BreaksAlone rule h l → breaks_alone rule h l.a (take l.r l.cell.memory_regions) l.region ≡ true
+words_alone : (rule : Rule) (h : Region) (l : Spot) → BreaksAlone rule h l → breaks_alone rule h l.cell (take l.item l.config.memory_regions) l.region ≡ true
 words_alone Hypervisor h l w =
     and_from (not (is_comm l.region)) (phys_meet l.region h) (not_from_false (is_comm l.region) w.0) (phys_common l.region h w.1.0 w.1.1 w.1.2)
 words_alone OutOfRange h l (inl e) =
@@ -198,12 +192,12 @@ words_alone OutOfRange h l (inr p) =
     or_right (nat_lt ADDRESS_END (virt_end x)) (not (is_comm x) && far) (and_from (not (is_comm x)) far (not_from_false (is_comm x) p.0) (lt-ltb ADDRESS_END (phys_end x) p.1))
 words_alone RootNotIdentity h l w =
     let x = l.region in
-    and_from (l.a == 0) (not (x.phys_start == x.virt_start)) (eq-eqb l.a 0 w.0) (unequal_test x.phys_start x.virt_start w.1)
-words_alone CommInRoot h l w = and_from (l.a == 0) (is_comm l.region) (eq-eqb l.a 0 w.0) w.1
+    and_from (l.cell == 0) (not (x.phys_start == x.virt_start)) (eq-eqb l.cell 0 w.0) (unequal_test x.phys_start x.virt_start w.1)
+words_alone CommInRoot h l w = and_from (l.cell == 0) (is_comm l.region) (eq-eqb l.cell 0 w.0) w.1
 words_alone CommShape h l w =
     let x = l.region in
-    let bad = is_misshapen (take l.r l.cell.memory_regions) x in
-    and_from (not (l.a == 0)) (is_comm x && bad) (not_zero l.a w.0) (and_from (is_comm x) bad w.1 (words_shape l w.2))
+    let bad = is_misshapen (take l.item l.config.memory_regions) x in
+    and_from (not (l.cell == 0)) (is_comm x && bad) (not_zero l.cell w.0) (and_from (is_comm x) bad w.1 (words_shape l w.2))
 words_alone ExecuteWithoutRead h l w =
     and_from (has_flags 0x4 l.region) (not (has_flags 0x1 l.region)) w.0 (not_from_false (has_flags 0x1 l.region) w.1)
 words_alone PhysAlign h l w =
@@ -265,22 +259,22 @@ words_memory _ h w = absurd w
 
 two_tell : (rule : Rule) (all : List CellConfig) (f : Finding) → OfPair rule all f → IsPairFinding rule all f
 two_tell rule all f p = record {
-  one = located p.a p.one p.r p.x;
-  other = located p.b p.other p.s p.y;
+  one = spot p.a p.one p.r p.x;
+  other = spot p.b p.other p.s p.y;
   is_one = record { cell = p.is_one; region = p.is_x };
   is_other = record { cell = p.is_other; region = p.is_y };
-  breaks = pair_words rule (located p.a p.one p.r p.x) (located p.b p.other p.s p.y) p.breaks;
+  breaks = pair_words rule (spot p.a p.one p.r p.x) (spot p.b p.other p.s p.y) p.breaks;
   told = p.told;
 }
 
 tell_two : (rule : Rule) (all : List CellConfig) (f : Finding) → IsPairFinding rule all f → OfPair rule all f
 tell_two rule all f t = record {
-  a = t.one.a;
-  b = t.other.a;
-  one = t.one.cell;
-  other = t.other.cell;
-  r = t.one.r;
-  s = t.other.r;
+  a = t.one.cell;
+  b = t.other.cell;
+  one = t.one.config;
+  other = t.other.config;
+  r = t.one.item;
+  s = t.other.item;
   x = t.one.region;
   y = t.other.region;
   is_one = t.is_one.cell;
@@ -296,23 +290,23 @@ unfolding region_breaks
 one_tells rule h all f p =
     let q = and_parts (has_size p.x) (breaks_alone rule h p.a (take p.r p.one.memory_regions) p.x) p.breaks in
     record {
-      at = located p.a p.one p.r p.x;
+      at = spot p.a p.one p.r p.x;
       is_at = record { cell = p.is_one; region = p.is_x };
       some = ltb-true 0 p.x.size q.0;
-      breaks = alone_words rule h (located p.a p.one p.r p.x) q.1;
+      breaks = alone_words rule h (spot p.a p.one p.r p.x) q.1;
       told = p.told;
     }
 
 tell_one : (rule : Rule) (h : Region) (all : List CellConfig) (f : Finding) → IsRegionFinding rule h all f → OfRegion rule h all f
 unfolding region_breaks
 tell_one rule h all f t = record {
-  a = t.at.a;
-  one = t.at.cell;
-  r = t.at.r;
+  a = t.at.cell;
+  one = t.at.config;
+  r = t.at.item;
   x = t.at.region;
   is_one = t.is_at.cell;
   is_x = t.is_at.region;
-  breaks = and_from (has_size t.at.region) (breaks_alone rule h t.at.a (take t.at.r t.at.cell.memory_regions) t.at.region) (lt-ltb 0 t.at.region.size t.some) (words_alone rule h t.at t.breaks);
+  breaks = and_from (has_size t.at.region) (breaks_alone rule h t.at.cell (take t.at.item t.at.config.memory_regions) t.at.region) (lt-ltb 0 t.at.region.size t.some) (words_alone rule h t.at t.breaks);
   told = t.told;
 }
 

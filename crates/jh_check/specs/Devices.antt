@@ -104,13 +104,16 @@ is_same_memory one other = (one.size == other.size) && ((one.size == 0) || (one.
 abbrev pub are_same_memory : List Region → List Region → Bool
 are_same_memory ones others = pointwise is_same_memory ones others
 
--- the other device, if it is linked with the one, has as many peers, another number, and the same memory
-abbrev pub agrees_with : List Region → PciDevice → List Region → PciDevice → Bool
-agrees_with regions device other_regions other =
-    not (are_linked device other)
-    || ((device.shmem_peers == other.shmem_peers) && (not (device.shmem_dev_id == other.shmem_dev_id) && are_same_memory (sections_of regions device) (sections_of other_regions other)))
+-- the two devices, which are of different cells, fit each other: as many peers, different numbers, and the same memory
+abbrev pub fits : List Region → PciDevice → List Region → PciDevice → Bool
+fits regions device other_regions other =
+    (device.shmem_peers == other.shmem_peers) && (not (device.shmem_dev_id == other.shmem_dev_id) && are_same_memory (sections_of regions device) (sections_of other_regions other))
 
--- each device of these cells, if it is linked with the one, has as many peers, another number, and the same memory
+-- the other device, if it is linked with the one, fits it
+abbrev pub agrees_with : List Region → PciDevice → List Region → PciDevice → Bool
+agrees_with regions device other_regions other = not (are_linked device other) || fits regions device other_regions other
+
+-- each device of these cells, if it is linked with the one, fits it
 abbrev pub agrees_with_all : List CellConfig → List Region → PciDevice → Bool
 agrees_with_all lower regions device =
     list_all (λ (cell : CellConfig). list_all (λ (other : PciDevice). agrees_with regions device cell.memory_regions other) cell.pci_devices) lower

@@ -64,23 +64,23 @@ in_pairs rule all = found_from (from_cell rule all) 0 all
 
 -- what a rule about one region finds in a region of the cell
 abbrev pub in_cell_at : Rule → Region → ℕ → List Region → ℕ → Region → List Finding
-in_cell_at rule h a regions r x = only_if (region_breaks rule h a (take r regions) x) (finding_of rule a r 0 0)
+in_cell_at rule memory a regions r x = only_if (region_breaks rule memory a (take r regions) x) (finding_of rule a r 0 0)
 
 -- what a rule about one region finds in each of these regions of a cell
 unfoldable pub in_cell : Rule → Region → ℕ → List Region → List Finding
-in_cell rule h a regions = found_from (in_cell_at rule h a regions) 0 regions
+in_cell rule memory a regions = found_from (in_cell_at rule memory a regions) 0 regions
 
 -- what a rule about one region finds in a cell, by its number
 abbrev pub in_regions_at : Rule → Region → ℕ → CellConfig → List Finding
-in_regions_at rule h a cell = in_cell rule h a cell.memory_regions
+in_regions_at rule memory a cell = in_cell rule memory a cell.memory_regions
 
 -- what a rule about one region finds in all cells
 unfoldable pub in_regions : Rule → Region → List CellConfig → List Finding
-in_regions rule h all = found_from (in_regions_at rule h) 0 all
+in_regions rule memory all = found_from (in_regions_at rule memory) 0 all
 
 -- what a rule about the hypervisor's memory finds
 unfoldable pub in_hypervisor : Rule → Region → List Finding
-in_hypervisor rule h = only_if (hypervisor_breaks rule h) (finding_of rule 16 0 0 0)
+in_hypervisor rule memory = only_if (hypervisor_breaks rule memory) (finding_of rule 16 0 0 0)
 
 -- what the rule about a device finds in a device of the cell; `lower` are the cells with lower numbers
 abbrev pub device_at : List CellConfig → ℕ → CellConfig → ℕ → PciDevice → List Finding
@@ -108,19 +108,19 @@ in_cpus all = found_from in_cpus_at 0 all
 
 -- what is found by the rule, in all that it is about
 unfoldable pub found_by : Rule → Region → List CellConfig → List Finding
-found_by VirtOverlap h all = in_pairs VirtOverlap all
-found_by PhysOverlap h all = in_pairs PhysOverlap all
-found_by Hypervisor h all = in_regions Hypervisor h all
-found_by OutOfRange h all = in_regions OutOfRange h all ++ in_hypervisor OutOfRange h
-found_by RootNotIdentity h all = in_regions RootNotIdentity h all
-found_by CommInRoot h all = in_regions CommInRoot h all
-found_by CommShape h all = in_regions CommShape h all
-found_by ExecuteWithoutRead h all = in_regions ExecuteWithoutRead h all
-found_by SubpageTaken h all = in_pairs SubpageTaken all
-found_by CellsOverlap h all = in_pairs CellsOverlap all
-found_by Shmem h all = in_devices all
-found_by NoCpu h all = in_cpus all
-found_by PhysAlign h all = in_regions PhysAlign h all ++ in_hypervisor PhysAlign h
+found_by VirtOverlap memory all = in_pairs VirtOverlap all
+found_by PhysOverlap memory all = in_pairs PhysOverlap all
+found_by Hypervisor memory all = in_regions Hypervisor memory all
+found_by OutOfRange memory all = in_regions OutOfRange memory all ++ in_hypervisor OutOfRange memory
+found_by RootNotIdentity memory all = in_regions RootNotIdentity memory all
+found_by CommInRoot memory all = in_regions CommInRoot memory all
+found_by CommShape memory all = in_regions CommShape memory all
+found_by ExecuteWithoutRead memory all = in_regions ExecuteWithoutRead memory all
+found_by SubpageTaken memory all = in_pairs SubpageTaken all
+found_by CellsOverlap memory all = in_pairs CellsOverlap all
+found_by Shmem memory all = in_devices all
+found_by NoCpu memory all = in_cpus all
+found_by PhysAlign memory all = in_regions PhysAlign memory all ++ in_hypervisor PhysAlign memory
 
 -- all rules, in the order of their numbers
 abbrev pub rules_in_order : List Rule
@@ -130,7 +130,7 @@ rules_in_order =
 
 -- what is found by the rule of that index in the order
 abbrev pub found_at : Region → List CellConfig → ℕ → Rule → List Finding
-found_at h all n rule = found_by rule h all
+found_at memory all n rule = found_by rule memory all
 
 -- all findings of the system and its cells, rule by rule
 unfoldable pub findings : SystemConfig → List CellConfig → List Finding

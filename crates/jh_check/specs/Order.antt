@@ -9,10 +9,10 @@ Then m n rest = (m < n) ⊎ ((m ≡ n) × rest)
 
 -- the one finding precedes the other: by its rule, then the one cell, the other, the one item, the other
 abbrev pub Precedes : Finding → Finding → Type 0
-Precedes f g =
-    Then f.number g.number (Then f.cell g.cell (Then f.other_cell g.other_cell (Then f.item g.item (f.other_item < g.other_item))))
+Precedes one other =
+    Then one.number other.number (Then one.cell other.cell (Then one.other_cell other.other_cell (Then one.item other.item (one.other_item < other.other_item))))
 
--- the parts of each cell can be told apart by a number of 32 bits
+-- there are at most 16 cells, and the regions of each and its devices can be told apart by a number of 32 bits
 pub record IsCountable (all : List CellConfig) : Type 0 where
   pub cells : length all ≤ 16
   pub regions : (a : ℕ) (cell : CellConfig) → slice_get all a ≡ Some cell → length cell.memory_regions ≤ 2 ^ 32

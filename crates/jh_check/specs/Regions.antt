@@ -61,18 +61,18 @@ is_out_of_range region = nat_lt ADDRESS_END (virt_end region) || (not (is_comm r
 -- has a communication region; another cell's isn't one page or isn't its first; one may execute what one
 -- can't read; its places aren't aligned to pages where its addresses are.
 abbrev pub breaks_alone : Rule → Region → ℕ → List Region → Region → Bool
-breaks_alone Hypervisor h cell earlier region = not (is_comm region) && phys_meet region h
-breaks_alone OutOfRange h cell earlier region = is_out_of_range region
-breaks_alone RootNotIdentity h cell earlier region = (cell == 0) && not (region.phys_start == region.virt_start)
-breaks_alone CommInRoot h cell earlier region = (cell == 0) && is_comm region
-breaks_alone CommShape h cell earlier region = not (cell == 0) && (is_comm region && is_misshapen earlier region)
-breaks_alone ExecuteWithoutRead h cell earlier region = has_flags 0x4 region && not (has_flags 0x1 region)
-breaks_alone PhysAlign h cell earlier region = is_page_mapped region && (not (is_comm region) && not (region.phys_start % PAGE_SIZE == 0))
-breaks_alone _ h cell earlier region = false
+breaks_alone Hypervisor memory cell earlier region = not (is_comm region) && phys_meet region memory
+breaks_alone OutOfRange memory cell earlier region = is_out_of_range region
+breaks_alone RootNotIdentity memory cell earlier region = (cell == 0) && not (region.phys_start == region.virt_start)
+breaks_alone CommInRoot memory cell earlier region = (cell == 0) && is_comm region
+breaks_alone CommShape memory cell earlier region = not (cell == 0) && (is_comm region && is_misshapen earlier region)
+breaks_alone ExecuteWithoutRead memory cell earlier region = has_flags 0x4 region && not (has_flags 0x1 region)
+breaks_alone PhysAlign memory cell earlier region = is_page_mapped region && (not (is_comm region) && not (region.phys_start % PAGE_SIZE == 0))
+breaks_alone _ memory cell earlier region = false
 
 -- the region has a size, and breaks the rule about one region
 unfoldable pub region_breaks : Rule → Region → ℕ → List Region → Region → Bool
-region_breaks rule h cell earlier region = has_size region && breaks_alone rule h cell earlier region
+region_breaks rule memory cell earlier region = has_size region && breaks_alone rule memory cell earlier region
 
 -- the most that the hypervisor's memory may have: 64 MiB
 abbrev pub most_memory : ℕ
@@ -80,6 +80,6 @@ most_memory = 64 * 2 ^ 20
 
 -- the hypervisor's memory breaks the rule: it is empty, above 64 MiB, or ends past the places; or it isn't whole pages
 unfoldable pub hypervisor_breaks : Rule → Region → Bool
-hypervisor_breaks OutOfRange h = (h.size == 0) || (nat_lt most_memory h.size || nat_lt ADDRESS_END (phys_end h))
-hypervisor_breaks PhysAlign h = has_size h && (not (h.phys_start % PAGE_SIZE == 0) || not (h.size % PAGE_SIZE == 0))
-hypervisor_breaks _ h = false
+hypervisor_breaks OutOfRange memory = (memory.size == 0) || (nat_lt most_memory memory.size || nat_lt ADDRESS_END (phys_end memory))
+hypervisor_breaks PhysAlign memory = has_size memory && (not (memory.phys_start % PAGE_SIZE == 0) || not (memory.size % PAGE_SIZE == 0))
+hypervisor_breaks _ memory = false

@@ -31,19 +31,19 @@ location_text cell item = if cell == 16 then codes "h" else decimal cell ++ (cod
 
 -- the words for what breaks the rule: two regions, a device, a cell, or a region
 abbrev pub items_text : Rule → Finding → List ℕ
-items_text VirtOverlap f = location_text f.cell f.item ++ (codes " " ++ location_text f.other_cell f.other_item)
-items_text PhysOverlap f = location_text f.cell f.item ++ (codes " " ++ location_text f.other_cell f.other_item)
-items_text SubpageTaken f = location_text f.cell f.item ++ (codes " " ++ location_text f.other_cell f.other_item)
-items_text CellsOverlap f = location_text f.cell f.item ++ (codes " " ++ location_text f.other_cell f.other_item)
-items_text Shmem f = decimal f.cell ++ (codes ".d" ++ decimal f.item)
-items_text NoCpu f = decimal f.cell
-items_text _ f = location_text f.cell f.item
+items_text VirtOverlap finding = location_text finding.cell finding.item ++ (codes " " ++ location_text finding.other_cell finding.other_item)
+items_text PhysOverlap finding = location_text finding.cell finding.item ++ (codes " " ++ location_text finding.other_cell finding.other_item)
+items_text SubpageTaken finding = location_text finding.cell finding.item ++ (codes " " ++ location_text finding.other_cell finding.other_item)
+items_text CellsOverlap finding = location_text finding.cell finding.item ++ (codes " " ++ location_text finding.other_cell finding.other_item)
+items_text Shmem finding = decimal finding.cell ++ (codes ".d" ++ decimal finding.item)
+items_text NoCpu finding = decimal finding.cell
+items_text _ finding = location_text finding.cell finding.item
 
 -- the words for a finding of the rule: `NUMBER NAME ITEMS`; a number that no rule has is told alone
 abbrev pub text_by : Option Rule → Finding → List ℕ
-text_by None f = decimal f.number
-text_by (Some rule) f = decimal f.number ++ (codes " " ++ (name_of rule ++ (codes " " ++ items_text rule f)))
+text_by None finding = decimal finding.number
+text_by (Some rule) finding = decimal finding.number ++ (codes " " ++ (name_of rule ++ (codes " " ++ items_text rule finding)))
 
 -- the words for a finding, without a line feed
 abbrev pub finding_text : Finding → List ℕ
-finding_text f = text_by (rule_of f.number) f
+finding_text finding = text_by (rule_of finding.number) finding

@@ -9,11 +9,11 @@ use crate::rule::Rule;
 use crate::spans::{Span, span_of, takes_part};
 use jh_cellcfg::Region;
 
-/// No span is reached that begins at `start` or behind it and ends at `end` or before it. `behind` of the reaches lie
+/// No span is reached that begins at `start` or behind it and ends at `end` or before it. `before` of the reaches lie
 /// before it.
 #[derive(Clone, Copy)]
 pub(crate) struct Gap {
-    pub(crate) behind: usize,
+    pub(crate) before: usize,
     pub(crate) start: u128,
     pub(crate) end: u128,
 }
@@ -30,10 +30,10 @@ fn gap_behind(reaches: &[Reach], n: usize) -> Gap
     requires { IsRising reaches.now }
     ensures { IsGap reaches.now result }
 {
-    let behind = n.min(reaches.len());
-    let start = end_before(reaches, behind);
-    let end = start_behind(reaches, behind);
-    Gap { behind, start, end }
+    let before = n.min(reaches.len());
+    let start = end_before(reaches, before);
+    let end = start_behind(reaches, before);
+    Gap { before, start, end }
 }
 
 /// The gap between those that begin before the span's end and the others.
@@ -94,9 +94,9 @@ pub(crate) fn lie_in(gaps: &Gaps, extents: Extents) -> bool
 /// Whether the last of those before the gap begins before the span's end, and those behind the gap don't.
 fn is_last(reaches: &[Reach], gap: Gap, span: Span) -> bool {
     span.end <= gap.end
-        && 0 < gap.behind
-        && gap.behind <= reaches.len()
-        && u128::from(reaches[gap.behind - 1].start) < span.end
+        && 0 < gap.before
+        && gap.before <= reaches.len()
+        && u128::from(reaches[gap.before - 1].start) < span.end
 }
 
 /// Whether the span, which lies neither in the gap nor in the next one, may be reached; only then may it be told so. The
@@ -129,7 +129,7 @@ fn may_reach(reaches: &[Reach], span: Span, gap: &mut Gap) -> bool
     ensures gap { IsGap reaches.now gap.new }
     ensures told { result ≡ false → IsReached reaches.now span → ⊥ }
 {
-    let next = gap_behind(reaches, gap.behind.saturating_add(1));
+    let next = gap_behind(reaches, gap.before.saturating_add(1));
     if lies_in(next, span) {
         *gap = next;
         return false;
@@ -178,10 +178,10 @@ pub(crate) fn may_meet(
 }
 
 /// How many lie before the gap of those by which the region is looked for.
-pub(crate) fn behind(gaps: &Gaps, rule: Rule, region: &Region) -> usize {
+pub(crate) fn before_gap(gaps: &Gaps, rule: Rule, region: &Region) -> usize {
     if passes_shared(rule, region) {
-        gaps.unshared.behind
+        gaps.unshared.before
     } else {
-        gaps.any.behind
+        gaps.any.before
     }
 }

@@ -13,7 +13,7 @@ ghost use Rattle.jh_check.specs.Findings.{spot, beside, between, between_at, in_
 use crate::blocks::{BLOCK, Extents, blocks_of, extents_of};
 use crate::checking::MAX_FINDINGS;
 use crate::finding::Finding;
-use crate::gaps::{Gaps, behind, first_gaps, lie_in, may_meet, may_reach_into};
+use crate::gaps::{Gaps, before_gap, first_gaps, lie_in, may_meet, may_reach_into};
 use crate::links::{find_partners, holders_of, partner_of};
 use crate::pairs::Site;
 use crate::reach::{Reaches, Window, find_window, is_within, measure};
@@ -105,7 +105,7 @@ fn among(
         if !may_meet(reaches, rule, r, region, gaps) {
             continue;
         }
-        let near = behind(gaps, rule, region);
+        let near = before_gap(gaps, rule, region);
         visit(found, rule, pair, partners, reaches, near, r, region)?;
     }
     Ok(())

@@ -325,7 +325,7 @@ fn around(reaches: &[Reach]) -> Window
 }
 
 /// The numbers of the window that are greater than that one.
-fn behind(window: Window, item: usize) -> Window
+fn only_behind(window: Window, item: usize) -> Window
     ensures { (s : ℕ) → item < s → s ≤ window.last → IsIn result s }
 {
     Window {
@@ -353,7 +353,7 @@ pub(crate) fn find_window(
     let span = span_of(rule, item, region);
     let window = window_of(reaches_for(reaches, rule, region), span, near);
     if is_within(rule) {
-        behind(window, item)
+        only_behind(window, item)
     } else {
         window
     }

@@ -6,10 +6,10 @@ use Rattle.std.proofs.lemmas.List.{map-append}
 use Rattle.jh_cellcfg.specs.declared.config.CellConfig.{CellConfig}
 use Rattle.jh_cli.specs.declared.ending.CallFault.{CallFault}
 use Rattle.jh_image.specs.Files.{Contents}
-use Rattle.jh_cli.specs.Reading.{Spells, FailsAtFile}
-use Rattle.jh_cli.specs.Check.{IsCellFile, CellRefusal, SpellCells, FailsAmong}
-use Rattle.jh_cli.specs.Endings.{OnEnded}
-use Rattle.jh_cli.proofs.StopLemmas.{on_stop}
+use Rattle.jh_cli.specs.Reading.{Spells, EndsAtFile}
+use Rattle.jh_cli.specs.Check.{IsCellFile, CellRefusal, SpellCells, EndsAmong}
+use Rattle.jh_cli.specs.Private.Endings.{OnEnded}
+use Rattle.jh_cli.proofs.StopLemmas.{on_ended}
 
 -- one file more spells one cell more
 pub spell_more : (contents : Contents) (names : List (List ℕ)) (cells : List CellConfig) (name : List ℕ) (cell : CellConfig)
@@ -22,9 +22,9 @@ spell_more contents (n ∷ ns) (c ∷ cs) name cell all one = (all.0, spell_more
 -- the file behind those that spell cells stops the call
 pub stops_among : (contents : Contents) (names before : List (List ℕ)) (name : List ℕ) (rest : List (List ℕ)) (cells : List CellConfig)
     → names ≡ before ++ name ∷ rest → SpellCells contents before cells
-    → (stop : CallFault) → OnEnded stop (FailsAtFile contents name CellRefusal) → OnEnded stop (FailsAmong contents names)
+    → (stop : CallFault) → OnEnded stop (EndsAtFile contents name CellRefusal) → OnEnded stop (EndsAmong contents names)
 stops_among contents names before name rest cells split spelled stop h =
-    on_stop (FailsAtFile contents name CellRefusal) (FailsAmong contents names) stop (λ said stops. record { before = before; name = name; rest = rest; split = split; cells = cells; spelled = spelled; stops = stops }) h
+    on_ended (EndsAtFile contents name CellRefusal) (EndsAmong contents names) stop (λ reply stops. record { before = before; name = name; rest = rest; split = split; cells = cells; spelled = spelled; stops = stops }) h
 
 -- after so many names, the cells that were read; `f` gives a name's bytes
 pub spell_next : {X : Type 0} (f : X → List ℕ) (contents : Contents) (names : List X) (i : ℕ) (d : X) (cells : List CellConfig) (cell : CellConfig)
@@ -38,7 +38,7 @@ spell_next {X} f contents names i d cells cell lt all one =
 -- the next name's file stops the call
 pub stops_next : {X : Type 0} (f : X → List ℕ) (contents : Contents) (names : List X) (i : ℕ) (d : X) (cells : List CellConfig)
     → i < length names → SpellCells contents (map f (take i names)) cells
-    → (stop : CallFault) → OnEnded stop (FailsAtFile contents (f (get_or names i d)) CellRefusal) → OnEnded stop (FailsAmong contents (map f names))
+    → (stop : CallFault) → OnEnded stop (EndsAtFile contents (f (get_or names i d)) CellRefusal) → OnEnded stop (EndsAmong contents (map f names))
 stops_next {X} f contents names i d cells lt all stop h =
     let split : map f names ≡ map f (take i names) ++ f (get_or names i d) ∷ map f (drop (suc i) names) =
     ap (λ (xs : List X). map f xs) (split_at names i d lt) ∙ map-append f (take i names) (get_or names i d ∷ drop (suc i) names) in

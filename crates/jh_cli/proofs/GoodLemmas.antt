@@ -23,7 +23,7 @@ use Rattle.jh_script.specs.declared.image.Image.{Image}
 use Rattle.jh_script.specs.Numbers.{decimal_of}
 use Rattle.jh_script.specs.Programs.{unless}
 use Rattle.jh_script.specs.Schedules.{has_cpu, cpu_of, items_of, first_refusal, cpus_of, schedule_of}
-use Rattle.jh_script.specs.Words.{words, spaces}
+use Rattle.jh_script.specs.Words.{words, schedule_gaps}
 use Rattle.jh_history.specs.declared.entry.Entry.{Entry}
 use Rattle.jh_history.specs.Items.{items, played}
 use Rattle.jh_text.specs.declared.fault.JournalFault.{JournalFault}
@@ -43,19 +43,18 @@ use Rattle.jh_cli.specs.declared.status.Status.{Status}
 use Rattle.jh_cli.specs.declared.status.Status.TheVariants.{Good, Found, ReadFault, WriteFault, NoMemory, Full}
 use Rattle.jh_cli.specs.Limits.{most_of_a_file, most_of_a_journal}
 use Rattle.jh_cli.specs.Lines.{exit_number, fault_line}
-use Rattle.jh_cli.specs.Words.{Asked, CheckOf, PackOf, PlayOf, RunOf, MapOf, AuditOf, SoakOf}
+use Rattle.jh_cli.specs.Words.{Request, CheckOf, PackOf, PlayOf, RunOf, MapOf, AuditOf, SoakOf}
 use Rattle.jh_image.specs.Files.{Contents}
-use Rattle.jh_cli.specs.Reading.{Reply, FailsAt, ReadsAt}
-use Rattle.jh_cli.specs.Check.{IsCellFile, CellRefusal, IsSystemFile, SystemRefusal, FailsAmong, ChecksCells, Checks, checked_status}
-use Rattle.jh_cli.specs.Pack.{IsSpecFile, SpecRefusal, Packs, packed}
-use Rattle.jh_cli.specs.Boards.{stopped, EndsAt}
-use Rattle.jh_cli.specs.Play.{AreCpus, IsSchedule, ScheduleRefusal, IsPlayed, played_status, PlaysBy, Plays}
+use Rattle.jh_cli.specs.Reading.{Reply, FileKind, EndsAt, Reads, IsCountedFault}
+use Rattle.jh_cli.specs.Check.{IsCellFile, CellRefusal, IsSystemFile, SystemRefusal, system_file, EndsAmong, ChecksCells, Checks, checked_status}
+use Rattle.jh_cli.specs.Pack.{IsSpecFile, SpecRefusal, spec_file, Packs, packed}
+use Rattle.jh_cli.specs.Boards.{stopped, EndsAtBoard}
+use Rattle.jh_cli.specs.Play.{AreCpus, IsSchedule, ScheduleRefusal, schedule_file, IsPlayed, played_status, PlaysBy, Plays}
 use Rattle.jh_cli.specs.Run.{Runs}
 use Rattle.jh_cli.specs.Map.{map_reply, IsMapped, MapsBy, MapsOf}
 use Rattle.jh_cli.specs.Soak.{AreRounds, Soaks}
-use Rattle.jh_cli.specs.Audit.{IsJournalFile, JournalRefusal, IsAudited, AuditsBy, Audits, verdict_status}
+use Rattle.jh_cli.specs.Audit.{IsJournalFile, JournalRefusal, journal_file, IsAudited, AuditsBy, Audits, verdict_status}
 use Rattle.jh_cli.specs.Outcome.{Outcome, Sent}
-use Rattle.jh_cli.specs.Endings.{IsCounted}
 use Rattle.jh_cli.specs.Complete.{IsKnownBoard, FileSpells, HoldCells, AreGoodToCheck, IsGoodToPack, AreGoodToPlay, AreGoodToRun, AreGoodToAudit, AreGood, MayEndWith}
 use Rattle.jh_cli.proofs.StatusLemmas.{run_ends}
 use Rattle.jh_cli.proofs.KnownLemmas.{all_told, each_is_told, is_image, stops}
@@ -91,30 +90,31 @@ IsSound Why Form most value = (bytes words : List ℕ) → length bytes < most �
 
 -- it is answered so, or could not be read
 abbrev pub IsAnswered : (Status → Type 0) → Reply → Type 0
-IsAnswered Answer said = Answer said.status ⊎ (said.status ≡ ReadFault)
+IsAnswered Answer reply = Answer reply.status ⊎ (reply.status ≡ ReadFault)
 
 -- the answer is that something is found, or nothing
 abbrev IsVerdict : Status → Type 0
 IsVerdict status = (status ≡ Good) ⊎ (status ≡ Found)
 
-of_verdict : (said : Reply) (status : Status) → said.status ≡ status → IsVerdict status → IsAnswered IsVerdict said
-of_verdict said status is one = inl (subst IsVerdict (sym is) one)
+of_verdict : (reply : Reply) (status : Status) → reply.status ≡ status → IsVerdict status → IsAnswered IsVerdict reply
+of_verdict reply status is one = inl (subst IsVerdict (sym is) one)
 
-stops_unrefused : {A : Type 0} (Answer : Status → Type 0) (most : ℕ) (contents : Contents) (name : List ℕ) (Why : List ℕ → List ℕ → Type 0) (Form : List ℕ → A → Type 0) (value : A) (said : Reply)
-    → IsSound Why Form most value → FileSpells most contents name Form value → FailsAt most contents name Why said → IsAnswered Answer said
-stops_unrefused Answer most contents name Why Form value said sound held (inl fault) = inr (ap (λ (s : Reply). s.status) fault)
-stops_unrefused Answer most contents name Why Form value said sound held (inr is) =
-    let same : is.bytes ≡ held.bytes = handed_held (contents name) most held.bytes is.bytes held.told held.within is.handed in
+stops_unrefused : {A : Type 0} (Answer : Status → Type 0) (most : ℕ) (contents : Contents) (name : List ℕ) (Why : List ℕ → List ℕ → Type 0) (Form : List ℕ → A → Type 0) (value : A) (reply : Reply)
+    → IsSound Why Form most value → FileSpells most contents name Form value → EndsAt most contents name Why reply → IsAnswered Answer reply
+stops_unrefused Answer most contents name Why Form value reply sound held (inl fault) = inr (ap (λ (s : Reply). s.status) fault)
+stops_unrefused Answer most contents name Why Form value reply sound held (inr is) =
+    let same : is.bytes ≡ held.bytes = handed_held (contents name) most held.bytes is.bytes held.holds held.within is.handed in
     absurd (sound held.bytes is.words held.within held.spelled (subst (λ bytes. Why bytes is.words) same is.why))
 
 -- what follows a file that holds a value is what was read of it
-reads_unrefused : {A : Type 0} (Answer : Status → Type 0) (most : ℕ) (contents : Contents) (name : List ℕ) (Why : List ℕ → List ℕ → Type 0) (Form : List ℕ → A → Type 0) (next : A → Reply → Type 0) (value : A) (said : Reply)
-    → IsSound Why Form most value → FileSpells most contents name Form value → ((bytes : List ℕ) (other : A) → Form bytes value → Form bytes other → next other said → IsAnswered Answer said)
-    → ReadsAt most contents name Why Form next said → IsAnswered Answer said
-reads_unrefused Answer most contents name Why Form next value said sound held rest (inl stops) = stops_unrefused Answer most contents name Why Form value said sound held stops
-reads_unrefused Answer most contents name Why Form next value said sound held rest (inr (other, spells, went)) =
-    let same : spells.bytes ≡ held.bytes = handed_held (contents name) most held.bytes spells.bytes held.told held.within spells.handed in
-    rest held.bytes other held.spelled (subst (λ bytes. Form bytes other) same spells.spelled) went
+reads_unrefused : {A : Type 0} (Answer : Status → Type 0) (contents : Contents) (name : List ℕ) (kind : FileKind A) (next : A → Reply → Type 0) (value : A) (reply : Reply)
+    → IsSound kind.Refusal kind.Form kind.most value → FileSpells kind.most contents name kind.Form value
+    → ((bytes : List ℕ) (other : A) → kind.Form bytes value → kind.Form bytes other → next other reply → IsAnswered Answer reply)
+    → Reads contents name kind next reply → IsAnswered Answer reply
+reads_unrefused Answer contents name kind next value reply sound held rest (inl stops) = stops_unrefused Answer kind.most contents name kind.Refusal kind.Form value reply sound held stops
+reads_unrefused Answer contents name kind next value reply sound held rest (inr (other, spells, went)) =
+    let same : spells.bytes ≡ held.bytes = handed_held (contents name) kind.most held.bytes spells.bytes held.holds held.within spells.handed in
+    rest held.bytes other held.spelled (subst (λ bytes. kind.Form bytes other) same spells.spelled) went
 
 pub no_more : (most : ℕ) (bytes : List ℕ) → length bytes < most → most ≤ length bytes → ⊥
 no_more most bytes few many = omega arith
@@ -142,25 +142,25 @@ one_of_cells contents [] name rest (cell ∷ cells) held = (cell, held.0)
 one_of_cells contents (b ∷ before) name rest [] held = absurd held
 one_of_cells contents (b ∷ before) name rest (cell ∷ cells) held = one_of_cells contents before name rest cells held.1
 
-among_unrefused : CellsAreFaultless → (contents : Contents) (names : List (List ℕ)) (cells : List CellConfig) (said : Reply) → HoldCells contents names cells → FailsAmong contents names said → IsAnswered IsVerdict said
-among_unrefused faultless contents names cells said held among =
+among_unrefused : CellsAreFaultless → (contents : Contents) (names : List (List ℕ)) (cells : List CellConfig) (reply : Reply) → HoldCells contents names cells → EndsAmong contents names reply → IsAnswered IsVerdict reply
+among_unrefused faultless contents names cells reply held among =
     let split : HoldCells contents (among.before ++ among.name ∷ among.rest) cells = subst (λ (ns : List (List ℕ)). HoldCells contents ns cells) among.split held in
     let one = one_of_cells contents among.before among.name among.rest cells split in
-    stops_unrefused IsVerdict most_of_a_file contents among.name CellRefusal IsCellFile one.0 said (cell_sound faultless one.0) one.1 among.stops
+    stops_unrefused IsVerdict most_of_a_file contents among.name CellRefusal IsCellFile one.0 reply (cell_sound faultless one.0) one.1 among.stops
 
 checked_unrefused : (any : Bool) → IsVerdict (cond any Found Good)
 checked_unrefused true = inr refl
 checked_unrefused false = inl refl
 
-cells_unrefused : CellsAreFaultless → (contents : Contents) (names : List (List ℕ)) (cells : List CellConfig) (system : SystemConfig) (said : Reply) → HoldCells contents names cells → ChecksCells contents names system said → IsAnswered IsVerdict said
-cells_unrefused faultless contents names cells system said held (inl among) = among_unrefused faultless contents names cells said held among
-cells_unrefused faultless contents names cells system said held (inr all) =
-    of_verdict said (checked_status (capped (findings system all.0))) (ap (λ (s : Reply). s.status) all.2) (checked_unrefused (is_any (capped (findings system all.0))))
+cells_unrefused : CellsAreFaultless → (contents : Contents) (names : List (List ℕ)) (cells : List CellConfig) (system : SystemConfig) (reply : Reply) → HoldCells contents names cells → ChecksCells contents names system reply → IsAnswered IsVerdict reply
+cells_unrefused faultless contents names cells system reply held (inl among) = among_unrefused faultless contents names cells reply held among
+cells_unrefused faultless contents names cells system reply held (inr all) =
+    of_verdict reply (checked_status (capped (findings system all.0))) (ap (λ (s : Reply). s.status) all.2) (checked_unrefused (is_any (capped (findings system all.0))))
 
-check_unrefused : CellsAreFaultless → SpellingsAreFaultless → (contents : Contents) (system : List ℕ) (cells : List (List ℕ)) (said : Reply) → AreGoodToCheck contents system cells → Checks contents system cells said → IsAnswered IsVerdict said
-check_unrefused cells_faultless systems_faultless contents system cells said good h =
-    reads_unrefused IsVerdict most_of_a_file contents system SystemRefusal IsSystemFile (ChecksCells contents cells) good.of_system said (system_sound systems_faultless good.of_system) good.system_held
-    (λ bytes other form form_other went. cells_unrefused cells_faultless contents cells good.of_cells other said good.cells_held went) h
+check_unrefused : CellsAreFaultless → SpellingsAreFaultless → (contents : Contents) (system : List ℕ) (cells : List (List ℕ)) (reply : Reply) → AreGoodToCheck contents system cells → Checks contents system cells reply → IsAnswered IsVerdict reply
+check_unrefused cells_faultless systems_faultless contents system cells reply good h =
+    reads_unrefused IsVerdict contents system system_file (ChecksCells contents cells) good.of_system reply (system_sound systems_faultless good.of_system) good.system_held
+    (λ bytes other form form_other went. cells_unrefused cells_faultless contents cells good.of_cells other reply good.cells_held went) h
 
 -- ---- pack
 
@@ -176,15 +176,15 @@ spec_sound spec bytes words within form (inr (inr bad)) =
     let same : faulty.0 ≡ told.0 = cc read in
     ok_err (spec_told told.0) spec (specs.Member bad.name) told.2 (ap spec_told (sym same) ∙ faulty.2)
 
-pack_unrefused : (contents : Contents) (name : List ℕ) (said : Reply) → IsGoodToPack contents name → Packs contents name said → IsAnswered (λ status. status ≡ Good) said
-pack_unrefused contents name said good h =
-    reads_unrefused (λ status. status ≡ Good) most_of_a_file contents name SpecRefusal IsSpecFile (λ (spec : Spec) (s : Reply). s ≡ record { status = Good; text = packed spec }) good.spec said (spec_sound good.spec) good.held
+pack_unrefused : (contents : Contents) (name : List ℕ) (reply : Reply) → IsGoodToPack contents name → Packs contents name reply → IsAnswered (λ status. status ≡ Good) reply
+pack_unrefused contents name reply good h =
+    reads_unrefused (λ status. status ≡ Good) contents name spec_file (λ (spec : Spec) (s : Reply). s ≡ record { status = Good; text = packed spec }) good.spec reply (spec_sound good.spec) good.held
     (λ bytes other form form_other went. inl (ap (λ (s : Reply). s.status) went)) h
 
 -- ---- boards
 
-pub board_unrefused : BoardsAreUnrefused → (Answer : Status → Type 0) (contents : Contents) (board : List ℕ) (image : Image) (said : Reply) → IsKnownBoard contents board → IsImage contents board image → EndsAt contents board said → IsAnswered Answer said
-board_unrefused unrefused Answer contents board image said told is ends =
+pub board_unrefused : BoardsAreUnrefused → (Answer : Status → Type 0) (contents : Contents) (board : List ℕ) (image : Image) (reply : Reply) → IsKnownBoard contents board → IsImage contents board image → EndsAtBoard contents board reply → IsAnswered Answer reply
+board_unrefused unrefused Answer contents board image reply told is ends =
     let cause : ends.cause ≡ CantBeRead =
     unrefused (all_told contents) board ends.file image ends.cause (each_is_told contents) (is_image contents board told image is) (stops contents board told ends.file ends.cause ends.stops) in
     inr (ap (λ (s : Reply). s.status) ends.told ∙ ap (λ (c : ImageCause). (stopped ends.file c).status) cause)
@@ -204,7 +204,7 @@ same_cpu one other same (Some n) = same_if n (has_cpu one n) (has_cpu other n) (
 
 same_items : (one other : ℕ) → ((n : ℕ) → n < 16 → has_cpu one n ≡ has_cpu other n) → (text : List ℕ) → items_of one text ≡ items_of other text
 unfolding items_of
-same_items one other same text = λ i. map (λ word. same_cpu one other same (decimal_of word) i) (words spaces text)
+same_items one other same text = λ i. map (λ word. same_cpu one other same (decimal_of word) i) (words schedule_gaps text)
 
 -- a schedule depends on the board's CPUs alone
 same_schedule : (one other : ℕ) → ((n : ℕ) → n < 16 → has_cpu one n ≡ has_cpu other n) → (text : List ℕ) → schedule_of one text ≡ schedule_of other text
@@ -217,32 +217,32 @@ same_for_image image one other text h k = same_schedule one other (λ n lt. h n 
 pub schedule_sound : (image : Image) (items : List ℕ) → IsSound (ScheduleRefusal image) (IsSchedule image) most_of_a_file items
 schedule_sound image items bytes words within form (inl over) = no_more most_of_a_file bytes within over.0
 schedule_sound image items bytes words within form (inr bad) =
-    ok_err (schedule_of form.cpus bytes) items bad.fault form.told (same_for_image image form.cpus bad.cpus bytes form.are bad.are ∙ bad.first)
+    ok_err (schedule_of form.cpus bytes) items bad.fault form.spelled (same_for_image image form.cpus bad.cpus bytes form.are bad.are ∙ bad.first)
 
 pub one_schedule : (image : Image) (bytes one other : List ℕ) → IsSchedule image bytes one → IsSchedule image bytes other → one ≡ other
-one_schedule image bytes one other h k = ok_one (schedule_of h.cpus bytes) one other h.told (same_for_image image h.cpus k.cpus bytes h.are k.are ∙ k.told)
+one_schedule image bytes one other h k = ok_one (schedule_of h.cpus bytes) one other h.spelled (same_for_image image h.cpus k.cpus bytes h.are k.are ∙ k.spelled)
 
 -- what a play of the items ends with
 abbrev IsPlayOf : Image → List ℕ → Status → Type 0
 IsPlayOf image items status = status ≡ played_status (played image max_entries items).full
 
-played_unrefused : (image : Image) (items other : List ℕ) (said : Reply) → items ≡ other → IsPlayed image other said → IsAnswered (IsPlayOf image items) said
-played_unrefused image items other said same is =
+played_unrefused : (image : Image) (items other : List ℕ) (reply : Reply) → items ≡ other → IsPlayed image other reply → IsAnswered (IsPlayOf image items) reply
+played_unrefused image items other reply same is =
     inl (ap (λ (s : Reply). s.status) is.told ∙ ap (λ (xs : List ℕ). played_status (played image max_entries xs).full) (sym same))
 
-plays_unrefused : (contents : Contents) (schedule : List ℕ) (image : Image) (items : List ℕ) (said : Reply) → FileSpells most_of_a_file contents schedule (IsSchedule image) items
-    → PlaysBy contents schedule image said → IsAnswered (IsPlayOf image items) said
-plays_unrefused contents schedule image items said held h =
-    reads_unrefused (IsPlayOf image items) most_of_a_file contents schedule (ScheduleRefusal image) (IsSchedule image) (IsPlayed image) items said (schedule_sound image items) held
-    (λ bytes other form form_other is. played_unrefused image items other said (one_schedule image bytes items other form form_other) is) h
+plays_unrefused : (contents : Contents) (schedule : List ℕ) (image : Image) (items : List ℕ) (reply : Reply) → FileSpells most_of_a_file contents schedule (IsSchedule image) items
+    → PlaysBy contents schedule image reply → IsAnswered (IsPlayOf image items) reply
+plays_unrefused contents schedule image items reply held h =
+    reads_unrefused (IsPlayOf image items) contents schedule (schedule_file image) (IsPlayed image) items reply (schedule_sound image items) held
+    (λ bytes other form form_other is. played_unrefused image items other reply (one_schedule image bytes items other form form_other) is) h
 
-play_unrefused : OneImage → BoardsAreUnrefused → (contents : Contents) (board schedule : List ℕ) (said : Reply) (good : AreGoodToPlay contents board schedule) → Plays contents board schedule said
-    → IsAnswered (IsPlayOf good.image good.items) said
-play_unrefused one_image unrefused contents board schedule said good (inl ends) = board_unrefused unrefused (IsPlayOf good.image good.items) contents board good.image said good.told good.is ends
-play_unrefused one_image unrefused contents board schedule said good (inr (image, is, admitted, plays)) =
+play_unrefused : OneImage → BoardsAreUnrefused → (contents : Contents) (board schedule : List ℕ) (reply : Reply) (good : AreGoodToPlay contents board schedule) → Plays contents board schedule reply
+    → IsAnswered (IsPlayOf good.image good.items) reply
+play_unrefused one_image unrefused contents board schedule reply good (inl ends) = board_unrefused unrefused (IsPlayOf good.image good.items) contents board good.image reply good.known good.is ends
+play_unrefused one_image unrefused contents board schedule reply good (inr (image, is, admitted, plays)) =
     let same : image ≡ good.image =
-    one_image (all_told contents) board image good.image (each_is_told contents) (is_image contents board good.told image is) (is_image contents board good.told good.image good.is) in
-    plays_unrefused contents schedule good.image good.items said good.held (subst (λ (i : Image). PlaysBy contents schedule i said) same plays)
+    one_image (all_told contents) board image good.image (each_is_told contents) (is_image contents board good.known image is) (is_image contents board good.known good.image good.is) in
+    plays_unrefused contents schedule good.image good.items reply good.held (subst (λ (i : Image). PlaysBy contents schedule i reply) same plays)
 
 -- ---- audit
 
@@ -250,24 +250,24 @@ pub journal_sound : NoBadLine → NotLong → (entries : List Entry) → IsSound
 journal_sound no_bad not_long entries bytes words within form (inl over) = no_more most_of_a_journal bytes within over.0
 journal_sound no_bad not_long entries bytes words within form (inr bad) = faultless bad.fault bad.is_of_text bad.first where
   faultless : (fault : JournalFault) → fault ≢ journals.NoMemory → IsFault bytes fault → ⊥
-  faultless (journals.Line number) other first = no_bad bytes entries number form.told first
-  faultless journals.TooLong other first = not_long bytes entries form.told first
+  faultless (journals.Line number) other first = no_bad bytes entries number form.spelled first
+  faultless journals.TooLong other first = not_long bytes entries form.spelled first
   faultless journals.NoMemory other first = other refl
 
 verdict_unrefused : (verdict : Verdict) → IsVerdict (verdict_status verdict)
 verdict_unrefused (Legal count quiet) = inl refl
 verdict_unrefused (Illegal line expected) = inr refl
 
-audits_unrefused : NoBadLine → NotLong → (contents : Contents) (journal : List ℕ) (image : Image) (entries : List Entry) (said : Reply) → FileSpells most_of_a_journal contents journal IsJournalFile entries
-    → AuditsBy contents journal image said → IsAnswered IsVerdict said
-audits_unrefused no_bad not_long contents journal image entries said held h =
-    reads_unrefused IsVerdict most_of_a_journal contents journal JournalRefusal IsJournalFile (IsAudited image) entries said (journal_sound no_bad not_long entries) held
-    (λ bytes other form form_other is. of_verdict said (verdict_status is.verdict) (ap (λ (s : Reply). s.status) is.told) (verdict_unrefused is.verdict)) h
+audits_unrefused : NoBadLine → NotLong → (contents : Contents) (journal : List ℕ) (image : Image) (entries : List Entry) (reply : Reply) → FileSpells most_of_a_journal contents journal IsJournalFile entries
+    → AuditsBy contents journal image reply → IsAnswered IsVerdict reply
+audits_unrefused no_bad not_long contents journal image entries reply held h =
+    reads_unrefused IsVerdict contents journal journal_file (IsAudited image) entries reply (journal_sound no_bad not_long entries) held
+    (λ bytes other form form_other is. of_verdict reply (verdict_status is.verdict) (ap (λ (s : Reply). s.status) is.told) (verdict_unrefused is.verdict)) h
 
-audit_unrefused : BoardsAreUnrefused → NoBadLine → NotLong → (contents : Contents) (board journal : List ℕ) (said : Reply) → AreGoodToAudit contents board journal → Audits contents board journal said → IsAnswered IsVerdict said
-audit_unrefused unrefused no_bad not_long contents board journal said good (inl ends) = board_unrefused unrefused IsVerdict contents board good.image said good.told good.is ends
-audit_unrefused unrefused no_bad not_long contents board journal said good (inr (image, is, admitted, audits)) =
-    audits_unrefused no_bad not_long contents journal image good.entries said good.held audits
+audit_unrefused : BoardsAreUnrefused → NoBadLine → NotLong → (contents : Contents) (board journal : List ℕ) (reply : Reply) → AreGoodToAudit contents board journal → Audits contents board journal reply → IsAnswered IsVerdict reply
+audit_unrefused unrefused no_bad not_long contents board journal reply good (inl ends) = board_unrefused unrefused IsVerdict contents board good.image reply good.known good.is ends
+audit_unrefused unrefused no_bad not_long contents board journal reply good (inr (image, is, admitted, audits)) =
+    audits_unrefused no_bad not_long contents journal image good.entries reply good.held audits
 
 -- ---- map
 
@@ -279,23 +279,23 @@ mapped_status : (image : Image) (cpus : List ℕ) (found : Option (List ℕ)) �
 mapped_status image cpus (Some text) is = ap played_status (sym is.0)
 mapped_status image cpus None is = ap played_status (sym is.0)
 
-mapped_unrefused : (image : Image) (cpus other : List ℕ) (said : Reply) → cpus ≡ other → IsMapped image other said → IsAnswered (IsMapOf image cpus) said
-mapped_unrefused image cpus other said same (found, is, told) =
+mapped_unrefused : (image : Image) (cpus other : List ℕ) (reply : Reply) → cpus ≡ other → IsMapped image other reply → IsAnswered (IsMapOf image cpus) reply
+mapped_unrefused image cpus other reply same (found, is, told) =
     inl (ap (λ (s : Reply). s.status) told ∙ mapped_status image other found is ∙ ap (λ (xs : List ℕ). played_status (items image max_entries xs []).full) (sym same))
 
-maps_unrefused : (contents : Contents) (schedule : List ℕ) (image : Image) (cpus : List ℕ) (said : Reply) → FileSpells most_of_a_file contents schedule (IsSchedule image) cpus
-    → MapsBy contents schedule image said → IsAnswered (IsMapOf image cpus) said
-maps_unrefused contents schedule image cpus said held h =
-    reads_unrefused (IsMapOf image cpus) most_of_a_file contents schedule (ScheduleRefusal image) (IsSchedule image) (IsMapped image) cpus said (schedule_sound image cpus) held
-    (λ bytes other form form_other is. mapped_unrefused image cpus other said (one_schedule image bytes cpus other form form_other) is) h
+maps_unrefused : (contents : Contents) (schedule : List ℕ) (image : Image) (cpus : List ℕ) (reply : Reply) → FileSpells most_of_a_file contents schedule (IsSchedule image) cpus
+    → MapsBy contents schedule image reply → IsAnswered (IsMapOf image cpus) reply
+maps_unrefused contents schedule image cpus reply held h =
+    reads_unrefused (IsMapOf image cpus) contents schedule (schedule_file image) (IsMapped image) cpus reply (schedule_sound image cpus) held
+    (λ bytes other form form_other is. mapped_unrefused image cpus other reply (one_schedule image bytes cpus other form form_other) is) h
 
-map_unrefused : OneImage → BoardsAreUnrefused → (contents : Contents) (board schedule : List ℕ) (said : Reply) (good : AreGoodToPlay contents board schedule) → MapsOf contents board schedule said
-    → IsAnswered (IsMapOf good.image good.items) said
-map_unrefused one_image unrefused contents board schedule said good (inl ends) = board_unrefused unrefused (IsMapOf good.image good.items) contents board good.image said good.told good.is ends
-map_unrefused one_image unrefused contents board schedule said good (inr (image, is, admitted, maps)) =
+map_unrefused : OneImage → BoardsAreUnrefused → (contents : Contents) (board schedule : List ℕ) (reply : Reply) (good : AreGoodToPlay contents board schedule) → MapsOf contents board schedule reply
+    → IsAnswered (IsMapOf good.image good.items) reply
+map_unrefused one_image unrefused contents board schedule reply good (inl ends) = board_unrefused unrefused (IsMapOf good.image good.items) contents board good.image reply good.known good.is ends
+map_unrefused one_image unrefused contents board schedule reply good (inr (image, is, admitted, maps)) =
     let same : image ≡ good.image =
-    one_image (all_told contents) board image good.image (each_is_told contents) (is_image contents board good.told image is) (is_image contents board good.told good.image good.is) in
-    maps_unrefused contents schedule good.image good.items said good.held (subst (λ (i : Image). MapsBy contents schedule i said) same maps)
+    one_image (all_told contents) board image good.image (each_is_told contents) (is_image contents board good.known image is) (is_image contents board good.known good.image good.is) in
+    maps_unrefused contents schedule good.image good.items reply good.held (subst (λ (i : Image). MapsBy contents schedule i reply) same maps)
 
 -- ---- run and soak
 
@@ -303,48 +303,48 @@ map_unrefused one_image unrefused contents board schedule said good (inr (image,
 abbrev IsRunEnd : Status → Type 0
 IsRunEnd status = (status ≡ Good) ⊎ (status ≡ Full)
 
-run_unrefused : BoardsAreUnrefused → (contents : Contents) (board : List ℕ) (said : Reply) → AreGoodToRun contents board → Runs contents board said → IsAnswered IsRunEnd said
-run_unrefused unrefused contents board said good (inl ends) = board_unrefused unrefused IsRunEnd contents board good.image said good.told good.is ends
-run_unrefused unrefused contents board said good (inr (image, is, admitted, ran)) = inl (run_ends image ran.entries said.status ran.run.ends)
+run_unrefused : BoardsAreUnrefused → (contents : Contents) (board : List ℕ) (reply : Reply) → AreGoodToRun contents board → Runs contents board reply → IsAnswered IsRunEnd reply
+run_unrefused unrefused contents board reply good (inl ends) = board_unrefused unrefused IsRunEnd contents board good.image reply good.known good.is ends
+run_unrefused unrefused contents board reply good (inr (image, is, admitted, ran)) = inl (run_ends image ran.entries reply.status ran.run.ends)
 
-soak_unrefused : (word : List ℕ) (said : Reply) (rounds : ℕ) → AreRounds word rounds → Soaks word said → IsAnswered IsRunEnd said
-soak_unrefused word said rounds are (inl none) = absurd (none.0 rounds are)
-soak_unrefused word said rounds are (inr (n, others, soaked)) = inl (run_ends (soak_board n) soaked.entries said.status soaked.run.ends)
+soak_unrefused : (word : List ℕ) (reply : Reply) (rounds : ℕ) → AreRounds word rounds → Soaks word reply → IsAnswered IsRunEnd reply
+soak_unrefused word reply rounds are (inl none) = absurd (none.0 rounds are)
+soak_unrefused word reply rounds are (inr (n, others, soaked)) = inl (run_ends (soak_board n) soaked.entries reply.status soaked.run.ends)
 
 -- ---- all of them
 
 pub good_answered : CellsAreFaultless → SpellingsAreFaultless → NoBadLine → NotLong → OneImage → BoardsAreUnrefused
-    → (contents : Contents) (asked : Option Asked) (said : Reply) (good : AreGood contents asked) → Outcome contents asked said → MayEndWith contents asked good said.status ⊎ (said.status ≡ ReadFault)
-good_answered cells systems no_bad not_long one_image unrefused contents None said good h = absurd good
-good_answered cells systems no_bad not_long one_image unrefused contents (Some (CheckOf system names)) said good h = check_unrefused cells systems contents system names said good h
-good_answered cells systems no_bad not_long one_image unrefused contents (Some (PackOf spec)) said good h = pack_unrefused contents spec said good h
-good_answered cells systems no_bad not_long one_image unrefused contents (Some (PlayOf board schedule)) said good h = play_unrefused one_image unrefused contents board schedule said good h
-good_answered cells systems no_bad not_long one_image unrefused contents (Some (RunOf board)) said good h = run_unrefused unrefused contents board said good h
-good_answered cells systems no_bad not_long one_image unrefused contents (Some (MapOf board schedule)) said good h = map_unrefused one_image unrefused contents board schedule said good h
-good_answered cells systems no_bad not_long one_image unrefused contents (Some (SoakOf rounds)) said good h = soak_unrefused rounds said good.0 good.1 h
-good_answered cells systems no_bad not_long one_image unrefused contents (Some (AuditOf board journal)) said good h = audit_unrefused unrefused no_bad not_long contents board journal said good h
+    → (contents : Contents) (request : Option Request) (reply : Reply) (good : AreGood contents request) → Outcome contents request reply → MayEndWith contents request good reply.status ⊎ (reply.status ≡ ReadFault)
+good_answered cells systems no_bad not_long one_image unrefused contents None reply good h = absurd good
+good_answered cells systems no_bad not_long one_image unrefused contents (Some (CheckOf system names)) reply good h = check_unrefused cells systems contents system names reply good h
+good_answered cells systems no_bad not_long one_image unrefused contents (Some (PackOf spec)) reply good h = pack_unrefused contents spec reply good h
+good_answered cells systems no_bad not_long one_image unrefused contents (Some (PlayOf board schedule)) reply good h = play_unrefused one_image unrefused contents board schedule reply good h
+good_answered cells systems no_bad not_long one_image unrefused contents (Some (RunOf board)) reply good h = run_unrefused unrefused contents board reply good h
+good_answered cells systems no_bad not_long one_image unrefused contents (Some (MapOf board schedule)) reply good h = map_unrefused one_image unrefused contents board schedule reply good h
+good_answered cells systems no_bad not_long one_image unrefused contents (Some (SoakOf rounds)) reply good h = soak_unrefused rounds reply good.0 good.1 h
+good_answered cells systems no_bad not_long one_image unrefused contents (Some (AuditOf board journal)) reply good h = audit_unrefused unrefused no_bad not_long contents board journal reply good h
 
 -- ---- the status
 
--- the status that is answered is the said one's, unless a count rose
-pub answered_or_rose : (Answer : Status → Type 0) (old new old_sink new_sink : ℕ) (failed : List ℕ) (before after : Option (List ℕ)) (said : Reply) (status : Status)
-    → IsAnswered Answer said → IsCounted old new failed said → Sent before after said status → (status ≡ WriteFault → Rose old_sink new_sink)
+-- the status that is answered is the reply's, unless a count rose
+pub answered_or_rose : (Answer : Status → Type 0) (old new old_sink new_sink : ℕ) (failed : List ℕ) (before after : Option (List ℕ)) (reply : Reply) (status : Status)
+    → IsAnswered Answer reply → IsCountedFault old new failed reply → Sent before after reply status → (status ≡ WriteFault → Rose old_sink new_sink)
     → Answer status ⊎ (status ≡ NoMemory) ⊎ Rose old new ⊎ Rose old_sink new_sink
-answered_or_rose Answer old new old_sink new_sink failed before after said status (inl answer) counted (inl whole) fault = inl (subst Answer (sym whole.0) answer)
-answered_or_rose Answer old new old_sink new_sink failed before after said status (inr unread) counted (inl whole) fault = inr (inr (inl (counted unread).0))
-answered_or_rose Answer old new old_sink new_sink failed before after said status one counted (inr part) fault = inr (inr (inr (fault part.0)))
+answered_or_rose Answer old new old_sink new_sink failed before after reply status (inl answer) counted (inl whole) fault = inl (subst Answer (sym whole.0) answer)
+answered_or_rose Answer old new old_sink new_sink failed before after reply status (inr unread) counted (inl whole) fault = inr (inr (inl (counted unread).0))
+answered_or_rose Answer old new old_sink new_sink failed before after reply status one counted (inr part) fault = inr (inr (inr (fault part.0)))
 
 -- that a file couldn't be read is answered only where the count rose
-pub unread : (old new : ℕ) (failed : List ℕ) (before after : Option (List ℕ)) (said : Reply) (status : Status)
-    → IsCounted old new failed said → Sent before after said status → status ≡ ReadFault → Rose old new × Appended before after (fault_line failed)
-unread old new failed before after said status counted (inl whole) is =
+pub unread : (old new : ℕ) (failed : List ℕ) (before after : Option (List ℕ)) (reply : Reply) (status : Status)
+    → IsCountedFault old new failed reply → Sent before after reply status → status ≡ ReadFault → Rose old new × Appended before after (fault_line failed)
+unread old new failed before after reply status counted (inl whole) is =
     let rose = counted (sym whole.0 ∙ is) in
     (rose.0, subst (λ (text : List ℕ). Appended before after text) rose.1 whole.1)
-unread old new failed before after said status counted (inr part) is =
+unread old new failed before after reply status counted (inr part) is =
     let same : exit_number WriteFault ≡ exit_number ReadFault = ap exit_number (sym part.0 ∙ is) in
     absurd (omega arith)
 
--- another status than that and a sink's is the said one's
-pub said_read : (before after : Option (List ℕ)) (said : Reply) (status : Status) → Sent before after said status → status ≢ ReadFault → status ≢ WriteFault → said.status ≢ ReadFault
-said_read before after said status (inl whole) read written is = read (whole.0 ∙ is)
-said_read before after said status (inr part) read written is = written part.0
+-- another status than that and a sink's is the reply's
+pub reply_read : (before after : Option (List ℕ)) (reply : Reply) (status : Status) → Sent before after reply status → status ≢ ReadFault → status ≢ WriteFault → reply.status ≢ ReadFault
+reply_read before after reply status (inl whole) read written is = read (whole.0 ∙ is)
+reply_read before after reply status (inr part) read written is = written part.0

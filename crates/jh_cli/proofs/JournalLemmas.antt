@@ -11,20 +11,20 @@ use Rattle.jh_cli.specs.declared.ending.CallFault.{CallFault}
 use Rattle.jh_cli.specs.declared.ending.CallFault.TheVariants as stop
 use Rattle.jh_cli.specs.Lines.{refusal_line}
 use Rattle.jh_image.specs.Files.{Contents}
-use Rattle.jh_cli.specs.Reading.{Reply, FailsAt}
+use Rattle.jh_cli.specs.Reading.{Reply, EndsAt, IsCountedFault}
 use Rattle.jh_cli.specs.Audit.{JournalRefusal}
-use Rattle.jh_cli.specs.Endings.{OnEnded, IsCounted}
+use Rattle.jh_cli.specs.Private.Endings.{OnEnded}
 use Rattle.jh_cli.proofs.BoardLemmas.{nothing, refused_is_read}
-use Rattle.jh_cli.proofs.StopLemmas.{on_stop, refuses}
+use Rattle.jh_cli.proofs.StopLemmas.{on_ended, refuses}
 
 tag : JournalFault → ℕ
 tag (Line number) = 1
 tag TooLong = 1
 tag NoMemory = 0
 
--- what is said of a journal with the fault
+-- the reply where a journal has the fault
 abbrev pub Refuses : List ℕ → JournalFault → Reply → Type 0
-Refuses name fault said = said ≡ record { status = Refused; text = refusal_line name (fault_text fault) }
+Refuses name fault reply = reply ≡ record { status = Refused; text = refusal_line name (fault_text fault) }
 
 -- what the reader says of its fault
 abbrev pub IsTrueFault : List ℕ → JournalFault → Type 0
@@ -47,20 +47,20 @@ is_fault text TooLong r memory is wanted line long other = (long (is_other TooLo
 is_fault text NoMemory r memory is wanted line long other = tt
 
 stops_for : (contents : Contents) (name text : List ℕ) (fault : JournalFault) → fault ≢ NoMemory → IsTrueFault text fault → HandsOut (contents name) most_of_a_journal text → length text < most_of_a_journal
-    → (s : CallFault) → OnEnded s (Refuses name fault) → OnEnded s (FailsAt most_of_a_journal contents name JournalRefusal)
+    → (s : CallFault) → OnEnded s (Refuses name fault) → OnEnded s (EndsAt most_of_a_journal contents name JournalRefusal)
 stops_for contents name text fault other told handed within s h =
     refuses most_of_a_journal contents name JournalRefusal text (fault_text fault) handed
     (inr (record { within = within; fault = fault; is_of_text = other; first = told other; told = refl })) s h
 
 -- the call ends at a text with a fault
 pub ends_there : (contents : Contents) (name text : List ℕ) (fault : JournalFault) → IsTrueFault text fault → HandsOut (contents name) most_of_a_journal text → length text < most_of_a_journal
-    → (s : CallFault) → OnEnded s (Refuses name fault) → (fault ≡ NoMemory → s ≡ stop.NoMemory) → OnEnded s (FailsAt most_of_a_journal contents name JournalRefusal)
+    → (s : CallFault) → OnEnded s (Refuses name fault) → (fault ≡ NoMemory → s ≡ stop.NoMemory) → OnEnded s (EndsAt most_of_a_journal contents name JournalRefusal)
 unfolding tag
 ends_there contents name text (Line number) told handed within s h memory = stops_for contents name text (Line number) (λ e. let same : 1 ≡ 0 = ap tag e in omega arith) told handed within s h
 ends_there contents name text TooLong told handed within s h memory = stops_for contents name text TooLong (λ e. let same : 1 ≡ 0 = ap tag e in omega arith) told handed within s h
-ends_there contents name text NoMemory told handed within s h memory = nothing (FailsAt most_of_a_journal contents name JournalRefusal) s (memory refl)
+ends_there contents name text NoMemory told handed within s h memory = nothing (EndsAt most_of_a_journal contents name JournalRefusal) s (memory refl)
 
 -- and no fault of reading is told
-pub no_fault_there : (old new : ℕ) (failed name : List ℕ) (fault : JournalFault) (s : CallFault) → OnEnded s (Refuses name fault) → OnEnded s (IsCounted old new failed)
+pub no_fault_there : (old new : ℕ) (failed name : List ℕ) (fault : JournalFault) (s : CallFault) → OnEnded s (Refuses name fault) → OnEnded s (IsCountedFault old new failed)
 no_fault_there old new failed name fault s h =
-    on_stop (Refuses name fault) (IsCounted old new failed) s (λ said is read. absurd (refused_is_read said (refusal_line name (fault_text fault)) is read)) h
+    on_ended (Refuses name fault) (IsCountedFault old new failed) s (λ reply is read. absurd (refused_is_read reply (refusal_line name (fault_text fault)) is read)) h

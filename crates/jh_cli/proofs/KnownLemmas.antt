@@ -13,7 +13,7 @@ use Rattle.jh_image.specs.declared.board.ProgramFile.{ProgramFile}
 use Rattle.jh_image.specs.declared.fault.ImageCause.{ImageCause}
 use Rattle.jh_image.specs.Files.{Contents, max_file_size, HasBytes, IsOversize, Lists, SpellsSystem, IsPreloadOf, IsProgramOf}
 use Rattle.jh_image.specs.Images.{SoFar, Stage, nothing, with_listing, with_system, so_far_of, IsNextPreload, IsNextProgram, IsNextFile, the_board, the_system, a_preload, a_program, ReadsNext, reads_board, reads_system, reads_preload, reads_program, ReadsTo, nothing_read, one_more_read, IsImage}
-use Rattle.jh_image.specs.Causes.{HasCause, cannot_be_read, is_too_large, is_no_object, has_bad_member, is_no_system, has_findings, has_small_pool, is_bad_preload, is_bad_program, IsCauseOf}
+use Rattle.jh_image.specs.Causes.{cannot_be_read, is_too_large, IsBoardFault, is_no_object, has_bad_member, IsSystemFault, is_no_system, has_findings, HasCause, by_file, by_board, by_system, by_pool, by_preload, by_program, IsCauseOf}
 use Rattle.jh_image.specs.Order.{preload_name, program_name}
 use Rattle.jh_image.specs.Laws.{AreKnown}
 use Rattle.jh_cli.specs.Complete.{AreKnownNames, IsKnownBoard}
@@ -139,18 +139,25 @@ module _ (contents : Contents) where
       complete = h.complete;
     }
 
+    board_fault : (cause : ImageCause) → IsBoardFault contents board cause → IsBoardFault (all_told contents) board cause
+    board_fault cause (is_no_object bytes h bad) = is_no_object bytes (has board bytes at_board h) bad
+    board_fault cause (has_bad_member bytes name h bad) = has_bad_member bytes name (has board bytes at_board h) bad
+
+    system_fault : (file : List ℕ) (cause : ImageCause) → IsKnown file → IsSystemFault contents file cause → IsSystemFault (all_told contents) file cause
+    system_fault file cause known (is_no_system bytes fault h first) = is_no_system bytes fault (has file bytes known h) first
+    system_fault file cause known (has_findings system h some) = has_findings system (spells file system known h) some
+
     one_stop : (stage : Stage) (file : List ℕ) (cause : ImageCause) → HasCause contents board stage file cause → IsListed stage → HasCause (all_told contents) board stage file cause
-    one_stop stage file cause (cannot_be_read at name next) before = cannot_be_read at name next
-    one_stop stage file cause (is_too_large at name next over) before = is_too_large at name next (oversize name (at_next at name next before) over)
-    one_stop stage file cause (is_no_object bytes h bad) before = is_no_object bytes (has board bytes at_board h) bad
-    one_stop stage file cause (has_bad_member bytes name h bad) before = has_bad_member bytes name (has board bytes at_board h) bad
-    one_stop stage file cause (is_no_system listing bytes fault h first) before = is_no_system listing bytes fault (has listing.system bytes (at_system listing before) h) first
-    one_stop stage file cause (has_findings listing system h some) before = has_findings listing system (spells listing.system system (at_system listing before) h) some
-    one_stop stage file cause (has_small_pool listing system h clean few) before = has_small_pool listing system (spells listing.system system (at_system listing before) h) clean few
-    one_stop stage file cause (is_bad_preload so_far entry preload next is unfit) before =
-        is_bad_preload so_far entry preload next (preload_of entry preload (at_preload so_far entry before next) is) unfit
-    one_stop stage file cause (is_bad_program so_far entry bytes fault next h bad) before =
-        is_bad_program so_far entry bytes fault next (has entry.file bytes (at_program so_far entry before next) h) bad
+    one_stop stage file cause (by_file at name _ next cannot_be_read) before = by_file at name _ next cannot_be_read
+    one_stop stage file cause (by_file at name _ next (is_too_large over)) before = by_file at name _ next (is_too_large (oversize name (at_next at name next before) over))
+    one_stop stage file cause (by_board _ h) before = by_board _ (board_fault _ h)
+    one_stop stage file cause (by_system listing _ h) before = by_system listing _ (system_fault listing.system _ (at_system listing before) h)
+    one_stop stage file cause (by_pool listing system h) before =
+        by_pool listing system (record { spells = spells listing.system system (at_system listing before) h.spells; clean = h.clean; small = h.small })
+    one_stop stage file cause (by_preload so_far h) before =
+        by_preload so_far (record { file = h.file; next = h.next; preload = h.preload; read = preload_of h.file h.preload (at_preload so_far h.file before h.next) h.read; faulty = h.faulty })
+    one_stop stage file cause (by_program so_far entry fault h) before =
+        by_program so_far entry fault (record { next = h.next; bytes = h.bytes; has = has entry.file h.bytes (at_program so_far entry before h.next) h.has; told = h.told })
 
     pub stops : (file : List ℕ) (cause : ImageCause) → IsCauseOf contents board file cause → IsCauseOf (all_told contents) board file cause
     stops file cause h = record { stage = h.stage; read = all_read h.stage h.read; stops = one_stop h.stage file cause h.stops (is_listed h.stage h.read) }

@@ -31,14 +31,14 @@ use Rattle.jh_image.proofs.Public.{OneSpelling, hands_one}
 use Rattle.jh_cli.specs.declared.status.Status.TheVariants.{ReadFault}
 use Rattle.jh_cli.specs.Limits.{most_of_a_file, most_of_a_journal}
 use Rattle.jh_image.specs.Files.{Contents}
-use Rattle.jh_cli.specs.Reading.{Reply, FailsAt, SpellsAt, ReadsAt}
+use Rattle.jh_cli.specs.Reading.{Reply, EndsAt, SpellsAt, Reads}
 use Rattle.jh_cli.specs.Check.{IsCellFile, CellRefusal, IsSystemFile, SystemRefusal, SpellCells, ChecksCells, checked}
 use Rattle.jh_cli.specs.Pack.{IsSpecFile, SpecRefusal}
 use Rattle.jh_cli.specs.Play.{ScheduleRefusal}
 use Rattle.jh_cli.specs.Audit.{JournalRefusal, IsAudited, verdict_status, verdict_text}
 use Rattle.jh_cli.specs.Complete.{AreKnownNames}
 use Rattle.jh_cli.proofs.GoodLemmas.{CellsAreFaultless, no_more, cell_sound, same_for_image}
-use Rattle.jh_cli.proofs.StopLemmas.{refused_said}
+use Rattle.jh_cli.proofs.StopLemmas.{refusal_reply}
 use Rattle.jh_num.proofs.Public.{ok_one}
 
 -- ---- the laws of the layers below
@@ -57,11 +57,11 @@ OneLine = (text : List ℕ) (m n : ℕ) → IsFirstBadLine text m → IsFirstBad
 
 -- ---- one file
 
-abbrev audited_said : Verdict → Reply
-audited_said verdict = record { status = verdict_status verdict; text = verdict_text verdict }
+abbrev verdict_reply : Verdict → Reply
+verdict_reply verdict = record { status = verdict_status verdict; text = verdict_text verdict }
 
 abbrev pub IsRead : Reply → Type 0
-IsRead said = said.status ≢ ReadFault
+IsRead reply = reply.status ≢ ReadFault
 
 module _ {A : Type 0} (most : ℕ) (contents : Contents) (name : List ℕ) (is_told : contents name ≢ None) (Why : List ℕ → List ℕ → Type 0) (Form : List ℕ → A → Type 0) where
   abbrev pub OneWord : Type 0
@@ -73,17 +73,17 @@ module _ {A : Type 0} (most : ℕ) (contents : Contents) (name : List ℕ) (is_t
   abbrev pub Apart : Type 0
   Apart = (bytes : List ℕ) (a : A) (words : List ℕ) → Form bytes a → Why bytes words → ⊥
 
-  one_stop : OneWord → (one other : Reply) → FailsAt most contents name Why one → FailsAt most contents name Why other → IsRead one → IsRead other → one ≡ other
+  one_stop : OneWord → (one other : Reply) → EndsAt most contents name Why one → EndsAt most contents name Why other → IsRead one → IsRead other → one ≡ other
   one_stop words one other (inl h) k read also = absurd (read (ap (λ (s : Reply). s.status) h))
   one_stop words one other (inr h) (inl k) read also = absurd (also (ap (λ (s : Reply). s.status) k))
   one_stop words one other (inr h) (inr k) read also =
       let bytes : h.bytes ≡ k.bytes = hands_one (contents name) most h.bytes k.bytes is_told h.handed k.handed in
       let same : h.words ≡ k.words = words k.bytes h.words k.words (subst (λ b. Why b h.words) bytes h.why) k.why in
-      h.told ∙ ap (refused_said name) same ∙ sym k.told
+      h.told ∙ ap (refusal_reply name) same ∙ sym k.told
 
-  spelled_or_stopped : Apart → (value : A) (said : Reply) → SpellsAt most contents name Form value → FailsAt most contents name Why said → IsRead said → ⊥
-  spelled_or_stopped apart value said spells (inl h) read = read (ap (λ (s : Reply). s.status) h)
-  spelled_or_stopped apart value said spells (inr h) read =
+  spelled_or_stopped : Apart → (value : A) (reply : Reply) → SpellsAt most contents name Form value → EndsAt most contents name Why reply → IsRead reply → ⊥
+  spelled_or_stopped apart value reply spells (inl h) read = read (ap (λ (s : Reply). s.status) h)
+  spelled_or_stopped apart value reply spells (inr h) read =
       let bytes : h.bytes ≡ spells.bytes = hands_one (contents name) most h.bytes spells.bytes is_told h.handed spells.handed in
       apart spells.bytes value h.words spells.spelled (subst (λ b. Why b h.words) bytes h.why)
 
@@ -94,7 +94,7 @@ module _ {A : Type 0} (most : ℕ) (contents : Contents) (name : List ℕ) (is_t
 
   pub one_reading : OneWord → OneValue → Apart → (next : A → Reply → Type 0) (one other : Reply)
       → ((value : A) → next value one → next value other → IsRead one → IsRead other → one ≡ other)
-      → ReadsAt most contents name Why Form next one → ReadsAt most contents name Why Form next other → IsRead one → IsRead other → one ≡ other
+      → Reads contents name (record { most = most; Refusal = Why; Form = Form }) next one → Reads contents name (record { most = most; Refusal = Why; Form = Form }) next other → IsRead one → IsRead other → one ≡ other
   one_reading words values apart next one other rest (inl h) (inl k) read also = one_stop words one other h k read also
   one_reading words values apart next one other rest (inl h) (inr k) read also = absurd (spelled_or_stopped apart k.0 one k.1 h read)
   one_reading words values apart next one other rest (inr h) (inl k) read also = absurd (spelled_or_stopped apart h.0 other h.1 k also)
@@ -132,8 +132,8 @@ module _ (faultless : CellsAreFaultless) (one_cell : OneCell) (contents : Conten
   cell_apart : (bytes : List ℕ) (cell : CellConfig) (words : List ℕ) → IsCellFile bytes cell → CellRefusal bytes words → ⊥
   cell_apart bytes cell words form why = cell_sound faultless cell bytes words form.within form why
 
-  not_both : (name : List ℕ) → contents name ≢ None → (cell : CellConfig) (said : Reply) → SpellsAt most_of_a_file contents name IsCellFile cell → FailsAt most_of_a_file contents name CellRefusal said → IsRead said → ⊥
-  not_both name told cell said = spelled_or_stopped most_of_a_file contents name told CellRefusal IsCellFile cell_apart cell said
+  not_both : (name : List ℕ) → contents name ≢ None → (cell : CellConfig) (reply : Reply) → SpellsAt most_of_a_file contents name IsCellFile cell → EndsAt most_of_a_file contents name CellRefusal reply → IsRead reply → ⊥
+  not_both name told cell reply = spelled_or_stopped most_of_a_file contents name told CellRefusal IsCellFile cell_apart cell reply
 
   one_cells : (names : List (List ℕ)) → AreKnownNames contents names → (a b : List CellConfig) → SpellCells contents names a → SpellCells contents names b → a ≡ b
   one_cells [] told [] [] h k = refl
@@ -147,20 +147,20 @@ module _ (faultless : CellsAreFaultless) (one_cell : OneCell) (contents : Conten
       ap (λ (x : CellConfig). x ∷ us) first ∙ ap (λ (xs : List CellConfig). b ∷ xs) rest
 
   -- a file that stops the call isn't among those that spell cells
-  stop_among : (before : List (List ℕ)) (name : List ℕ) (rest : List (List ℕ)) (cells : List CellConfig) (said : Reply) → AreKnownNames contents (before ++ name ∷ rest)
-      → SpellCells contents (before ++ name ∷ rest) cells → FailsAt most_of_a_file contents name CellRefusal said → IsRead said → ⊥
-  stop_among [] name rest [] said told h k read = h
-  stop_among [] name rest (c ∷ cs) said told h k read = not_both name told.0 c said h.0 k read
-  stop_among (b ∷ bs) name rest [] said told h k read = h
-  stop_among (b ∷ bs) name rest (c ∷ cs) said told h k read = stop_among bs name rest cs said told.1 h.1 k read
+  stop_among : (before : List (List ℕ)) (name : List ℕ) (rest : List (List ℕ)) (cells : List CellConfig) (reply : Reply) → AreKnownNames contents (before ++ name ∷ rest)
+      → SpellCells contents (before ++ name ∷ rest) cells → EndsAt most_of_a_file contents name CellRefusal reply → IsRead reply → ⊥
+  stop_among [] name rest [] reply told h k read = h
+  stop_among [] name rest (c ∷ cs) reply told h k read = not_both name told.0 c reply h.0 k read
+  stop_among (b ∷ bs) name rest [] reply told h k read = h
+  stop_among (b ∷ bs) name rest (c ∷ cs) reply told h k read = stop_among bs name rest cs reply told.1 h.1 k read
 
   -- the first file that stops the call is one
   one_among : (xs : List (List ℕ)) (x : List ℕ) (r ys : List (List ℕ)) (y : List ℕ) (s : List (List ℕ)) (us bs : List CellConfig) (one other : Reply) → AreKnownNames contents (xs ++ x ∷ r)
       → xs ++ x ∷ r ≡ ys ++ y ∷ s → SpellCells contents xs us → SpellCells contents ys bs
-      → FailsAt most_of_a_file contents x CellRefusal one → FailsAt most_of_a_file contents y CellRefusal other → IsRead one → IsRead other → one ≡ other
+      → EndsAt most_of_a_file contents x CellRefusal one → EndsAt most_of_a_file contents y CellRefusal other → IsRead one → IsRead other → one ≡ other
   one_among [] x r [] y s us bs one other told same h k stops also read read_also =
       let head : x ≡ y = cc same in
-      one_stop most_of_a_file contents x told.0 CellRefusal IsCellFile cell_words one other stops (subst (λ n. FailsAt most_of_a_file contents n CellRefusal other) (sym head) also) read read_also
+      one_stop most_of_a_file contents x told.0 CellRefusal IsCellFile cell_words one other stops (subst (λ n. EndsAt most_of_a_file contents n CellRefusal other) (sym head) also) read read_also
   one_among [] x r (y1 ∷ ys) y s us [] one other told same h k stops also read read_also = absurd k
   one_among [] x r (y1 ∷ ys) y s us (b ∷ bs) one other told same h k stops also read read_also =
       let head : x ≡ y1 = cc same in
@@ -168,7 +168,7 @@ module _ (faultless : CellsAreFaultless) (one_cell : OneCell) (contents : Conten
   one_among (x1 ∷ xs) x r [] y s [] bs one other told same h k stops also read read_also = absurd h
   one_among (x1 ∷ xs) x r [] y s (a ∷ us) bs one other told same h k stops also read read_also =
       let head : x1 ≡ y = cc same in
-      absurd (not_both x1 told.0 a other h.0 (subst (λ n. FailsAt most_of_a_file contents n CellRefusal other) (sym head) also) read_also)
+      absurd (not_both x1 told.0 a other h.0 (subst (λ n. EndsAt most_of_a_file contents n CellRefusal other) (sym head) also) read_also)
   one_among (x1 ∷ xs) x r (y1 ∷ ys) y s [] bs one other told same h k stops also read read_also = absurd h
   one_among (x1 ∷ xs) x r (y1 ∷ ys) y s (a ∷ us) [] one other told same h k stops also read read_also = absurd k
   one_among (x1 ∷ xs) x r (y1 ∷ ys) y s (a ∷ us) (b ∷ bs) one other told same h k stops also read read_also =
@@ -293,4 +293,4 @@ one_verdict image entries (Illegal m a) (Illegal n b) h k =
 
 pub one_audited : (image : Image) (entries : List Entry) (one other : Reply) → IsAudited image entries one → IsAudited image entries other → one ≡ other
 one_audited image entries one other h k =
-    h.told ∙ ap audited_said (one_verdict image entries h.verdict k.verdict h.judged k.judged) ∙ sym k.told
+    h.told ∙ ap verdict_reply (one_verdict image entries h.verdict k.verdict h.judged k.judged) ∙ sym k.told

@@ -14,12 +14,12 @@ use Rattle.jh_run.specs.Maps.{IsMapsText, Maps}
 use Rattle.jh_text.specs.Faults.{max_entries}
 use Rattle.jh_cli.specs.declared.status.Status.TheVariants.{Good, ReadFault}
 use Rattle.jh_cli.specs.Limits.{most_of_a_file, most_of_a_journal}
-use Rattle.jh_cli.specs.Words.{Asked, CheckOf, PackOf, PlayOf, RunOf, MapOf, AuditOf, SoakOf, IsSerial}
+use Rattle.jh_cli.specs.Words.{Request, CheckOf, PackOf, PlayOf, RunOf, MapOf, AuditOf, SoakOf, IsSerial}
 use Rattle.jh_image.specs.Files.{Contents}
 use Rattle.jh_cli.specs.Reading.{Reply}
 use Rattle.jh_cli.specs.Check.{IsSystemFile, SystemRefusal, ChecksCells}
 use Rattle.jh_cli.specs.Pack.{IsSpecFile, SpecRefusal, packed}
-use Rattle.jh_cli.specs.Boards.{stopped, EndsAt, Opens}
+use Rattle.jh_cli.specs.Boards.{stopped, EndsAtBoard, Opens}
 use Rattle.jh_cli.specs.Play.{IsSchedule, ScheduleRefusal, IsPlayed, PlaysBy}
 use Rattle.jh_cli.specs.Map.{map_reply, IsMapped, MapsBy}
 use Rattle.jh_cli.specs.Audit.{IsJournalFile, JournalRefusal, IsAudited, AuditsBy}
@@ -35,19 +35,19 @@ abbrev pub OneCause : Type 0
 OneCause = (contents : Contents) (board file other : List ℕ) (cause more : ImageCause) → AreKnown contents → IsCauseOf contents board file cause → cause ≢ CantBeRead
     → IsCauseOf contents board other more → more ≢ CantBeRead → (cause ≡ more) × (file ≡ other)
 
-is_unread : (file : List ℕ) (cause : ImageCause) (said : Reply) → said ≡ stopped file cause → IsRead said → cause ≢ CantBeRead
-is_unread file cause said is read fault = read (ap (λ (s : Reply). s.status) is ∙ ap (λ (c : ImageCause). (stopped file c).status) fault)
+is_unread : (file : List ℕ) (cause : ImageCause) (reply : Reply) → reply ≡ stopped file cause → IsRead reply → cause ≢ CantBeRead
+is_unread file cause reply is read fault = read (ap (λ (s : Reply). s.status) is ∙ ap (λ (c : ImageCause). (stopped file c).status) fault)
 
 -- a call ends at one file of a board for one cause
-one_end : OneCause → (contents : Contents) (board : List ℕ) → IsKnownBoard contents board → (one other : Reply) → EndsAt contents board one → EndsAt contents board other → IsRead one → IsRead other → one ≡ other
+one_end : OneCause → (contents : Contents) (board : List ℕ) → IsKnownBoard contents board → (one other : Reply) → EndsAtBoard contents board one → EndsAtBoard contents board other → IsRead one → IsRead other → one ≡ other
 one_end one_cause contents board told one other h k read also =
     let same : (h.cause ≡ k.cause) × (h.file ≡ k.file) = one_cause (all_told contents) board h.file k.file h.cause k.cause (each_is_told contents)
     (stops contents board told h.file h.cause h.stops) (is_unread h.file h.cause one h.told read) (stops contents board told k.file k.cause k.stops) (is_unread k.file k.cause other k.told also) in
     h.told ∙ ap (λ (f : List ℕ). stopped f h.cause) same.1 ∙ ap (λ (c : ImageCause). stopped k.file c) same.0 ∙ sym k.told
 
-unread_end : (said : Reply) → IsAnswered (λ status. ⊥) said → said.status ≡ ReadFault
-unread_end said (inl never) = absurd never
-unread_end said (inr is) = is
+unread_end : (reply : Reply) → IsAnswered (λ status. ⊥) reply → reply.status ≡ ReadFault
+unread_end reply (inl never) = absurd never
+unread_end reply (inr is) = is
 
 one_opening : OneCause → OneImage → BoardsAreUnrefused → (contents : Contents) (board : List ℕ) (next : Image → Reply → Type 0) (one other : Reply) → IsKnownBoard contents board
     → ((image : Image) → next image one → next image other → one ≡ other)
@@ -72,12 +72,12 @@ same_found one_maps image cpus (Some text) None h k = absurd (false≢true (sym 
 same_found one_maps image cpus (Some text) (Some more) h k = ap Some (one_maps image (items image max_entries cpus []).entries text more h.2 k.2)
 
 one_mapped : OneMaps → (image : Image) (cpus : List ℕ) (one other : Reply) → IsMapped image cpus one → IsMapped image cpus other → one ≡ other
-one_mapped one_maps image cpus one other (found, is, told) (more, also, said) = told ∙ ap map_reply (same_found one_maps image cpus found more is also) ∙ sym said
+one_mapped one_maps image cpus one other (found, is, told) (more, also, told_also) = told ∙ ap map_reply (same_found one_maps image cpus found more is also) ∙ sym told_also
 
 -- ---- all of them
 
 pub one_outcome : CellsAreFaultless → SpellingsAreFaultless → OneCell → OneSpelling → NoBadLine → NotLong → OneJournal → NotBoth → OneLine → OneImage → BoardsAreUnrefused → OneCause → OneMaps
-    → (contents : Contents) (asked : Option Asked) (one other : Reply) → IsSerial asked → AreKnownFiles contents asked → Outcome contents asked one → Outcome contents asked other → IsRead one → IsRead other → one ≡ other
+    → (contents : Contents) (request : Option Request) (one other : Reply) → IsSerial request → AreKnownFiles contents request → Outcome contents request one → Outcome contents request other → IsRead one → IsRead other → one ≡ other
 one_outcome cells systems one_cell one_system no_bad not_long one_journal not_both one_line one_image unrefused one_cause one_maps contents None one other serial told h k read also = h ∙ sym k
 one_outcome cells systems one_cell one_system no_bad not_long one_journal not_both one_line one_image unrefused one_cause one_maps contents (Some (CheckOf system names)) one other serial told h k read also =
     one_reading most_of_a_file contents system told.0 SystemRefusal IsSystemFile system_words (system_values one_system) (λ bytes s words form why. system_sound systems s bytes words form.within form why)
@@ -97,6 +97,6 @@ one_outcome cells systems one_cell one_system no_bad not_long one_journal not_bo
     (IsMapped image) one other (λ s x y r q. one_mapped one_maps image s one other x y) a b read also) h k read also
 one_outcome cells systems one_cell one_system no_bad not_long one_journal not_both one_line one_image unrefused one_cause one_maps contents (Some (AuditOf board journal)) one other serial told h k read also =
     one_opening one_cause one_image unrefused contents board (AuditsBy contents journal) one other told.0
-    (λ image a b. one_reading most_of_a_journal contents journal told.1.0 JournalRefusal IsJournalFile (journal_words not_both one_line) (λ bytes x y f g. one_journal bytes x y f.told g.told)
+    (λ image a b. one_reading most_of_a_journal contents journal told.1.0 JournalRefusal IsJournalFile (journal_words not_both one_line) (λ bytes x y f g. one_journal bytes x y f.spelled g.spelled)
     (λ bytes s words form why. journal_sound no_bad not_long s bytes words form.within form why)
     (IsAudited image) one other (λ entries x y r q. one_audited image entries one other x y) a b read also) h k read also

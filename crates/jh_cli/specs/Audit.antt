@@ -11,7 +11,7 @@ use Rattle.jh_audit.specs.declared.verdict.Verdict.{Verdict}
 use Rattle.jh_audit.specs.declared.verdict.Verdict.TheVariants.{Legal, Illegal}
 use Rattle.jh_audit.specs.Judges.{Judges}
 use Rattle.jh_image.specs.Files.{Contents}
-use Rattle.jh_cli.specs.Reading.{Reply, SpellsAt, ReadsAt, IsOversizeAt}
+use Rattle.jh_cli.specs.Reading.{Reply, FileKind, Reads, IsOversizeAt}
 use Rattle.jh_cli.specs.Boards.{Opens}
 use Rattle.jh_cli.specs.declared.status.Status.{Status}
 use Rattle.jh_cli.specs.declared.status.Status.TheVariants.{Good, Found}
@@ -20,7 +20,7 @@ use Rattle.jh_cli.specs.Limits.{most_of_a_journal}
 -- the bytes are the text of a journal with these entries
 pub record IsJournalFile (bytes : List ℕ) (entries : List Entry) : Type 0 where
   pub within : length bytes < most_of_a_journal
-  pub told : IsJournalText bytes entries
+  pub spelled : IsJournalText bytes entries
 
 -- the bytes are no journal's text, for the fault that these words tell
 pub record IsNoJournal (bytes words : List ℕ) : Type 0 where
@@ -33,6 +33,10 @@ pub record IsNoJournal (bytes words : List ℕ) : Type 0 where
 -- a journal's file of these bytes is refused by these words: it is too large, or no journal's text
 abbrev pub JournalRefusal : List ℕ → List ℕ → Type 0
 JournalRefusal bytes words = IsOversizeAt most_of_a_journal bytes words ⊎ IsNoJournal bytes words
+
+-- a journal's file
+abbrev pub journal_file : FileKind (List Entry)
+journal_file = record { most = most_of_a_journal; Refusal = JournalRefusal; Form = IsJournalFile }
 
 -- the line that tells that the entry was due instead of the one in this line
 abbrev pub due_text : ℕ → Entry → List ℕ
@@ -50,21 +54,15 @@ abbrev pub verdict_status : Verdict → Status
 verdict_status (Legal count quiet) = Good
 verdict_status (Illegal number expected) = Found
 
--- the file of this name spells a journal, and the verdict is that on its entries
-pub record JudgesFile (contents : Contents) (name : List ℕ) (image : Image) (verdict : Verdict) : Type 0 where
-  pub entries : List Entry
-  pub spelled : SpellsAt most_of_a_journal contents name IsJournalFile entries
-  pub judged : Judges image entries verdict
-
 -- the verdict on the journal is told
-pub record IsAudited (image : Image) (entries : List Entry) (said : Reply) : Type 0 where
+pub record IsAudited (image : Image) (entries : List Entry) (reply : Reply) : Type 0 where
   pub verdict : Verdict
   pub judged : Judges image entries verdict
-  pub told : said ≡ record { status = verdict_status verdict; text = verdict_text verdict }
+  pub told : reply ≡ record { status = verdict_status verdict; text = verdict_text verdict }
 
 -- what an audit of the journal by the image ends with
 abbrev pub AuditsBy : Contents → List ℕ → Image → Reply → Type 0
-AuditsBy contents journal image = ReadsAt most_of_a_journal contents journal JournalRefusal IsJournalFile (IsAudited image)
+AuditsBy contents journal image = Reads contents journal journal_file (IsAudited image)
 
 -- what an audit of the journal by the board ends with: the board's files are read, then the journal's, and the first
 -- that stops the call ends it

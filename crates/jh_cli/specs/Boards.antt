@@ -12,18 +12,18 @@ use Rattle.jh_image.specs.Files.{Contents}
 use Rattle.jh_cli.specs.Reading.{Reply}
 use Rattle.jh_cli.specs.declared.status.Status.TheVariants as status
 
--- what is said where the file is refused for the cause
+-- the reply where the file can't be read or is refused for the cause
 abbrev pub stopped : List ℕ → ImageCause → Reply
 stopped file ReadFault = record { status = status.ReadFault; text = fault_line file }
 stopped file cause = record { status = status.Refused; text = refusal_line file (cause_text cause) }
 
 -- the call ends at one of the board's files: it is the first in their order that can't be read or is refused
-pub record EndsAt (contents : Contents) (board : List ℕ) (said : Reply) : Type 0 where
+pub record EndsAtBoard (contents : Contents) (board : List ℕ) (reply : Reply) : Type 0 where
   pub file : List ℕ
   pub cause : ImageCause
   pub stops : IsCauseOf contents board file cause
-  pub told : said ≡ stopped file cause
+  pub told : reply ≡ stopped file cause
 
 -- the board is read: the call ends at one of its files, or goes on with the image that they make, which is admitted
 abbrev pub Opens : Contents → List ℕ → (Image → Reply → Type 0) → Reply → Type 0
-Opens contents board next said = EndsAt contents board said ⊎ ((image : Image) × IsImage contents board image × IsAdmitted image × next image said)
+Opens contents board next reply = EndsAtBoard contents board reply ⊎ ((image : Image) × IsImage contents board image × IsAdmitted image × next image reply)

@@ -4,12 +4,11 @@ use Rattle.std.specs.Prelude.{◌≡◌, ◌≢◌, ℕ, ◌⊎◌, List, Option
 use Rattle.jh_outside.specs.Count.{Rose}
 use Rattle.jh_outside.specs.Trail.{Ask}
 use Rattle.jh_outside.specs.Writes.{Appended}
-use Rattle.jh_cli.specs.Words.{Asked}
+use Rattle.jh_cli.specs.Words.{Request}
 use Rattle.jh_cli.specs.Lines.{fault_line}
 use Rattle.jh_image.specs.Files.{Contents}
-use Rattle.jh_cli.specs.Reading.{Reply}
-use Rattle.jh_cli.specs.Endings.{IsCounted}
-use Rattle.jh_cli.specs.Order.{IsReadFor}
+use Rattle.jh_cli.specs.Reading.{Reply, IsCountedFault}
+use Rattle.jh_cli.specs.Order.{AsksFor}
 use Rattle.jh_cli.specs.Outcome.{Outcome, Sent}
 use Rattle.jh_cli.specs.Complete.{AreGood, MayEndWith}
 use Rattle.jh_cli.specs.declared.status.Status.{Status}
@@ -18,27 +17,26 @@ use Rattle.jh_cli.specs.declared.status.Status.TheVariants.{ReadFault, WriteFaul
 -- `S` are the states of the files and `K` those of the sink: what each name holds, the name of the read that failed
 -- last, the count of failed reads and what one read does; what was written, and the count of failed writes
 module _ {S K : Type 0} (contents : S → Contents) (failed : S → List ℕ) (faults : S → ℕ) (one : S → Ask → S → Type 0) (written : K → Option (List ℕ)) (sink_faults : K → ℕ) where
-  -- what is said is what the words ask for; the files that they name are read for it in their order, each once and no
-  -- other, up to the one where the call ends; and that a file can't be read is said only where the count rose, of the
+  -- the reply is an outcome of the request; the files that the request names are read for it in their order, each once and
+  -- no other, up to the one where the call ends; and that a file can't be read is told only where the count rose, of the
   -- read that failed
-  pub record IsReplyTo (asked : Option Asked) (s t : S) (said : Reply) : Type 0 where
-    pub outcome : Outcome (contents s) asked said
-    pub read : IsReadFor one failed (contents s) asked s t said
-    pub counted : IsCounted (faults s) (faults t) (failed t) said
+  pub record IsReplyTo (request : Option Request) (s t : S) (reply : Reply) : Type 0 where
+    pub outcome : Outcome (contents s) request reply
+    pub read : AsksFor one failed s t (contents s) request reply
+    pub counted : IsCountedFault (faults s) (faults t) (failed t) reply
 
-  -- the call ends with what is said, which was sent whole or a proper front of it, or with want of memory and nothing
-  -- written
-  abbrev pub Ends : Option Asked → S → S → K → K → Status → Type 0
-  Ends asked s t k l status = ((status ≡ NoMemory) × (written l ≡ written k)) ⊎ ((said : Reply) × IsReplyTo asked s t said × Sent (written k) (written l) said status)
+  -- the call ends with a reply that was sent, whole or a proper front of it, or with want of memory and nothing written
+  abbrev pub Ends : Option Request → S → S → K → K → Status → Type 0
+  Ends request s t k l status = ((status ≡ NoMemory) × (written l ≡ written k)) ⊎ ((reply : Reply) × IsReplyTo request s t reply × Sent (written k) (written l) reply status)
 
-  -- what a call with these words is: it takes the files from `s` to `t` and the sink from `k` to `l`
-  pub record IsCall (asked : Option Asked) (s t : S) (k l : K) (status : Status) : Type 0 where
-    -- the status, and what was appended, are those that the words ask for
-    pub ends : Ends asked s t k l status
+  -- what a call with this request is: it takes the files from `s` to `t` and the sink from `k` to `l`
+  pub record IsCall (request : Option Request) (s t : S) (k l : K) (status : Status) : Type 0 where
+    -- the status, and what was appended, are those of an outcome of the request
+    pub ends : Ends request s t k l status
     -- a fault of reading or writing comes only where the count rose in this call
     pub read_fault : status ≡ ReadFault → Rose (faults s) (faults t) × Appended (written k) (written l) (fault_line (failed t))
     pub write_fault : status ≡ WriteFault → Rose (sink_faults k) (sink_faults l)
     -- with any other status but want of memory the name of the failed read is what it was
     pub unfailed : status ≢ ReadFault → status ≢ WriteFault → status ≢ NoMemory → failed t ≡ failed s
     -- good words and files give the command's answer or want of memory, unless a count rose in this call
-    pub complete : (good : AreGood (contents s) asked) → MayEndWith (contents s) asked good status ⊎ (status ≡ NoMemory) ⊎ Rose (faults s) (faults t) ⊎ Rose (sink_faults k) (sink_faults l)
+    pub complete : (good : AreGood (contents s) request) → MayEndWith (contents s) request good status ⊎ (status ≡ NoMemory) ⊎ Rose (faults s) (faults t) ⊎ Rose (sink_faults k) (sink_faults l)

@@ -16,7 +16,7 @@ use Rattle.jh_check.specs.Findings.{findings}
 use Rattle.jh_check.specs.Lists.{capped, is_any}
 use Rattle.jh_check.specs.Texts.{finding_text}
 use Rattle.jh_image.specs.Files.{Contents}
-use Rattle.jh_cli.specs.Reading.{Reply, Spells, FailsAtFile, Reads, IsOversize}
+use Rattle.jh_cli.specs.Reading.{Reply, FileKind, Spells, EndsAtFile, Reads, IsOversize}
 use Rattle.jh_cli.specs.declared.status.Status.{Status}
 use Rattle.jh_cli.specs.declared.status.Status.TheVariants.{Good, Found}
 use Rattle.jh_cli.specs.Limits.{most_of_a_file}
@@ -57,6 +57,10 @@ pub record IsNoSystem (bytes words : List ℕ) : Type 0 where
 abbrev pub SystemRefusal : List ℕ → List ℕ → Type 0
 SystemRefusal bytes words = IsOversize bytes words ⊎ IsNoSystem bytes words
 
+-- a system's file
+abbrev pub system_file : FileKind SystemConfig
+system_file = record { most = most_of_a_file; Refusal = SystemRefusal; Form = IsSystemFile }
+
 -- the files of these names spell these cells, one each
 abbrev pub SpellCells : Contents → List (List ℕ) → List CellConfig → Type 0
 SpellCells contents [] [] = ⊤
@@ -64,14 +68,14 @@ SpellCells contents (name ∷ names) (cell ∷ cells) = Spells contents name IsC
 SpellCells contents _ _ = ⊥
 
 -- one of the files stops the call, and those before it spell cells
-pub record FailsAmong (contents : Contents) (names : List (List ℕ)) (said : Reply) : Type 0 where
+pub record EndsAmong (contents : Contents) (names : List (List ℕ)) (reply : Reply) : Type 0 where
   pub before : List (List ℕ)
   pub name : List ℕ
   pub rest : List (List ℕ)
   pub split : names ≡ before ++ name ∷ rest
   pub cells : List CellConfig
   pub spelled : SpellCells contents before cells
-  pub stops : FailsAtFile contents name CellRefusal said
+  pub stops : EndsAtFile contents name CellRefusal reply
 
 -- a line for each finding, and one with their number
 abbrev pub findings_text : List Finding → List ℕ
@@ -87,10 +91,10 @@ checked system cells = record { status = checked_status (capped (findings system
 
 -- the files of the cells are read, and all is checked
 abbrev pub ChecksCells : Contents → List (List ℕ) → SystemConfig → Reply → Type 0
-ChecksCells contents names system said =
-    FailsAmong contents names said ⊎ ((cells : List CellConfig) × SpellCells contents names cells × (said ≡ checked system cells))
+ChecksCells contents names system reply =
+    EndsAmong contents names reply ⊎ ((cells : List CellConfig) × SpellCells contents names cells × (reply ≡ checked system cells))
 
 -- what a check of these files ends with: they are read in the order of the words, and the first that stops
 -- the call ends it
 abbrev pub Checks : Contents → List ℕ → List (List ℕ) → Reply → Type 0
-Checks contents system names = Reads contents system SystemRefusal IsSystemFile (ChecksCells contents names)
+Checks contents system names = Reads contents system system_file (ChecksCells contents names)

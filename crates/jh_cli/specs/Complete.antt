@@ -13,7 +13,7 @@ use Rattle.jh_image.specs.Files.{Contents, Lists}
 use Rattle.jh_image.specs.Images.{IsImage}
 use Rattle.jh_image.specs.Order.{board_files}
 use Rattle.jh_text.specs.Faults.{max_entries}
-use Rattle.jh_cli.specs.Words.{Asked, CheckOf, PackOf, PlayOf, RunOf, MapOf, AuditOf, SoakOf}
+use Rattle.jh_cli.specs.Words.{Request, CheckOf, PackOf, PlayOf, RunOf, MapOf, AuditOf, SoakOf}
 use Rattle.jh_cli.specs.Check.{IsCellFile, IsSystemFile}
 use Rattle.jh_cli.specs.Pack.{IsSpecFile}
 use Rattle.jh_cli.specs.Play.{IsSchedule, played_status}
@@ -27,7 +27,7 @@ module _ {A : Type 0} where
   -- the file of this name holds these bytes, fewer than `most`, and they spell the value
   pub record FileSpells (most : ℕ) (contents : Contents) (name : List ℕ) (Form : List ℕ → A → Type 0) (value : A) : Type 0 where
     pub bytes : List ℕ
-    pub told : contents name ≡ Some (Some bytes)
+    pub holds : contents name ≡ Some (Some bytes)
     pub within : length bytes < most
     pub spelled : Form bytes value
 
@@ -47,7 +47,7 @@ pub record IsKnownBoard (contents : Contents) (board : List ℕ) : Type 0 where
   pub of_files : (listing : Listing) → Lists contents board listing → AreKnownNames contents (board_files board listing)
 
 -- the files tell of each file that the words name, and of what a board lists
-abbrev pub AreKnownFiles : Contents → Option Asked → Type 0
+abbrev pub AreKnownFiles : Contents → Option Request → Type 0
 AreKnownFiles contents None = ⊤
 AreKnownFiles contents (Some (CheckOf system cells)) = AreKnownNames contents (system ∷ cells)
 AreKnownFiles contents (Some (PackOf spec)) = AreKnownNames contents (spec ∷ [])
@@ -71,7 +71,7 @@ pub record IsGoodToPack (contents : Contents) (name : List ℕ) : Type 0 where
 
 -- the board's files make an image, and the schedule's holds items for it
 pub record AreGoodToPlay (contents : Contents) (board schedule : List ℕ) : Type 0 where
-  pub told : IsKnownBoard contents board
+  pub known : IsKnownBoard contents board
   pub image : Image
   pub is : IsImage contents board image
   pub items : List ℕ
@@ -79,20 +79,20 @@ pub record AreGoodToPlay (contents : Contents) (board schedule : List ℕ) : Typ
 
 -- the board's files make an image
 pub record AreGoodToRun (contents : Contents) (board : List ℕ) : Type 0 where
-  pub told : IsKnownBoard contents board
+  pub known : IsKnownBoard contents board
   pub image : Image
   pub is : IsImage contents board image
 
 -- the board's files make an image, and the journal's holds a journal, whether it is legal or not
 pub record AreGoodToAudit (contents : Contents) (board journal : List ℕ) : Type 0 where
-  pub told : IsKnownBoard contents board
+  pub known : IsKnownBoard contents board
   pub image : Image
   pub is : IsImage contents board image
   pub entries : List Entry
   pub held : FileSpells most_of_a_journal contents journal IsJournalFile entries
 
 -- the words have a command, and its files are good for it
-abbrev pub AreGood : Contents → Option Asked → Type 0
+abbrev pub AreGood : Contents → Option Request → Type 0
 AreGood contents None = ⊥
 AreGood contents (Some (CheckOf system cells)) = AreGoodToCheck contents system cells
 AreGood contents (Some (PackOf spec)) = IsGoodToPack contents spec
@@ -105,7 +105,7 @@ AreGood contents (Some (SoakOf rounds)) = (n : ℕ) × AreRounds rounds n
 -- what a call with good words and files ends with: a check with whether something is found, a play with whether the
 -- journal stopped at its limit, a map with whether that of the schedule alone did, an audit with whether the journal is
 -- legal; a run or a soak ends with `Good` or `Full`, which its outcome parts
-abbrev pub MayEndWith : (contents : Contents) (asked : Option Asked) → AreGood contents asked → Status → Type 0
+abbrev pub MayEndWith : (contents : Contents) (request : Option Request) → AreGood contents request → Status → Type 0
 MayEndWith contents None good status = ⊥
 MayEndWith contents (Some (CheckOf system cells)) good status = (status ≡ Good) ⊎ (status ≡ Found)
 MayEndWith contents (Some (PackOf spec)) good status = status ≡ Good

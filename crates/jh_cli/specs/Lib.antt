@@ -10,8 +10,8 @@ pub mod Run
 pub mod Map
 pub mod Audit
 pub mod Soak
-pub mod Endings
 pub mod Order
 pub mod Outcome
 pub mod Complete
 pub mod Call
+pub mod Private

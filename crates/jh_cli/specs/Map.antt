@@ -6,7 +6,7 @@ use Rattle.jh_image.specs.Files.{Contents}
 use Rattle.jh_text.specs.Faults.{max_entries}
 use Rattle.jh_cli.specs.Reading.{Reply, Reads}
 use Rattle.jh_cli.specs.Boards.{Opens}
-use Rattle.jh_cli.specs.Play.{IsSchedule, ScheduleRefusal}
+use Rattle.jh_cli.specs.Play.{schedule_file}
 use Rattle.jh_cli.specs.declared.status.Status.TheVariants.{Good, Full}
 
 -- the maps that were told, or, where the limit stopped an item, nothing
@@ -14,13 +14,13 @@ abbrev pub map_reply : Option (List ℕ) → Reply
 map_reply (Some text) = record { status = Good; text = text }
 map_reply None = record { status = Full; text = [] }
 
--- what is said of the image after the items alone: the maps, or that the limit stopped an item
+-- the reply to a map of the image after the items alone: the maps, or that the limit stopped an item
 abbrev pub IsMapped : Image → List ℕ → Reply → Type 0
-IsMapped image cpus said = (found : Option (List ℕ)) × Maps image max_entries cpus found × (said ≡ map_reply found)
+IsMapped image cpus reply = (found : Option (List ℕ)) × Maps image max_entries cpus found × (reply ≡ map_reply found)
 
 -- what a map of the image after the schedule ends with
 abbrev pub MapsBy : Contents → List ℕ → Image → Reply → Type 0
-MapsBy contents schedule image = Reads contents schedule (ScheduleRefusal image) (IsSchedule image) (IsMapped image)
+MapsBy contents schedule image = Reads contents schedule (schedule_file image) (IsMapped image)
 
 -- what a map of the board after the schedule ends with: the board's files are read, then the schedule's, and the first
 -- that stops the call ends it

@@ -1,11 +1,11 @@
--- The files that a call reads, in their order, each once, and how far it comes in it.
+-- The files that a call reads: in the order of its command, each once and no other, up to the one where the call ends.
 use Rattle.std.specs.Prelude.{ℕ, ◌⊎◌, List, [], ◌∷◌, ◌++◌, ⊤, Option, Some, None}
 use Rattle.jh_outside.specs.Trail.{Ask, Asks, handed, faulted, AsksAll, AsksUntil}
 use Rattle.jh_image.specs.declared.board.Listing.{Listing}
 use Rattle.jh_image.specs.Files.{Contents, Lists}
 use Rattle.jh_image.specs.Order.{board_files}
 use Rattle.jh_cli.specs.Reading.{Reply}
-use Rattle.jh_cli.specs.Words.{Asked, CheckOf, PackOf, PlayOf, RunOf, MapOf, AuditOf, SoakOf}
+use Rattle.jh_cli.specs.Words.{Request, CheckOf, PackOf, PlayOf, RunOf, MapOf, AuditOf, SoakOf}
 use Rattle.jh_cli.specs.declared.status.Status.{Status}
 use Rattle.jh_cli.specs.declared.status.Status.TheVariants.{Refused, ReadFault}
 
@@ -16,36 +16,37 @@ IsFileStatus ReadFault = ⊤
 IsFileStatus _ = ⊥
 
 -- the read of the file at which a call ends with this status
-abbrev pub ask_for : Status → List ℕ → Ask
-ask_for ReadFault name = faulted name
-ask_for _ name = handed name
+abbrev pub last_ask : Status → List ℕ → Ask
+last_ask ReadFault name = faulted name
+last_ask _ name = handed name
 
-module _ {S : Type 0} where
-  -- of these files the first ones were read, one after another, each once, and no other; the call ends at the last of them
-  abbrev pub FailsIn : (S → Ask → S → Type 0) → (S → List ℕ) → List (List ℕ) → S → S → Reply → Type 0
-  FailsIn one failed names s t said = IsFileStatus said.status × AsksUntil one failed names (ask_for said.status) s t
+-- the call takes the files from `s` to `t`; `one` says what each of its reads does, and `failed` is the name of the read
+-- that failed last
+module _ {S : Type 0} (one : S → Ask → S → Type 0) (failed : S → List ℕ) (s t : S) where
+  -- no file is read
+  abbrev pub AsksNone : Reply → Type 0
+  AsksNone reply = Asks one failed s [] t
 
-  -- all of these files were read, one after another, each once, and no other, or those up to the one where the call ends
-  abbrev pub ReadsIn : (S → Ask → S → Type 0) → (S → List ℕ) → List (List ℕ) → S → S → Reply → Type 0
-  ReadsIn one failed names s t said = AsksAll one failed names s t ⊎ FailsIn one failed names s t said
+  -- the first ones of these files are read, and the call ends at the last of them
+  abbrev pub AsksUntilEnd : List (List ℕ) → Reply → Type 0
+  AsksUntilEnd names reply = IsFileStatus reply.status × AsksUntil one failed names (last_ask reply.status) s t
 
-  -- a board's files and then these were read, or those up to the one where the call ends: the board alone, or what it
-  -- lists too
-  pub data ReadsBoard (one : S → Ask → S → Type 0) (failed : S → List ℕ) (contents : Contents) (board : List ℕ) (more : List (List ℕ)) (s t : S) (said : Reply) : Type 0 where
-    the_board_alone : FailsIn one failed (board ∷ []) s t said → ReadsBoard one failed contents board more s t said
-    what_it_lists : (listing : Listing) → Lists contents board listing → ReadsIn one failed (board_files board listing ++ more) s t said → ReadsBoard one failed contents board more s t said
+  -- these files are read: all of them, or the first ones up to the one where the call ends
+  abbrev pub AsksIn : List (List ℕ) → Reply → Type 0
+  AsksIn names reply = AsksAll one failed names s t ⊎ AsksUntilEnd names reply
 
-  -- the files that the command names are read in its order, all or up to the one where the call ends
-  abbrev pub ReadsFor : (S → Ask → S → Type 0) → (S → List ℕ) → Contents → Asked → S → S → Reply → Type 0
-  ReadsFor one failed contents (CheckOf system cells) s t said = ReadsIn one failed (system ∷ cells) s t said
-  ReadsFor one failed contents (PackOf spec) s t said = ReadsIn one failed (spec ∷ []) s t said
-  ReadsFor one failed contents (PlayOf board schedule) s t said = ReadsBoard one failed contents board (schedule ∷ []) s t said
-  ReadsFor one failed contents (RunOf board) s t said = ReadsBoard one failed contents board [] s t said
-  ReadsFor one failed contents (MapOf board schedule) s t said = ReadsBoard one failed contents board (schedule ∷ []) s t said
-  ReadsFor one failed contents (AuditOf board journal) s t said = ReadsBoard one failed contents board (journal ∷ []) s t said
-  ReadsFor one failed contents (SoakOf rounds) s t said = Asks one failed s [] t
+  -- a board is read, what it lists, and then these; or the call ends at the board's own file, whatever it lists
+  abbrev pub AsksBoardAnd : Contents → List ℕ → List (List ℕ) → Reply → Type 0
+  AsksBoardAnd contents board more reply =
+      AsksUntilEnd (board ∷ []) reply ⊎ ((listing : Listing) × Lists contents board listing × AsksIn (board_files board listing ++ more) reply)
 
-  -- what a call with these words reads; without a command nothing
-  abbrev pub IsReadFor : (S → Ask → S → Type 0) → (S → List ℕ) → Contents → Option Asked → S → S → Reply → Type 0
-  IsReadFor one failed contents None s t said = Asks one failed s [] t
-  IsReadFor one failed contents (Some asked) s t said = ReadsFor one failed contents asked s t said
+  -- what a call with this request reads; without a request nothing
+  abbrev pub AsksFor : Contents → Option Request → Reply → Type 0
+  AsksFor contents None = AsksNone
+  AsksFor contents (Some (CheckOf system cells)) = AsksIn (system ∷ cells)
+  AsksFor contents (Some (PackOf spec)) = AsksIn (spec ∷ [])
+  AsksFor contents (Some (PlayOf board schedule)) = AsksBoardAnd contents board (schedule ∷ [])
+  AsksFor contents (Some (RunOf board)) = AsksBoardAnd contents board []
+  AsksFor contents (Some (MapOf board schedule)) = AsksBoardAnd contents board (schedule ∷ [])
+  AsksFor contents (Some (AuditOf board journal)) = AsksBoardAnd contents board (journal ∷ [])
+  AsksFor contents (Some (SoakOf rounds)) = AsksNone

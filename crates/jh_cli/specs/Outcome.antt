@@ -1,7 +1,7 @@
--- What a call ends with: the status and the text that the words ask for, by what the files hand out.
+-- What a call ends with: the status and the text of its request, by what the files hand out.
 use Rattle.std.specs.Prelude.{◌≡◌, ℕ, ◌⊎◌, List, Option, Some, None}
 use Rattle.jh_outside.specs.Writes.{Appended, AppendedPart}
-use Rattle.jh_cli.specs.Words.{Asked, CheckOf, PackOf, PlayOf, RunOf, MapOf, AuditOf, SoakOf}
+use Rattle.jh_cli.specs.Words.{Request, CheckOf, PackOf, PlayOf, RunOf, MapOf, AuditOf, SoakOf}
 use Rattle.jh_cli.specs.Lines.{usage_line}
 use Rattle.jh_image.specs.Files.{Contents}
 use Rattle.jh_cli.specs.Reading.{Reply}
@@ -15,17 +15,17 @@ use Rattle.jh_cli.specs.Soak.{Soaks}
 use Rattle.jh_cli.specs.declared.status.Status.{Status}
 use Rattle.jh_cli.specs.declared.status.Status.TheVariants.{Usage, WriteFault}
 
--- what the words ask for, and what a call with them ends with
-abbrev pub Outcome : Contents → Option Asked → Reply → Type 0
-Outcome contents None said = said ≡ record { status = Usage; text = usage_line }
-Outcome contents (Some (CheckOf system cells)) said = Checks contents system cells said
-Outcome contents (Some (PackOf spec)) said = Packs contents spec said
-Outcome contents (Some (PlayOf board schedule)) said = Plays contents board schedule said
-Outcome contents (Some (RunOf board)) said = Runs contents board said
-Outcome contents (Some (MapOf board schedule)) said = MapsOf contents board schedule said
-Outcome contents (Some (AuditOf board journal)) said = Audits contents board journal said
-Outcome contents (Some (SoakOf rounds)) said = Soaks rounds said
+-- what a call with this request ends with; without a request the line of usage
+abbrev pub Outcome : Contents → Option Request → Reply → Type 0
+Outcome contents None reply = reply ≡ record { status = Usage; text = usage_line }
+Outcome contents (Some (CheckOf system cells)) reply = Checks contents system cells reply
+Outcome contents (Some (PackOf spec)) reply = Packs contents spec reply
+Outcome contents (Some (PlayOf board schedule)) reply = Plays contents board schedule reply
+Outcome contents (Some (RunOf board)) reply = Runs contents board reply
+Outcome contents (Some (MapOf board schedule)) reply = MapsOf contents board schedule reply
+Outcome contents (Some (AuditOf board journal)) reply = Audits contents board journal reply
+Outcome contents (Some (SoakOf rounds)) reply = Soaks rounds reply
 
 -- the text was appended and the status is its own, or a proper front of it was and the status tells so
 abbrev pub Sent : Option (List ℕ) → Option (List ℕ) → Reply → Status → Type 0
-Sent old new said status = ((status ≡ said.status) × Appended old new said.text) ⊎ ((status ≡ WriteFault) × AppendedPart old new said.text)
+Sent old new reply status = ((status ≡ reply.status) × Appended old new reply.text) ⊎ ((status ≡ WriteFault) × AppendedPart old new reply.text)

@@ -7,7 +7,7 @@ use Rattle.jh_spec.specs.declared.spec.Spec.{Spec}
 use Rattle.jh_spec.specs.declared.spec.Spec.TheVariants.{Cell, System}
 use Rattle.jh_spec.specs.declared.fault.JsonFault.TheVariants.{Json, Member}
 use Rattle.jh_image.specs.Files.{Contents}
-use Rattle.jh_cli.specs.Reading.{Reply, Reads, IsOversize}
+use Rattle.jh_cli.specs.Reading.{Reply, FileKind, Reads, IsOversize}
 use Rattle.jh_cli.specs.declared.status.Status.TheVariants.{Good}
 use Rattle.jh_cli.specs.Limits.{most_of_a_file}
 
@@ -30,6 +30,10 @@ pub record HasFaultyMember (bytes words : List ℕ) : Type 0 where
 abbrev pub SpecRefusal : List ℕ → List ℕ → Type 0
 SpecRefusal bytes words = IsOversize bytes words ⊎ IsNoObject bytes words ⊎ HasFaultyMember bytes words
 
+-- a SPEC's file
+abbrev pub spec_file : FileKind Spec
+spec_file = record { most = most_of_a_file; Refusal = SpecRefusal; Form = IsSpecFile }
+
 -- the configuration's one spelling
 abbrev pub packed : Spec → List ℕ
 packed (Cell cell) = spelling cell
@@ -37,4 +41,4 @@ packed (System system) = system_spelling system
 
 -- what a pack of this file ends with
 abbrev pub Packs : Contents → List ℕ → Reply → Type 0
-Packs contents name = Reads contents name SpecRefusal IsSpecFile (λ spec said. said ≡ record { status = Good; text = packed spec })
+Packs contents name = Reads contents name spec_file (λ spec reply. reply ≡ record { status = Good; text = packed spec })

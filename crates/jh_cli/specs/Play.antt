@@ -11,7 +11,7 @@ use Rattle.jh_text.specs.Faults.{max_entries}
 use Rattle.jh_text.specs.Text.{journal_text}
 use Rattle.jh_run.specs.Plays.{IsFullAtCpu}
 use Rattle.jh_image.specs.Files.{Contents}
-use Rattle.jh_cli.specs.Reading.{Reply, Reads, IsOversize}
+use Rattle.jh_cli.specs.Reading.{Reply, FileKind, Reads, IsOversize}
 use Rattle.jh_cli.specs.Boards.{Opens}
 use Rattle.jh_cli.specs.declared.status.Status.{Status}
 use Rattle.jh_cli.specs.declared.status.Status.TheVariants.{Good, Full}
@@ -26,7 +26,7 @@ pub record IsSchedule (image : Image) (bytes items : List ℕ) : Type 0 where
   pub within : length bytes < most_of_a_file
   pub cpus : ℕ
   pub are : AreCpus image cpus
-  pub told : schedule_of cpus bytes ≡ Ok items
+  pub spelled : schedule_of cpus bytes ≡ Ok items
 
 -- the bytes are no text of a schedule for the board, for the fault that these words tell
 pub record IsNoSchedule (image : Image) (bytes words : List ℕ) : Type 0 where
@@ -41,21 +41,25 @@ pub record IsNoSchedule (image : Image) (bytes words : List ℕ) : Type 0 where
 abbrev pub ScheduleRefusal : Image → List ℕ → List ℕ → Type 0
 ScheduleRefusal image bytes words = IsOversize bytes words ⊎ IsNoSchedule image bytes words
 
+-- a schedule's file for the board
+abbrev pub schedule_file : Image → FileKind (List ℕ)
+schedule_file image = record { most = most_of_a_file; Refusal = ScheduleRefusal image; Form = IsSchedule image }
+
 -- the status of a play, by whether the journal stopped at its limit
 abbrev pub played_status : Bool → Status
 played_status full = if full then Full else Good
 
 -- the played journal's text; the journal is legal, and with status `Good` nothing is due after it. The status is
 -- `Full` exactly where the journal is at its limit and some CPU has an entry due
-pub record IsPlayed (image : Image) (cpus : List ℕ) (said : Reply) : Type 0 where
-  pub told : said ≡ record { status = played_status (played image max_entries cpus).full; text = journal_text (played image max_entries cpus).entries }
+pub record IsPlayed (image : Image) (cpus : List ℕ) (reply : Reply) : Type 0 where
+  pub told : reply ≡ record { status = played_status (played image max_entries cpus).full; text = journal_text (played image max_entries cpus).entries }
   pub legal : IsLegal image (played image max_entries cpus).entries
-  pub quiet : said.status ≡ Good → IsQuiet image (played image max_entries cpus).entries
-  pub full : (said.status ≡ Full) ↔ IsFullAtCpu image max_entries (played image max_entries cpus).entries
+  pub quiet : reply.status ≡ Good → IsQuiet image (played image max_entries cpus).entries
+  pub full : (reply.status ≡ Full) ↔ IsFullAtCpu image max_entries (played image max_entries cpus).entries
 
 -- what a play of the image by the schedule ends with
 abbrev pub PlaysBy : Contents → List ℕ → Image → Reply → Type 0
-PlaysBy contents schedule image = Reads contents schedule (ScheduleRefusal image) (IsSchedule image) (IsPlayed image)
+PlaysBy contents schedule image = Reads contents schedule (schedule_file image) (IsPlayed image)
 
 -- what a play of the board by the schedule ends with: the board's files are read, then the schedule's, and the
 -- first that stops the call ends it

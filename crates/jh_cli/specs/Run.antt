@@ -1,8 +1,9 @@
 -- What `run` ends with. Threads take their turns in any order, so it is one of several texts.
-use Rattle.std.specs.Prelude.{◌≡◌, ℕ, List, length}
+use Rattle.std.specs.Prelude.{◌≡◌, ℕ, List}
 use Rattle.jh_script.specs.declared.image.Image.{Image}
 use Rattle.jh_history.specs.declared.entry.Entry.{Entry}
 use Rattle.jh_history.specs.Due.{IsLegal, IsQuiet}
+use Rattle.jh_run.specs.Ends.{IsFullAndBusy}
 use Rattle.jh_text.specs.Faults.{max_entries}
 use Rattle.jh_text.specs.Text.{journal_text}
 use Rattle.jh_image.specs.Files.{Contents}
@@ -11,11 +12,10 @@ use Rattle.jh_cli.specs.Boards.{Opens}
 use Rattle.jh_cli.specs.declared.status.Status.{Status}
 use Rattle.jh_cli.specs.declared.status.Status.TheVariants.{Good, Full}
 
--- nothing is due after the journal of a run that ends with `Good`; one that ends with `Full` is at its limit, and
--- something is due
+-- the journal of a run that ends with `Good` is quiet; one that ends with `Full` is at its limit and not quiet
 abbrev pub EndsRun : Image → List Entry → Status → Type 0
 EndsRun image entries Good = IsQuiet image entries
-EndsRun image entries Full = (length entries ≡ max_entries) × ¬ IsQuiet image entries
+EndsRun image entries Full = IsFullAndBusy image max_entries entries
 EndsRun image entries _ = ⊥
 
 -- a run of the image may make these entries, and end with this status
@@ -23,11 +23,11 @@ pub record IsMadeByRun (image : Image) (entries : List Entry) (status : Status) 
   pub legal : IsLegal image entries
   pub ends : EndsRun image entries status
 
--- what is said is the text of a journal that a run of the image may make, and the status that it ends with
-pub record IsRan (image : Image) (said : Reply) : Type 0 where
+-- the reply has the text of a journal that a run of the image may make, and the status that it ends with
+pub record IsRan (image : Image) (reply : Reply) : Type 0 where
   pub entries : List Entry
-  pub run : IsMadeByRun image entries said.status
-  pub told : said.text ≡ journal_text entries
+  pub run : IsMadeByRun image entries reply.status
+  pub told : reply.text ≡ journal_text entries
 
 -- what a run of the board ends with: the board's files are read, and the first that stops the call ends it
 abbrev pub Runs : Contents → List ℕ → Reply → Type 0

@@ -27,15 +27,15 @@ summary_line summary =
     ++ (codes " stops " ++ (decimal summary.stops ++ (codes " sum " ++ (decimal summary.sum ++ 10 ∷ [])))))))))
 
 -- the summary of a journal that a run of the board of so many rounds may make
-pub record IsSoaked (rounds : ℕ) (said : Reply) : Type 0 where
+pub record IsSoaked (rounds : ℕ) (reply : Reply) : Type 0 where
   pub entries : List Entry
-  pub run : IsMadeByRun (soak_board rounds) entries said.status
-  pub told : said.text ≡ summary_line (summary_of entries)
+  pub run : IsMadeByRun (soak_board rounds) entries reply.status
+  pub told : reply.text ≡ summary_line (summary_of entries)
 
 -- the word that tells no number of rounds is refused
 abbrev pub AreNoRounds : List ℕ → Reply → Type 0
-AreNoRounds word said = ParsesRounds word None × (said ≡ record { status = Refused; text = rounds_line })
+AreNoRounds word reply = ParsesRounds word None × (reply ≡ record { status = Refused; text = rounds_line })
 
 -- what a soak of so many rounds as the word tells ends with; no file is read for it
 abbrev pub Soaks : List ℕ → Reply → Type 0
-Soaks word said = AreNoRounds word said ⊎ ((rounds : ℕ) × AreRounds word rounds × IsSoaked rounds said)
+Soaks word reply = AreNoRounds word reply ⊎ ((rounds : ℕ) × AreRounds word rounds × IsSoaked rounds reply)

@@ -5,15 +5,15 @@ use Rattle.std.specs.Cmp.Lexicographic.{pointwise}
 use Rattle.jh_cli.specs.declared.command.Command.{Command}
 use Rattle.jh_cli.specs.declared.command.Command.TheVariants.{Check, Pack, Play, Run, Map, Audit, Soak}
 
--- what a command asks for, with the names of its files, or with the word that tells how many rounds are run
-pub data Asked : Type 0 where
-  CheckOf : List ℕ → List (List ℕ) → Asked
-  PackOf : List ℕ → Asked
-  PlayOf : List ℕ → List ℕ → Asked
-  RunOf : List ℕ → Asked
-  MapOf : List ℕ → List ℕ → Asked
-  AuditOf : List ℕ → List ℕ → Asked
-  SoakOf : List ℕ → Asked
+-- a command with its operands: the names of its files, or the word that tells how many rounds are run
+pub data Request : Type 0 where
+  CheckOf : List ℕ → List (List ℕ) → Request
+  PackOf : List ℕ → Request
+  PlayOf : List ℕ → List ℕ → Request
+  RunOf : List ℕ → Request
+  MapOf : List ℕ → List ℕ → Request
+  AuditOf : List ℕ → List ℕ → Request
+  SoakOf : List ℕ → Request
 
 -- the word is an operand: it doesn't begin with `-`
 abbrev pub is_operand : List ℕ → Bool
@@ -25,52 +25,52 @@ abbrev pub is_word : List ℕ → List ℕ → Bool
 is_word word other = pointwise nat_eq word other
 
 -- `check` has a system and 0 to 15 cells
-abbrev pub check_of : List (List ℕ) → Option Asked
+abbrev pub check_of : List (List ℕ) → Option Request
 check_of [] = None
 check_of (system ∷ cells) = if nat_le (length cells) 15 then Some (CheckOf system cells) else None
 
 -- `pack` has a SPEC
-abbrev pub pack_of : List (List ℕ) → Option Asked
+abbrev pub pack_of : List (List ℕ) → Option Request
 pack_of [] = None
 pack_of (spec ∷ []) = Some (PackOf spec)
 pack_of (spec ∷ other ∷ more) = None
 
 -- `play` has a board and a schedule
-abbrev pub play_of : List (List ℕ) → Option Asked
+abbrev pub play_of : List (List ℕ) → Option Request
 play_of [] = None
 play_of (board ∷ []) = None
 play_of (board ∷ schedule ∷ []) = Some (PlayOf board schedule)
 play_of (board ∷ schedule ∷ other ∷ more) = None
 
 -- `run` has a board
-abbrev pub run_of : List (List ℕ) → Option Asked
+abbrev pub run_of : List (List ℕ) → Option Request
 run_of [] = None
 run_of (board ∷ []) = Some (RunOf board)
 run_of (board ∷ other ∷ more) = None
 
 -- `map` has a board and a schedule
-abbrev pub map_of : List (List ℕ) → Option Asked
+abbrev pub map_of : List (List ℕ) → Option Request
 map_of [] = None
 map_of (board ∷ []) = None
 map_of (board ∷ schedule ∷ []) = Some (MapOf board schedule)
 map_of (board ∷ schedule ∷ other ∷ more) = None
 
 -- `audit` has a board and a journal
-abbrev pub audit_of : List (List ℕ) → Option Asked
+abbrev pub audit_of : List (List ℕ) → Option Request
 audit_of [] = None
 audit_of (board ∷ []) = None
 audit_of (board ∷ journal ∷ []) = Some (AuditOf board journal)
 audit_of (board ∷ journal ∷ other ∷ more) = None
 
 -- `soak` has a number of rounds
-abbrev pub soak_of : List (List ℕ) → Option Asked
+abbrev pub soak_of : List (List ℕ) → Option Request
 soak_of [] = None
 soak_of (rounds ∷ []) = Some (SoakOf rounds)
 soak_of (rounds ∷ other ∷ more) = None
 
 -- the command of this word with these operands; `tables` is none
-abbrev pub asked_for : List ℕ → List (List ℕ) → Option Asked
-asked_for word operands =
+abbrev pub command_for : List ℕ → List (List ℕ) → Option Request
+command_for word operands =
     if is_word word (codes "check") then check_of operands
     else (if is_word word (codes "pack") then pack_of operands
     else (if is_word word (codes "play") then play_of operands
@@ -81,23 +81,23 @@ asked_for word operands =
     else None))))))
 
 -- the command of the words: the program's name, the command's word letter for letter, and its operands
-abbrev pub command_of : List (List ℕ) → Option Asked
+abbrev pub command_of : List (List ℕ) → Option Request
 command_of [] = None
 command_of (name ∷ []) = None
-command_of (name ∷ word ∷ operands) = if list_all is_operand operands then asked_for word operands else None
+command_of (name ∷ word ∷ operands) = if list_all is_operand operands then command_for word operands else None
 
--- what the command that was read asks for
-abbrev pub asked_by : Command → Asked
-asked_by (Check system cells) = CheckOf system.now (map string_bytes cells.now)
-asked_by (Pack spec) = PackOf spec.now
-asked_by (Play board schedule) = PlayOf board.now schedule.now
-asked_by (Run board) = RunOf board.now
-asked_by (Map board schedule) = MapOf board.now schedule.now
-asked_by (Audit board journal) = AuditOf board.now journal.now
-asked_by (Soak rounds) = SoakOf rounds.now
+-- the request of the command that was read
+abbrev pub request_by : Command → Request
+request_by (Check system cells) = CheckOf system.now (map string_bytes cells.now)
+request_by (Pack spec) = PackOf spec.now
+request_by (Play board schedule) = PlayOf board.now schedule.now
+request_by (Run board) = RunOf board.now
+request_by (Map board schedule) = MapOf board.now schedule.now
+request_by (Audit board journal) = AuditOf board.now journal.now
+request_by (Soak rounds) = SoakOf rounds.now
 
 -- the words have no command, or one that starts no thread and waits for none
-abbrev pub IsSerial : Option Asked → Type 0
+abbrev pub IsSerial : Option Request → Type 0
 IsSerial (Some (RunOf board)) = ⊥
 IsSerial (Some (SoakOf rounds)) = ⊥
 IsSerial _ = ⊤

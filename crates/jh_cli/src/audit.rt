@@ -4,12 +4,13 @@ ghost use Rattle.jh_history.specs.Admitted.{IsAdmitted};
 ghost use Rattle.jh_text.specs.FaultText.{fault_text};
 ghost use Rattle.jh_text.specs.declared.fault.JournalFault.TheVariants.{NoMemory as for_memory};
 ghost use Rattle.jh_outside.specs.Trail.{AsksAll};
-ghost use Rattle.jh_cli.specs.Order.{FailsIn, ReadsIn, ReadsBoard};
+ghost use Rattle.jh_cli.specs.Order.{AsksUntilEnd, AsksIn, AsksBoardAnd};
 ghost use Rattle.jh_cli.specs.Limits.{most_of_a_journal};
 ghost use Rattle.jh_cli.specs.Lines.{refusal_line};
-ghost use Rattle.jh_cli.specs.Reading.{FailsAt};
-ghost use Rattle.jh_cli.specs.Audit.{JournalRefusal, JudgesFile, AuditsBy, Audits, due_text, verdict_text, verdict_status};
-ghost use Rattle.jh_cli.specs.Endings.{reply_of, OnEnded, OnEnding, IsCounted};
+ghost use Rattle.jh_cli.specs.Reading.{EndsAt, IsCountedFault};
+ghost use Rattle.jh_cli.specs.Audit.{JournalRefusal, AuditsBy, Audits, due_text, verdict_text, verdict_status};
+ghost use Rattle.jh_cli.specs.Private.JournalFiles.{JudgesFile};
+ghost use Rattle.jh_cli.specs.Private.Endings.{reply_of, OnEnded, OnEnding};
 
 use crate::boards::open;
 use crate::ending::{CallFault, Ending, read_below, refused_for};
@@ -25,7 +26,7 @@ use std::alloc::Global;
 
 /// The call ends since no journal was read from the file of this name.
 fn unread(alloc: Global, name: &str, fault: &JournalFault) -> CallFault
-    ensures told { OnEnded result (λ said. said ≡ record { status = Status.Refused; text = refusal_line name.now (fault_text fault.now) }) }
+    ensures told { OnEnded result (λ reply. reply ≡ record { status = Status.Refused; text = refusal_line name.now (fault_text fault.now) }) }
     ensures memory { fault.now ≡ for_memory → result ≡ CallFault.NoMemory }
 {
     match fault {
@@ -43,10 +44,10 @@ fn judge<F: Files>(
 ) -> Result<Verdict, CallFault>
     requires admitted { IsAdmitted image }
     ensures ok { IfOk result (JudgesFile (F.contents files.old) name.now image) }
-    ensures err { IfErr result (λ stop. OnEnded stop (FailsAt most_of_a_journal (F.contents files.old) name.now JournalRefusal)) }
-    ensures counted { IfErr result (λ stop. OnEnded stop (IsCounted (F.faults files.old) (F.faults files.new) (F.failed files.new))) }
+    ensures err { IfErr result (λ stop. OnEnded stop (EndsAt most_of_a_journal (F.contents files.old) name.now JournalRefusal)) }
+    ensures counted { IfErr result (λ stop. OnEnded stop (IsCountedFault (F.faults files.old) (F.faults files.new) (F.failed files.new))) }
     ensures asked { OnOk result (AsksAll F.asks F.failed (name.now ∷ []) files.old files.new) }
-    ensures asked_until { IfErr result (λ stop. OnEnded stop (FailsIn F.asks F.failed (name.now ∷ []) files.old files.new)) }
+    ensures asked_until { IfErr result (λ stop. OnEnded stop (AsksUntilEnd F.asks F.failed files.old files.new (name.now ∷ []))) }
 {
     let bytes = read_below(alloc, files, name, MAX_JOURNAL_READ)?;
     match audit_journal(alloc, image, bytes.as_slice()) {
@@ -102,7 +103,7 @@ fn due_text(alloc: Global, line: u32, entry: &Entry) -> Result<Vec<u8>, NoMemory
 
 /// Tells the verdict.
 fn tell_verdict(alloc: Global, verdict: &Verdict) -> Result<Ending, NoMemory>
-    ensures { IfOk result (λ told. reply_of told ≡ record { status = verdict_status verdict.now; text = verdict_text verdict.now }) }
+    ensures { IfOk result (λ ending. reply_of ending ≡ record { status = verdict_status verdict.now; text = verdict_text verdict.now }) }
 {
     Ok(Ending {
         status: status_of(verdict),
@@ -119,8 +120,8 @@ fn audit_by<F: Files>(
 ) -> Result<Ending, CallFault>
     requires admitted { IsAdmitted image }
     ensures ends { OnEnding result (AuditsBy (F.contents files.old) name.now image) }
-    ensures counted { OnEnding result (IsCounted (F.faults files.old) (F.faults files.new) (F.failed files.new)) }
-    ensures asked { OnEnding result (ReadsIn F.asks F.failed (name.now ∷ []) files.old files.new) }
+    ensures counted { OnEnding result (IsCountedFault (F.faults files.old) (F.faults files.new) (F.failed files.new)) }
+    ensures asked { OnEnding result (AsksIn F.asks F.failed files.old files.new (name.now ∷ [])) }
 {
     let verdict = judge(alloc, files, image, name)?;
     Ok(tell_verdict(alloc, &verdict)?)
@@ -134,8 +135,8 @@ pub fn audit<F: Files>(
     name: &str,
 ) -> Result<Ending, CallFault>
     ensures ends { OnEnding result (Audits (F.contents files.old) board.now name.now) }
-    ensures counted { OnEnding result (IsCounted (F.faults files.old) (F.faults files.new) (F.failed files.new)) }
-    ensures asked { OnEnding result (ReadsBoard F.asks F.failed (F.contents files.old) board.now (name.now ∷ []) files.old files.new) }
+    ensures counted { OnEnding result (IsCountedFault (F.faults files.old) (F.faults files.new) (F.failed files.new)) }
+    ensures asked { OnEnding result (AsksBoardAnd F.asks F.failed files.old files.new (F.contents files.old) board.now (name.now ∷ [])) }
 {
     let image = open(alloc, files, board)?;
     audit_by(alloc, files, image, name)

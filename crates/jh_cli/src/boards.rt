@@ -5,9 +5,10 @@ ghost use Rattle.jh_image.specs.Causes.{OnRefused};
 ghost use Rattle.jh_image.specs.Images.{IsImage};
 ghost use Rattle.jh_image.specs.declared.fault.ImageFault.TheVariants.{NoMemory as image_for_memory};
 ghost use Rattle.jh_image.specs.Order.{AsksBoard};
-ghost use Rattle.jh_cli.specs.Order.{ReadsBoard};
-ghost use Rattle.jh_cli.specs.Boards.{stopped, EndsAt};
-ghost use Rattle.jh_cli.specs.Endings.{OnEnded, IsCounted};
+ghost use Rattle.jh_cli.specs.Order.{AsksBoardAnd};
+ghost use Rattle.jh_cli.specs.Boards.{stopped, EndsAtBoard};
+ghost use Rattle.jh_cli.specs.Reading.{IsCountedFault};
+ghost use Rattle.jh_cli.specs.Private.Endings.{OnEnded};
 
 use crate::ending::{CallFault, faulted, refused};
 use jh_image::{ImageCause, ImageFault, cause_text, read_image};
@@ -18,7 +19,7 @@ use std::alloc::Global;
 
 /// The call ends since the file is refused for this cause.
 fn stopped_for(alloc: Global, file: &[u8], cause: &ImageCause) -> CallFault
-    ensures { OnEnded result (λ said. said ≡ stopped file.now cause.now) }
+    ensures { OnEnded result (λ reply. reply ≡ stopped file.now cause.now) }
 {
     match cause {
         ImageCause::ReadFault => faulted(alloc, file),
@@ -31,7 +32,7 @@ fn stopped_for(alloc: Global, file: &[u8], cause: &ImageCause) -> CallFault
 
 /// The call ends since the board's files make no image.
 fn unopened(alloc: Global, fault: &ImageFault) -> CallFault
-    ensures refused { OnRefused (λ file cause. OnEnded result (λ said. said ≡ stopped file cause)) fault.now }
+    ensures refused { OnRefused (λ file cause. OnEnded result (λ reply. reply ≡ stopped file cause)) fault.now }
     ensures memory { fault.now ≡ image_for_memory → result ≡ CallFault.NoMemory }
 {
     match fault {
@@ -44,12 +45,12 @@ fn unopened(alloc: Global, fault: &ImageFault) -> CallFault
 pub fn open<F: Files>(alloc: Global, files: &mut F, board: &str) -> Result<Image, CallFault>
     ensures image { IfOk result (IsImage (F.contents files.old) board.now) }
     ensures admitted { IfOk result IsAdmitted }
-    ensures err { IfErr result (λ stop. OnEnded stop (EndsAt (F.contents files.old) board.now)) }
-    ensures counted { IfErr result (λ stop. OnEnded stop (IsCounted (F.faults files.old) (F.faults files.new) (F.failed files.new))) }
+    ensures err { IfErr result (λ stop. OnEnded stop (EndsAtBoard (F.contents files.old) board.now)) }
+    ensures counted { IfErr result (λ stop. OnEnded stop (IsCountedFault (F.faults files.old) (F.faults files.new) (F.failed files.new))) }
     ensures never_falls { F.faults files.old ≤ F.faults files.new }
     ensures kept { F.contents files.new ≡ F.contents files.old }
     ensures asked { OnOk result (AsksBoard F.asks F.failed (F.contents files.old) board.now files.old files.new) }
-    ensures asked_until { IfErr result (λ stop. (more : List (List ℕ)) → OnEnded stop (ReadsBoard F.asks F.failed (F.contents files.old) board.now more files.old files.new)) }
+    ensures asked_until { IfErr result (λ stop. (more : List (List ℕ)) → OnEnded stop (AsksBoardAnd F.asks F.failed files.old files.new (F.contents files.old) board.now more)) }
 {
     match read_image(alloc, files, board) {
         Ok(image) => Ok(image),

@@ -4,10 +4,10 @@ ghost use Rattle.jh_check.specs.Findings.{findings};
 ghost use Rattle.jh_check.specs.Lists.{capped};
 ghost use Rattle.jh_check.specs.Texts.{finding_text};
 ghost use Rattle.jh_outside.specs.Trail.{AsksAll};
-ghost use Rattle.jh_cli.specs.Order.{FailsIn, ReadsIn};
-ghost use Rattle.jh_cli.specs.Reading.{Spells, FailsAtFile};
-ghost use Rattle.jh_cli.specs.Check.{IsCellFile, CellRefusal, IsSystemFile, SystemRefusal, SpellCells, FailsAmong, ChecksCells, Checks, checked, checked_status, findings_text};
-ghost use Rattle.jh_cli.specs.Endings.{reply_of, OnEnded, OnEnding, IsCounted};
+ghost use Rattle.jh_cli.specs.Order.{AsksUntilEnd, AsksIn};
+ghost use Rattle.jh_cli.specs.Reading.{Spells, EndsAtFile, IsCountedFault};
+ghost use Rattle.jh_cli.specs.Check.{IsCellFile, CellRefusal, IsSystemFile, SystemRefusal, SpellCells, EndsAmong, ChecksCells, Checks, checked, checked_status, findings_text};
+ghost use Rattle.jh_cli.specs.Private.Endings.{reply_of, OnEnded, OnEnding};
 
 use crate::ending::{CallFault, Ending, read_below, refused_for};
 use crate::limits::MAX_READ;
@@ -22,12 +22,12 @@ use std::alloc::Global;
 /// The cell in the file of this name.
 fn cell<F: Files>(alloc: Global, files: &mut F, name: &str) -> Result<CellConfig, CallFault>
     ensures ok { IfOk result (Spells (F.contents files.old) name.now IsCellFile) }
-    ensures err { IfErr result (λ stop. OnEnded stop (FailsAtFile (F.contents files.old) name.now CellRefusal)) }
-    ensures counted { IfErr result (λ stop. OnEnded stop (IsCounted (F.faults files.old) (F.faults files.new) (F.failed files.new))) }
+    ensures err { IfErr result (λ stop. OnEnded stop (EndsAtFile (F.contents files.old) name.now CellRefusal)) }
+    ensures counted { IfErr result (λ stop. OnEnded stop (IsCountedFault (F.faults files.old) (F.faults files.new) (F.failed files.new))) }
     ensures never_falls { F.faults files.old ≤ F.faults files.new }
     ensures kept { F.contents files.new ≡ F.contents files.old }
     ensures asked { OnOk result (AsksAll F.asks F.failed (name.now ∷ []) files.old files.new) }
-    ensures asked_until { IfErr result (λ stop. OnEnded stop (FailsIn F.asks F.failed (name.now ∷ []) files.old files.new)) }
+    ensures asked_until { IfErr result (λ stop. OnEnded stop (AsksUntilEnd F.asks F.failed files.old files.new (name.now ∷ []))) }
 {
     let bytes = read_below(alloc, files, name, MAX_READ)?;
     match read_cell(alloc, bytes.as_slice()) {
@@ -40,12 +40,12 @@ fn cell<F: Files>(alloc: Global, files: &mut F, name: &str) -> Result<CellConfig
 /// The system in the file of this name.
 fn system<F: Files>(alloc: Global, files: &mut F, name: &str) -> Result<SystemConfig, CallFault>
     ensures ok { IfOk result (Spells (F.contents files.old) name.now IsSystemFile) }
-    ensures err { IfErr result (λ stop. OnEnded stop (FailsAtFile (F.contents files.old) name.now SystemRefusal)) }
-    ensures counted { IfErr result (λ stop. OnEnded stop (IsCounted (F.faults files.old) (F.faults files.new) (F.failed files.new))) }
+    ensures err { IfErr result (λ stop. OnEnded stop (EndsAtFile (F.contents files.old) name.now SystemRefusal)) }
+    ensures counted { IfErr result (λ stop. OnEnded stop (IsCountedFault (F.faults files.old) (F.faults files.new) (F.failed files.new))) }
     ensures never_falls { F.faults files.old ≤ F.faults files.new }
     ensures kept { F.contents files.new ≡ F.contents files.old }
     ensures asked { OnOk result (AsksAll F.asks F.failed (name.now ∷ []) files.old files.new) }
-    ensures asked_until { IfErr result (λ stop. OnEnded stop (FailsIn F.asks F.failed (name.now ∷ []) files.old files.new)) }
+    ensures asked_until { IfErr result (λ stop. OnEnded stop (AsksUntilEnd F.asks F.failed files.old files.new (name.now ∷ []))) }
 {
     let bytes = read_below(alloc, files, name, MAX_READ)?;
     match read_system(alloc, bytes.as_slice()) {
@@ -63,11 +63,11 @@ fn cells<F: Files>(
 ) -> Result<Seq<CellConfig>, CallFault>
     ensures ok { IfOk result (SpellCells (F.contents files.old) (map string_bytes names.now)) }
     ensures few { IfOk result (λ cells. length cells ≡ length names.now) }
-    ensures err { IfErr result (λ stop. OnEnded stop (FailsAmong (F.contents files.old) (map string_bytes names.now))) }
-    ensures counted { IfErr result (λ stop. OnEnded stop (IsCounted (F.faults files.old) (F.faults files.new) (F.failed files.new))) }
+    ensures err { IfErr result (λ stop. OnEnded stop (EndsAmong (F.contents files.old) (map string_bytes names.now))) }
+    ensures counted { IfErr result (λ stop. OnEnded stop (IsCountedFault (F.faults files.old) (F.faults files.new) (F.failed files.new))) }
     ensures never_falls { F.faults files.old ≤ F.faults files.new }
     ensures asked { OnOk result (AsksAll F.asks F.failed (map string_bytes names.now) files.old files.new) }
-    ensures asked_until { IfErr result (λ stop. OnEnded stop (FailsIn F.asks F.failed (map string_bytes names.now) files.old files.new)) }
+    ensures asked_until { IfErr result (λ stop. OnEnded stop (AsksUntilEnd F.asks F.failed files.old files.new (map string_bytes names.now))) }
 {
     let mut cells = Seq::new(alloc);
     for name in names {
@@ -98,7 +98,7 @@ fn tell_findings(
     cells: &[CellConfig],
 ) -> Result<Ending, NoMemory>
     requires { length cells.now ≤ 15 }
-    ensures { IfOk result (λ told. reply_of told ≡ checked system.now cells.now) }
+    ensures { IfOk result (λ ending. reply_of ending ≡ checked system.now cells.now) }
 {
     let found = check_all(alloc, system, cells)?;
     let text = findings_text(alloc, found.as_slice())?;
@@ -119,8 +119,8 @@ fn check_cells<F: Files>(
 ) -> Result<Ending, CallFault>
     requires { length names.now ≤ 15 }
     ensures ends { OnEnding result (ChecksCells (F.contents files.old) (map string_bytes names.now) system.now) }
-    ensures counted { OnEnding result (IsCounted (F.faults files.old) (F.faults files.new) (F.failed files.new)) }
-    ensures asked { OnEnding result (ReadsIn F.asks F.failed (map string_bytes names.now) files.old files.new) }
+    ensures counted { OnEnding result (IsCountedFault (F.faults files.old) (F.faults files.new) (F.failed files.new)) }
+    ensures asked { OnEnding result (AsksIn F.asks F.failed files.old files.new (map string_bytes names.now)) }
 {
     let cells = cells(alloc, files, names)?;
     Ok(tell_findings(alloc, system, cells.as_slice())?)
@@ -135,8 +135,8 @@ pub fn check<F: Files>(
 ) -> Result<Ending, CallFault>
     requires { length names.now ≤ 15 }
     ensures ends { OnEnding result (Checks (F.contents files.old) system_name.now (map string_bytes names.now)) }
-    ensures counted { OnEnding result (IsCounted (F.faults files.old) (F.faults files.new) (F.failed files.new)) }
-    ensures asked { OnEnding result (ReadsIn F.asks F.failed (system_name.now ∷ map string_bytes names.now) files.old files.new) }
+    ensures counted { OnEnding result (IsCountedFault (F.faults files.old) (F.faults files.new) (F.failed files.new)) }
+    ensures asked { OnEnding result (AsksIn F.asks F.failed files.old files.new (system_name.now ∷ map string_bytes names.now)) }
 {
     let system = system(alloc, files, system_name)?;
     check_cells(alloc, files, &system, names)

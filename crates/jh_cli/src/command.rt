@@ -2,7 +2,7 @@
 ghost use Rattle.std.specs.Prelude.{◌≡◌, ◌==◌, IfSome, None, map, string_bytes, not, slice_get, Bool};
 ghost use Rattle.std.specs.List.{list_all};
 ghost use Rattle.std.specs.Option.{option_map};
-ghost use Rattle.jh_cli.specs.Words.{is_operand, check_of, pack_of, play_of, run_of, map_of, audit_of, soak_of, asked_for, command_of, asked_by, HasFewCells};
+ghost use Rattle.jh_cli.specs.Words.{is_operand, check_of, pack_of, play_of, run_of, map_of, audit_of, soak_of, command_for, command_of, request_by, HasFewCells};
 
 use jh_check::MAX_CELLS;
 
@@ -62,7 +62,7 @@ fn are_operands(words: &[String]) -> bool
 
 /// The command `check`: its operands are a system and up to 15 cells.
 fn check_of(operands: &[String]) -> Option<Command<'_>>
-    ensures command { option_map asked_by result ≡ check_of (map string_bytes operands.now) }
+    ensures command { option_map request_by result ≡ check_of (map string_bytes operands.now) }
     ensures few { IfSome result HasFewCells }
 {
     match operands {
@@ -76,7 +76,7 @@ fn check_of(operands: &[String]) -> Option<Command<'_>>
 
 /// The command `pack`: its one operand is a SPEC.
 fn pack_of(operands: &[String]) -> Option<Command<'_>>
-    ensures command { option_map asked_by result ≡ pack_of (map string_bytes operands.now) }
+    ensures command { option_map request_by result ≡ pack_of (map string_bytes operands.now) }
     ensures few { IfSome result HasFewCells }
 {
     match operands {
@@ -89,7 +89,7 @@ fn pack_of(operands: &[String]) -> Option<Command<'_>>
 
 /// The command `play`: its operands are a board and a schedule.
 fn play_of(operands: &[String]) -> Option<Command<'_>>
-    ensures command { option_map asked_by result ≡ play_of (map string_bytes operands.now) }
+    ensures command { option_map request_by result ≡ play_of (map string_bytes operands.now) }
     ensures few { IfSome result HasFewCells }
 {
     match operands {
@@ -103,7 +103,7 @@ fn play_of(operands: &[String]) -> Option<Command<'_>>
 
 /// The command `run`: its one operand is a board.
 fn run_of(operands: &[String]) -> Option<Command<'_>>
-    ensures command { option_map asked_by result ≡ run_of (map string_bytes operands.now) }
+    ensures command { option_map request_by result ≡ run_of (map string_bytes operands.now) }
     ensures few { IfSome result HasFewCells }
 {
     match operands {
@@ -116,7 +116,7 @@ fn run_of(operands: &[String]) -> Option<Command<'_>>
 
 /// The command `map`: its operands are a board and a schedule.
 fn map_of(operands: &[String]) -> Option<Command<'_>>
-    ensures command { option_map asked_by result ≡ map_of (map string_bytes operands.now) }
+    ensures command { option_map request_by result ≡ map_of (map string_bytes operands.now) }
     ensures few { IfSome result HasFewCells }
 {
     match operands {
@@ -130,7 +130,7 @@ fn map_of(operands: &[String]) -> Option<Command<'_>>
 
 /// The command `audit`: its operands are a board and a journal.
 fn audit_of(operands: &[String]) -> Option<Command<'_>>
-    ensures command { option_map asked_by result ≡ audit_of (map string_bytes operands.now) }
+    ensures command { option_map request_by result ≡ audit_of (map string_bytes operands.now) }
     ensures few { IfSome result HasFewCells }
 {
     match operands {
@@ -144,7 +144,7 @@ fn audit_of(operands: &[String]) -> Option<Command<'_>>
 
 /// The command `soak`: its one operand is a word for a number of rounds, which isn't read here.
 fn soak_of(operands: &[String]) -> Option<Command<'_>>
-    ensures command { option_map asked_by result ≡ soak_of (map string_bytes operands.now) }
+    ensures command { option_map request_by result ≡ soak_of (map string_bytes operands.now) }
     ensures few { IfSome result HasFewCells }
 {
     match operands {
@@ -156,8 +156,8 @@ fn soak_of(operands: &[String]) -> Option<Command<'_>>
 }
 
 /// The command of this word with these operands.
-fn asked_for<'a>(word: &str, operands: &'a [String]) -> Option<Command<'a>>
-    ensures command { option_map asked_by result ≡ asked_for word.now (map string_bytes operands.now) }
+fn command_for<'a>(word: &str, operands: &'a [String]) -> Option<Command<'a>>
+    ensures command { option_map request_by result ≡ command_for word.now (map string_bytes operands.now) }
     ensures few { IfSome result HasFewCells }
 {
     if word == "check" {
@@ -181,11 +181,11 @@ fn asked_for<'a>(word: &str, operands: &'a [String]) -> Option<Command<'a>>
 
 /// The command of the words, of which the first is the program's name; `None` where they have no command.
 pub fn command_of(words: &[String]) -> Option<Command<'_>>
-    ensures command { option_map asked_by result ≡ command_of (map string_bytes words.now) }
+    ensures command { option_map request_by result ≡ command_of (map string_bytes words.now) }
     ensures few { IfSome result HasFewCells }
 {
     match words {
-        [_, word, operands @ ..] if are_operands(operands) => asked_for(word.as_str(), operands),
+        [_, word, operands @ ..] if are_operands(operands) => command_for(word.as_str(), operands),
         _ => None,
     }
 }

@@ -2,10 +2,10 @@
 ghost use Rattle.std.specs.Prelude.{◌≡◌, ◌≤◌, ◌<◌, ◌⊎◌, length, OnOk, IfOk, IfErr, IfSome, ◌∷◌, []};
 ghost use Rattle.jh_outside.specs.Reads.{HandsOut};
 ghost use Rattle.jh_outside.specs.Trail.{AsksAll};
-ghost use Rattle.jh_cli.specs.Order.{FailsIn};
+ghost use Rattle.jh_cli.specs.Order.{AsksUntilEnd};
 ghost use Rattle.jh_cli.specs.Lines.{fault_line, refusal_line};
-ghost use Rattle.jh_cli.specs.Reading.{FailsAt, IsOversizeAt};
-ghost use Rattle.jh_cli.specs.Endings.{OnEnded, IsCounted};
+ghost use Rattle.jh_cli.specs.Reading.{EndsAt, IsOversizeAt, IsCountedFault};
+ghost use Rattle.jh_cli.specs.Private.Endings.{OnEnded};
 
 use crate::lines::{fault_line, refusal_line};
 use crate::status::Status;
@@ -41,7 +41,7 @@ impl From<NoMemory> for CallFault {
 
 /// The call ends since the file of this name could not be read.
 pub fn faulted(alloc: Global, name: &[u8]) -> CallFault
-    ensures { OnEnded result (λ said. said ≡ record { status = Status.ReadFault; text = fault_line name.now }) }
+    ensures { OnEnded result (λ reply. reply ≡ record { status = Status.ReadFault; text = fault_line name.now }) }
 {
     match fault_line(alloc, name) {
         Ok(text) => CallFault::Ended(Ending {
@@ -54,7 +54,7 @@ pub fn faulted(alloc: Global, name: &[u8]) -> CallFault
 
 /// The call ends since the file of this name is refused for what the words say.
 pub fn refused(alloc: Global, name: &[u8], words: &[u8]) -> CallFault
-    ensures { OnEnded result (λ said. said ≡ record { status = Status.Refused; text = refusal_line name.now words.now }) }
+    ensures { OnEnded result (λ reply. reply ≡ record { status = Status.Refused; text = refusal_line name.now words.now }) }
 {
     match refusal_line(alloc, name, words) {
         Ok(text) => CallFault::Ended(Ending {
@@ -67,7 +67,7 @@ pub fn refused(alloc: Global, name: &[u8], words: &[u8]) -> CallFault
 
 /// The call ends since the file of this name is refused for what the fault displays.
 pub fn refused_for<E: Display>(alloc: Global, name: &str, fault: &E) -> CallFault
-    ensures { IfSome (E.output fault.now) (λ words. OnEnded result (λ said. said ≡ record { status = Status.Refused; text = refusal_line name.now words })) }
+    ensures { IfSome (E.output fault.now) (λ words. OnEnded result (λ reply. reply ≡ record { status = Status.Refused; text = refusal_line name.now words })) }
 {
     match fault.to_string(alloc) {
         Ok(words) => refused(alloc, name.as_bytes(), words.as_bytes()),
@@ -84,12 +84,12 @@ pub fn read_below<F: Files>(
 ) -> Result<Seq<u8>, CallFault>
     ensures ok { IfOk result (λ bytes. HandsOut (F.contents files.old name.now) most bytes) }
     ensures within { IfOk result (λ bytes. length bytes < most) }
-    ensures err { IfErr result (λ stop. OnEnded stop (FailsAt most (F.contents files.old) name.now (IsOversizeAt most))) }
-    ensures counted { IfErr result (λ stop. OnEnded stop (IsCounted (F.faults files.old) (F.faults files.new) (F.failed files.new))) }
+    ensures err { IfErr result (λ stop. OnEnded stop (EndsAt most (F.contents files.old) name.now (IsOversizeAt most))) }
+    ensures counted { IfErr result (λ stop. OnEnded stop (IsCountedFault (F.faults files.old) (F.faults files.new) (F.failed files.new))) }
     ensures never_falls { F.faults files.old ≤ F.faults files.new }
     ensures kept { F.contents files.new ≡ F.contents files.old }
     ensures asked { OnOk result (AsksAll F.asks F.failed (name.now ∷ []) files.old files.new) }
-    ensures asked_until { IfErr result (λ stop. OnEnded stop (FailsIn F.asks F.failed (name.now ∷ []) files.old files.new)) }
+    ensures asked_until { IfErr result (λ stop. OnEnded stop (AsksUntilEnd F.asks F.failed files.old files.new (name.now ∷ []))) }
 {
     let bytes = match files.read(name, most) {
         Ok(bytes) => bytes,

@@ -1,6 +1,6 @@
 //! What holds of all files, whoever reads them. Each function does nothing; its contract is the law.
 ghost use Rattle.std.specs.Prelude.{◌≡◌, ◌≢◌, ◌⊎◌, Option};
-ghost use Rattle.jh_cli.specs.Words.{Asked, IsSerial};
+ghost use Rattle.jh_cli.specs.Words.{Request, IsSerial};
 ghost use Rattle.jh_image.specs.Files.{Contents};
 ghost use Rattle.jh_cli.specs.Reading.{Reply};
 ghost use Rattle.jh_cli.specs.Outcome.{Outcome};
@@ -18,8 +18,8 @@ use jh_text::{one_answer, texts_go_both_ways};
 /// Good words and files are answered: the status is that of the command's answer, or tells that a file could not be
 /// read.
 pub fn good_inputs_are_answered()
-    ensures { (contents : Contents) (asked : Option Asked) (said : Reply) (good : AreGood contents asked)
-        → Outcome contents asked said → MayEndWith contents asked good said.status ⊎ (said.status ≡ Status.ReadFault) }
+    ensures { (contents : Contents) (request : Option Request) (reply : Reply) (good : AreGood contents request)
+        → Outcome contents request reply → MayEndWith contents request good reply.status ⊎ (reply.status ≡ Status.ReadFault) }
 {
     spelling_has_no_fault();
     system_has_no_fault();
@@ -32,7 +32,7 @@ pub fn good_inputs_are_answered()
 /// could not be read: one status and one text. What those two write may differ from call to call, as their threads take
 /// turns.
 pub fn words_have_one_outcome()
-    ensures { (contents : Contents) (asked : Option Asked) (one other : Reply) → IsSerial asked → AreKnownFiles contents asked → Outcome contents asked one → Outcome contents asked other
+    ensures { (contents : Contents) (request : Option Request) (one other : Reply) → IsSerial request → AreKnownFiles contents request → Outcome contents request one → Outcome contents request other
         → one.status ≢ Status.ReadFault → other.status ≢ Status.ReadFault → one ≡ other }
 {
     spelling_has_no_fault();

@@ -2,10 +2,10 @@
 ghost use Rattle.std.specs.Prelude.{◌≡◌, ◌≤◌, ◌++◌, codes, IfOk, IfErr, ◌∷◌, [], OnOk};
 ghost use Rattle.jh_spec.specs.Specs.{MayBeWritten};
 ghost use Rattle.jh_outside.specs.Trail.{AsksAll};
-ghost use Rattle.jh_cli.specs.Order.{FailsIn, ReadsIn};
-ghost use Rattle.jh_cli.specs.Reading.{Spells, FailsAtFile};
+ghost use Rattle.jh_cli.specs.Order.{AsksUntilEnd, AsksIn};
+ghost use Rattle.jh_cli.specs.Reading.{Spells, EndsAtFile, IsCountedFault};
 ghost use Rattle.jh_cli.specs.Pack.{IsSpecFile, SpecRefusal, Packs, packed};
-ghost use Rattle.jh_cli.specs.Endings.{reply_of, OnEnded, OnEnding, IsCounted};
+ghost use Rattle.jh_cli.specs.Private.Endings.{reply_of, OnEnded, OnEnding};
 
 use crate::ending::{CallFault, Ending, read_below, refused};
 use crate::limits::MAX_READ;
@@ -17,7 +17,7 @@ use jh_spec::{JsonFault, Spec, read_spec};
 use jh_syscfg::write_system;
 use std::alloc::Global;
 
-/// What is said of a member that has a fault.
+/// The words that refuse a SPEC for a member that has a fault.
 fn member_words(alloc: Global, member: &[u8]) -> Result<Vec<u8>, NoMemory>
     ensures { IfOk result (λ words. words.items ≡ codes "member " ++ member.now) }
 {
@@ -31,11 +31,11 @@ fn member_words(alloc: Global, member: &[u8]) -> Result<Vec<u8>, NoMemory>
 fn spec<F: Files>(alloc: Global, files: &mut F, name: &str) -> Result<Spec, CallFault>
     ensures ok { IfOk result (Spells (F.contents files.old) name.now IsSpecFile) }
     ensures limits { IfOk result MayBeWritten }
-    ensures err { IfErr result (λ stop. OnEnded stop (FailsAtFile (F.contents files.old) name.now SpecRefusal)) }
-    ensures counted { IfErr result (λ stop. OnEnded stop (IsCounted (F.faults files.old) (F.faults files.new) (F.failed files.new))) }
+    ensures err { IfErr result (λ stop. OnEnded stop (EndsAtFile (F.contents files.old) name.now SpecRefusal)) }
+    ensures counted { IfErr result (λ stop. OnEnded stop (IsCountedFault (F.faults files.old) (F.faults files.new) (F.failed files.new))) }
     ensures never_falls { F.faults files.old ≤ F.faults files.new }
     ensures asked { OnOk result (AsksAll F.asks F.failed (name.now ∷ []) files.old files.new) }
-    ensures asked_until { IfErr result (λ stop. OnEnded stop (FailsIn F.asks F.failed (name.now ∷ []) files.old files.new)) }
+    ensures asked_until { IfErr result (λ stop. OnEnded stop (AsksUntilEnd F.asks F.failed files.old files.new (name.now ∷ []))) }
 {
     let bytes = read_below(alloc, files, name, MAX_READ)?;
     match read_spec(alloc, bytes.as_slice()) {
@@ -63,8 +63,8 @@ fn written(alloc: Global, spec: &Spec) -> Result<Vec<u8>, NoMemory>
 /// Reads the SPEC, and tells its configuration's bytes.
 pub fn pack<F: Files>(alloc: Global, files: &mut F, name: &str) -> Result<Ending, CallFault>
     ensures ends { OnEnding result (Packs (F.contents files.old) name.now) }
-    ensures counted { OnEnding result (IsCounted (F.faults files.old) (F.faults files.new) (F.failed files.new)) }
-    ensures asked { OnEnding result (ReadsIn F.asks F.failed (name.now ∷ []) files.old files.new) }
+    ensures counted { OnEnding result (IsCountedFault (F.faults files.old) (F.faults files.new) (F.failed files.new)) }
+    ensures asked { OnEnding result (AsksIn F.asks F.failed files.old files.new (name.now ∷ [])) }
 {
     let spec = spec(alloc, files, name)?;
     Ok(Ending {

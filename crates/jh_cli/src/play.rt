@@ -3,9 +3,10 @@ ghost use Rattle.std.specs.Prelude.{◌≡◌, All, IsTrue, IfOk, ◌∷◌, []}
 ghost use Rattle.jh_history.specs.Admitted.{IsAdmitted};
 ghost use Rattle.jh_history.specs.Lives.{is_on_board};
 ghost use Rattle.jh_run.specs.Ends.{is_full};
-ghost use Rattle.jh_cli.specs.Order.{ReadsIn, ReadsBoard};
+ghost use Rattle.jh_cli.specs.Order.{AsksIn, AsksBoardAnd};
 ghost use Rattle.jh_cli.specs.Play.{IsPlayed, played_status, PlaysBy, Plays};
-ghost use Rattle.jh_cli.specs.Endings.{reply_of, OnEnding, IsCounted};
+ghost use Rattle.jh_cli.specs.Reading.{IsCountedFault};
+ghost use Rattle.jh_cli.specs.Private.Endings.{reply_of, OnEnding};
 
 use crate::boards::open;
 use crate::ending::{CallFault, Ending};
@@ -32,7 +33,7 @@ pub fn status_of(ended: Ended) -> Status
 fn render(alloc: Global, image: Image, cpus: &[u8]) -> Result<Ending, NoMemory>
     requires admitted { IsAdmitted image }
     requires cpus { All (λ cpu. IsTrue (is_on_board image cpu)) cpus.now }
-    ensures { IfOk result (λ told. IsPlayed image cpus.now (reply_of told)) }
+    ensures { IfOk result (λ ending. IsPlayed image cpus.now (reply_of ending)) }
 {
     let (board, ended) = play_board(alloc, image, cpus, MAX_ENTRIES as u32)?;
     let text = print_journal(alloc, board.journal())?;
@@ -51,8 +52,8 @@ fn play_by<F: Files>(
 ) -> Result<Ending, CallFault>
     requires admitted { IsAdmitted image }
     ensures ends { OnEnding result (PlaysBy (F.contents files.old) items.now image) }
-    ensures counted { OnEnding result (IsCounted (F.faults files.old) (F.faults files.new) (F.failed files.new)) }
-    ensures asked { OnEnding result (ReadsIn F.asks F.failed (items.now ∷ []) files.old files.new) }
+    ensures counted { OnEnding result (IsCountedFault (F.faults files.old) (F.faults files.new) (F.failed files.new)) }
+    ensures asked { OnEnding result (AsksIn F.asks F.failed files.old files.new (items.now ∷ [])) }
 {
     let cpus = schedule(alloc, files, items, &image)?;
     Ok(render(alloc, image, cpus.as_slice())?)
@@ -66,8 +67,8 @@ pub fn play<F: Files>(
     items: &str,
 ) -> Result<Ending, CallFault>
     ensures ends { OnEnding result (Plays (F.contents files.old) board.now items.now) }
-    ensures counted { OnEnding result (IsCounted (F.faults files.old) (F.faults files.new) (F.failed files.new)) }
-    ensures asked { OnEnding result (ReadsBoard F.asks F.failed (F.contents files.old) board.now (items.now ∷ []) files.old files.new) }
+    ensures counted { OnEnding result (IsCountedFault (F.faults files.old) (F.faults files.new) (F.failed files.new)) }
+    ensures asked { OnEnding result (AsksBoardAnd F.asks F.failed files.old files.new (F.contents files.old) board.now (items.now ∷ [])) }
 {
     let image = open(alloc, files, board)?;
     play_by(alloc, files, image, items)

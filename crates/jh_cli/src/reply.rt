@@ -1,9 +1,10 @@
 //! What the words ask for, worked out before anything is written.
 ghost use Rattle.std.specs.Prelude.{map, string_bytes, Some};
-ghost use Rattle.jh_cli.specs.Order.{ReadsFor, IsReadFor};
-ghost use Rattle.jh_cli.specs.Words.{command_of, asked_by, HasFewCells, IsSerial};
+ghost use Rattle.jh_cli.specs.Order.{AsksFor};
+ghost use Rattle.jh_cli.specs.Words.{command_of, request_by, HasFewCells, IsSerial};
 ghost use Rattle.jh_cli.specs.Outcome.{Outcome};
-ghost use Rattle.jh_cli.specs.Endings.{OnEnding, IsCounted};
+ghost use Rattle.jh_cli.specs.Reading.{IsCountedFault};
+ghost use Rattle.jh_cli.specs.Private.Endings.{OnEnding};
 
 use crate::audit::audit;
 use crate::check::check;
@@ -24,10 +25,10 @@ fn run_command<F: Files>(
     files: &mut F,
 ) -> Result<Ending, CallFault>
     requires few { HasFewCells command }
-    requires serial { IsSerial (Some (asked_by command)) }
-    ensures ends { OnEnding result (Outcome (F.contents files.old) (Some (asked_by command.entry))) }
-    ensures counted { OnEnding result (IsCounted (F.faults files.old) (F.faults files.new) (F.failed files.new)) }
-    ensures asked { OnEnding result (ReadsFor F.asks F.failed (F.contents files.old) (asked_by command.entry) files.old files.new) }
+    requires serial { IsSerial (Some (request_by command)) }
+    ensures ends { OnEnding result (Outcome (F.contents files.old) (Some (request_by command.entry))) }
+    ensures counted { OnEnding result (IsCountedFault (F.faults files.old) (F.faults files.new) (F.failed files.new)) }
+    ensures asked { OnEnding result (AsksFor F.asks F.failed files.old files.new (F.contents files.old) (Some (request_by command.entry))) }
 {
     match command {
         Command::Check { system, cells } => check(alloc, files, system, cells),
@@ -48,8 +49,8 @@ pub fn reply_to<F: Files>(
 ) -> Result<Ending, CallFault>
     requires { IsSerial (command_of (map string_bytes words.now)) }
     ensures outcome { OnEnding result (Outcome (F.contents files.old) (command_of (map string_bytes words.now))) }
-    ensures counted { OnEnding result (IsCounted (F.faults files.old) (F.faults files.new) (F.failed files.new)) }
-    ensures asked { OnEnding result (IsReadFor F.asks F.failed (F.contents files.old) (command_of (map string_bytes words.now)) files.old files.new) }
+    ensures counted { OnEnding result (IsCountedFault (F.faults files.old) (F.faults files.new) (F.failed files.new)) }
+    ensures asked { OnEnding result (AsksFor F.asks F.failed files.old files.new (F.contents files.old) (command_of (map string_bytes words.now))) }
 {
     match command_of(words) {
         Some(command) => run_command(alloc, command, files),

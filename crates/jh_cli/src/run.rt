@@ -1,9 +1,10 @@
 //! Running a board, with a worker for each of its CPUs.
 ghost use Rattle.std.specs.Prelude.{◌≡◌, IfOk, []};
 ghost use Rattle.jh_history.specs.Admitted.{IsAdmitted};
-ghost use Rattle.jh_cli.specs.Order.{ReadsBoard};
+ghost use Rattle.jh_cli.specs.Order.{AsksBoardAnd};
 ghost use Rattle.jh_cli.specs.Run.{IsRan, Runs};
-ghost use Rattle.jh_cli.specs.Endings.{reply_of, OnEnding, IsCounted};
+ghost use Rattle.jh_cli.specs.Reading.{IsCountedFault};
+ghost use Rattle.jh_cli.specs.Private.Endings.{reply_of, OnEnding};
 
 use crate::boards::open;
 use crate::ending::{CallFault, Ending};
@@ -25,7 +26,7 @@ fn render<R: Threads + Wait + Sync, G: Gate + Sync>(
     gate: &G,
 ) -> Result<Ending, NoMemory>
     requires { IsAdmitted image }
-    ensures { IfOk result (λ told. IsRan image (reply_of told)) }
+    ensures { IfOk result (λ ending. IsRan image (reply_of ending)) }
 {
     let (board, ended) = run_board(rt, alloc, image, gate, MAX_ENTRIES as u32)?;
     let text = print_journal(alloc, board.journal())?;
@@ -44,8 +45,8 @@ pub fn run<R: Threads + Wait + Sync, F: Files, G: Gate + Sync>(
     gate: &G,
 ) -> Result<Ending, CallFault>
     ensures ends { OnEnding result (Runs (F.contents files.old) board.now) }
-    ensures counted { OnEnding result (IsCounted (F.faults files.old) (F.faults files.new) (F.failed files.new)) }
-    ensures asked { OnEnding result (ReadsBoard F.asks F.failed (F.contents files.old) board.now [] files.old files.new) }
+    ensures counted { OnEnding result (IsCountedFault (F.faults files.old) (F.faults files.new) (F.failed files.new)) }
+    ensures asked { OnEnding result (AsksBoardAnd F.asks F.failed files.old files.new (F.contents files.old) board.now []) }
 {
     let image = open(alloc, files, board)?;
     Ok(render(rt, alloc, image, gate)?)

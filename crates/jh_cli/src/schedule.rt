@@ -2,10 +2,10 @@
 ghost use Rattle.std.specs.Prelude.{◌≡◌, ◌≤◌, ◌<◌, ℕ, All, IsTrue, IfOk, IfErr, ◌∷◌, [], OnOk};
 ghost use Rattle.jh_history.specs.Lives.{is_on_board};
 ghost use Rattle.jh_outside.specs.Trail.{AsksAll};
-ghost use Rattle.jh_cli.specs.Order.{FailsIn};
-ghost use Rattle.jh_cli.specs.Reading.{Spells, FailsAtFile};
+ghost use Rattle.jh_cli.specs.Order.{AsksUntilEnd};
+ghost use Rattle.jh_cli.specs.Reading.{Spells, EndsAtFile, IsCountedFault};
 ghost use Rattle.jh_cli.specs.Play.{AreCpus, IsSchedule, ScheduleRefusal};
-ghost use Rattle.jh_cli.specs.Endings.{OnEnded, IsCounted};
+ghost use Rattle.jh_cli.specs.Private.Endings.{OnEnded};
 
 use crate::ending::{CallFault, read_below, refused_for};
 use crate::limits::MAX_READ;
@@ -38,12 +38,12 @@ pub fn schedule<F: Files>(
 ) -> Result<Seq<u8>, CallFault>
     ensures ok { IfOk result (Spells (F.contents files.old) name.now (IsSchedule image.now)) }
     ensures present { IfOk result (All (λ cpu. IsTrue (is_on_board image.now cpu))) }
-    ensures err { IfErr result (λ stop. OnEnded stop (FailsAtFile (F.contents files.old) name.now (ScheduleRefusal image.now))) }
-    ensures counted { IfErr result (λ stop. OnEnded stop (IsCounted (F.faults files.old) (F.faults files.new) (F.failed files.new))) }
+    ensures err { IfErr result (λ stop. OnEnded stop (EndsAtFile (F.contents files.old) name.now (ScheduleRefusal image.now))) }
+    ensures counted { IfErr result (λ stop. OnEnded stop (IsCountedFault (F.faults files.old) (F.faults files.new) (F.failed files.new))) }
     ensures never_falls { F.faults files.old ≤ F.faults files.new }
     ensures kept { F.contents files.new ≡ F.contents files.old }
     ensures asked { OnOk result (AsksAll F.asks F.failed (name.now ∷ []) files.old files.new) }
-    ensures asked_until { IfErr result (λ stop. OnEnded stop (FailsIn F.asks F.failed (name.now ∷ []) files.old files.new)) }
+    ensures asked_until { IfErr result (λ stop. OnEnded stop (AsksUntilEnd F.asks F.failed files.old files.new (name.now ∷ []))) }
 {
     let bytes = read_below(alloc, files, name, MAX_READ)?;
     match read_schedule(alloc, bytes.as_slice(), cpus_of(image)) {

@@ -1,7 +1,7 @@
 //! Running the board of so many rounds.
 ghost use Rattle.std.specs.Prelude.{◌≡◌, ◌≤◌, ◌&&◌, nat_le, Some, None, if◌then◌else◌, IfOk};
 ghost use Rattle.jh_cli.specs.Soak.{ParsesRounds, summary_line, IsSoaked, Soaks};
-ghost use Rattle.jh_cli.specs.Endings.{reply_of, OnEnding};
+ghost use Rattle.jh_cli.specs.Private.Endings.{reply_of, OnEnding};
 
 use crate::ending::{CallFault, Ending};
 use crate::lines::rounds_line;
@@ -65,7 +65,7 @@ fn render<R: Threads + Wait + Sync, G: Gate + Sync>(
 ) -> Result<Ending, NoMemory>
     requires least { 1 ≤ rounds }
     requires most { rounds ≤ 400 }
-    ensures { IfOk result (λ told. IsSoaked rounds (reply_of told)) }
+    ensures { IfOk result (λ ending. IsSoaked rounds (reply_of ending)) }
 {
     let image = soak_image(alloc, rounds)?;
     let (board, ended) = run(rt, alloc, image, gate, MAX_ENTRIES as u32)?;

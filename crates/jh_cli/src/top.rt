@@ -25,12 +25,12 @@ pub fn serial<F: Files, K: Sink>(
     out: &mut K,
 ) -> Status
     requires { IsSerial (command_of (map string_bytes words.now)) }
-    // the status and the text are those that the words ask for, and each failure comes only where its count rose
+    // the status and the text are those of the words' request, and each failure comes only where its count rose
     ensures { IsCall F.contents F.failed F.faults F.asks K.written K.faults (command_of (map string_bytes words.now)) files.old files.new out.old out.new result }
 {
     good_inputs_are_answered();
-    let told = reply_to(alloc, words, files);
-    finish(out, told)
+    let ending = reply_to(alloc, words, files);
+    finish(out, ending)
 }
 
 /// Does all that the program does with these words. With `run` and `soak` it has a worker for each CPU of the board,
@@ -49,12 +49,12 @@ pub fn jailhouse<R: Threads + Wait + Sync, F: Files, K: Sink, G: Gate + Sync>(
     good_inputs_are_answered();
     match command_of(words) {
         Some(Command::Run { board }) => {
-            let told = run(rt, alloc, files, board, gate);
-            finish(out, told)
+            let ending = run(rt, alloc, files, board, gate);
+            finish(out, ending)
         }
         Some(Command::Soak { rounds }) => {
-            let told = soak(rt, alloc, rounds, gate);
-            finish(out, told)
+            let ending = soak(rt, alloc, rounds, gate);
+            finish(out, ending)
         }
         _ => serial(alloc, words, files, out),
     }

@@ -1,5 +1,5 @@
 //! Reading and writing the words of the page. A page has 4,096 bytes.
-ghost use Rattle.std.specs.Prelude.{◌≡◌, ℕ, ◌+◌, ◌<◌, ◌≤◌, length, slice_index, replicate};
+ghost use Rattle.std.specs.Prelude.{◌≡◌, ℕ, ◌+◌, ◌<◌, ◌≤◌, length, slice_index};
 ghost use Rattle.jh_num.specs.Memory.{stored};
 ghost use Rattle.jh_comm.specs.Page.{word_in, state_in, message_in, reply_in, with_state, sent, fresh_page};
 
@@ -12,14 +12,14 @@ const REVISION: u16 = 1;
 /// Where it stands.
 const REVISION_AT: usize = 6;
 
-/// Where the state of the cell stands.
-const STATE_AT: usize = 8;
+/// Where the state of the cell stands, in bytes from the start of the page.
+pub const STATE_AT: usize = 8;
 
-/// Where the message to the cell stands.
-const MESSAGE_AT: usize = 12;
+/// Where the message to the cell stands, in bytes from the start of the page.
+pub const MESSAGE_AT: usize = 12;
 
-/// Where the cell's reply stands.
-const REPLY_AT: usize = 16;
+/// Where the cell's reply stands, in bytes from the start of the page.
+pub const REPLY_AT: usize = 16;
 
 /// Where the console stands.
 const CONSOLE_AT: usize = 24;

@@ -1,7 +1,6 @@
 -- A page of the hypervisor's memory, lent to be written.
 use Rattle.std.specs.Prelude.{ℕ, ◌-◌, ◌++◌, List, length, take, drop}
 use Rattle.std.specs.Borrow.{Lends, MutBor, Fml, Array, u8}
-use Rattle.jh_frames.specs.contracts.own.Own as own
 use Rattle.jh_frames.specs.contracts.frames.Frames as frames
 use Rattle.jh_frames.specs.Memory.{OwnView, FramesView}
 
@@ -16,10 +15,6 @@ with_own_page own at page = record { base = own.base; bytes = put_in own.bytes (
 -- memory with this page at the place of the hypervisor's
 abbrev pub with_page : FramesView → ℕ → List ℕ → FramesView
 with_page memory at page = record { own = with_own_page memory.own at page; guest = memory.guest }
-
--- what is last written through r is the page at the place, of the hypervisor's memory
-abbrev pub LendsOwnPage : MutBor OwnView → ℕ → MutBor (List ℕ) → Fml
-LendsOwnPage s at r = Lends own.the_row (Array u8 0) s r (with_own_page s.now at)
 
 -- what is last written through r is the page at the place, of memory: it is one of the hypervisor's
 abbrev pub LendsPage : MutBor FramesView → ℕ → MutBor (List ℕ) → Fml

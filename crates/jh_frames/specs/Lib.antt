@@ -1,3 +1,4 @@
 pub mod Memory
 pub mod Kept
 pub mod Lending
+pub mod Private

@@ -30,7 +30,7 @@ impl Model for Own {
 
 impl Own {
     ghost use Rattle.std.specs.Borrow.{sem};
-    ghost use Rattle.jh_frames.specs.Lending.{LendsOwnPage};
+    ghost use Rattle.jh_frames.specs.Private.Lending.{LendsOwnPage};
 
     /// The hypervisor's memory of `size` bytes from the place `base` on, both multiples of 4,096. All bytes are 0.
     pub fn open(alloc: Global, base: u64, size: u64) -> Result<Self, NoMemory>

@@ -41,22 +41,22 @@ pub alone_start : (image : Image) → IsAlone image (start image)
 alone_start image = record { cells = refl; call = refl; owners = λ cpu. refl }
 
 -- what is due is no phase
-abbrev IsOwn : Act → Type 0
-IsOwn act = is_call act ≡ false
+abbrev IsNoPhase : Act → Type 0
+IsNoPhase act = is_call act ≡ false
 
-own_if : (b : Bool) (o : Option Act) → IfSome o IsOwn → IfSome (cond b o None) IsOwn
+own_if : (b : Bool) (o : Option Act) → IfSome o IsNoPhase → IfSome (cond b o None) IsNoPhase
 own_if true o own = own
 own_if false o own = tt
 
-own_await : (width at value : ℕ) (o : Option ℕ) → IfSome (await_of width at value o) IsOwn
+own_await : (width at value : ℕ) (o : Option ℕ) → IfSome (await_of width at value o) IsNoPhase
 own_await width at value None = refl
 own_await width at value (Some got) = own_if (eqb got value) (Some (Await width at value true)) refl
 
-own_irq : (next : Option (ℕ × ℕ)) → IfSome (option_map (λ (n : ℕ × ℕ). Irq n.0 n.1) next) IsOwn
+own_irq : (next : Option (ℕ × ℕ)) → IfSome (option_map (λ (n : ℕ × ℕ). Irq n.0 n.1) next) IsNoPhase
 own_irq None = tt
 own_irq (Some n) = refl
 
-own_act : (image : Image) (f : Facts) (cell : ℕ) (op : Op) → IsNoCall op → IfSome (act_of image f cell op) IsOwn
+own_act : (image : Image) (f : Facts) (cell : ℕ) (op : Op) → IsNoCall op → IfSome (act_of image f cell op) IsNoPhase
 own_act image f cell (ReadOp width at) no_call = refl
 own_act image f cell (WriteOp width at value) no_call = refl
 own_act image f cell (FetchOp at) no_call = refl
@@ -64,7 +64,7 @@ own_act image f cell (AwaitOp width at value) no_call = own_await width at value
 own_act image f cell IrqOp no_call = own_irq (pending_of cell f.endpoints)
 own_act image f cell (HvcOp code a b) no_call = absurd no_call
 
-own_op : (image : Image) (f : Facts) (cell : ℕ) (o : Option Op) → IfSome o IsNoCall → IfSome (option_and_then (act_of image f cell) o) IsOwn
+own_op : (image : Image) (f : Facts) (cell : ℕ) (o : Option Op) → IfSome o IsNoCall → IfSome (option_and_then (act_of image f cell) o) IsNoPhase
 own_op image f cell None no_call = tt
 own_op image f cell (Some op) no_call = own_act image f cell op no_call
 
@@ -83,7 +83,7 @@ no_call_pending : (image : Image) (f : Facts) (state : Cpu) (cpu : ℕ) (b : Boo
 no_call_pending image f state cpu true silent = no_call_at (ops_in image f.cells state.owner cpu) state.position (no_calls_by image cpu (cell_in image f.cells state.owner) silent)
 no_call_pending image f state cpu false silent = tt
 
-own_state : (image : Image) (f : Facts) (state : Cpu) (cpu : ℕ) (asked : Bool) → HasNoCall image → IfSome (cond asked (Some Stop) (option_and_then (act_of image f state.owner) (pending_op image f state cpu))) IsOwn
+own_state : (image : Image) (f : Facts) (state : Cpu) (cpu : ℕ) (asked : Bool) → HasNoCall image → IfSome (cond asked (Some Stop) (option_and_then (act_of image f state.owner) (pending_op image f state cpu))) IsNoPhase
 own_state image f state cpu true silent = refl
 own_state image f state cpu false silent = own_op image f state.owner (pending_op image f state cpu) (no_call_pending image f state cpu (goes_on state) silent)
 
@@ -91,12 +91,12 @@ own_state image f state cpu false silent = own_op image f state.owner (pending_o
 pub next_act_alone : (image : Image) (f : Facts) (state : Cpu) (cpu : ℕ) → f.call ≡ None → next_act image f state cpu ≡ state_act image f state cpu
 next_act_alone image f state cpu none = rw none refl
 
-own_next : (image : Image) (f : Facts) (state : Cpu) (cpu : ℕ) → HasNoCall image → f.call ≡ None → IfSome (next_act image f state cpu) IsOwn
+own_next : (image : Image) (f : Facts) (state : Cpu) (cpu : ℕ) → HasNoCall image → f.call ≡ None → IfSome (next_act image f state cpu) IsNoPhase
 own_next image f state cpu silent none =
-    let P : Option Act → Type 0 = λ o. IfSome o IsOwn in
+    let P : Option Act → Type 0 = λ o. IfSome o IsNoPhase in
     subst P (sym (next_act_alone image f state cpu none)) (own_state image f state cpu state.asked silent)
 
-roots_entry : (image : Image) (cpu cell : ℕ) (entry : Entry) (o : Option Act) → IfSome o IsOwn → cell ≡ image.system.root.id → option_map (entry_by cpu cell) o ≡ Some entry → IsByRoot image entry
+roots_entry : (image : Image) (cpu cell : ℕ) (entry : Entry) (o : Option Act) → IfSome o IsNoPhase → cell ≡ image.system.root.id → option_map (entry_by cpu cell) o ≡ Some entry → IsByRoot image entry
 roots_entry image cpu cell entry None own is h = absurd (none-some entry h)
 roots_entry image cpu cell entry (Some act) own is h =
     let P : Entry → Type 0 = IsByRoot image in

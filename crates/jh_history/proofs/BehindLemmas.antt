@@ -1,26 +1,24 @@
 -- What answers an access where no memory does.
 use Rattle.std.proofs.Common.{◌≡◌, ℕ, zero, suc, ◌+◌, ◌-◌, ◌<◌, ◌≤◌, Bool, true, false, ◌&&◌, ◌||◌, not, cond, leb, List, [], Option, Some, None, refl, ap, sym, ◌∙◌, subst, arith}
-use Rattle.std.specs.Prelude.{find}
 use Rattle.std.specs.List.{list_any, range_with_len}
+use Rattle.std.specs.Option.{option_map_or}
 use Rattle.std.proofs.lemmas.Bool.{and_parts, not-true, ltb-true, lt-leb, le-leb}
 use Rattle.jh_num.specs.declared.address.TheConstants.{ADDRESS_END}
-use Rattle.jh_cellcfg.specs.declared.config.SystemConfig.{SystemConfig}
 use Rattle.jh_cellcfg.specs.declared.live.Live.{Live}
 use Rattle.jh_cellcfg.specs.declared.region.Region.{Region}
 use Rattle.jh_cellcfg.specs.Regions.{has_size, is_page_mapped, is_comm, place_in, virt_end}
-use Rattle.jh_mmio.specs.declared.hitting.Window.{Window}
 use Rattle.jh_mmio.specs.Dispatch.{lies_between, is_at_closed, takes_all, has_whole, has_right}
 use Rattle.jh_script.specs.declared.image.Image.{Image}
 use Rattle.jh_history.specs.declared.place.Place.{Place}
 use Rattle.jh_history.specs.declared.place.Place.TheVariants.{Physical, Page}
 use Rattle.jh_history.specs.declared.access.Access.{Access}
 use Rattle.jh_history.specs.declared.access.Access.TheVariants.{Read, Write, Fetch}
+use Rattle.jh_history.specs.declared.access.Wanted.{Wanted}
 use Rattle.jh_history.specs.declared.access.Reach.{Reach}
 use Rattle.jh_history.specs.declared.access.Reach.TheVariants.{Subpage, Nothing}
 use Rattle.jh_history.specs.Places.{places_in_row}
 use Rattle.jh_history.specs.Access.{place_in_cell}
-use Rattle.jh_history.specs.Behind.{ecam_start, ecam_end, window_of_access, behind_regions, answer_by, answer_to, answer}
-use Rattle.jh_history.specs.Devices.{Devices}
+use Rattle.jh_history.specs.Behind.{Asked, Behind, asked_by, is_write, by_region, without_region, region_or_window, unless_fetch, answer_behind, answer}
 use Rattle.jh_history.specs.Grants.{is_kept}
 
 -- ---- a region that has an access
@@ -79,49 +77,41 @@ kept_row image cells id at n r low = kept_by (is_kept image cells id) id at n r 
 
 -- ---- what answers
 
--- the subpage region that has the access
-abbrev region_having : List Region → (Place → Bool) → ℕ → ℕ → Option Region
-region_having regions kept at width = find (takes_all (λ p. kept (Physical p)) at width) regions
-
--- what answers within the addresses
-abbrev answering : List Region → Devices → (Place → Bool) → SystemConfig → Access → ℕ → ℕ → Reach
-answering regions devices kept system access at width =
-    answer_to devices.cell (region_having regions kept at width) (ecam_start system) (ecam_end system) (window_of_access devices at width) access at width
-
-pub answer_within : (regions : List Region) (devices : Devices) (kept : Place → Bool) (system : SystemConfig) (access : Access) (at width : ℕ) → at + width ≤ ADDRESS_END
-    → answer regions devices kept system access at width ≡ answer_to devices.cell (find (takes_all (λ p. kept (Physical p)) at width) regions) (ecam_start system) (ecam_end system) (window_of_access devices at width) access at width
+pub answer_within : (behind : Behind) (wanted : Wanted) → wanted.at + wanted.width ≤ ADDRESS_END → answer behind wanted ≡ answer_behind (asked_by behind wanted) wanted
 unfolding answer
-answer_within regions devices kept system access at width h =
-    ap (λ (b : Bool). cond b (answering regions devices kept system access at width) Nothing) (le-leb (at + width) ADDRESS_END h)
+answer_within behind wanted h = ap (λ (b : Bool). cond b (answer_behind (asked_by behind wanted) wanted) Nothing) (le-leb (wanted.at + wanted.width) ADDRESS_END h)
 
-pub answer_beyond : (regions : List Region) (devices : Devices) (kept : Place → Bool) (system : SystemConfig) (access : Access) (at width : ℕ) → ADDRESS_END < at + width → answer regions devices kept system access at width ≡ Nothing
+pub answer_beyond : (behind : Behind) (wanted : Wanted) → ADDRESS_END < wanted.at + wanted.width → answer behind wanted ≡ Nothing
 unfolding answer
-answer_beyond regions devices kept system access at width h =
-    ap (λ (b : Bool). cond b (answering regions devices kept system access at width) Nothing) (lt-leb (at + width) ADDRESS_END h)
+answer_beyond behind wanted h = ap (λ (b : Bool). cond b (answer_behind (asked_by behind wanted) wanted) Nothing) (lt-leb (wanted.at + wanted.width) ADDRESS_END h)
+
+-- an access of no bytes
+abbrev no_bytes : Access → ℕ → Wanted
+no_bytes access at = record { access = access; at = at; width = 0 }
 
 no_bytes_through : (b : Bool) (found : Reach) → cond (b && false) found Nothing ≡ Nothing
 no_bytes_through true found = refl
 no_bytes_through false found = refl
 
-no_bytes_behind : (start end : ℕ) (window : Option Window) (at : ℕ) → behind_regions start end window at 0 ≡ Nothing
-no_bytes_behind start end window at = refl
+no_bytes_by : (asked : Asked) (access : Access) (at : ℕ) (o : Option Region) → option_map_or (by_region asked.cell (no_bytes access at)) o (without_region asked.windows (no_bytes access at)) ≡ Nothing
+no_bytes_by asked access at None = refl
+no_bytes_by asked access at (Some r) = no_bytes_through (has_right (is_write access) r) (Subpage [])
 
-no_bytes_by : (id : ℕ) (o : Option Region) (start end : ℕ) (window : Option Window) (write : Bool) (at : ℕ) → answer_by id o start end window write at 0 ≡ Nothing
-no_bytes_by id None start end window write at = no_bytes_behind start end window at
-no_bytes_by id (Some r) start end window write at = no_bytes_through (has_right write r) (Subpage [])
+unless_none : (access : Access) (found : Reach) → found ≡ Nothing → unless_fetch access found ≡ Nothing
+unless_none Read found none = none
+unless_none Write found none = none
+unless_none Fetch found none = refl
 
-no_bytes_to : (id : ℕ) (o : Option Region) (start end : ℕ) (window : Option Window) (access : Access) (at : ℕ) → answer_to id o start end window access at 0 ≡ Nothing
-no_bytes_to id o start end window Read at = no_bytes_by id o start end window false at
-no_bytes_to id o start end window Write at = no_bytes_by id o start end window true at
-no_bytes_to id o start end window Fetch at = refl
-
-no_bytes_within : (id : ℕ) (o : Option Region) (start end : ℕ) (window : Option Window) (access : Access) (at : ℕ) (b : Bool) → cond b (answer_to id o start end window access at 0) Nothing ≡ Nothing
-no_bytes_within id o start end window access at true = no_bytes_to id o start end window access at
-no_bytes_within id o start end window access at false = refl
+no_bytes_within : (asked : Asked) (access : Access) (at : ℕ) (b : Bool) → cond b (answer_behind asked (no_bytes access at)) Nothing ≡ Nothing
+no_bytes_within asked access at true = unless_none access (region_or_window asked (no_bytes access at)) (no_bytes_by asked access at asked.region)
+no_bytes_within asked access at false = refl
 
 -- an access of no bytes is answered by nothing
-pub answer_no_bytes : (regions : List Region) (devices : Devices) (kept : Place → Bool) (system : SystemConfig) (access : Access) (at width : ℕ) → width ≡ 0 → answer regions devices kept system access at width ≡ Nothing
+pub answer_no_bytes : (behind : Behind) (wanted : Wanted) → wanted.width ≡ 0 → answer behind wanted ≡ Nothing
 unfolding answer
-answer_no_bytes regions devices kept system access at width none =
-    let P : ℕ → Type 0 = λ n. cond (leb (at + n) ADDRESS_END) (answering regions devices kept system access at n) Nothing ≡ Nothing in
-    subst P (sym none) (no_bytes_within devices.cell (region_having regions kept at 0) (ecam_start system) (ecam_end system) (window_of_access devices at 0) access at (leb (at + 0) ADDRESS_END))
+answer_no_bytes behind wanted none =
+    let P : ℕ → Type 0 = λ n.
+    let short : Wanted = record wanted { width = n } in
+    cond (leb (wanted.at + n) ADDRESS_END) (answer_behind (asked_by behind short) short) Nothing ≡ Nothing
+    in
+    subst P (sym none) (no_bytes_within (asked_by behind (no_bytes wanted.access wanted.at)) wanted.access wanted.at (leb (wanted.at + 0) ADDRESS_END))

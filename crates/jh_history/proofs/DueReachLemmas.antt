@@ -25,17 +25,17 @@ use Rattle.jh_history.specs.declared.place.Place.{Place}
 use Rattle.jh_history.specs.declared.place.Place.TheVariants.{Physical, Page}
 use Rattle.jh_history.specs.declared.access.Access.{Access}
 use Rattle.jh_history.specs.declared.access.Access.TheVariants.{Read as ToRead, Write as ToWrite, Fetch as ToFetch}
+use Rattle.jh_history.specs.declared.access.Wanted.{Wanted}
 use Rattle.jh_history.specs.declared.access.Reach.{Reach}
 use Rattle.jh_history.specs.declared.access.Reach.TheVariants.{Memory, Subpage, Config, Window, Nothing}
 use Rattle.jh_history.specs.declared.entry.Entry.{Entry}
 use Rattle.jh_history.specs.declared.entry.Act.{Act}
 use Rattle.jh_history.specs.declared.entry.Act.TheVariants.{Read, Write, Fetch, Await, Irq, Hvc, Begin, Stop, Decide, Settle, Commit, Note, Noted, Finish}
 use Rattle.jh_history.specs.Access.{gives, region_of, place_in_cell, place_of, places_from, memory_or_nothing, reach_by, or_behind}
-use Rattle.jh_history.specs.Behind.{ecam_start, ecam_end, in_window, asked_windows, by_device, window_of_access, answer_by, answer_to, answer}
-use Rattle.jh_history.specs.Devices.{devices_in}
+use Rattle.jh_history.specs.Behind.{Asked, Windows, asked_by, is_write, in_window, asked_windows, by_region, by_device, without_region, region_or_window, unless_fetch, answer_behind, answer}
 use Rattle.jh_history.specs.Places.{places_in_row}
 use Rattle.jh_history.specs.Facts.{Facts}
-use Rattle.jh_history.specs.Grants.{is_kept, unless, granted, behind_in, reach}
+use Rattle.jh_history.specs.Grants.{is_kept, unless, granted, behind_of, behind_in, reach}
 use Rattle.jh_history.specs.Lives.{regions_in}
 use Rattle.jh_shape.specs.Lives.{configs_of}
 use Rattle.jh_history.specs.Wants.{IsReachOfAct, IsReachOfEntry}
@@ -104,10 +104,10 @@ comm_by image f id at r false (Some live) sound is held has comm =
     let page = sound.cells.clean.comms cell.0 live.config cell.1 cell.2 item.0 r item.1 (has_some r at has) comm in
     (byte_within r at page.size has, (live, (IsFound_from_find (has_id id) f.cells live is).held, found.1))
 
-by_region : (image : Image) (f : Facts) (id : ℕ) (access : Access) (at : ℕ) (p : Place) (o : Option Region) → IsSound image f → region_of (regions_in image f.cells id) access at ≡ o
+place_by_region : (image : Image) (f : Facts) (id : ℕ) (access : Access) (at : ℕ) (p : Place) (o : Option Region) → IsSound image f → region_of (regions_in image f.cells id) access at ≡ o
     → option_map (λ (r : Region). place_in_cell id r at) o ≡ Some p → IsOfCells f.cells p
-by_region image f id access at p None sound is e = absurd (none-some p e)
-by_region image f id access at p (Some r) sound is e =
+place_by_region image f id access at p None sound is e = absurd (none-some p e)
+place_by_region image f id access at p (Some r) sound is e =
     let found = IsFound_from_find (gives access at) (regions_in image f.cells id) r is in
     let P : Place → Type 0 = IsOfCells f.cells in
     subst P (same_Some (place_in_cell id r at) p e)
@@ -116,7 +116,7 @@ by_region image f id access at p (Some r) sound is e =
 
 place_of_cells : (image : Image) (f : Facts) (id : ℕ) (access : Access) (at : ℕ) (p : Place) → IsSound image f → place_of id (regions_in image f.cells id) access at ≡ Some p → IsOfCells f.cells p
 unfolding place_of
-place_of_cells image f id access at p sound e = by_region image f id access at p (region_of (regions_in image f.cells id) access at) sound refl e
+place_of_cells image f id access at p sound e = place_by_region image f id access at p (region_of (regions_in image f.cells id) access at) sound refl e
 
 -- ---- what is granted
 
@@ -170,24 +170,25 @@ window_answers : (cells : List Live) (o : Option TheWindow) (at : ℕ) → Reach
 window_answers cells None at = tt
 window_answers cells (Some window) at = tt
 
-device_answers : (cells : List Live) (start : ℕ) (o : Option TheWindow) (at width : ℕ) (h : Hitting) → ReachesCells cells (by_device start o at width h)
-device_answers cells start o at width Ecam = tt
-device_answers cells start o at width (HitsSubpage region) = tt
-device_answers cells start o at width (Bar number) = window_answers cells o at
-device_answers cells start o at width HitsNothing = tt
+device_answers : (cells : List Live) (windows : Windows) (wanted : Wanted) (h : Hitting) → ReachesCells cells (by_device windows wanted h)
+device_answers cells windows wanted Ecam = tt
+device_answers cells windows wanted (HitsSubpage region) = tt
+device_answers cells windows wanted (Bar number) = window_answers cells windows.device wanted.at
+device_answers cells windows wanted HitsNothing = tt
 
-found_answers : (image : Image) (lives : List Live) (id : ℕ) (closed : ℕ → Bool) (start end : ℕ) (window : Option TheWindow) (write : Bool) (at width : ℕ) (o : Option Region) → IsClean image.system (configs_of lives) → find (takes_all closed at width) (regions_in image lives id) ≡ o
-    → ReachesCells lives (answer_by id o start end window write at width)
-found_answers image lives id closed start end window write at width None clean is = device_answers lives start window at width (hitting_behind_regions start end (asked_windows window) at width)
-found_answers image lives id closed start end window write at width (Some r) clean is =
-    let found = IsFound_from_find (takes_all closed at width) (regions_in image lives id) r is in
-    region_answers lives id at width r (is_comm r) (lets_through at width write r) (takes_all_plain image lives id closed at width r clean found.held found.passes)
+found_answers : (image : Image) (lives : List Live) (id : ℕ) (closed : ℕ → Bool) (windows : Windows) (wanted : Wanted) (o : Option Region) → IsClean image.system (configs_of lives) → find (takes_all closed wanted.at wanted.width) (regions_in image lives id) ≡ o
+    → ReachesCells lives (option_map_or (by_region id wanted) o (without_region windows wanted))
+found_answers image lives id closed windows wanted None clean is =
+    device_answers lives windows wanted (hitting_behind_regions windows.start windows.end (asked_windows windows.device) wanted.at wanted.width)
+found_answers image lives id closed windows wanted (Some r) clean is =
+    let found = IsFound_from_find (takes_all closed wanted.at wanted.width) (regions_in image lives id) r is in
+    region_answers lives id wanted.at wanted.width r (is_comm r) (lets_through wanted.at wanted.width (is_write wanted.access) r)
+    (takes_all_plain image lives id closed wanted.at wanted.width r clean found.held found.passes)
 
-access_answers : (image : Image) (lives : List Live) (id : ℕ) (closed : ℕ → Bool) (start end : ℕ) (window : Option TheWindow) (access : Access) (at width : ℕ) → IsClean image.system (configs_of lives)
-    → ReachesCells lives (answer_to id (find (takes_all closed at width) (regions_in image lives id)) start end window access at width)
-access_answers image lives id closed start end window ToRead at width clean = found_answers image lives id closed start end window false at width (find (takes_all closed at width) (regions_in image lives id)) clean refl
-access_answers image lives id closed start end window ToWrite at width clean = found_answers image lives id closed start end window true at width (find (takes_all closed at width) (regions_in image lives id)) clean refl
-access_answers image lives id closed start end window ToFetch at width clean = tt
+fetch_answers : (lives : List Live) (access : Access) (found : Reach) → ReachesCells lives found → ReachesCells lives (unless_fetch access found)
+fetch_answers lives ToRead found all = all
+fetch_answers lives ToWrite found all = all
+fetch_answers lives ToFetch found all = tt
 
 answer_or_not : (lives : List Live) (b : Bool) (found : Reach) → ReachesCells lives found → ReachesCells lives (cond b found Nothing)
 answer_or_not lives true found all = all
@@ -197,9 +198,10 @@ behind_cells : (image : Image) (lives : List Live) (endpoints : List Endpoint) (
 unfolding answer
 behind_cells image lives endpoints id access at width clean =
     let closed : ℕ → Bool = λ p. is_kept image lives id (Physical p) in
-    let window = window_of_access (devices_in image lives endpoints id) at width in
-    answer_or_not lives (leb (at + width) ADDRESS_END) (answer_to id (find (takes_all closed at width) (regions_in image lives id)) (ecam_start image.system) (ecam_end image.system) window access at width)
-    (access_answers image lives id closed (ecam_start image.system) (ecam_end image.system) window access at width clean)
+    let wanted : Wanted = record { access = access; at = at; width = width } in
+    let asked : Asked = asked_by (behind_of image lives endpoints id) wanted in
+    answer_or_not lives (leb (at + width) ADDRESS_END) (answer_behind asked wanted)
+    (fetch_answers lives access (region_or_window asked wanted) (found_answers image lives id closed asked.windows wanted (find (takes_all closed at width) (regions_in image lives id)) clean refl))
 
 -- ---- what is reached
 

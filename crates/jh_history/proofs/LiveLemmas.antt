@@ -10,7 +10,7 @@ use Rattle.jh_cellcfg.specs.Lives.{has_id, id_of}
 use Rattle.jh_history.specs.Lives.{live_in}
 use Rattle.jh_shape.specs.Lives.{configs_of, with_marks, marked}
 use Rattle.jh_shape.proofs.Public.{length_joined, joined_remove, live_of}
-use Rattle.jh_history.specs.Calls.{is_recipient, is_recipient_by, first_recipient, behind}
+use Rattle.jh_history.specs.Calls.{is_recipient, is_recipient_by, first_recipient, listed_behind}
 use Rattle.jh_history.specs.Commits.{is_other}
 
 abbrev config : Live → CellConfig
@@ -49,20 +49,20 @@ behind_by : (id : ℕ) (b : Bool) (lives rest : List Live) → behind_of id (con
 behind_by id true lives rest e = refl
 behind_by id false lives rest e = e
 
-behind_of_is : (id : ℕ) (lives : List Live) → behind_of id (configs_of lives) ≡ configs_of (behind id lives)
+behind_of_is : (id : ℕ) (lives : List Live) → behind_of id (configs_of lives) ≡ configs_of (listed_behind id lives)
 behind_of_is id [] = refl
-behind_of_is id (live ∷ lives) = behind_by id (has_id id live) lives (behind id lives) (behind_of_is id lives)
+behind_of_is id (live ∷ lives) = behind_by id (has_id id live) lives (listed_behind id lives) (behind_of_is id lives)
 
 -- that of them, or of all of what is left where the one with the id was passed
 abbrev pub told_from : Bool → ℕ → ℕ → List CellConfig → Option ℕ
 told_from true about id cells = told_of about cells
 told_from false about id cells = told_of about (behind_of id cells)
 
-pub next_told_is : (about id : ℕ) (lives : List Live) (cells : List CellConfig) → configs_of lives ≡ cells → told_from false about id cells ≡ first_recipient about (behind id lives)
+pub next_told_is : (about id : ℕ) (lives : List Live) (cells : List CellConfig) → configs_of lives ≡ cells → told_from false about id cells ≡ first_recipient about (listed_behind id lives)
 next_told_is about id lives cells e =
     ap (λ (cs : List CellConfig). told_of about (behind_of id cs)) (sym e)
     ∙ ap (told_of about) (behind_of_is id lives)
-    ∙ told_of_is about (behind id lives)
+    ∙ told_of_is about (listed_behind id lives)
 
 pub told_from_end : (b : Bool) (about id : ℕ) → told_from b about id [] ≡ None
 told_from_end true about id = refl

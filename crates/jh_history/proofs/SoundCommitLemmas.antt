@@ -17,7 +17,7 @@ use Rattle.jh_call.specs.declared.call.Call.TheVariants.{Create, Destroy}
 use Rattle.jh_script.specs.declared.image.Image.{Image}
 use Rattle.jh_history.specs.declared.call.Phase.TheVariants.{ToCreate, ToCommit, ToNote, ToNoted, ToFinish}
 use Rattle.jh_history.specs.Lives.{is_on_board}
-use Rattle.jh_history.specs.Calls.{is_named, is_recipient, first_recipient, telling, behind}
+use Rattle.jh_history.specs.Calls.{is_named, is_recipient, first_recipient, telling, listed_behind}
 use Rattle.jh_history.specs.Commits.{is_other}
 use Rattle.jh_history.specs.Cpus.{end_in_root}
 use Rattle.jh_history.specs.Phases.{keeps_commit}
@@ -191,12 +191,12 @@ pub told_first : (image : Image) (configs : List CellConfig) (cpu : ℕ → Cpu)
     → IsLate (telling about answer (first_recipient about cells)) × IsInPhase image configs cpu caller call (telling about answer (first_recipient about cells))
 told_first image configs cpu caller about call answer cells held news = told_by image configs cpu caller about call answer cells (find (is_recipient about) cells) refl held news
 
-behind_by : (id : ℕ) (live : Live) (cells : List Live) (x : Live) (b : Bool) → (Contains (behind id cells) x → Contains cells x) → Contains (cond b cells (behind id cells)) x → Contains (live ∷ cells) x
+behind_by : (id : ℕ) (live : Live) (cells : List Live) (x : Live) (b : Bool) → (Contains (listed_behind id cells) x → Contains cells x) → Contains (cond b cells (listed_behind id cells)) x → Contains (live ∷ cells) x
 behind_by id live cells x true rest h = Contains_tail live cells x h
 behind_by id live cells x false rest h = Contains_tail live cells x (rest h)
 
 -- a cell behind another is one of the list
-pub behind_held : (id : ℕ) (cells : List Live) (x : Live) → Contains (behind id cells) x → Contains cells x
+pub behind_held : (id : ℕ) (cells : List Live) (x : Live) → Contains (listed_behind id cells) x → Contains cells x
 behind_held id [] x h = h
 behind_held id (live ∷ cells) x h = behind_by id live cells x (has_id id live) (behind_held id cells x) h
 
@@ -343,11 +343,11 @@ open_created image cells cpu caller at new sound owned opens =
 -- ---- notes
 
 pub open_noted : (image : Image) (cells : List Live) (cpu : ℕ → Cpu) (caller id about waited : ℕ) (call : Call) (answer : ℤ) → IsOpen image (configs_of cells) cpu (record { caller = caller; call = call; phase = ToNoted id about answer waited })
-    → IsOpen image (configs_of cells) cpu (record { caller = caller; call = call; phase = telling about answer (first_recipient about (behind id cells)) })
+    → IsOpen image (configs_of cells) cpu (record { caller = caller; call = call; phase = telling about answer (first_recipient about (listed_behind id cells)) })
 open_noted image cells cpu caller id about waited call answer opens =
-    let next = told_first image (configs_of cells) cpu caller about call answer (behind id cells)
+    let next = told_first image (configs_of cells) cpu caller about call answer (listed_behind id cells)
     (λ live held _. Contains_map (λ (l : Live). l.config) cells live (behind_held id cells live held)) opens.phase.1 in
-    open_late image (configs_of cells) cpu caller call (telling about answer (first_recipient about (behind id cells))) next.0 opens.caller opens.roots opens.cells opens.absent next.1
+    open_late image (configs_of cells) cpu caller call (telling about answer (first_recipient about (listed_behind id cells))) next.0 opens.caller opens.roots opens.cells opens.absent next.1
 
 pub open_note : (image : Image) (configs : List CellConfig) (cpu : ℕ → Cpu) (caller id about : ℕ) (call : Call) (answer : ℤ) → IsOpen image configs cpu (record { caller = caller; call = call; phase = ToNote id about answer })
     → IsOpen image configs cpu (record { caller = caller; call = call; phase = ToNoted id about answer 0 })

@@ -32,7 +32,7 @@ use Rattle.jh_history.specs.Facts.{Facts}
 use Rattle.jh_history.specs.Lives.{is_on_board, program_of, ops_in}
 use Rattle.jh_history.specs.Admitted.{IsAdmitted}
 use Rattle.jh_history.specs.Bytes.{byte_after}
-use Rattle.jh_history.specs.Calls.{call_by, counted, decided, first_recipient, telling, behind, is_named}
+use Rattle.jh_history.specs.Calls.{call_by, counted, decided, first_recipient, telling, listed_behind, is_named}
 use Rattle.jh_history.specs.Commits.{cells_by, is_other}
 use Rattle.jh_history.specs.Cpus.{acted, change_if, is_agreed}
 use Rattle.jh_history.specs.History.{start, after, facts, coming_of, coming_by}
@@ -299,7 +299,7 @@ noted_sound image rest rest' cpu cells caller id about waited call answer coming
 noted_sound image rest rest' cpu cells caller id about waited call answer coming cell act (Some how) sound h =
     let P : Act → Type 0 = λ x. IsSoundBut image (behind_act image rest' cpu cells (Some (opened_call caller call (ToNoted id about answer waited))) coming caller cell x) in
     subst P (same_Some (Noted id how) act h)
-    (phase_only image rest' cpu cells caller (opened_call caller call (telling about answer (first_recipient about (behind id cells))))
+    (phase_only image rest' cpu cells caller (opened_call caller call (telling about answer (first_recipient about (listed_behind id cells))))
     (record { cells = sound.cells; cpus = sound.cpus; call = open_noted image cells cpu caller id about waited call answer sound.call }))
 
 -- each phase of a call

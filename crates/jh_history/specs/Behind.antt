@@ -11,6 +11,7 @@ use Rattle.jh_mmio.specs.declared.hitting.Hitting.TheVariants.{Subpage as HitsSu
 use Rattle.jh_mmio.specs.Dispatch.{takes_all, window_has, lets_through, hitting_behind_regions}
 use Rattle.jh_history.specs.declared.access.Access.{Access}
 use Rattle.jh_history.specs.declared.access.Access.TheVariants.{Read, Write, Fetch}
+use Rattle.jh_history.specs.declared.access.Wanted.{Wanted}
 use Rattle.jh_history.specs.declared.access.Reach.{Reach}
 use Rattle.jh_history.specs.declared.access.Reach.TheVariants.{Subpage, Config, Window, Nothing}
 use Rattle.jh_history.specs.declared.place.Place.{Place}
@@ -30,50 +31,94 @@ ecam_end system =
     if system.pci_mmconfig_base == 0 then 0
     else min (system.pci_mmconfig_base + (system.pci_mmconfig_end_bus + 1) * 0x100000) 0xffffffffffffffff
 
--- the subpage region that has the access answers it, where it lets it through: by its places
-abbrev pub by_region : ℕ → ℕ → ℕ → Bool → Region → Reach
-by_region id at width write region = if lets_through at width write region then Subpage (places_in_row (place_in_cell id region at) width) else Nothing
+-- ---- what is asked
+
+-- the windows that an access may be in: the ECAM window, from `start` on, up to and without `end`, and the first enabled
+-- window of the cell's devices that has all of the access, if one has
+pub record Windows : Type 0 where
+  pub start : ℕ
+  pub end : ℕ
+  pub device : Option TheWindow
+
+-- what an access asks behind memory: by the cell with the id, the first of its subpage regions that has all of the
+-- access, if one has, and the windows
+pub record Asked : Type 0 where
+  pub cell : ℕ
+  pub region : Option Region
+  pub windows : Windows
+
+-- what a cell has behind memory: its regions, its devices, and the system's ECAM window; and the places that it is
+-- kept from
+pub record Behind : Type 0 where
+  pub regions : List Region
+  pub devices : Devices
+  pub system : SystemConfig
+  pub kept : Place → Bool
+
+-- the first enabled window of the cell's devices that has the whole access
+abbrev pub window_of_access : Devices → ℕ → ℕ → Option TheWindow
+window_of_access devices at width = find (window_has at width) (windows_of devices)
+
+-- what an access of the cell asks, of what the cell has
+abbrev pub asked_by : Behind → Wanted → Asked
+asked_by behind wanted =
+    record {
+      cell = behind.devices.cell;
+      region = find (takes_all (λ p. behind.kept (Physical p)) wanted.at wanted.width) behind.regions;
+      windows = record { start = ecam_start behind.system; end = ecam_end behind.system; device = window_of_access behind.devices wanted.at wanted.width };
+    }
+
+-- ---- what answers
+
+-- the access is a write
+abbrev pub is_write : Access → Bool
+is_write Read = false
+is_write Write = true
+is_write Fetch = false
+
+-- the subpage region of the cell that has the access answers it, where it lets it through: by its places
+abbrev pub by_region : ℕ → Wanted → Region → Reach
+by_region cell wanted region =
+    if lets_through wanted.at wanted.width (is_write wanted.access) region
+    then Subpage (places_in_row (place_in_cell cell region wanted.at) wanted.width)
+    else Nothing
 
 -- the device's register answers, a word of 4 bytes, by its offset from the start of the window
 abbrev pub in_window : ℕ → TheWindow → Reach
 in_window at window = Window (record { device = window.device; bar = window.bar; at = (at - window.start) / 4 * 4 })
 
 -- configuration space answers by the offset from the start of the ECAM window, and a device by that from the start of its
--- window, which is the one that has the access
-abbrev pub by_device : ℕ → Option TheWindow → ℕ → ℕ → Hitting → Reach
-by_device start window at width Ecam = Config (record { at = at - start; width = width })
-by_device start window at width (HitsSubpage region) = Nothing
-by_device start window at width (Bar number) = option_map_or (in_window at) window Nothing
-by_device start window at width HitsNothing = Nothing
+-- window
+abbrev pub by_device : Windows → Wanted → Hitting → Reach
+by_device windows wanted Ecam = Config (record { at = wanted.at - windows.start; width = wanted.width })
+by_device windows wanted (HitsSubpage region) = Nothing
+by_device windows wanted (Bar number) = option_map_or (in_window wanted.at) windows.device Nothing
+by_device windows wanted HitsNothing = Nothing
 
 -- the windows of devices that are asked: the first that has the access, if one has it
 abbrev pub asked_windows : Option TheWindow → List TheWindow
 asked_windows None = []
 asked_windows (Some window) = window ∷ []
 
--- the first enabled window of the cell's devices that has the whole access
-abbrev pub window_of_access : Devices → ℕ → ℕ → Option TheWindow
-window_of_access devices at width = find (window_has at width) (windows_of devices)
-
 -- what answers where no subpage region has the access
-abbrev pub behind_regions : ℕ → ℕ → Option TheWindow → ℕ → ℕ → Reach
-behind_regions start end window at width = by_device start window at width (hitting_behind_regions start end (asked_windows window) at width)
+abbrev pub without_region : Windows → Wanted → Reach
+without_region windows wanted =
+    by_device windows wanted (hitting_behind_regions windows.start windows.end (asked_windows windows.device) wanted.at wanted.width)
 
--- what answers a read, or a write, where that is the subpage region which has the access, if one has it: the
--- region, and the windows only where there is no such region
-abbrev pub answer_by : ℕ → Option Region → ℕ → ℕ → Option TheWindow → Bool → ℕ → ℕ → Reach
-answer_by id region start end window write at width = option_map_or (by_region id at width write) region (behind_regions start end window at width)
+-- what answers a read, or a write: the subpage region, and the windows only where there is no such region
+abbrev pub region_or_window : Asked → Wanted → Reach
+region_or_window asked wanted = option_map_or (by_region asked.cell wanted) asked.region (without_region asked.windows wanted)
 
--- what answers the access behind memory, where that is the subpage region which has it, if one has: of a fetch nothing
-abbrev pub answer_to : ℕ → Option Region → ℕ → ℕ → Option TheWindow → Access → ℕ → ℕ → Reach
-answer_to id region start end window Read at width = answer_by id region start end window false at width
-answer_to id region start end window Write at width = answer_by id region start end window true at width
-answer_to id region start end window Fetch at width = Nothing
+-- what answers a read, or a write; a fetch is answered by nothing
+abbrev pub unless_fetch : Access → Reach → Reach
+unless_fetch Read found = found
+unless_fetch Write found = found
+unless_fetch Fetch found = Nothing
 
--- what answers the access of a cell with these regions and devices, which is kept from such places: nothing where the
--- access ends past the addresses
-unfoldable pub answer : List Region → Devices → (Place → Bool) → SystemConfig → Access → ℕ → ℕ → Reach
-answer regions devices kept system access at width =
-    if nat_le (at + width) ADDRESS_END
-    then answer_to devices.cell (find (takes_all (λ p. kept (Physical p)) at width) regions) (ecam_start system) (ecam_end system) (window_of_access devices at width) access at width
-    else Nothing
+-- what answers the access, where it asks these
+abbrev pub answer_behind : Asked → Wanted → Reach
+answer_behind asked wanted = unless_fetch wanted.access (region_or_window asked wanted)
+
+-- what answers the access of a cell that has this behind memory: nothing where the access ends past the addresses
+unfoldable pub answer : Behind → Wanted → Reach
+answer behind wanted = if nat_le (wanted.at + wanted.width) ADDRESS_END then answer_behind (asked_by behind wanted) wanted else Nothing

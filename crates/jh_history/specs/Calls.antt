@@ -34,9 +34,9 @@ abbrev pub is_recipient : ℕ → Live → Bool
 is_recipient about live = is_recipient_by about live.config
 
 -- the cells behind the one with the id
-abbrev pub behind : ℕ → List Live → List Live
-behind id [] = []
-behind id (live ∷ lives) = if has_id id live then lives else behind id lives
+abbrev pub listed_behind : ℕ → List Live → List Live
+listed_behind id [] = []
+listed_behind id (live ∷ lives) = if has_id id live then lives else listed_behind id lives
 
 -- the cell is told next, or, where there is none, the call ends with the answer
 abbrev pub telling : ℕ → ℤ → Option ℕ → Phase
@@ -75,7 +75,7 @@ after_note phase = phase
 
 -- the phase after a Noted: the next cell is told, or the call ends where there is none
 abbrev pub after_noted : Phase → List Live → Phase
-after_noted (ToNoted id about answer waited) cells = telling about answer (first_recipient about (behind id cells))
+after_noted (ToNoted id about answer waited) cells = telling about answer (first_recipient about (listed_behind id cells))
 after_noted phase cells = phase
 
 -- the phase waits for an answer of the cell with the id

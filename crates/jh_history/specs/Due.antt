@@ -98,6 +98,10 @@ IsLegalFrom image facts (entry ∷ entries) = (due_at image facts entry.cpu ≡ 
 unfoldable pub IsLegal : Image → List Entry → Type 0
 IsLegal image entries = IsLegalFrom image (start image) entries
 
--- nothing is due to any CPU of the board
+-- nothing is due to any CPU of the board, where these facts hold
+abbrev pub IsQuietAt : Image → Facts → Type 0
+IsQuietAt image facts = (cpu : ℕ) → due_at image facts cpu ≡ None
+
+-- nothing is due to any CPU of the board after the entries
 abbrev pub IsQuiet : Image → List Entry → Type 0
-IsQuiet image entries = (cpu : ℕ) → due image entries cpu ≡ None
+IsQuiet image entries = IsQuietAt image (facts image entries)

@@ -19,12 +19,20 @@ use Rattle.jh_history.specs.declared.access.Reach.TheVariants.{Memory, Subpage, 
 use Rattle.jh_history.specs.declared.call.OpenCall.{OpenCall}
 use Rattle.jh_history.specs.declared.call.Creation.TheVariants.{Accepted}
 use Rattle.jh_history.specs.declared.call.Phase.TheVariants.{ToCreate}
+use Rattle.jh_history.specs.declared.entry.Entry.{Entry}
 use Rattle.jh_history.specs.declared.entry.Act.{Act}
 use Rattle.jh_history.specs.declared.entry.Act.TheVariants.{Write, Commit}
 use Rattle.jh_history.specs.Facts.{Facts}
 use Rattle.jh_history.specs.Configs.{Reads, read_at}
 use Rattle.jh_history.specs.Phases.{creation_of}
+use Rattle.jh_history.specs.Due.{due_at}
+use Rattle.jh_history.specs.Sound.{IsSound}
 use Rattle.jh_shape.specs.Lives.{configs_of}
+
+-- the entry is due to its CPU, where the board is sound
+pub record IsDueEntry (image : Image) (facts : Facts) (entry : Entry) : Type 0 where
+  pub sound : IsSound image facts
+  pub due : due_at image facts entry.cpu ≡ Some entry
 
 -- the caller's create goes on with the configuration that it read at the address
 pub record HasRead (image : Image) (facts : Facts) (caller at : ℕ) : Type 0 where

@@ -10,7 +10,7 @@ use Rattle.jh_history.specs.declared.place.Place.TheVariants.{Physical, Page}
 use Rattle.jh_history.specs.declared.access.Access.{Access}
 use Rattle.jh_history.specs.declared.access.Reach.{Reach}
 use Rattle.jh_history.specs.Access.{place_of, reach_by, or_behind}
-use Rattle.jh_history.specs.Behind.{answer}
+use Rattle.jh_history.specs.Behind.{Behind, answer}
 use Rattle.jh_history.specs.Devices.{Devices, devices_in}
 use Rattle.jh_history.specs.Facts.{Facts}
 use Rattle.jh_history.specs.Lives.{regions_in}
@@ -38,10 +38,15 @@ granted_in image cells id = granted_by id (regions_in image cells id) (is_kept i
 abbrev pub granted : Image → Facts → ℕ → Access → ℕ → Option Place
 granted image facts id = granted_in image facts.cells id
 
+-- what the cell with the id has behind memory, where these cells live besides root, and all have these endpoints
+abbrev pub behind_of : Image → List Live → List Endpoint → ℕ → Behind
+behind_of image cells endpoints id =
+    record { regions = regions_in image cells id; devices = devices_in image cells endpoints id; system = image.system; kept = is_kept image cells id }
+
 -- what answers the access of the cell with the id where no memory does, where these cells live besides root, and all
 -- have these endpoints
 abbrev pub behind_in : Image → List Live → List Endpoint → ℕ → Access → ℕ → ℕ → Reach
-behind_in image cells endpoints id = answer (regions_in image cells id) (devices_in image cells endpoints id) (is_kept image cells id) image.system
+behind_in image cells endpoints id access at width = answer (behind_of image cells endpoints id) (record { access = access; at = at; width = width })
 
 -- what the access of so many bytes reaches: memory where each byte is granted, and else what answers behind memory
 abbrev pub reach_in : Image → List Live → List Endpoint → ℕ → Access → ℕ → ℕ → Reach

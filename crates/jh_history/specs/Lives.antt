@@ -1,5 +1,5 @@
 -- The live cells, and what a CPU of one runs.
-use Rattle.std.specs.Prelude.{ℕ, Bool, ◌&&◌, ◌==◌, List, [], find, nat_eq, slice_get, Option, Some, option_map, if◌then◌else◌}
+use Rattle.std.specs.Prelude.{ℕ, ◌<◌, Bool, ◌&&◌, ◌==◌, IsTrue, List, [], find, nat_eq, slice_get, Option, Some, option_map, if◌then◌else◌}
 use Rattle.std.specs.Cmp.Lexicographic.{pointwise}
 use Rattle.std.specs.Option.{option_map_or}
 use Rattle.jh_cellcfg.specs.declared.config.CellConfig.{CellConfig}
@@ -16,6 +16,10 @@ use Rattle.jh_history.specs.Facts.{Facts}
 -- the CPU is one of the board's: they are those of root
 abbrev pub is_on_board : Image → ℕ → Bool
 is_on_board image cpu = is_cpu_set image.system.root.cpu_set cpu
+
+-- the board has no CPU above 15
+abbrev pub HasFewCpus : Image → Type 0
+HasFewCpus image = (cpu : ℕ) → IsTrue (is_on_board image cpu) → cpu < 16
 
 -- the program is that of the CPU in the cell of that name
 abbrev pub is_program_of : List ℕ → ℕ → Program → Bool

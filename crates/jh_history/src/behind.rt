@@ -6,7 +6,7 @@ ghost use Rattle.jh_cellcfg.specs.Regions.{has_address, IsInRange};
 ghost use Rattle.jh_history.specs.Places.{places_in_row};
 ghost use Rattle.jh_history.specs.Access.{place_in_cell};
 ghost use Rattle.jh_mmio.specs.Dispatch.{hitting_behind_regions};
-ghost use Rattle.jh_history.specs.Behind.{ecam_start, ecam_end, by_region, in_window, asked_windows, by_device, behind_regions, window_of_access, answer_by, answer_to};
+ghost use Rattle.jh_history.specs.Behind.{ecam_start, ecam_end, is_write, by_region, in_window, asked_windows, by_device, without_region, window_of_access, region_or_window, answer_behind};
 ghost use Rattle.jh_history.specs.Devices.{IsGoodWindow};
 
 use crate::access::{Access, ConfigBytes, Reach, Register, Wanted};
@@ -61,15 +61,25 @@ pub fn places_in(cell: u32, region: &Region, at: u64, width: u8) -> Places
     )
 }
 
+/// Whether the access is a write.
+fn is_write(access: Access) -> bool
+    ensures { result ≡ is_write access }
+{
+    match access {
+        Access::Write => true,
+        Access::Read | Access::Fetch => false,
+    }
+}
+
 /// What the subpage region that has the access answers.
-fn by_region(cell: u32, region: &Region, wanted: &Wanted, write: bool) -> Reach
+fn by_region(cell: u32, region: &Region, wanted: &Wanted) -> Reach
     requires some { 0 < wanted.now.width }
     requires few { wanted.now.width ≤ 8 }
     requires within { IsInRange region.now }
     requires has { IsTrue (has_address region.now wanted.now.at) }
-    ensures { result ≡ by_region cell wanted.now.at wanted.now.width write region.now }
+    ensures { result ≡ by_region cell wanted.now region.now }
 {
-    if lets_through(region, wanted.at, wanted.width, write) {
+    if lets_through(region, wanted.at, wanted.width, is_write(wanted.access)) {
         Reach::Subpage(places_in(cell, region, wanted.at, wanted.width))
     } else {
         Reach::Nothing
@@ -91,7 +101,7 @@ fn in_window(window: Window, at: u64) -> Reach
 fn by_device(ecam: Range, window: Option<Window>, wanted: &Wanted, hitting: Hitting) -> Reach
     requires good { IfSome window IsGoodWindow }
     requires hits { hitting ≡ hitting_behind_regions ecam.start ecam.end (asked_windows window) wanted.now.at wanted.now.width }
-    ensures { result ≡ by_device ecam.start window wanted.now.at wanted.now.width hitting }
+    ensures { result ≡ by_device (record { start = ecam.start; end = ecam.end; device = window }) wanted.now hitting }
 {
     match hitting {
         Hitting::Ecam => {
@@ -107,10 +117,10 @@ fn by_device(ecam: Range, window: Option<Window>, wanted: &Wanted, hitting: Hitt
 }
 
 /// What answers where no subpage region has the access; `window` is the first window of a device that has it.
-fn behind_regions(ecam: Range, window: Option<Window>, wanted: &Wanted) -> Reach
+fn without_region(ecam: Range, window: Option<Window>, wanted: &Wanted) -> Reach
     requires some { 0 < wanted.now.width }
     requires good { IfSome window IsGoodWindow }
-    ensures { result ≡ behind_regions ecam.start ecam.end window wanted.now.at wanted.now.width }
+    ensures { result ≡ without_region (record { start = ecam.start; end = ecam.end; device = window }) wanted.now }
 {
     let hitting = match window {
         Some(window) => hitting_behind_regions(ecam, &[window], wanted.at, wanted.width),
@@ -119,38 +129,41 @@ fn behind_regions(ecam: Range, window: Option<Window>, wanted: &Wanted) -> Reach
     by_device(ecam, window, wanted, hitting)
 }
 
-/// What answers a read or a write, where that is the subpage region which has it.
-fn answer_by(
+/// What answers a read or a write; `region` is the subpage region that has it.
+fn region_or_window(
     devices: &Devices,
     region: Option<Region>,
     ecam: Range,
     wanted: &Wanted,
-    write: bool,
 ) -> Reach
     requires some { 0 < wanted.now.width }
     requires few { wanted.now.width ≤ 8 }
     requires within { IfSome region IsInRange }
     requires has { IfSome region (λ (r : TheRegion). IsTrue (has_address r wanted.now.at)) }
-    ensures { result ≡ answer_by devices.now.cell region ecam.start ecam.end (window_of_access devices.now wanted.now.at wanted.now.width) write wanted.now.at wanted.now.width }
+    ensures { result ≡ region_or_window (record { cell = devices.now.cell; region = region; windows = record { start = ecam.start; end = ecam.end; device = window_of_access devices.now wanted.now.at wanted.now.width } }) wanted.now }
 {
     match region {
-        Some(region) => by_region(devices.cell(), &region, wanted, write),
-        None => behind_regions(ecam, devices.window(wanted), wanted),
+        Some(region) => by_region(devices.cell(), &region, wanted),
+        None => without_region(ecam, devices.window(wanted), wanted),
     }
 }
 
 /// What answers the access of the cell with these devices where no memory does; `region` is the subpage region that has
 /// it, where one does, and the cell is kept from none of its bytes.
-pub fn answer_of(devices: &Devices, region: Option<Region>, ecam: Range, wanted: &Wanted) -> Reach
+pub fn answer_behind(
+    devices: &Devices,
+    region: Option<Region>,
+    ecam: Range,
+    wanted: &Wanted,
+) -> Reach
     requires some { 0 < wanted.now.width }
     requires few { wanted.now.width ≤ 8 }
     requires within { IfSome region IsInRange }
     requires has { IfSome region (λ (r : TheRegion). IsTrue (has_address r wanted.now.at)) }
-    ensures { result ≡ answer_to devices.now.cell region ecam.start ecam.end (window_of_access devices.now wanted.now.at wanted.now.width) wanted.now.access wanted.now.at wanted.now.width }
+    ensures { result ≡ answer_behind (record { cell = devices.now.cell; region = region; windows = record { start = ecam.start; end = ecam.end; device = window_of_access devices.now wanted.now.at wanted.now.width } }) wanted.now }
 {
     match wanted.access {
-        Access::Read => answer_by(devices, region, ecam, wanted, false),
-        Access::Write => answer_by(devices, region, ecam, wanted, true),
+        Access::Read | Access::Write => region_or_window(devices, region, ecam, wanted),
         Access::Fetch => Reach::Nothing,
     }
 }

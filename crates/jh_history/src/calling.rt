@@ -5,7 +5,7 @@ ghost use Rattle.jh_cellcfg.specs.declared.config.CellConfig.{CellConfig as TheC
 ghost use Rattle.jh_cellcfg.specs.declared.live.Live.{Live as TheLive};
 ghost use Rattle.jh_shape.specs.Lives.{configs_of};
 ghost use Rattle.jh_history.specs.Commits.{created, created_at, created_by};
-ghost use Rattle.jh_history.specs.Calls.{is_recipient_by, first_recipient, behind, telling, decided, after_settle, after_commit, after_note, after_noted, counted, phase_after, call_by, is_call, waits_for};
+ghost use Rattle.jh_history.specs.Calls.{is_recipient_by, first_recipient, listed_behind, telling, decided, after_settle, after_commit, after_note, after_noted, counted, phase_after, call_by, is_call, waits_for};
 
 use crate::boxed::BoxedCell;
 use crate::call::{OpenCall, Phase};
@@ -50,7 +50,7 @@ fn first_recipient(about: u64, cells: &[CellConfig]) -> Option<u32>
 
 /// The id of the first cell that is told, of those behind the cell with the id `id`.
 fn next_recipient(about: u64, cells: &[CellConfig], id: u32) -> Option<u32>
-    ensures { (lives : List TheLive) → configs_of lives ≡ cells.now → result ≡ first_recipient about (behind id lives) }
+    ensures { (lives : List TheLive) → configs_of lives ≡ cells.now → result ≡ first_recipient about (listed_behind id lives) }
 {
     let mut is_behind = false;
     for cell in cells {

@@ -18,7 +18,7 @@ ghost use Rattle.jh_history.specs.Facts.{Facts};
 ghost use Rattle.jh_history.specs.Lives.{is_on_board, is_program_of, program_of, cell_in, regions_in, ops_in, op_at};
 
 use crate::access::{Access, Reach, Wanted};
-use crate::behind::{answer_of, ecam_of, is_within, places_in};
+use crate::behind::{answer_behind, ecam_of, is_within, places_in};
 use crate::devices::Devices;
 use crate::grants::{Grants, memory};
 use crate::pages::live_in;
@@ -295,7 +295,7 @@ fn behind_in(
         let region = subpage_of(image, cells, cell, wanted);
         let list = devices_in(image, cells.configs(), cell);
         let devices = Devices::new(cell, list, endpoints);
-        answer_of(&devices, region, ecam_of(&image.system), wanted)
+        answer_behind(&devices, region, ecam_of(&image.system), wanted)
     } else {
         Reach::Nothing
     }

@@ -96,7 +96,7 @@ pub fn unless_refused(config: BoxedCell, refusal: Option<i64>) -> Creation
 /// What comes of a create by the caller which has read this, beside 15 cells at most. `None` is told where a CPU may be
 /// given away beside 15 of them, which never is: each has a CPU for itself, and the caller is another. It takes memory
 /// for an index of the new cell's regions, and for nothing else.
-pub(crate) fn judged(
+pub(crate) fn creation_by(
     alloc: Global,
     image: &Image,
     cells: &[CellConfig],

@@ -22,7 +22,7 @@ pub fn slot_places(slot: &Slot) -> Places
 }
 
 /// The lowest 32 bits.
-fn word_of(value: u64) -> u32
+fn low_word(value: u64) -> u32
     ensures { result ≡ value % 2 ^ 32 }
 {
     (value % 0x1_0000_0000) as u32
@@ -41,7 +41,7 @@ fn write_function(
 {
     if endpoints.has(cell, number) {
         let space = endpoints.config_mut(cell, number);
-        space.write(bytes.offset(), bytes.width(), word_of(value));
+        space.write(bytes.offset(), bytes.width(), low_word(value));
     }
 }
 
@@ -75,7 +75,7 @@ fn write_register(
 {
     let device = register.device();
     if endpoints.has(cell, device) {
-        endpoints.write(cell, device, register.bar(), register.at(), word_of(value))
+        endpoints.write(cell, device, register.bar(), register.at(), low_word(value))
     } else {
         None
     }

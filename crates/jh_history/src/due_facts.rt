@@ -24,9 +24,8 @@ ghost use Rattle.jh_history.specs.Admitted.{IsAdmitted};
 ghost use Rattle.jh_history.specs.Endpoints.{change_by, changing_by, HasGoodDevices, IsNextOf, MayChange};
 ghost use Rattle.jh_history.specs.Grants.{reach, devices_of};
 ghost use Rattle.jh_history.specs.Wants.{IsReachOfEntry};
-ghost use Rattle.jh_history.specs.Due.{due_at};
 ghost use Rattle.jh_history.specs.Sound.{IsSound};
-ghost use Rattle.jh_history.specs.DueFacts.{HasRead, MayLive, NamesCpu, HasPage, ReachesCells, WritesCells, IsWordOf};
+ghost use Rattle.jh_history.specs.DueFacts.{IsDueEntry, HasRead, MayLive, NamesCpu, HasPage, ReachesCells, WritesCells, IsWordOf};
 
 use jh_cellcfg::CellConfig;
 use jh_check::sound_bitmaps_name_few_cpus;
@@ -34,13 +33,13 @@ use jh_check::sound_bitmaps_name_few_cpus;
 /// A Decide that is due is an entry of the caller of the open call, which waits for it. A create that goes on
 /// by it has read the configuration of the cell that comes, and what comes of a create is always what it read.
 pub fn decides_are_of_the_open_call()
-    ensures call { (image : TheImage) (f : Facts) (entry : TheEntry) (refused : Option ℤ) → IsSound image f → due_at image f entry.cpu ≡ Some entry →
+    ensures call { (image : TheImage) (f : Facts) (entry : TheEntry) (refused : Option ℤ) → IsDueEntry image f entry →
         entry.act ≡ Decide refused → f.call ≢ None }
-    ensures caller { (image : TheImage) (f : Facts) (entry : TheEntry) (refused : Option ℤ) (o : TheCall) → IsSound image f → due_at image f entry.cpu ≡ Some entry →
+    ensures caller { (image : TheImage) (f : Facts) (entry : TheEntry) (refused : Option ℤ) (o : TheCall) → IsDueEntry image f entry →
         entry.act ≡ Decide refused → f.call ≡ Some o → o.caller ≡ entry.cpu }
-    ensures phase { (image : TheImage) (f : Facts) (entry : TheEntry) (refused : Option ℤ) (o : TheCall) → IsSound image f → due_at image f entry.cpu ≡ Some entry →
+    ensures phase { (image : TheImage) (f : Facts) (entry : TheEntry) (refused : Option ℤ) (o : TheCall) → IsDueEntry image f entry →
         entry.act ≡ Decide refused → f.call ≡ Some o → o.phase ≡ ToDecide }
-    ensures goes_on { (image : TheImage) (f : Facts) (entry : TheEntry) (o : TheCall) (at : ℕ) → IsSound image f → due_at image f entry.cpu ≡ Some entry →
+    ensures goes_on { (image : TheImage) (f : Facts) (entry : TheEntry) (o : TheCall) (at : ℕ) → IsDueEntry image f entry →
         entry.act ≡ Decide None → f.call ≡ Some o → o.call ≡ Create at → HasRead image f o.caller at }
     ensures read { (image : TheImage) (f : Facts) (caller at : ℕ) (config : TheConfig) → creation_of image f caller at ≡ Accepted config → read_at image f at ≡ Reads config }
 {}
@@ -54,7 +53,7 @@ pub fn a_cell_that_comes_may_live()
 /// What the hypervisor writes by an entry that is due, it writes into the page of a cell that lives, or of the one
 /// that comes by this entry.
 pub fn pages_written_are_of_cells()
-    ensures { (image : TheImage) (f : Facts) (entry : TheEntry) (write : ThePageWrite) → IsSound image f → due_at image f entry.cpu ≡ Some entry →
+    ensures { (image : TheImage) (f : Facts) (entry : TheEntry) (write : ThePageWrite) → IsDueEntry image f entry →
         page_write_by image f entry entry.act ≡ Some write → HasPage f entry.act write.cell }
 {}
 
@@ -86,9 +85,9 @@ pub fn few_cells_live()
 /// state table that a write writes is that of an endpoint that is there.
 pub fn devices_may_change()
     ensures opening { (image : TheImage) → IsAdmitted image → MayChange Joins [] image.system.root }
-    ensures commit { (image : TheImage) (f : Facts) (entry : TheEntry) → IsSound image f → due_at image f entry.cpu ≡ Some entry →
+    ensures commit { (image : TheImage) (f : Facts) (entry : TheEntry) → IsDueEntry image f entry →
         IfSome (changing_by f.cells f.call entry.act) (MayChange (change_by f.call) f.endpoints) }
     ensures comes { (image : TheImage) (f : Facts) (caller at : ℕ) (config : TheConfig) → IsSound image f → creation_of image f caller at ≡ Accepted config → HasGoodDevices config }
-    ensures interrupt { (image : TheImage) (f : Facts) (entry : TheEntry) → IsSound image f → due_at image f entry.cpu ≡ Some entry → IsNextOf entry.cell f.endpoints entry.act }
+    ensures interrupt { (image : TheImage) (f : Facts) (entry : TheEntry) → IsDueEntry image f entry → IsNextOf entry.cell f.endpoints entry.act }
     ensures word { (image : TheImage) (f : Facts) (id value : ℕ) (found : TheReach) → IsSound image f → IfSome (slot_of_reach (devices_of image f id) found value) (IsWordOf f.endpoints) }
 {}

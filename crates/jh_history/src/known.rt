@@ -1,5 +1,5 @@
 //! What tells the facts of a journal, however it knows them.
-ghost use Rattle.std.specs.Prelude.{◌≡◌, ◌<◌, ◌≤◌, IfSome, map, option_copied, ◌+◌, length, IfOk, ℕ, ◌^◌, IsTrue};
+ghost use Rattle.std.specs.Prelude.{◌≡◌, ◌<◌, ◌≤◌, IfSome, map, option_copied, ◌+◌, length, IfOk, ◌^◌};
 ghost use Rattle.std.specs.List.{list_any};
 
 use crate::access::{Reach, Wanted};
@@ -17,7 +17,7 @@ pub trait Known {
     ghost use Rattle.jh_script.specs.declared.image.Image.{Image};
     ghost use Rattle.jh_script.specs.Operations.{IsWellFormed};
     ghost use Rattle.jh_history.specs.Facts.{Facts};
-    ghost use Rattle.jh_history.specs.Lives.{is_on_board, live_in, cell_of, op_at};
+    ghost use Rattle.jh_history.specs.Lives.{HasFewCpus, is_on_board, live_in, cell_of, op_at};
     ghost use Rattle.jh_shape.specs.Pages.{pages_of};
     ghost use Rattle.jh_history.specs.Admitted.{pool_pages};
     ghost use Rattle.jh_history.specs.Phases.{is_other_locked, creation_of, refused_by};
@@ -69,7 +69,7 @@ pub trait Known {
 
     /// The board has no CPU above 15. It does nothing; its contract is what holds of each image.
     fn has_few_cpus(&self)
-        ensures { (i : Image) (f : Facts) → Knows self.now i f → (cpu : ℕ) → IsTrue (is_on_board i cpu) → cpu < 16 };
+        ensures { (i : Image) (f : Facts) → Knows self.now i f → HasFewCpus i };
 
     /// Whether the board has the CPU.
     fn has_cpu(&self, cpu: u8) -> bool

@@ -1,6 +1,6 @@
 //! What an admitted image gives of root, its regions and its CPUs, that root lives alone where no program has a hypercall,
 //! and how rows of bytes are read. Each function does nothing; its contract is the law.
-ghost use Rattle.std.specs.Prelude.{◌≡◌, ◌<◌, ◌≤◌, ℕ, List, ◌∷◌, ◌++◌, map, Option, None, Some, option_map, IsTrue};
+ghost use Rattle.std.specs.Prelude.{◌≡◌, ◌≤◌, ℕ, List, ◌∷◌, ◌++◌, map, Option, None, Some, option_map};
 ghost use Rattle.jh_num.specs.declared.address.TheConstants.{ADDRESS_END};
 ghost use Rattle.jh_history.specs.declared.place.Place.{Place as ThePlace};
 ghost use Rattle.jh_history.specs.Access.{memory_read, places_from, reach_by};
@@ -13,7 +13,7 @@ ghost use Rattle.jh_history.specs.Facts.{Facts};
 ghost use Rattle.jh_history.specs.History.{after, facts};
 ghost use Rattle.jh_history.specs.Due.{due_at, IsLegal};
 ghost use Rattle.jh_history.specs.Alone.{IsAlone, IsByRoot};
-ghost use Rattle.jh_history.specs.Lives.{is_on_board};
+ghost use Rattle.jh_history.specs.Lives.{HasFewCpus};
 
 use jh_check::{
     clean_root_is_sound, nothing_is_found_in_what_is_clean, sound_bitmaps_name_few_cpus,
@@ -24,7 +24,7 @@ use jh_script::Image;
 /// and so on, and the board has no CPU above 15.
 pub fn admitted_roots_are_sound(image: &Image)
     ensures root { IsAdmitted image.now → IsSoundRoot image.now.system }
-    ensures cpus { IsAdmitted image.now → (cpu : ℕ) → IsTrue (is_on_board image.now cpu) → cpu < 16 }
+    ensures cpus { IsAdmitted image.now → HasFewCpus image.now }
 {
     nothing_is_found_in_what_is_clean(&image.system, &[]);
     clean_root_is_sound(&image.system, &[]);

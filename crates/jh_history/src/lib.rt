@@ -27,7 +27,6 @@ mod known;
 mod laws;
 mod locked;
 mod next;
-mod page_words;
 mod pages;
 mod phases;
 mod place;
@@ -41,7 +40,7 @@ mod written;
 
 pub use access::{Access, ConfigBytes, Reach, Register, Wanted};
 pub use admission::{admit, is_other_preload, is_sound_preload, pool_pages, root_pages};
-pub use behind::{answer_of, ecam_of, is_within, places_in};
+pub use behind::{answer_behind, ecam_of, is_within, places_in};
 pub use boxed::BoxedCell;
 pub use bytes::{Bytes, value_of};
 pub use call::{Creation, OpenCall, Phase};

@@ -4,13 +4,11 @@ ghost use Rattle.std.specs.List.{list_any};
 ghost use Rattle.jh_cellcfg.specs.declared.live.Live.{Live as TheLive};
 ghost use Rattle.jh_history.specs.LiveView.{word_by, is_locked_by, is_other_locked_by};
 ghost use Rattle.jh_shape.specs.Lives.{configs_of};
-ghost use Rattle.jh_history.specs.Places.{places_of_row};
 
 use crate::bytes::{Bytes, value_of};
-use crate::page_words::STATE_AT;
 use crate::place::{Place, Places, Row};
 use jh_cellcfg::CellConfig;
-use jh_comm::STATE_RUNNING_LOCKED;
+use jh_comm::{STATE_AT, STATE_RUNNING_LOCKED};
 
 /// The state of the cell.
 fn state_word<B: Bytes>(bytes: &B, cell: u32) -> u32
@@ -19,7 +17,7 @@ fn state_word<B: Bytes>(bytes: &B, cell: u32) -> u32
     let row = Row {
         first: Place::Page {
             cell,
-            offset: STATE_AT,
+            offset: STATE_AT as u64,
         },
         count: 4,
     };

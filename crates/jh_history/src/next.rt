@@ -2,14 +2,14 @@
 ghost use Rattle.std.specs.Prelude.{◌≡◌, ◌<◌, ◌≤◌, ℕ, None, IfSome, IfOk, IsTrue, IsSome, ◌↔◌, is_some, is_none, option_map, option_copied};
 ghost use Rattle.jh_script.specs.declared.image.Image.{Image as TheImage};
 ghost use Rattle.jh_script.specs.Operations.{IsWellFormed};
-ghost use Rattle.jh_cellcfg.specs.Cells.{is_cpu_set};
 ghost use Rattle.jh_check.specs.Refusals.{any_below};
 ghost use Rattle.jh_history.specs.Access.{read_of, is_reached};
 ghost use Rattle.jh_history.specs.declared.access.Reach.{Reach as TheReach};
 ghost use Rattle.jh_history.specs.Facts.{Facts};
 ghost use Rattle.jh_history.specs.Wants.{wanted_of, goes_on, pending_op, IsReachOf, IsReachOfAct, IsReachOfEntry};
 ghost use Rattle.jh_history.specs.Grants.{devices_of};
-ghost use Rattle.jh_history.specs.Due.{irq_of, act_of, await_of, state_act, call_of, is_other_due, is_idle_but, caller_act, next_act, entry_by, due_at};
+ghost use Rattle.jh_history.specs.Due.{irq_of, act_of, await_of, state_act, call_of, is_other_due, is_idle_but, caller_act, next_act, entry_by, due_at, IsQuietAt};
+ghost use Rattle.jh_history.specs.Lives.{HasFewCpus};
 ghost use Rattle.jh_history.specs.Admitted.{IsWellFormedAct};
 
 use crate::access::{Access, Reach, Wanted};
@@ -396,7 +396,7 @@ pub fn is_due<K: Known>(known: &K, cpu: u8) -> bool
 pub fn any_due<K: Known>(known: &K, first: u8) -> Option<u8>
     requires { first < 16 }
     ensures due { (i : TheImage) (f : Facts) → K.Knows known.now i f → IfSome result (λ cpu. IsSome (due_at i f cpu)) }
-    ensures quiet { (i : TheImage) (f : Facts) → K.Knows known.now i f → ((cpu : ℕ) → IsTrue (is_cpu_set i.system.root.cpu_set cpu) → cpu < 16) → IsTrue (is_none result) ↔ ((cpu : ℕ) → due_at i f cpu ≡ None) }
+    ensures quiet { (i : TheImage) (f : Facts) → K.Knows known.now i f → HasFewCpus i → IsTrue (is_none result) ↔ IsQuietAt i f }
 {
     for k in 0..MAX_CPUS as u8 {
         let cpu = (first + k) % MAX_CPUS as u8;

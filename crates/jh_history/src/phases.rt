@@ -1,6 +1,5 @@
 //! What is due to the caller of an open management call.
-ghost use Rattle.std.specs.Prelude.{◌≡◌, ℕ, ◌<◌, Bool, true, List, map, is_some, if◌then◌else◌, None, Some, IfOk, IfSome, option_map, option_copied};
-ghost use Rattle.std.specs.Option.{option_map_or};
+ghost use Rattle.std.specs.Prelude.{◌≡◌, ◌<◌, Bool, true, is_some, if◌then◌else◌, None, Some, IfOk, IfSome, option_map, option_copied};
 ghost use Rattle.jh_script.specs.declared.image.Image.{Image as TheImage};
 ghost use Rattle.jh_check.specs.Refusals.{any_below};
 ghost use Rattle.jh_comm.specs.Page.{word_in};
@@ -20,11 +19,12 @@ use crate::change::is_running;
 use crate::entry::{Act, Heard, Settled};
 use crate::known::Known;
 use crate::next::is_idle_but;
-use crate::page_words::{REPLY_AT, STATE_AT};
 use crate::place::{Place, Places, Row};
 use jh_call::Call;
 use jh_cellcfg::{CellConfig, MAX_CPUS};
-use jh_comm::{REPLY_RECEIVED, REPLY_REQUEST_APPROVED, STATE_FAILED, STATE_SHUT_DOWN};
+use jh_comm::{
+    REPLY_AT, REPLY_RECEIVED, REPLY_REQUEST_APPROVED, STATE_AT, STATE_FAILED, STATE_SHUT_DOWN,
+};
 use jh_num::NoMemory;
 use jh_num::error::{EINVAL, ENOENT, EPERM};
 
@@ -41,12 +41,15 @@ pub(crate) fn is_named(call: &Call, id: u64) -> bool
 }
 
 /// The number of 32 bits at the offset of the cell's page.
-fn word_at<K: Known>(known: &K, cell: u32, offset: u64) -> u32
+fn word_at<K: Known>(known: &K, cell: u32, offset: usize) -> u32
     requires { offset < 4096 }
     ensures { (i : TheImage) (f : Facts) → K.Knows known.now i f → result ≡ word_in (λ k. f.byte (Page cell k)) offset }
 {
     let row = Row {
-        first: Place::Page { cell, offset },
+        first: Place::Page {
+            cell,
+            offset: offset as u64,
+        },
         count: 4,
     };
     let none = Row { count: 0, ..row };

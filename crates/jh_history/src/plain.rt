@@ -1,7 +1,6 @@
 //! The facts of a journal, folded from its entries: slow and plain.
-ghost use Rattle.std.specs.Prelude.{◌≡◌, ◌↔◌, ℕ, ◌<◌, ◌≤◌, List, All, Option, Some, option_map, option_copied, IsTrue, IfOk, IfSome, OnOk, OnErr, slice_get, length};
+ghost use Rattle.std.specs.Prelude.{◌≡◌, ◌↔◌, ℕ, ◌<◌, ◌≤◌, All, Option, Some, option_map, option_copied, IsTrue, IfOk, OnOk, OnErr, slice_get, length};
 ghost use Rattle.jh_cellcfg.specs.declared.config.CellConfig.{CellConfig as TheConfig};
-ghost use Rattle.jh_cellcfg.specs.declared.live.Live.{Live as TheLive};
 ghost use Rattle.jh_check.specs.Clean.{IsSoundBitmap, IsSoundCpuSet};
 ghost use Rattle.jh_history.specs.declared.call.OpenCall.{OpenCall as TheOpenCall};
 ghost use Rattle.jh_history.specs.Calls.{call_by};
@@ -17,7 +16,7 @@ ghost use Rattle.jh_history.specs.declared.device_change.DeviceChange.TheVariant
 ghost use Rattle.jh_history.specs.declared.entry.Act.TheVariants.{Commit as Commits};
 ghost use Rattle.jh_history.specs.Access.{write_of, with_slot_if, slot_of_reach};
 ghost use Rattle.jh_history.specs.Devices.{specs_of, specs_at};
-ghost use Rattle.jh_history.specs.Endpoints.{endpoints_put, endpoints_acted, endpoints_after, endpoints_changed, change_by, changing_by, specs_changing, with_words, HasGoodDevices, IsNextOf, MayJoinThem, MayChange};
+ghost use Rattle.jh_history.specs.Endpoints.{endpoints_put, endpoints_acted, endpoints_after, endpoints_changed, change_by, specs_changing, with_words, HasGoodDevices, IsNextOf, MayJoinThem, MayChange};
 ghost use Rattle.jh_history.specs.Grants.{devices_of};
 ghost use Rattle.jh_history.specs.Wants.{reach_of};
 ghost use Rattle.jh_history.specs.Lives.{is_on_board};
@@ -26,7 +25,7 @@ ghost use Rattle.jh_history.specs.Bytes.{byte_written, byte_after};
 ghost use Rattle.jh_history.specs.History.{facts, after, start, coming_by, coming_of};
 ghost use Rattle.jh_history.specs.Due.{due, IsLegal, IsQuiet};
 ghost use Rattle.jh_history.specs.Admitted.{IsAdmitted, IsWellFormedAct, IsWellFormedEntry};
-ghost use Rattle.jh_history.specs.Private.PlainView.{last_byte, Represents, IsSameBut, IsDueBeside, HasWords, MayCommit, MayBeFollowed};
+ghost use Rattle.jh_history.specs.Private.PlainView.{last_byte, Represents, HasBytes, HasWritten, IsComing, IsSameBut, IsDueBeside, HasWords, MayCommit, MayBeFollowed};
 
 use crate::access::{Access, Reach, Wanted};
 use crate::boxed::BoxedCell;
@@ -203,7 +202,7 @@ impl<'a> Plain<'a> {
     /// Writes the value where the cell's access reaches, which is a device.
     fn write_device(&mut self, cell: u32, reach: &Reach, value: u64) -> Result<(), NoMemory>
         requires { HasWords self.old }
-        ensures bytes { OnOk result ((i : TheImage) (f : Facts) → Represents self.old i f → (q : ThePlace) → last_byte i self.new.bytes q ≡ with_slot_if (slot_of_reach (devices_of i f cell) reach.now value) f.byte q) }
+        ensures bytes { OnOk result (HasBytes self.old self.new (λ i f. with_slot_if (slot_of_reach (devices_of i f cell) reach.now value) f.byte)) }
         ensures endpoints { OnOk result ((i : TheImage) (f : Facts) → Represents self.old i f → self.new.endpoints ≡ endpoints_put (devices_of i f cell) reach.now value) }
         ensures others { IsSameBut self.old self.new }
     {
@@ -217,7 +216,7 @@ impl<'a> Plain<'a> {
     fn write_at(&mut self, cell: u32, wanted: &Wanted, value: u64) -> Result<(), NoMemory>
         requires few { wanted.now.width ≤ 8 }
         requires words { HasWords self.old }
-        ensures bytes { OnOk result ((i : TheImage) (f : Facts) → Represents self.old i f → (q : ThePlace) → last_byte i self.new.bytes q ≡ write_of f.byte (devices_of i f cell) (reach_of i f cell wanted.now) value q) }
+        ensures bytes { OnOk result (HasBytes self.old self.new (λ i f. write_of f.byte (devices_of i f cell) (reach_of i f cell wanted.now) value)) }
         ensures endpoints { OnOk result ((i : TheImage) (f : Facts) → Represents self.old i f → self.new.endpoints ≡ endpoints_put (devices_of i f cell) (reach_of i f cell wanted.now) value) }
         ensures others { IsSameBut self.old self.new }
     {
@@ -249,7 +248,7 @@ impl<'a> Plain<'a> {
     fn write(&mut self, cell: u32, act: &Act) -> Result<(), NoMemory>
         requires well_formed { IsWellFormedAct act.now }
         requires words { HasWords self.old }
-        ensures bytes { OnOk result ((i : TheImage) (f : Facts) → Represents self.old i f → (q : ThePlace) → last_byte i self.new.bytes q ≡ byte_written i f cell act.now q) }
+        ensures bytes { OnOk result (HasBytes self.old self.new (λ i f. byte_written i f cell act.now)) }
         ensures endpoints { OnOk result ((i : TheImage) (f : Facts) → Represents self.old i f → IsNextOf cell f.endpoints act.now → self.new.endpoints ≡ endpoints_acted i f cell act.now) }
         ensures commit { OnOk result (act.now ≡ Commits → self.new.endpoints ≡ self.old.endpoints) }
         ensures others { IsSameBut self.old self.new }
@@ -282,7 +281,7 @@ impl<'a> Plain<'a> {
     /// Changes the devices of the cell that a Commit is about.
     fn commit_devices(&mut self, act: &Act) -> Result<(), NoMemory>
         requires { MayCommit self.old act.now }
-        ensures bytes { OnOk result ((i : TheImage) (f : Facts) → f.cells ≡ self.old.cells → f.call ≡ self.old.call → (q : ThePlace) → last_byte i self.new.bytes q ≡ with_words (specs_changing f act.now) (last_byte i self.old.bytes) q) }
+        ensures bytes { OnOk result (HasWritten self.old self.new act.now) }
         ensures endpoints { OnOk result ((f : Facts) → f.cells ≡ self.old.cells → f.call ≡ self.old.call → self.new.endpoints ≡ endpoints_changed (change_by f.call) (specs_changing f act.now) self.old.endpoints) }
         ensures others { IsSameBut self.old self.new }
     {
@@ -301,7 +300,7 @@ impl<'a> Plain<'a> {
         requires well_formed { IsWellFormedEntry entry.now }
         requires may { MayBeFollowed self.old entry.now }
         ensures cpus { OnOk result ((i : TheImage) (f : Facts) → Represents self.old i f → (k : ℕ) → k < 16 → slice_get self.new.cpus k ≡ Some (cpu_after i f entry.now k)) }
-        ensures bytes { OnOk result ((i : TheImage) (f : Facts) → Represents self.old i f → (q : ThePlace) → last_byte i self.new.bytes q ≡ byte_after i f entry.now q) }
+        ensures bytes { OnOk result (HasBytes self.old self.new (λ i f. byte_after i f entry.now)) }
         ensures endpoints { OnOk result ((i : TheImage) (f : Facts) → Represents self.old i f → self.new.endpoints ≡ endpoints_after i f entry.now) }
         ensures image { self.new.image ≡ self.old.image }
         ensures cells { self.new.cells ≡ self.old.cells }
@@ -346,7 +345,7 @@ impl<'a> Plain<'a> {
 
     /// The configuration that the open call reads at the entry, where that is a Decide.
     fn coming(&self, entry: &Entry) -> Result<Option<BoxedCell>, NoMemory>
-        ensures { IfOk result (λ coming. (i : TheImage) (f : Facts) → Represents self.now i f → (lives : List TheLive) → call_by lives coming f.call entry.now entry.now.act ≡ call_by lives (coming_of i f) f.call entry.now entry.now.act) }
+        ensures { IfOk result (IsComing self.now entry.now) }
     {
         match entry.act {
             Act::Decide { .. } => self.read_coming(),

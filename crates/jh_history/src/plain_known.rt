@@ -12,7 +12,7 @@ use crate::bytes::{Bytes, value_of};
 use crate::call::{Creation, OpenCall};
 use crate::cells::{config_in, is_on_board, memory_in, op_at, reach_in};
 use crate::counting::sum_of_pages;
-use crate::creation::judged;
+use crate::creation::creation_by;
 use crate::known::Known;
 use crate::laws::admitted_roots_are_sound;
 use crate::locked::{is_any_locked, is_any_other_locked};
@@ -89,7 +89,7 @@ impl<'a> Plain<'a> {
         }
         let read = read_config(self.alloc, self, at)?;
         let cells = self.cells.configs();
-        match judged(self.alloc, self.image, cells, &self.cpus, caller, read)? {
+        match creation_by(self.alloc, self.image, cells, &self.cpus, caller, read)? {
             Some(creation) => Ok(creation),
             None => Err(NoMemory),
         }

@@ -8,13 +8,10 @@ ghost use Rattle.jh_history.specs.ReadView.{bytes_by, read_by, as_read};
 
 use crate::boxed::BoxedCell;
 use crate::call::Creation;
-use jh_cellcfg::{ConfigFault, Part, cell_size, read_cell};
+use jh_cellcfg::{ConfigFault, HEADER_SIZE, Part, cell_size, read_cell};
 use jh_num::error::{E2BIG, EINVAL};
 use jh_num::{ADDRESS_END, NoMemory, PAGE_SIZE, Seq};
 use std::alloc::Global;
-
-/// How many bytes a configuration's header has.
-const HEADER: u32 = 132;
 
 /// Tells what root may read.
 pub trait RootBytes {
@@ -123,7 +120,7 @@ fn read_behind<R: RootBytes>(
     alloc: Global,
     root: &R,
     at: u64,
-    header: &[u8; 132],
+    header: &[u8; HEADER_SIZE],
 ) -> Result<Creation, NoMemory>
     ensures { IfOk result (λ read. as_read read ≡ read_behind (bytes_by (R.readable root.now) at) header.now (header_fault header.now)) }
 {
@@ -135,12 +132,12 @@ fn read_behind<R: RootBytes>(
     }
 }
 
-/// The 132 bytes as an array.
-fn header_of(bytes: &[u8]) -> [u8; 132]
+/// A header's bytes as an array.
+fn header_of(bytes: &[u8]) -> [u8; HEADER_SIZE]
     requires { length bytes.now ≡ 132 }
     ensures { result ≡ bytes.now }
 {
-    let mut header = [0u8; 132];
+    let mut header = [0u8; HEADER_SIZE];
     header.copy_from_slice(bytes);
     header
 }
@@ -150,7 +147,7 @@ fn header_of(bytes: &[u8]) -> [u8; 132]
 pub fn read_config<R: RootBytes>(alloc: Global, root: &R, at: u64) -> Result<Creation, NoMemory>
     ensures { IfOk result (λ read. as_read read ≡ read_by (R.readable root.now) at) }
 {
-    match bytes_at(alloc, root, at, HEADER)? {
+    match bytes_at(alloc, root, at, HEADER_SIZE as u32)? {
         Some(header) => read_behind(alloc, root, at, &header_of(header.as_slice())),
         None => Ok(Creation::Refused { number: EINVAL }),
     }

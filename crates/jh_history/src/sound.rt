@@ -1,19 +1,19 @@
 //! What holds after every legal journal.
-ghost use Rattle.std.specs.Prelude.{◌≡◌, List, Some};
+ghost use Rattle.std.specs.Prelude.{List};
 ghost use Rattle.jh_script.specs.declared.image.Image.{Image as TheImage};
 ghost use Rattle.jh_history.specs.declared.entry.Entry.{Entry as TheEntry};
 ghost use Rattle.jh_history.specs.Facts.{Facts};
 ghost use Rattle.jh_history.specs.History.{start, after, facts};
-ghost use Rattle.jh_history.specs.Due.{due_at, IsLegal};
+ghost use Rattle.jh_history.specs.Due.{IsLegal};
 ghost use Rattle.jh_history.specs.Admitted.{IsAdmitted};
 ghost use Rattle.jh_history.specs.Sound.{IsSound};
+ghost use Rattle.jh_history.specs.DueFacts.{IsDueEntry};
 
 /// An admitted image opens sound, an entry that is due leaves sound what is sound, and so each legal journal
 /// does.
 pub fn legal_journals_are_sound()
     ensures start { (image : TheImage) → IsAdmitted image → IsSound image (start image) }
-    ensures after { (image : TheImage) (f : Facts) (entry : TheEntry) → IsSound image f →
-        due_at image f entry.cpu ≡ Some entry → IsSound image (after image f entry) }
+    ensures after { (image : TheImage) (f : Facts) (entry : TheEntry) → IsDueEntry image f entry → IsSound image (after image f entry) }
     ensures legal { (image : TheImage) (entries : List TheEntry) → IsAdmitted image →
         IsLegal image entries → IsSound image (facts image entries) }
 {}

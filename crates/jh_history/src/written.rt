@@ -1,5 +1,5 @@
 //! Bytes that entries wrote, for the slow plain program.
-ghost use Rattle.std.specs.Prelude.{◌≡◌, ℕ, ◌+◌, ◌<◌, ◌^◌, ◌++◌, List, length, take, fold, IfOk, IfSome, OnOk};
+ghost use Rattle.std.specs.Prelude.{◌≡◌, ℕ, ◌+◌, ◌<◌, ◌^◌, length, fold, IfOk, IfSome, OnOk};
 ghost use Rattle.jh_script.specs.declared.image.Image.{Image as TheImage};
 ghost use Rattle.jh_history.specs.declared.place.Place.{Place as ThePlace};
 ghost use Rattle.jh_history.specs.Places.{over, places_of_row, IsRow};
@@ -9,13 +9,12 @@ ghost use Rattle.jh_history.specs.Bytes.{preloaded, loaded_byte};
 ghost use Rattle.jh_history.specs.declared.comm.PageChange.TheVariants.{State, Message, Fresh};
 ghost use Rattle.jh_history.specs.Pages.{with_page, with_page_write};
 ghost use Rattle.jh_history.specs.Admitted.{IsAdmitted};
-ghost use Rattle.jh_history.specs.Private.PlainView.{last_byte, put_in_page};
+ghost use Rattle.jh_history.specs.Private.PlainView.{last_byte, put_in_page, IsRest};
 
 use crate::comm::{PageChange, PageWrite};
 use crate::device_write::slot_places;
-use crate::page_words::{MESSAGE_AT, REPLY_AT, STATE_AT};
 use crate::place::{Place, Places, Row};
-use jh_comm::fresh;
+use jh_comm::{MESSAGE_AT, REPLY_AT, STATE_AT, fresh};
 use jh_ivshmem::Slot;
 use jh_num::NoMemory;
 use jh_script::{Image, Preload};
@@ -66,7 +65,7 @@ pub(crate) fn loaded_byte(image: &Image, place: Place) -> u8
 /// Writes the value over the places of the row, the lowest byte first, and tells what is left of it.
 fn write_row(bytes: &mut Vec<WrittenByte>, row: Row, value: u64) -> Result<u64, NoMemory>
     requires { IsRow row }
-    ensures { IfOk result (λ rest. (image : TheImage) (places : List ThePlace) (q : ThePlace) → over places rest q (last_byte image bytes.new.items q) ≡ over (places_of_row row ++ places) value q (last_byte image bytes.old.items q)) }
+    ensures { IfOk result (IsRest bytes.old.items bytes.new.items (places_of_row row) value) }
 {
     let mut rest = value;
     for k in 0..row.count {
@@ -116,12 +115,12 @@ pub(crate) fn write_slot_if(
 }
 
 /// Puts the bytes into the page of the cell, from the offset on.
-fn put(bytes: &mut Vec<WrittenByte>, cell: u32, at: u64, list: &[u8]) -> Result<(), NoMemory>
+fn put(bytes: &mut Vec<WrittenByte>, cell: u32, at: usize, list: &[u8]) -> Result<(), NoMemory>
     requires { at + length list.now < 2 ^ 64 }
     ensures { OnOk result ((image : TheImage) (q : ThePlace) → last_byte image bytes.new.items q ≡ put_in_page cell at list.now (last_byte image bytes.old.items) q) }
 {
     for (i, byte) in list.iter().enumerate() {
-        let offset = at + i as u64;
+        let offset = (at + i) as u64;
         bytes.push(WrittenByte {
             place: Place::Page { cell, offset },
             byte: *byte,

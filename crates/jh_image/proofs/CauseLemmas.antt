@@ -24,10 +24,10 @@ use Rattle.jh_image.specs.declared.board.ProgramFile.{ProgramFile}
 use Rattle.jh_image.specs.declared.fault.ImageCause.{ImageCause}
 use Rattle.jh_image.specs.declared.fault.ImageCause.TheVariants.{ReadFault, Oversize, Json, Member, System, Findings, PoolSmall, Preload as BadPreload, Program as BadProgram}
 use Rattle.jh_image.specs.Boards.{board_told, IsListingAnswer}
-use Rattle.jh_image.specs.Opening.{IsFaultless}
+use Rattle.jh_image.specs.Preloads.{IsFaultless}
 use Rattle.jh_image.specs.Files.{Contents, HasBytes, IsOversize, Lists, SpellsSystem, IsPreloadOf, IsProgramOf}
 use Rattle.jh_image.specs.Images.{SoFar, Stage, nothing, with_listing, with_system, IsNextPreload, IsComplete, IsNextProgram, IsNextFile, the_board, the_system, a_preload, a_program, ReadsNext, reads_board, reads_system, reads_preload, reads_program, IsImage}
-use Rattle.jh_image.specs.Causes.{HasCause, cannot_be_read, is_too_large, is_no_object, has_bad_member, is_no_system, has_findings, has_small_pool, is_bad_preload, is_bad_program, IsCauseOf}
+use Rattle.jh_image.specs.Causes.{cannot_be_read, is_too_large, is_no_object, has_bad_member, is_no_system, has_findings, HasCause, by_file, by_board, by_system, by_pool, by_preload, by_program, IsCauseOf}
 use Rattle.jh_image.specs.Laws.{AreKnown}
 use Rattle.jh_image.proofs.OneLemmas.{OneSpelling, bytes_one, text_one, listing_told, spelled_one, preload_one}
 use Rattle.jh_image.proofs.ReadLemmas.{same_preload, same_program, no_preload, one_so_far, one_listing, complete_preload, complete_program, IsLast, last_one, read_for, image_last}
@@ -215,19 +215,19 @@ large_stop contents board stage file (a_preload so_far entry next) over = at_pre
 large_stop contents board stage file (a_program so_far entry next) over = at_program so_far entry entry.file Oversize next (large_program refl over)
 
 stop_of : (contents : Contents) (board : List ℕ) (stage : Stage) (file : List ℕ) (cause : ImageCause) → HasCause contents board stage file cause → (cause ≡ ReadFault) ⊎ IsCause contents board stage file cause
-stop_of contents board stage file cause (cannot_be_read at name next) = inl refl
-stop_of contents board stage file cause (is_too_large at name next over) = inr (large_stop contents board at name next over)
-stop_of contents board stage file cause (is_no_object bytes has bad) = inr (at_board board Json (bad_board boards.Json bytes tt refl has bad))
-stop_of contents board stage file cause (has_bad_member bytes name has bad) = inr (at_board board (Member name) (bad_board (boards.Member name) bytes tt refl has bad))
-stop_of contents board stage file cause (is_no_system listing bytes fault has first) = inr (at_system listing listing.system (System fault) (bad_system bytes fault refl has first))
-stop_of contents board stage file cause (has_findings listing system spells some) =
+stop_of contents board stage file cause (by_file at name _ next cannot_be_read) = inl refl
+stop_of contents board stage file cause (by_file at name _ next (is_too_large over)) = inr (large_stop contents board at name next over)
+stop_of contents board stage file cause (by_board _ (is_no_object bytes has bad)) = inr (at_board board Json (bad_board boards.Json bytes tt refl has bad))
+stop_of contents board stage file cause (by_board _ (has_bad_member bytes name has bad)) = inr (at_board board (Member name) (bad_board (boards.Member name) bytes tt refl has bad))
+stop_of contents board stage file cause (by_system listing _ (is_no_system bytes fault has first)) = inr (at_system listing listing.system (System fault) (bad_system bytes fault refl has first))
+stop_of contents board stage file cause (by_system listing _ (has_findings system spells some)) =
     inr (at_system listing listing.system (Findings (capped (findings system []))) (unsound_system system (Findings (capped (findings system []))) spells (something_found refl some)))
-stop_of contents board stage file cause (has_small_pool listing system spells clean few) =
-    inr (at_system listing board (PoolSmall (root_pages system) (pool_pages system)) (unsound_system system (PoolSmall (root_pages system) (pool_pages system)) spells (small refl clean few)))
-stop_of contents board stage file cause (is_bad_preload so_far entry preload next is unfit) =
-    inr (at_preload so_far entry board (BadPreload (length so_far.preloads)) next (unfit_preload preload is unfit refl))
-stop_of contents board stage file cause (is_bad_program so_far entry bytes fault next has bad) =
-    inr (at_program so_far entry entry.file (BadProgram fault) next (bad_program fault bytes has bad refl))
+stop_of contents board stage file cause (by_pool listing system h) =
+    inr (at_system listing board (PoolSmall (root_pages system) (pool_pages system)) (unsound_system system (PoolSmall (root_pages system) (pool_pages system)) h.spells (small refl h.clean h.small)))
+stop_of contents board stage file cause (by_preload so_far h) =
+    inr (at_preload so_far h.file board (BadPreload (length so_far.preloads)) h.next (unfit_preload h.preload h.read h.faulty refl))
+stop_of contents board stage file cause (by_program so_far entry fault h) =
+    inr (at_program so_far entry entry.file (BadProgram fault) h.next (bad_program fault h.bytes h.has h.told refl))
 
 complete_stop : (contents : Contents) (board : List ℕ) (stage : Stage) (file : List ℕ) (cause : ImageCause) → IsCause contents board stage file cause → (so_far : SoFar) → IsComplete so_far → stage ≡ with_system so_far → ⊥
 complete_stop contents board stage file cause (at_preload one entry _ _ next stop) so_far all e = complete_preload one so_far entry next all e

@@ -18,8 +18,8 @@ use Rattle.jh_history.specs.Admitted.{IsSoundPreload, IsOtherPreload, IsSoundPro
 use Rattle.jh_image.specs.declared.board.Listing.{Listing}
 use Rattle.jh_image.specs.declared.board.PreloadFile.{PreloadFile}
 use Rattle.jh_image.specs.declared.board.ProgramFile.{ProgramFile}
-use Rattle.jh_image.specs.Boards.{Seat, seat_of, is_seat, are_distinct}
-use Rattle.jh_image.specs.Opening.{IsFaultless}
+use Rattle.jh_image.specs.Boards.{Seat, seat_of, is_same_seat, are_distinct}
+use Rattle.jh_image.specs.Preloads.{IsFaultless}
 use Rattle.jh_image.specs.Files.{Contents, IsPreloadOf, IsProgramOf}
 use Rattle.jh_image.specs.Images.{with_system, so_far_of, with_preload, with_program, IsNextPreload, IsComplete, IsNextProgram, reads_preload, reads_program, ReadsTo, one_more_read}
 
@@ -143,22 +143,22 @@ pointwise_swap (x ∷ xs) (y ∷ ys) h =
     and_from (nat_eq y x) (pointwise nat_eq ys xs) (eq_swap x y ((and_parts (nat_eq x y) (pointwise nat_eq xs ys) h).0)) (pointwise_swap xs ys ((and_parts (nat_eq x y) (pointwise nat_eq xs ys) h).1))
 
 -- a program of the CPU and cell of another has its seat
-program_seat_holds : (p q : Program) → IsTrue (is_program_of p.cell p.cpu q) → is_seat (program_seat p) (program_seat q) ≡ true
+program_seat_holds : (p q : Program) → IsTrue (is_program_of p.cell p.cpu q) → is_same_seat (program_seat p) (program_seat q) ≡ true
 program_seat_holds p q h =
     and_from (pointwise nat_eq p.cell q.cell) (p.cpu == q.cpu)
     (pointwise_swap q.cell p.cell ((and_parts (pointwise nat_eq q.cell p.cell) (q.cpu == p.cpu) h).0))
     (eq_swap q.cpu p.cpu ((and_parts (pointwise nat_eq q.cell p.cell) (q.cpu == p.cpu) h).1))
 
 -- no seat stands again behind itself
-seat_once : (seats : List Seat) → are_distinct seats ≡ true → (i j : ℕ) (d : Seat) → i < j → j < length seats → is_seat (get_or seats i d) (get_or seats j d) ≡ true → ⊥
+seat_once : (seats : List Seat) → are_distinct seats ≡ true → (i j : ℕ) (d : Seat) → i < j → j < length seats → is_same_seat (get_or seats i d) (get_or seats j d) ≡ true → ⊥
 unfolding are_distinct
 seat_once [] h i j d lt within same = omega arith
 seat_once (seat ∷ seats) h zero zero d lt within same = omega arith
 seat_once (seat ∷ seats) h zero (suc j) d lt within same =
-    let found : list_any (is_seat seat) seats ≡ true = list_any_at (is_seat seat) seats j d (omega arith) same in
-    false≢true (sym (ap not found) ∙ (and_parts (not (list_any (is_seat seat) seats)) (are_distinct seats) h).0)
+    let found : list_any (is_same_seat seat) seats ≡ true = list_any_at (is_same_seat seat) seats j d (omega arith) same in
+    false≢true (sym (ap not found) ∙ (and_parts (not (list_any (is_same_seat seat) seats)) (are_distinct seats) h).0)
 seat_once (seat ∷ seats) h (suc i) zero d lt within same = omega arith
-seat_once (seat ∷ seats) h (suc i) (suc j) d lt within same = seat_once seats ((and_parts (not (list_any (is_seat seat) seats)) (are_distinct seats) h).1) i j d (omega arith) (omega arith) same
+seat_once (seat ∷ seats) h (suc i) (suc j) d lt within same = seat_once seats ((and_parts (not (list_any (is_same_seat seat) seats)) (are_distinct seats) h).1) i j d (omega arith) (omega arith) same
 
 get_seat : (programs : List Program) (i : ℕ) (d : Program) → get_or (map program_seat programs) i (program_seat d) ≡ program_seat (get_or programs i d)
 get_seat [] i d = refl
@@ -172,8 +172,8 @@ length_seats (p ∷ ps) = ap suc (length_seats ps)
 pub seats_owned : (programs : List Program) → are_distinct (map program_seat programs) ≡ true → AllPairs IsOtherProgram programs
 seats_owned programs h i j d lt within taken =
     let same = program_seat_holds (get_or programs i d) (get_or programs j d) taken in
-    let first : is_seat (get_or (map program_seat programs) i (program_seat d)) (program_seat (get_or programs j d)) ≡ true = subst (λ s. is_seat s (program_seat (get_or programs j d)) ≡ true) (sym (get_seat programs i d)) same in
-    let both : is_seat (get_or (map program_seat programs) i (program_seat d)) (get_or (map program_seat programs) j (program_seat d)) ≡ true = subst (λ s. is_seat (get_or (map program_seat programs) i (program_seat d)) s ≡ true) (sym (get_seat programs j d)) first in
+    let first : is_same_seat (get_or (map program_seat programs) i (program_seat d)) (program_seat (get_or programs j d)) ≡ true = subst (λ s. is_same_seat s (program_seat (get_or programs j d)) ≡ true) (sym (get_seat programs i d)) same in
+    let both : is_same_seat (get_or (map program_seat programs) i (program_seat d)) (get_or (map program_seat programs) j (program_seat d)) ≡ true = subst (λ s. is_same_seat (get_or (map program_seat programs) i (program_seat d)) s ≡ true) (sym (get_seat programs j d)) first in
     let inside : j < length (map program_seat programs) = subst (λ n. j < n) (sym (length_seats programs)) within in
     seat_once (map program_seat programs) h i j (program_seat d) lt inside both
 

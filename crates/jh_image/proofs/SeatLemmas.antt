@@ -4,15 +4,15 @@ use Rattle.std.specs.List.{list_any}
 use Rattle.std.proofs.lemmas.List.{at_drop_more, at_drop_all, take_all}
 use Rattle.jh_num.proofs.Public.{list_any_map}
 use Rattle.jh_image.specs.declared.board.ProgramFile.{ProgramFile}
-use Rattle.jh_image.specs.Boards.{are_distinct, seat_of, is_seat}
+use Rattle.jh_image.specs.Boards.{are_distinct, seat_of, is_same_seat}
 
 pub distinct_at : (files : List ProgramFile) (i : ℕ) (file : ProgramFile) → i < length files → file ≡ get_or files i file
-    → are_distinct (map seat_of (drop i files)) ≡ (not (list_any (λ (other : ProgramFile). is_seat (seat_of file) (seat_of other)) (drop (i + 1) files)) && are_distinct (map seat_of (drop (i + 1) files)))
+    → are_distinct (map seat_of (drop i files)) ≡ (not (list_any (λ (other : ProgramFile). is_same_seat (seat_of file) (seat_of other)) (drop (i + 1) files)) && are_distinct (map seat_of (drop (i + 1) files)))
 unfolding are_distinct
 distinct_at files i file lt is =
     at_drop_more (λ fs. are_distinct (map seat_of fs)) files i file lt
-    ∙ ap (λ f. not (list_any (is_seat (seat_of f)) (map seat_of (drop (i + 1) files))) && are_distinct (map seat_of (drop (i + 1) files))) (sym is)
-    ∙ ap (λ b. not b && are_distinct (map seat_of (drop (i + 1) files))) (list_any_map seat_of (is_seat (seat_of file)) (drop (i + 1) files))
+    ∙ ap (λ f. not (list_any (is_same_seat (seat_of f)) (map seat_of (drop (i + 1) files))) && are_distinct (map seat_of (drop (i + 1) files))) (sym is)
+    ∙ ap (λ b. not b && are_distinct (map seat_of (drop (i + 1) files))) (list_any_map seat_of (is_same_seat (seat_of file)) (drop (i + 1) files))
 
 pub distinct_end : (files : List ProgramFile) (i : ℕ) → length files ≤ i → are_distinct (map seat_of (drop i files)) ≡ true
 unfolding are_distinct

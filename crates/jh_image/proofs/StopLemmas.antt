@@ -18,10 +18,11 @@ use Rattle.jh_image.specs.declared.fault.ImageCause.TheVariants.{ReadFault, Over
 use Rattle.jh_image.specs.declared.fault.ImageFault.{ImageFault}
 use Rattle.jh_image.specs.declared.fault.ImageFault.TheVariants.{Refused, NoMemory}
 use Rattle.jh_image.specs.Boards.{IsListingAnswer}
-use Rattle.jh_image.specs.Opening.{IsFaultless}
+use Rattle.jh_image.specs.Preloads.{IsFaultless}
 use Rattle.jh_image.specs.Files.{Contents, HasBytes, Lists, SpellsSystem, IsPreloadOf}
 use Rattle.jh_image.specs.Images.{SoFar, Stage, nothing, with_listing, with_system, so_far_of, IsNextPreload, IsNextProgram, IsNextFile, a_program, reads_board, reads_system, ReadsTo, nothing_read, one_more_read}
-use Rattle.jh_image.specs.Causes.{IsCauseOf, cannot_be_read, is_too_large, is_no_object, has_bad_member, is_no_system, has_findings, has_small_pool, is_bad_preload, is_bad_program, OnRefused, HandsOutNothing, IsRefusal, IsBoardRefusal, IsUnsound, IsPoolSmall, IsProgramCause}
+use Rattle.jh_image.specs.Causes.{cannot_be_read, is_too_large, is_no_object, has_bad_member, is_no_system, has_findings, by_file, by_board, by_system, by_pool, by_preload, by_program, IsCauseOf, OnRefused}
+use Rattle.jh_image.specs.Private.Causes.{HandsOutNothing, IsRefusal, IsBoardRefusal, IsUnsound, IsPoolSmall, IsProgramCause}
 
 -- what holds of the file and the cause that are refused
 pub on_refusal : (P : List ℕ → ImageCause → Type 0) (name : List ℕ) (cause : ImageCause) (fault : ImageFault) → OnRefused (IsRefusal name cause) fault → P name cause → OnRefused P fault
@@ -41,18 +42,18 @@ refused_stops contents board name wanted stops file cause h =
 pub unread_stops : (contents : Contents) (board name : List ℕ) (stage : Stage) → ReadsTo contents board stage → IsNextFile board stage name
     → (file : List ℕ) (cause : ImageCause) → HandsOutNothing contents name file cause → IsCauseOf contents board file cause
 unread_stops contents board name stage read next file ReadFault h =
-    subst (λ f. IsCauseOf contents board f ReadFault) (sym h) (record { stage = stage; read = read; stops = cannot_be_read stage name next })
+    subst (λ f. IsCauseOf contents board f ReadFault) (sym h) (record { stage = stage; read = read; stops = by_file stage name ReadFault next cannot_be_read })
 unread_stops contents board name stage read next file Oversize h =
-    subst (λ f. IsCauseOf contents board f Oversize) (sym h.0) (record { stage = stage; read = read; stops = is_too_large stage name next h.1 })
+    subst (λ f. IsCauseOf contents board f Oversize) (sym h.0) (record { stage = stage; read = read; stops = by_file stage name Oversize next (is_too_large h.1) })
 unread_stops contents board name stage read next file _ h = absurd h
 
 -- the board has a fault
 pub board_stops : (contents : Contents) (board bytes : List ℕ) (fault : JsonFault) → HasBytes contents board bytes → IsListingAnswer bytes (Err fault)
     → (file : List ℕ) (cause : ImageCause) → IsBoardRefusal board fault file cause → IsCauseOf contents board file cause
 board_stops contents board bytes boards.Json has bad file cause h =
-    refused_stops contents board board Json (record { stage = nothing; read = nothing_read; stops = is_no_object bytes has bad }) file cause h
+    refused_stops contents board board Json (record { stage = nothing; read = nothing_read; stops = by_board Json (is_no_object bytes has bad) }) file cause h
 board_stops contents board bytes (boards.Member name) has bad file cause h =
-    refused_stops contents board board (Member name) (record { stage = nothing; read = nothing_read; stops = has_bad_member bytes name has bad }) file cause h
+    refused_stops contents board board (Member name) (record { stage = nothing; read = nothing_read; stops = by_board (Member name) (has_bad_member bytes name has bad) }) file cause h
 board_stops contents board bytes boards.NoMemory has bad file cause h = absurd h
 
 -- the board was read
@@ -63,7 +64,7 @@ board_read contents board listing lists = one_more_read nothing (with_listing li
 pub system_stops : (contents : Contents) (board bytes : List ℕ) (listing : Listing) (fault : ConfigFault) → ReadsTo contents board (with_listing listing) → HasBytes contents listing.system bytes → system_fault bytes ≡ Some fault
     → (file : List ℕ) (cause : ImageCause) → IsRefusal listing.system (System fault) file cause → IsCauseOf contents board file cause
 system_stops contents board bytes listing fault read has first file cause h =
-    refused_stops contents board listing.system (System fault) (record { stage = with_listing listing; read = read; stops = is_no_system listing bytes fault has first }) file cause h
+    refused_stops contents board listing.system (System fault) (record { stage = with_listing listing; read = read; stops = by_system listing (System fault) (is_no_system bytes fault has first) }) file cause h
 
 -- the system was read, and is admitted
 pub system_read : (contents : Contents) (board : List ℕ) (listing : Listing) (system : SystemConfig) → ReadsTo contents board (with_listing listing) → SpellsSystem contents listing.system system → IsAdmittedSystem system
@@ -76,12 +77,12 @@ pub unsound_stops : (contents : Contents) (board : List ℕ) (listing : Listing)
     → (file : List ℕ) (cause : ImageCause) → IsUnsound board listing.system system file cause → IsCauseOf contents board file cause
 unsound_stops contents board listing system read spells file (Findings found) h =
     let stops : IsCauseOf contents board listing.system (Findings (capped (findings system [])))
-    = record { stage = with_listing listing; read = read; stops = has_findings listing system spells h.2 } in
+    = record { stage = with_listing listing; read = read; stops = by_system listing (Findings (capped (findings system []))) (has_findings system spells h.2) } in
     subst (λ f. IsCauseOf contents board f (Findings found)) (sym h.0) (subst (λ k. IsCauseOf contents board listing.system (Findings k)) (sym h.1) stops)
 unsound_stops contents board listing system read spells file (PoolSmall need have) h =
     let few : pool_pages system < root_pages system = subst (λ n. pool_pages system < n) h.2 (subst (λ n. n < need) h.3 h.4) in
     let stops : IsCauseOf contents board board (PoolSmall (root_pages system) (pool_pages system))
-    = record { stage = with_listing listing; read = read; stops = has_small_pool listing system spells h.1 few } in
+    = record { stage = with_listing listing; read = read; stops = by_pool listing system (record { spells = spells; clean = h.1; small = few }) } in
     subst (λ f. IsCauseOf contents board f (PoolSmall need have)) (sym h.0)
     (subst (λ n. IsCauseOf contents board board (PoolSmall n have)) (sym h.2) (subst (λ n. IsCauseOf contents board board (PoolSmall (root_pages system) n)) (sym h.3) stops))
 unsound_stops contents board listing system read spells file _ h = absurd h
@@ -91,7 +92,7 @@ pub preload_stops : (contents : Contents) (board : List ℕ) (so_far : SoFar) (e
     → IsPreloadOf contents entry preload → ¬ IsFaultless so_far.system.hypervisor_memory so_far.preloads preload → number ≡ length so_far.preloads → IsCauseOf contents board board (BadPreload number)
 preload_stops contents board so_far entry preload number read next is unfit number_is =
     subst (λ n. IsCauseOf contents board board (BadPreload n)) (sym number_is)
-    (record { stage = with_system so_far; read = read; stops = is_bad_preload so_far entry preload next is unfit })
+    (record { stage = with_system so_far; read = read; stops = by_preload so_far (record { file = entry; next = next; preload = preload; read = is; faulty = unfit }) })
 
 -- the next program can't be read, or is none
 pub program_stops : (contents : Contents) (board : List ℕ) (so_far : SoFar) (entry : ProgramFile) → ReadsTo contents board (with_system so_far) → IsNextProgram so_far entry
@@ -100,7 +101,7 @@ program_stops contents board so_far entry read next file ReadFault h = unread_st
 program_stops contents board so_far entry read next file Oversize h = unread_stops contents board entry.file (with_system so_far) read (a_program so_far entry next) file Oversize h
 program_stops contents board so_far entry read next file (BadProgram fault) h =
     subst (λ f. IsCauseOf contents board f (BadProgram fault)) (sym h.file_is)
-    (record { stage = with_system so_far; read = read; stops = is_bad_program so_far entry h.bytes fault next h.has h.told })
+    (record { stage = with_system so_far; read = read; stops = by_program so_far entry fault (record { next = next; bytes = h.bytes; has = h.has; told = h.told }) })
 program_stops contents board so_far entry read next file _ h = absurd h
 
 -- where nothing is found, a system with a small pool isn't admitted

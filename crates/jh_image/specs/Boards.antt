@@ -66,13 +66,13 @@ abbrev pub seat_of : ProgramFile → Seat
 seat_of file = record { cell = file.cell; cpu = file.cpu }
 
 -- the two are the same CPU of the same cell
-abbrev pub is_seat : Seat → Seat → Bool
-is_seat one other = pointwise nat_eq one.cell other.cell && (one.cpu == other.cpu)
+abbrev pub is_same_seat : Seat → Seat → Bool
+is_same_seat one other = pointwise nat_eq one.cell other.cell && (one.cpu == other.cpu)
 
 -- no CPU of a cell stands twice
 unfoldable pub are_distinct : List Seat → Bool
 are_distinct [] = true
-are_distinct (seat ∷ seats) = not (list_any (is_seat seat) seats) && are_distinct seats
+are_distinct (seat ∷ seats) = not (list_any (is_same_seat seat) seats) && are_distinct seats
 
 -- the files of programs, where no two are of one CPU of one cell
 abbrev pub where_distinct : List ProgramFile → Option (List ProgramFile)

@@ -21,31 +21,61 @@ use Rattle.jh_image.specs.declared.fault.ImageCause.TheVariants.{ReadFault, Over
 use Rattle.jh_image.specs.declared.fault.ImageFault.{ImageFault}
 use Rattle.jh_image.specs.declared.fault.ImageFault.TheVariants.{Refused, NoMemory}
 use Rattle.jh_image.specs.Boards.{IsListingAnswer}
-use Rattle.jh_image.specs.Opening.{IsFaultless}
+use Rattle.jh_image.specs.Preloads.{IsFaultless}
 use Rattle.jh_image.specs.Files.{Contents, HasBytes, IsOversize, SpellsSystem, IsPreloadOf}
 use Rattle.jh_image.specs.Images.{SoFar, Stage, nothing, with_listing, with_system, IsNextPreload, IsNextProgram, IsNextFile, ReadsTo, IsImage}
 
--- why the reading stops at the stage: the file that is named, and the cause
+-- ---- what is wrong with a file
+
+-- the file can't be read, of which only the files know more; or it is too large
+pub data IsFileFault (contents : Contents) (file : List ℕ) : ImageCause → Type 0 where
+  cannot_be_read : IsFileFault contents file ReadFault
+  is_too_large : IsOversize contents file → IsFileFault contents file Oversize
+
+-- the board's bytes are no JSON object's; or its member of this name is at fault
+pub data IsBoardFault (contents : Contents) (board : List ℕ) : ImageCause → Type 0 where
+  is_no_object : (bytes : List ℕ) → HasBytes contents board bytes → IsListingAnswer bytes (Err boards.Json) → IsBoardFault contents board Json
+  has_bad_member : (bytes name : List ℕ) → HasBytes contents board bytes → IsListingAnswer bytes (Err (boards.Member name)) → IsBoardFault contents board (Member name)
+
+-- the file's bytes spell no system; or the check finds something in that system alone, of which the first thousand are told
+pub data IsSystemFault (contents : Contents) (file : List ℕ) : ImageCause → Type 0 where
+  is_no_system : (bytes : List ℕ) (fault : ConfigFault) → HasBytes contents file bytes → system_fault bytes ≡ Some fault → IsSystemFault contents file (System fault)
+  has_findings : (system : SystemConfig) → SpellsSystem contents file system → findings system [] ≢ [] → IsSystemFault contents file (Findings (capped (findings system [])))
+
+-- the file spells this system, and the check finds nothing in it alone, but its pool has fewer pages than root takes
+pub record IsPoolFault (contents : Contents) (file : List ℕ) (system : SystemConfig) : Type 0 where
+  pub spells : SpellsSystem contents file system
+  pub clean : findings system [] ≡ []
+  pub small : pool_pages system < root_pages system
+
+-- the preload that is next is read, and has a fault: of its place, or beside those before it
+pub record IsPreloadFault (contents : Contents) (so_far : SoFar) : Type 0 where
+  pub file : PreloadFile
+  pub next : IsNextPreload so_far file
+  pub preload : Preload
+  pub read : IsPreloadOf contents file preload
+  pub faulty : ¬ IsFaultless so_far.system.hypervisor_memory so_far.preloads preload
+
+-- the program that is next is read, and its text has this fault
+pub record IsProgramFault (contents : Contents) (so_far : SoFar) (file : ProgramFile) (fault : ScriptFault) : Type 0 where
+  pub next : IsNextProgram so_far file
+  pub bytes : List ℕ
+  pub has : HasBytes contents file.file bytes
+  pub told : program_of bytes ≡ Err fault
+
+-- ---- the first cause
+
+-- why the reading stops at the stage: the file that is named, and the cause. A small pool and a preload's place, told by
+-- its number from 0, are the board's faults.
 pub data HasCause (contents : Contents) (board : List ℕ) : Stage → List ℕ → ImageCause → Type 0 where
-  -- which of the files that are next could not be read only the files know
-  cannot_be_read : (stage : Stage) (file : List ℕ) → IsNextFile board stage file → HasCause contents board stage file ReadFault
-  is_too_large : (stage : Stage) (file : List ℕ) → IsNextFile board stage file → IsOversize contents file → HasCause contents board stage file Oversize
-  is_no_object : (bytes : List ℕ) → HasBytes contents board bytes → IsListingAnswer bytes (Err boards.Json) → HasCause contents board nothing board Json
-  has_bad_member : (bytes name : List ℕ) → HasBytes contents board bytes → IsListingAnswer bytes (Err (boards.Member name))
-      → HasCause contents board nothing board (Member name)
-  is_no_system : (listing : Listing) (bytes : List ℕ) (fault : ConfigFault) → HasBytes contents listing.system bytes → system_fault bytes ≡ Some fault
-      → HasCause contents board (with_listing listing) listing.system (System fault)
-  -- the check finds something in the system alone; the first thousand are told
-  has_findings : (listing : Listing) (system : SystemConfig) → SpellsSystem contents listing.system system → findings system [] ≢ []
-      → HasCause contents board (with_listing listing) listing.system (Findings (capped (findings system [])))
-  -- the pool has fewer pages than root takes, which is the board's fault
-  has_small_pool : (listing : Listing) (system : SystemConfig) → SpellsSystem contents listing.system system → findings system [] ≡ []
-      → pool_pages system < root_pages system → HasCause contents board (with_listing listing) board (PoolSmall (root_pages system) (pool_pages system))
-  -- preloads are told by their numbers, from 0; where one comes to stand is the board's fault
-  is_bad_preload : (so_far : SoFar) (file : PreloadFile) (preload : Preload) → IsNextPreload so_far file → IsPreloadOf contents file preload
-      → ¬ IsFaultless so_far.system.hypervisor_memory so_far.preloads preload → HasCause contents board (with_system so_far) board (BadPreload (length so_far.preloads))
-  is_bad_program : (so_far : SoFar) (file : ProgramFile) (bytes : List ℕ) (fault : ScriptFault) → IsNextProgram so_far file → HasBytes contents file.file bytes
-      → program_of bytes ≡ Err fault → HasCause contents board (with_system so_far) file.file (BadProgram fault)
+  by_file : (stage : Stage) (file : List ℕ) (cause : ImageCause) → IsNextFile board stage file → IsFileFault contents file cause → HasCause contents board stage file cause
+  by_board : (cause : ImageCause) → IsBoardFault contents board cause → HasCause contents board nothing board cause
+  by_system : (listing : Listing) (cause : ImageCause) → IsSystemFault contents listing.system cause → HasCause contents board (with_listing listing) listing.system cause
+  by_pool : (listing : Listing) (system : SystemConfig) → IsPoolFault contents listing.system system
+      → HasCause contents board (with_listing listing) board (PoolSmall (root_pages system) (pool_pages system))
+  by_preload : (so_far : SoFar) → IsPreloadFault contents so_far → HasCause contents board (with_system so_far) board (BadPreload (length so_far.preloads))
+  by_program : (so_far : SoFar) (file : ProgramFile) (fault : ScriptFault) → IsProgramFault contents so_far file fault
+      → HasCause contents board (with_system so_far) file.file (BadProgram fault)
 
 -- the reading of the board stops, names this file, and has this cause
 pub record IsCauseOf (contents : Contents) (board file : List ℕ) (cause : ImageCause) : Type 0 where
@@ -73,44 +103,3 @@ IsCountedAt old new failed file _ = ⊤
 -- read that failed
 abbrev pub IsCounted : ℕ → ℕ → List ℕ → ImageFault → Type 0
 IsCounted old new failed fault = OnRefused (IsCountedAt old new failed) fault
-
--- why a file hands out nothing to go on with
-abbrev pub HandsOutNothing : Contents → List ℕ → List ℕ → ImageCause → Type 0
-HandsOutNothing contents name file ReadFault = file ≡ name
-HandsOutNothing contents name file Oversize = (file ≡ name) × IsOversize contents name
-HandsOutNothing contents name file _ = ⊥
-
--- the file and the cause are these
-abbrev pub IsRefusal : List ℕ → ImageCause → List ℕ → ImageCause → Type 0
-IsRefusal name wanted file cause = (file ≡ name) × (cause ≡ wanted)
-
--- the cause is that of the board's fault
-abbrev pub IsBoardRefusal : List ℕ → JsonFault → List ℕ → ImageCause → Type 0
-IsBoardRefusal name boards.Json file cause = IsRefusal name Json file cause
-IsBoardRefusal name (boards.Member member) file cause = IsRefusal name (Member member) file cause
-IsBoardRefusal name boards.NoMemory file cause = ⊥
-
--- the system isn't admitted: the check finds something in it alone, or the pool has fewer pages than root takes
-abbrev pub IsUnsound : List ℕ → List ℕ → SystemConfig → List ℕ → ImageCause → Type 0
-IsUnsound board name system file (Findings found) = (file ≡ name) × (found ≡ capped (findings system [])) × (findings system [] ≢ [])
-IsUnsound board name system file (PoolSmall need have) = (file ≡ board) × (findings system [] ≡ []) × (need ≡ root_pages system) × (have ≡ pool_pages system) × (have < need)
-IsUnsound board name system file _ = ⊥
-
--- the text of a program's file has this fault
-pub record IsNoProgram (contents : Contents) (name file : List ℕ) (fault : ScriptFault) : Type 0 where
-  pub file_is : file ≡ name
-  pub bytes : List ℕ
-  pub has : HasBytes contents name bytes
-  pub told : program_of bytes ≡ Err fault
-
--- why a program's file gives no program: it can't be read, is too large, or its text has a fault
-abbrev pub IsProgramCause : Contents → List ℕ → List ℕ → ImageCause → Type 0
-IsProgramCause contents name file ReadFault = file ≡ name
-IsProgramCause contents name file Oversize = (file ≡ name) × IsOversize contents name
-IsProgramCause contents name file (BadProgram fault) = IsNoProgram contents name file fault
-IsProgramCause contents name file _ = ⊥
-
--- the pool has fewer pages than root takes, which is the board's fault
-abbrev pub IsPoolSmall : List ℕ → SystemConfig → List ℕ → ImageCause → Type 0
-IsPoolSmall board system file (PoolSmall need have) = (file ≡ board) × (need ≡ root_pages system) × (have ≡ pool_pages system) × (have < need)
-IsPoolSmall board system file _ = ⊥

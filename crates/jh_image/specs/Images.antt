@@ -9,7 +9,7 @@ use Rattle.jh_history.specs.Admitted.{IsAdmittedSystem}
 use Rattle.jh_image.specs.declared.board.Listing.{Listing}
 use Rattle.jh_image.specs.declared.board.PreloadFile.{PreloadFile}
 use Rattle.jh_image.specs.declared.board.ProgramFile.{ProgramFile}
-use Rattle.jh_image.specs.Opening.{IsFaultless}
+use Rattle.jh_image.specs.Preloads.{IsFaultless}
 use Rattle.jh_image.specs.Files.{Contents, Lists, SpellsSystem, IsPreloadOf, IsProgramOf}
 
 -- what is read so far, once the board and its system are: the listing, the system, and preloads and programs

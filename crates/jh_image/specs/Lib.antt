@@ -1,8 +1,9 @@
 pub mod Boards
-pub mod Opening
+pub mod Preloads
 pub mod Files
 pub mod Images
 pub mod Order
 pub mod Causes
 pub mod Texts
 pub mod Laws
+pub mod Private

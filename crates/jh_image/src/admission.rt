@@ -3,7 +3,8 @@ ghost use Rattle.std.specs.Prelude.{◌≡◌, ◌≤◌, ◌<◌, ◌↔◌, []
 ghost use Rattle.jh_check.specs.Findings.{findings};
 ghost use Rattle.jh_check.specs.Lists.{capped};
 ghost use Rattle.jh_history.specs.Admitted.{root_pages, pool_pages, IsAdmittedSystem};
-ghost use Rattle.jh_image.specs.Causes.{OnRefused, IsUnsound, IsPoolSmall};
+ghost use Rattle.jh_image.specs.Causes.{OnRefused};
+ghost use Rattle.jh_image.specs.Private.Causes.{IsUnsound, IsPoolSmall};
 
 use crate::fault::{ImageCause, ImageFault};
 use crate::refusal::refused;

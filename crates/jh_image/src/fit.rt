@@ -2,7 +2,7 @@
 ghost use Rattle.std.specs.Prelude.{◌↔◌, ◌≤◌, ◌+◌, IsTrue, All, length};
 ghost use Rattle.jh_history.specs.Admitted.{IsSoundPreload, IsOtherPreload};
 ghost use Rattle.jh_script.specs.declared.image.Preload.{Preload as ThePreload};
-ghost use Rattle.jh_image.specs.Opening.{IsFaultless};
+ghost use Rattle.jh_image.specs.Preloads.{IsFaultless};
 
 use jh_cellcfg::Region;
 use jh_history::{is_other_preload, is_sound_preload};

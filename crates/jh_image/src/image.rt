@@ -3,7 +3,7 @@ ghost use Rattle.std.specs.Prelude.{◌≡◌, ◌≤◌, ◌<◌, ◌∷◌, []
 ghost use Rattle.jh_image.specs.declared.board.Listing.{Listing as TheListing};
 ghost use Rattle.jh_history.specs.Admitted.{IsSoundPreload, IsOtherPreload, IsSoundProgram, IsOtherProgram, IsAdmittedSystem, IsAdmitted};
 ghost use Rattle.jh_image.specs.Boards.{are_distinct, seat_of};
-ghost use Rattle.jh_image.specs.Opening.{IsFaultless};
+ghost use Rattle.jh_image.specs.Preloads.{IsFaultless};
 ghost use Rattle.jh_image.specs.Files.{IsPreloadOf};
 ghost use Rattle.jh_outside.specs.Trail.{Asks, AsksAll, AsksUntil, handed};
 ghost use Rattle.jh_image.specs.Order.{ask_for, preload_name, program_name, AsksBoard, AsksBoardUntil};

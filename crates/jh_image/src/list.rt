@@ -5,7 +5,7 @@ ghost use Rattle.jh_image.specs.declared.board.ProgramFile.{ProgramFile as ThePr
 ghost use Rattle.serde_json.specs.Find.{get};
 ghost use Rattle.serde_json.specs.View.{view, items_view};
 ghost use Rattle.jh_spec.specs.Json.{items_told, short_list_told};
-ghost use Rattle.jh_image.specs.Boards.{preload_told, program_told, preloads_told, programs_told, are_distinct, seat_of, is_seat};
+ghost use Rattle.jh_image.specs.Boards.{preload_told, program_told, preloads_told, programs_told, are_distinct, seat_of, is_same_seat};
 
 use crate::board::{PreloadFile, ProgramFile};
 use crate::entry::{preload, program};
@@ -88,14 +88,14 @@ pub(crate) fn preloads(alloc: Global, object: &Value) -> Result<Option<Seq<Prelo
 
 /// Whether both are of one CPU of one cell.
 fn is_same_seat(one: &ProgramFile, other: &ProgramFile) -> bool
-    ensures { result ≡ is_seat (seat_of one.now) (seat_of other.now) }
+    ensures { result ≡ is_same_seat (seat_of one.now) (seat_of other.now) }
 {
     one.cell.as_slice() == other.cell.as_slice() && one.cpu == other.cpu
 }
 
 /// Whether none of the others is of the same CPU of the same cell.
 fn is_another(file: &ProgramFile, others: &[ProgramFile]) -> bool
-    ensures { result ≡ not (list_any (λ (other : TheProgramFile). is_seat (seat_of file.now) (seat_of other)) others.now) }
+    ensures { result ≡ not (list_any (λ (other : TheProgramFile). is_same_seat (seat_of file.now) (seat_of other)) others.now) }
 {
     !others.iter().any(|other| is_same_seat(file, other))
 }

@@ -6,7 +6,8 @@ ghost use Rattle.jh_image.specs.Files.{HasBytes, Lists, SpellsSystem, IsPreloadO
 ghost use Rattle.jh_outside.specs.Trail.{Asks, handed};
 ghost use Rattle.jh_image.specs.Images.{with_listing, ReadsTo};
 ghost use Rattle.jh_image.specs.Order.{ask_for};
-ghost use Rattle.jh_image.specs.Causes.{OnRefused, HandsOutNothing, IsCounted, IsCauseOf, IsProgramCause};
+ghost use Rattle.jh_image.specs.Causes.{OnRefused, IsCounted, IsCauseOf};
+ghost use Rattle.jh_image.specs.Private.Causes.{HandsOutNothing, IsProgramCause};
 
 use crate::board::{Listing, PreloadFile, ProgramFile, read_board};
 use crate::fault::{ImageCause, ImageFault};

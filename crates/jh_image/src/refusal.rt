@@ -1,5 +1,6 @@
 //! Refusals by the name of a file.
-ghost use Rattle.jh_image.specs.Causes.{OnRefused, IsRefusal, IsBoardRefusal};
+ghost use Rattle.jh_image.specs.Causes.{OnRefused};
+ghost use Rattle.jh_image.specs.Private.Causes.{IsRefusal, IsBoardRefusal};
 
 use crate::fault::{ImageCause, ImageFault};
 use jh_num::Seq;

@@ -26,7 +26,7 @@ use Rattle.jh_history.specs.declared.entry.Heard.{Heard}
 use Rattle.jh_history.specs.declared.entry.Act.{Act}
 use Rattle.jh_history.specs.declared.entry.Act.TheVariants.{Read, Write, Fetch, Await, Irq, Hvc, Begin, Stop, Decide, Settle, Commit, Note, Noted, Finish}
 use Rattle.jh_history.specs.Facts.{Facts}
-use Rattle.jh_history.specs.Calls.{is_named, counted, telling, first_recipient, behind, decided, after_settle, after_commit, phase_after, call_by, is_call}
+use Rattle.jh_history.specs.Calls.{is_named, counted, telling, first_recipient, listed_behind, decided, after_settle, after_commit, phase_after, call_by, is_call}
 use Rattle.jh_num.specs.Numbers.{counted_up}
 use Rattle.jh_history.specs.Configs.{ReadCell, config_read}
 use Rattle.jh_history.specs.History.{start, after, facts, coming_of, coming_by}
@@ -249,7 +249,7 @@ phase_follows image f entry caller call (ToNoted id about answer waited) idle op
     let o : OpenCall = record { caller = caller; call = call; phase = ToNoted id about answer waited } in
     let P : Act → Type 0 = λ act. GoesOnWith (call_by f.cells (coming_by image f call) (Some o) entry act) caller act in
     let how = noted_act id (heard_of f idle id waited) entry.act h in
-    let told : Option ℕ = first_recipient about (behind id f.cells) in
+    let told : Option ℕ = first_recipient about (listed_behind id f.cells) in
     subst P (sym how.1) (record { caller = caller; call = call; phase = telling about answer told }, refl, refl, λ next e. noted_follows call (configs_of f.cells) id about how.0 answer told next opens.phase.1 e)
 phase_follows image f entry caller call (ToFinish answer) idle opens h more =
     absurd (both_ways (is_finish entry.act) more (ap is_finish (sym (same_Some (Finish answer) entry.act h))))

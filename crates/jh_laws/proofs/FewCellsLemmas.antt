@@ -41,7 +41,7 @@ use Rattle.jh_history.specs.Lives.{is_on_board, live_in}
 use Rattle.jh_history.specs.Grants.{granted, reach, devices_of}
 use Rattle.jh_history.specs.Endpoints.{specs_changing, with_words}
 use Rattle.jh_history.specs.Bytes.{byte_written, byte_after}
-use Rattle.jh_history.specs.Calls.{is_named, counted, telling, first_recipient, behind, decided, after_settle, after_commit, after_note, after_noted, phase_after, call_by}
+use Rattle.jh_history.specs.Calls.{is_named, counted, telling, first_recipient, listed_behind, decided, after_settle, after_commit, after_note, after_noted, phase_after, call_by}
 use Rattle.jh_num.specs.Numbers.{counted_up}
 use Rattle.jh_history.specs.Commits.{cells_by, committed_cells, is_other, is_commit}
 use Rattle.jh_history.specs.Configs.{bytes_at, read_whole, read_behind, read_from, read_at, config_read}
@@ -178,7 +178,7 @@ noted_typed (ToSettle waited) cells h = h
 noted_typed (ToCreate config) cells h = h
 noted_typed ToCommit cells h = h
 noted_typed (ToNote id about answer) cells h = h
-noted_typed (ToNoted id about answer waited) cells h = telling_typed about answer (first_recipient about (behind id cells)) h
+noted_typed (ToNoted id about answer waited) cells h = telling_typed about answer (first_recipient about (listed_behind id cells)) h
 noted_typed (ToFinish answer) cells h = h
 
 counted_typed : (cell : ℕ) (call : Call) (phase : Phase) → IsTypedPhase phase → IsTypedPhase (counted cell call phase)

@@ -7,11 +7,11 @@ use Rattle.jh_history.specs.declared.place.Place.TheVariants.{Physical, Page}
 use Rattle.jh_history.specs.declared.access.Access.{Access}
 use Rattle.jh_history.specs.Grants.{granted}
 use Rattle.jh_history.specs.Admitted.{IsAdmitted}
-use Rattle.jh_laws.specs.Grants.{IsGranted}
+use Rattle.jh_laws.specs.Grants.{IsGiven}
 use Rattle.jh_laws.proofs.RootLemmas.{root_region}
 
 -- root's places are its addresses
-pub granted_same : (image : Image) (access : Access) (at : ℕ) (place : Place) → IsAdmitted image → IsGranted image.system.root access at place → place ≡ Physical at
+pub granted_same : (image : Image) (access : Access) (at : ℕ) (place : Place) → IsAdmitted image → IsGiven image.system.root access at place → place ≡ Physical at
 granted_same image access at place admitted granted =
     let r = granted.region in
     let own = root_region image r at admitted granted.held (has_address_from r at granted.first granted.last) in

@@ -29,7 +29,7 @@ use Rattle.jh_history.specs.Lives.{cell_in, live_in, regions_in}
 use Rattle.jh_history.specs.Grants.{is_kept, unless, granted_by, granted_in, granted}
 use Rattle.jh_shape.specs.Lives.{configs_of}
 use Rattle.jh_history.specs.Sound.{AreSoundCells}
-use Rattle.jh_laws.specs.Grants.{may, IsGranted}
+use Rattle.jh_laws.specs.Grants.{may, IsGiven}
 use Rattle.jh_laws.specs.Held.{IsRootOrLive, IsLeft, IsGrantedTo}
 use Rattle.jh_laws.proofs.FindLemmas.{IsOnly, find_only}
 use Rattle.jh_history.proofs.Public.{other_root, found_live, two_ids, gives_has, gives_from}
@@ -141,7 +141,7 @@ gives_right : (access : Access) (at : ℕ) (r : Region) → gives access at r �
 gives_right access at r h = (and_parts (has_address r at && is_page_mapped r) (has_flags (right_of access) r) h).1
 
 -- what the cell's regions give an address
-pub given_place : (image : Image) (cells : List Live) (cell : CellConfig) (access : Access) (at : ℕ) (place : Place) → AreSoundCells image.system (configs_of cells) → IsRootOrLive image cells cell → IsGranted cell access at place
+pub given_place : (image : Image) (cells : List Live) (cell : CellConfig) (access : Access) (at : ℕ) (place : Place) → AreSoundCells image.system (configs_of cells) → IsRootOrLive image cells cell → IsGiven cell access at place
     → place_of cell.id cell.memory_regions access at ≡ Some place
 unfolding place_of
 given_place image cells cell access at place sound live given =
@@ -155,7 +155,7 @@ given_place image cells cell access at place sound live given =
     ap (option_map (λ (s : Region). place_in_cell cell.id s at)) found ∙ ap Some (sym given.given)
 
 place_by : (image : Image) (cells : List Live) (cell : CellConfig) (access : Access) (at : ℕ) (place : Place) (o : Option Region) → AreSoundCells image.system (configs_of cells) → IsRootOrLive image cells cell → region_of cell.memory_regions access at ≡ o
-    → option_map (λ (s : Region). place_in_cell cell.id s at) o ≡ Some place → IsGranted cell access at place
+    → option_map (λ (s : Region). place_in_cell cell.id s at) o ≡ Some place → IsGiven cell access at place
 place_by image cells cell access at place None sound live is e = absurd (none-some place e)
 place_by image cells cell access at place (Some r) sound live is e =
     let found = IsFound_from_find (gives access at) cell.memory_regions r is in
@@ -174,7 +174,7 @@ place_by image cells cell access at place (Some r) sound live is e =
     }
 
 pub place_given : (image : Image) (cells : List Live) (cell : CellConfig) (access : Access) (at : ℕ) (place : Place) → AreSoundCells image.system (configs_of cells) → IsRootOrLive image cells cell → place_of cell.id cell.memory_regions access at ≡ Some place
-    → IsGranted cell access at place
+    → IsGiven cell access at place
 unfolding place_of
 place_given image cells cell access at place sound live e = place_by image cells cell access at place (region_of cell.memory_regions access at) sound live refl e
 
@@ -199,7 +199,7 @@ free_left image cells cell (Physical p) free = λ root taken.
 pub regions_of_live : (image : Image) (cells : List Live) (cell : CellConfig) → AreSoundCells image.system (configs_of cells) → IsRootOrLive image cells cell → regions_in image cells cell.id ≡ cell.memory_regions
 regions_of_live image cells cell sound live = ap (λ (o : Option CellConfig). option_map_or (λ (c : CellConfig). c.memory_regions) o []) (live_cell image cells cell sound live)
 
-granted_live : (image : Image) (cells : List Live) (cell : CellConfig) (access : Access) (at : ℕ) (place : Place) → AreSoundCells image.system (configs_of cells) → IsRootOrLive image cells cell → IsGranted cell access at place → IsLeft image cells cell place
+granted_live : (image : Image) (cells : List Live) (cell : CellConfig) (access : Access) (at : ℕ) (place : Place) → AreSoundCells image.system (configs_of cells) → IsRootOrLive image cells cell → IsGiven cell access at place → IsLeft image cells cell place
     → granted_in image cells cell.id access at ≡ Some place
 granted_live image cells cell access at place sound live given left =
     let free : is_kept image cells cell.id place ≡ false = left_free image cells cell place left in
@@ -255,7 +255,7 @@ to_granted_holds image f id access at place sound h = to_granted image f.cells i
 -- ---- root
 
 -- what root is granted is the place of its address
-pub root_address : (image : Image) (cells : List Live) (access : Access) (at : ℕ) (place : Place) → AreSoundCells image.system (configs_of cells) → IsGranted image.system.root access at place → place ≡ Physical at
+pub root_address : (image : Image) (cells : List Live) (access : Access) (at : ℕ) (place : Place) → AreSoundCells image.system (configs_of cells) → IsGiven image.system.root access at place → place ≡ Physical at
 root_address image cells access at place sound given =
     let r = given.region in
     let held : Contains image.system.root.memory_regions r = given.held in
@@ -270,21 +270,21 @@ root_address image cells access at place sound given =
 
 -- it is granted what its regions give, but for what another cell holds
 pub root_rest : (image : Image) (cells : List Live) (access : Access) (at : ℕ) (place : Place) → AreSoundCells image.system (configs_of cells) → IsGrantedTo image cells image.system.root.id access at place
-    → IsGranted image.system.root access at place × (IsTaken cells at → ⊥) × (place ≡ Physical at)
+    → IsGiven image.system.root access at place × (IsTaken cells at → ⊥) × (place ≡ Physical at)
 root_rest image cells access at place sound h =
     let same : h.cell ≡ image.system.root = ⊎_elim (λ (is : h.cell ≡ image.system.root). is) (λ (held : Contains (configs_of cells) h.cell). absurd (other_root image.system (configs_of cells) h.cell sound held h.named)) h.live in
-    let P : CellConfig → Type 0 = λ c. IsGranted c access at place in
-    let given : IsGranted image.system.root access at place = subst P same h.given in
+    let P : CellConfig → Type 0 = λ c. IsGiven c access at place in
+    let given : IsGiven image.system.root access at place = subst P same h.given in
     let address : place ≡ Physical at = root_address image cells access at place sound given in
     let Q : Place → Type 0 = IsLeft image cells h.cell in
     let left : IsLeft image cells h.cell (Physical at) = subst Q address h.left in
     (given, left h.named, address)
 
-pub rest_root : (image : Image) (cells : List Live) (access : Access) (at : ℕ) → AreSoundCells image.system (configs_of cells) → IsGranted image.system.root access at (Physical at) → (IsTaken cells at → ⊥) → IsGrantedTo image cells image.system.root.id access at (Physical at)
+pub rest_root : (image : Image) (cells : List Live) (access : Access) (at : ℕ) → AreSoundCells image.system (configs_of cells) → IsGiven image.system.root access at (Physical at) → (IsTaken cells at → ⊥) → IsGrantedTo image cells image.system.root.id access at (Physical at)
 rest_root image cells access at sound given free = record { cell = image.system.root; live = inl refl; named = refl; given = given; left = λ _. free }
 
 -- another cell is granted what its regions give
-pub other_granted : (image : Image) (cells : List Live) (cell : CellConfig) (access : Access) (at : ℕ) (place : Place) → AreSoundCells image.system (configs_of cells) → Contains (configs_of cells) cell → IsGranted cell access at place
+pub other_granted : (image : Image) (cells : List Live) (cell : CellConfig) (access : Access) (at : ℕ) (place : Place) → AreSoundCells image.system (configs_of cells) → Contains (configs_of cells) cell → IsGiven cell access at place
     → IsGrantedTo image cells cell.id access at place
 other_granted image cells cell access at place sound held given = record { cell = cell; live = inr held; named = refl; given = given; left = left_by place }
   where
@@ -293,9 +293,9 @@ other_granted image cells cell access at place sound held given = record { cell 
     left_by (Page id offset) = tt
 
 pub granted_other : (image : Image) (cells : List Live) (cell : CellConfig) (access : Access) (at : ℕ) (place : Place) → AreSoundCells image.system (configs_of cells) → Contains (configs_of cells) cell → IsGrantedTo image cells cell.id access at place
-    → IsGranted cell access at place
+    → IsGiven cell access at place
 granted_other image cells cell access at place sound held h =
-    let P : CellConfig → Type 0 = λ c. IsGranted c access at place in
+    let P : CellConfig → Type 0 = λ c. IsGiven c access at place in
     let same : h.cell ≡ cell =
     ⊎_elim
     (λ (is : h.cell ≡ image.system.root). absurd (other_root image.system (configs_of cells) cell sound held (sym h.named ∙ ap (λ (c : CellConfig). c.id) is)))

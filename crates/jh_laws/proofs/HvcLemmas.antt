@@ -14,7 +14,7 @@ use Rattle.jh_call.specs.declared.call.Call.{Call}
 use Rattle.jh_call.specs.declared.call.Call.TheVariants.{Create, Start, Loadable, Destroy, Info, State, CpuInfo, Unknown}
 use Rattle.jh_call.specs.declared.seen.CpuSeen.TheVariants.{Fine, Failed as FailedSeen}
 use Rattle.jh_call.specs.Calls.{decoded, is_management}
-use Rattle.jh_call.specs.Answers.{answer_of, info_of, cpu_told as cpu_answer}
+use Rattle.jh_call.specs.Answers.{answer_of, info_of, cpu_answer}
 use Rattle.jh_ivshmem.specs.Links.{pending_of}
 use Rattle.jh_script.specs.declared.image.Image.{Image}
 use Rattle.jh_script.specs.declared.op.Op.{Op}

@@ -1,12 +1,10 @@
 -- When an interrupt is due, and which vector it takes.
-use Rattle.std.proofs.Common.{◌≡◌, ◌≢◌, ℕ, List, ◌∷◌, ◌++◌, true, Some, sym, subst, ◌∙◌, inr, ⊎_elim}
+use Rattle.std.proofs.Common.{◌≡◌, ℕ, List, ◌∷◌, ◌++◌, true, Some, sym, subst, ◌∙◌, inr, ⊎_elim}
 use Rattle.std.proofs.lemmas.Bool.{both_ways}
 use Rattle.std.proofs.lemmas.Option.{same_Some}
-use Rattle.jh_cpu.specs.declared.cpu.Mode.TheVariants.{Running}
 use Rattle.jh_script.specs.declared.image.Image.{Image}
 use Rattle.jh_script.specs.declared.op.Op.{Op}
 use Rattle.jh_script.specs.declared.op.Op.TheVariants.{Irq as IrqOp}
-use Rattle.jh_history.specs.declared.call.OpenCall.{OpenCall}
 use Rattle.jh_history.specs.declared.entry.Entry.{Entry}
 use Rattle.jh_history.specs.declared.entry.Act.{Act}
 use Rattle.jh_history.specs.declared.entry.Act.TheVariants.{Irq}
@@ -15,15 +13,11 @@ use Rattle.jh_history.specs.Due.{IsLegal}
 use Rattle.jh_history.specs.Endpoints.{IsNextOf}
 use Rattle.jh_history.specs.Facts.{Facts}
 use Rattle.jh_history.specs.History.{facts}
-use Rattle.jh_history.specs.Lives.{is_on_board, op_at}
-use Rattle.jh_history.specs.Sound.{IsCalm}
+use Rattle.jh_history.specs.Lives.{op_at}
 use Rattle.jh_history.proofs.Public.{interrupt_next, due_split, IsLegal_begin, legal_sound}
-use Rattle.jh_laws.specs.Ready.{IsDueIn, IsReadyCaller, IsReadyProgram, IsReadyAt}
-use Rattle.jh_laws.specs.Vectors.{IsPendingIn, IsNext}
+use Rattle.jh_laws.specs.Ready.{IsDueIn, IsAtInterrupt, IsReadyCaller, IsReadyProgram, IsReadyAt}
+use Rattle.jh_laws.specs.Vectors.{HasPending, IsNext}
 use Rattle.jh_laws.proofs.PendingLemmas.{next_is}
-
-abbrev pub HasPending : Facts → ℕ → Type 0
-HasPending f id = (n : ℕ) × (v : ℕ) × IsPendingIn f id n v
 
 -- a CPU that is ready, and is at an interrupt, has a vector pending
 program_pending : (image : Image) (f : Facts) (cpu : ℕ) → op_at image f (f.cpu cpu) cpu ≡ Some IrqOp → IsReadyProgram image f cpu → HasPending f (f.cpu cpu).owner
@@ -31,21 +25,20 @@ program_pending image f cpu at ready =
     let P : Op → Type 0 = IsDueIn image f (f.cpu cpu).owner in
     subst P (same_Some ready.op IrqOp (sym ready.at ∙ at)) ready.due
 
-pub ready_pending : (image : Image) (f : Facts) (cpu : ℕ) → ((o : OpenCall) → f.call ≡ Some o → o.caller ≢ cpu) → IsCalm (f.cpu cpu) → op_at image f (f.cpu cpu) cpu ≡ Some IrqOp → IsReadyAt image f cpu → HasPending f (f.cpu cpu).owner
-ready_pending image f cpu none calm at ready =
+pub ready_pending : (image : Image) (f : Facts) (cpu : ℕ) → IsAtInterrupt image f cpu → IsReadyAt image f cpu → HasPending f (f.cpu cpu).owner
+ready_pending image f cpu is ready =
     ⊎_elim
-    (λ (asked : (f.cpu cpu).asked ≡ true). absurd (both_ways (f.cpu cpu).asked calm.asked asked))
+    (λ (asked : (f.cpu cpu).asked ≡ true). absurd (both_ways (f.cpu cpu).asked is.calm.asked asked))
     (λ more. ⊎_elim
-    (λ (caller : IsReadyCaller image f cpu). absurd (none caller.0 caller.1 caller.2))
-    (λ (program : IsReadyProgram image f cpu). program_pending image f cpu at program)
+    (λ (caller : IsReadyCaller image f cpu). absurd (is.none caller.0 caller.1 caller.2))
+    (λ (program : IsReadyProgram image f cpu). program_pending image f cpu is.at program)
     more)
     ready.what
 
-pub pending_ready : (image : Image) (f : Facts) (cpu : ℕ) → is_on_board image cpu ≡ true → ((o : OpenCall) → f.call ≡ Some o → o.caller ≢ cpu) → (f.cpu cpu).mode ≡ Running → IsCalm (f.cpu cpu) → op_at image f (f.cpu cpu) cpu ≡ Some IrqOp
-    → HasPending f (f.cpu cpu).owner → IsReadyAt image f cpu
-pending_ready image f cpu board none running calm at pending = record {
-  board = board;
-  what = inr (inr (record { none = none; running = running; calm = calm; op = IrqOp; at = at; due = pending }));
+pub pending_ready : (image : Image) (f : Facts) (cpu : ℕ) → IsAtInterrupt image f cpu → HasPending f (f.cpu cpu).owner → IsReadyAt image f cpu
+pending_ready image f cpu is pending = record {
+  board = is.board;
+  what = inr (inr (record { none = is.none; running = is.running; calm = is.calm; op = IrqOp; at = is.at; due = pending }));
 }
 
 -- an interrupt takes the next

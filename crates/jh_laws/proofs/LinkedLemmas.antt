@@ -167,12 +167,12 @@ quiet_step change e list id n clears (inl same) = λ o there.
 quiet_step change e list id n clears (inr quiet) = elim (cases_Bool (eqb id e.spec.cell && eqb n e.spec.device)) [
   | inl both ↦
       let parts = and_parts (eqb id e.spec.cell) (eqb n e.spec.device) both in
-      quiet-own_again (eqb-true id e.spec.cell parts.0) (eqb-true n e.spec.device parts.1)
+      quiet_own_again (eqb-true id e.spec.cell parts.0) (eqb-true n e.spec.device parts.1)
   | inr apart ↦ quiet_by change e list id n (endpoint_at id n list) clears refl (λ a b. both_ways (eqb id e.spec.cell && eqb n e.spec.device) apart (and_from (eqb id e.spec.cell) (eqb n e.spec.device) (eq-eqb id e.spec.cell a) (eq-eqb n e.spec.device b))) quiet
 ]
   where
-    quiet-own_again : id ≡ e.spec.cell → n ≡ e.spec.device → IsQuietAt id n (cleared_by change e list)
-    quiet-own_again a b o there =
+    quiet_own_again : id ≡ e.spec.cell → n ≡ e.spec.device → IsQuietAt id n (cleared_by change e list)
+    quiet_own_again a b o there =
         let P : ℕ → ℕ → Type 0 = λ c d. endpoint_at c d (cleared_by change e list) ≡ Some o in
         let Q : ℕ → Type 0 = λ c. P c n in
         quiet_own change e list o clears (subst (P e.spec.cell) b (subst Q a there))

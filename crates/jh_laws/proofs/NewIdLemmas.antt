@@ -17,7 +17,7 @@ use Rattle.jh_history.specs.declared.entry.Entry.{Entry}
 use Rattle.jh_history.specs.declared.entry.Act.{Act}
 use Rattle.jh_history.specs.declared.entry.Act.TheVariants.{Decide, Settle, Commit, Note, Noted, Finish}
 use Rattle.jh_history.specs.Admitted.{IsAdmitted}
-use Rattle.jh_history.specs.Calls.{counted, telling, first_recipient, behind, call_by, is_call}
+use Rattle.jh_history.specs.Calls.{counted, telling, first_recipient, listed_behind, call_by, is_call}
 use Rattle.jh_num.specs.Numbers.{counted_up}
 use Rattle.jh_history.specs.Commits.{committed_cells, cells_by, is_commit}
 use Rattle.jh_history.specs.Due.{due_at, is_idle_but, IsLegal}
@@ -66,7 +66,7 @@ answers_next answer cells coming entry caller call (ToNote id about a) act h e m
     subst P (sym e) (record { caller = caller; call = call; phase = ToNoted id about a 0 }, refl, h)
 answers_next answer cells coming entry caller call (ToNoted id about a waited) act h e more =
     let P : Act → Type 0 = λ x. WillAnswer answer (call_by cells coming (Some (record { caller = caller; call = call; phase = ToNoted id about a waited })) entry x) in
-    let told : Option ℕ = first_recipient about (behind id cells) in
+    let told : Option ℕ = first_recipient about (listed_behind id cells) in
     subst P (sym e.1) (record { caller = caller; call = call; phase = telling about a told }, refl, answers_telling answer a about told h)
 answers_next answer cells coming entry caller call (ToFinish a) act h e more = absurd (both_ways (is_finish act) more (ap is_finish e))
 

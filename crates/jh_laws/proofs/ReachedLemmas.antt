@@ -25,13 +25,14 @@ use Rattle.jh_history.specs.declared.place.Place.{Place}
 use Rattle.jh_history.specs.declared.place.Place.TheVariants.{Physical}
 use Rattle.jh_history.specs.declared.access.Access.{Access}
 use Rattle.jh_history.specs.declared.access.Access.TheVariants.{Read as ToRead, Write as ToWrite, Fetch as ToFetch}
+use Rattle.jh_history.specs.declared.access.Wanted.{Wanted}
 use Rattle.jh_history.specs.declared.access.Reach.{Reach}
 use Rattle.jh_history.specs.declared.access.Reach.TheVariants.{Memory, Subpage, Config, Window, Nothing}
 use Rattle.jh_history.specs.Places.{further, places_in_row}
 use Rattle.jh_history.specs.Access.{place_in_cell, places_from, memory_or_nothing, reach_by, or_behind}
-use Rattle.jh_history.specs.Behind.{ecam_start, ecam_end, by_device, asked_windows, window_of_access, answer_by, answer_to}
+use Rattle.jh_history.specs.Behind.{Asked, Windows, ecam_start, ecam_end, is_write, by_device, asked_windows, window_of_access, region_or_window, answer_behind}
 use Rattle.jh_history.specs.Facts.{Facts}
-use Rattle.jh_history.specs.Grants.{is_kept, granted, behind_in, reach, devices_of}
+use Rattle.jh_history.specs.Grants.{is_kept, granted, behind_of, behind_in, reach, devices_of}
 use Rattle.jh_history.specs.Lives.{cell_in, regions_in}
 use Rattle.jh_shape.specs.Lives.{configs_of}
 use Rattle.jh_history.specs.Sound.{AreSoundCells, IsSound}
@@ -182,11 +183,6 @@ one_region image cells id at width r s sound some h k =
 
 -- ---- whether it lets the access through
 
-abbrev is_write : Access → Bool
-is_write ToRead = false
-is_write ToWrite = true
-is_write ToFetch = false
-
 may_by : (access : Access) (r : Region) → access ≢ ToFetch → has_right (is_write access) r ≡ may access r
 may_by ToRead r other = refl
 may_by ToWrite r other = refl
@@ -256,6 +252,17 @@ true_wide width h = elim (cases_Bool (eqb width 1)) [
 abbrev is_wide : ℕ → Bool
 is_wide width = eqb width 1 || eqb width 2 || eqb width 4
 
+-- the windows that an access asks, where that is the first window of a device which has it
+abbrev windows_with : Image → Option TheWindow → Windows
+windows_with image window = record { start = ecam_start image.system; end = ecam_end image.system; device = window }
+
+-- what an access of the cell asks, where that is the region which has it
+abbrev asked_with : Image → ℕ → Option Region → Option TheWindow → Asked
+asked_with image id region window = record { cell = id; region = region; windows = windows_with image window }
+
+abbrev wanted_at : Access → ℕ → ℕ → Wanted
+wanted_at access at width = record { access = access; at = at; width = width }
+
 -- ---- the ways in which an access ends
 
 pub data Way (image : Image) (f : Facts) (id : ℕ) (access : Access) (at width : ℕ) : Type 0 where
@@ -303,7 +310,7 @@ NoRegion image f id at width = (r : Region) → HasAccess image f.cells id at wi
 
 -- the access lies in the window of configuration space
 config_way : (image : Image) (f : Facts) (id : ℕ) (access : Access) (at width : ℕ) (window : Option TheWindow) (b : Bool) → Behind image f id access at width → NoRegion image f id at width → IsInEcam image.system at width
-    → (is_wide width && eqb ((at - image.system.pci_mmconfig_base) % width) 0) ≡ b → reach image f id access at width ≡ by_device image.system.pci_mmconfig_base window at width (cond b Ecam HitsNothing) → Way image f id access at width
+    → (is_wide width && eqb ((at - image.system.pci_mmconfig_base) % width) 0) ≡ b → reach image f id access at width ≡ by_device (windows_with image window) (wanted_at access at width) (cond b Ecam HitsNothing) → Way image f id access at width
 config_way image f id access at width window true behind none within is e =
     let parts = and_parts (is_wide width) (eqb ((at - image.system.pci_mmconfig_base) % width) 0) is in
     OnWindow (record { behind = behind; none = none; within = within; wide = true_wide width parts.0; aligned = eqb-true ((at - image.system.pci_mmconfig_base) % width) 0 parts.1 }) e
@@ -324,7 +331,7 @@ is_word at width = eqb width 4 && eqb (at % 4) 0
 
 -- a window of a device has it, and it is a word or not
 word_way : (image : Image) (f : Facts) (id : ℕ) (access : Access) (at width : ℕ) (w : TheWindow) (b : Bool) → IsSound image f → 0 < width → Behind image f id access at width → NoRegion image f id at width → Outside image at width
-    → window_of_access (devices_of image f id) at width ≡ Some w → is_word at width ≡ b → reach image f id access at width ≡ by_device image.system.pci_mmconfig_base (Some w) at width (cond b (Bar (item_number 0)) HitsNothing)
+    → window_of_access (devices_of image f id) at width ≡ Some w → is_word at width ≡ b → reach image f id access at width ≡ by_device (windows_with image (Some w)) (wanted_at access at width) (cond b (Bar (item_number 0)) HitsNothing)
     → Way image f id access at width
 word_way image f id access at width w true sound some behind none outside found is e =
     let parts = and_parts (eqb width 4) (eqb (at % 4) 0) is in
@@ -350,19 +357,19 @@ word_way image f id access at width w false sound some behind none outside found
 
 bar_way : (image : Image) (f : Facts) (id : ℕ) (access : Access) (at width : ℕ) (o : Option TheWindow) → IsSound image f → 0 < width → Behind image f id access at width → NoRegion image f id at width → Outside image at width
     → window_of_access (devices_of image f id) at width ≡ o
-    → reach image f id access at width ≡ by_device image.system.pci_mmconfig_base o at width (option_map_or (by_window at width) (position (window_has at width) (asked_windows o)) HitsNothing) → Way image f id access at width
+    → reach image f id access at width ≡ by_device (windows_with image o) (wanted_at access at width) (option_map_or (by_window at width) (position (window_has at width) (asked_windows o)) HitsNothing) → Way image f id access at width
 bar_way image f id access at width None sound some behind none outside found e =
     OnNothing
     (unanswered image f id access at width behind.lacks (λ r by. none r by.has) (λ by. outside by.within) (λ n bar offset o by. window_none image f id at width sound found n bar o by.within))
     e
 bar_way image f id access at width (Some w) sound some behind none outside found e =
     word_way image f id access at width w (is_word at width) sound some behind none outside found refl
-    (e ∙ ap (λ (p : Option ℕ). by_device image.system.pci_mmconfig_base (Some w) at width (option_map_or (by_window at width) p HitsNothing)) (position_single (window_has at width) w (found_passes image f id at width w found)))
+    (e ∙ ap (λ (p : Option ℕ). by_device (windows_with image (Some w)) (wanted_at access at width) (option_map_or (by_window at width) p HitsNothing)) (position_single (window_has at width) w (found_passes image f id at width w found)))
 
 window_way : (image : Image) (f : Facts) (id : ℕ) (access : Access) (at width : ℕ) (o : Option TheWindow) (b : Bool) → IsSound image f → 0 < width → Behind image f id access at width → NoRegion image f id at width
     → window_of_access (devices_of image f id) at width ≡ o → lies_between (ecam_start image.system) (ecam_end image.system) at width ≡ b
     → reach image f id access at width
-    ≡ by_device image.system.pci_mmconfig_base o at width (cond b (by_ecam image.system.pci_mmconfig_base at width) (option_map_or (by_window at width) (position (window_has at width) (asked_windows o)) HitsNothing))
+    ≡ by_device (windows_with image o) (wanted_at access at width) (cond b (by_ecam image.system.pci_mmconfig_base at width) (option_map_or (by_window at width) (position (window_has at width) (asked_windows o)) HitsNothing))
     → Way image f id access at width
 window_way image f id access at width o true sound some behind none found is e =
     config_way image f id access at width o (is_wide width && eqb ((at - image.system.pci_mmconfig_base) % width) 0) behind none (window_in image.system at width some is) refl e
@@ -371,11 +378,8 @@ window_way image f id access at width o false sound some behind none found is e 
     (λ within. both_ways (lies_between (ecam_start image.system) (ecam_end image.system) at width) is (in_window image.system at width behind.below within))
     found e
 
-abbrev answer_with : Image → Facts → ℕ → Option Region → Option TheWindow → Bool → ℕ → ℕ → Reach
-answer_with image f id o window write at width = answer_by id o (ecam_start image.system) (ecam_end image.system) window write at width
-
 found_way : (image : Image) (f : Facts) (id : ℕ) (access : Access) (at width : ℕ) (o : Option Region) → IsSound image f → 0 < width → Behind image f id access at width
-    → find (takes_all (kept_of image f.cells id) at width) (regions_in image f.cells id) ≡ o → reach image f id access at width ≡ answer_with image f id o (window_of_access (devices_of image f id) at width) (is_write access) at width → Way image f id access at width
+    → find (takes_all (kept_of image f.cells id) at width) (regions_in image f.cells id) ≡ o → reach image f id access at width ≡ region_or_window (asked_with image id o (window_of_access (devices_of image f id) at width)) (wanted_at access at width) → Way image f id access at width
 found_way image f id access at width (Some r) sound some behind is e =
     let found = IsFound_from_find (takes_all (kept_of image f.cells id) at width) (regions_in image f.cells id) r is in
     region_way image f id access at width r (lets_through at width (is_write access) r) sound.cells some behind (takes_has image f.cells id at width r some found.held found.passes) refl e
@@ -388,16 +392,16 @@ found_way image f id access at width None sound some behind is e =
 
 -- an access that is no fetch
 register_way : (image : Image) (f : Facts) (id : ℕ) (access : Access) (at width : ℕ) → IsSound image f → 0 < width → access ≢ ToFetch → (AreGrantedTo image f.cells id access at width → ⊥)
-    → ((o : Option Region) (w : Option TheWindow) → answer_to id o (ecam_start image.system) (ecam_end image.system) w access at width ≡ answer_with image f id o w (is_write access) at width)
+    → ((o : Option Region) (w : Option TheWindow) → answer_behind (asked_with image id o w) (wanted_at access at width) ≡ region_or_window (asked_with image id o w) (wanted_at access at width))
     → reach image f id access at width ≡ behind_in image f.cells f.endpoints id access at width → Way image f id access at width
 register_way image f id access at width sound some other lacks by e = elim (cases_lt ADDRESS_END (at + width)) [
   | inl beyond ↦
       OnNothing
       (unanswered image f id access at width lacks (λ r h. let low = h.behind.below in absurd (omega arith)) (λ h. let low = h.behind.below in absurd (omega arith)) (λ n bar offset o h. let low = h.behind.below in absurd (omega arith)))
-      (e ∙ answer_beyond (regions_in image f.cells id) (devices_of image f id) (is_kept image f.cells id) image.system access at width beyond)
+      (e ∙ answer_beyond (behind_of image f.cells f.endpoints id) (wanted_at access at width) beyond)
   | inr within ↦
       found_way image f id access at width (find (takes_all (kept_of image f.cells id) at width) (regions_in image f.cells id)) sound some (record { no_fetch = other; below = within; lacks = lacks }) refl
-      (e ∙ answer_within (regions_in image f.cells id) (devices_of image f id) (is_kept image f.cells id) image.system access at width within
+      (e ∙ answer_within (behind_of image f.cells f.endpoints id) (wanted_at access at width) within
       ∙ by (find (takes_all (kept_of image f.cells id) at width) (regions_in image f.cells id)) (window_of_access (devices_of image f id) at width))
 ]
 
@@ -406,8 +410,8 @@ fetch_way image f id at width lacks e =
     OnNothing
     (unanswered image f id ToFetch at width lacks (λ r h. h.behind.no_fetch refl) (λ h. h.behind.no_fetch refl) (λ n bar offset o h. h.behind.no_fetch refl))
     (e ∙ elim (cases_lt ADDRESS_END (at + width)) [
-      | inl beyond ↦ answer_beyond (regions_in image f.cells id) (devices_of image f id) (is_kept image f.cells id) image.system ToFetch at width beyond
-      | inr within ↦ answer_within (regions_in image f.cells id) (devices_of image f id) (is_kept image f.cells id) image.system ToFetch at width within
+      | inl beyond ↦ answer_beyond (behind_of image f.cells f.endpoints id) (wanted_at ToFetch at width) beyond
+      | inr within ↦ answer_within (behind_of image f.cells f.endpoints id) (wanted_at ToFetch at width) within
     ])
 
 abbrev access_number : Access → ℕ

@@ -23,7 +23,7 @@ use Rattle.jh_history.specs.Sound.{IsSound}
 use Rattle.jh_history.proofs.Public.{legal_sound}
 use Rattle.jh_laws.specs.Ends.{IsAnswered, IsReadBy, IsGotBy, IsAwaitedBy}
 use Rattle.jh_laws.specs.Outcomes.{HasItsOutcome}
-use Rattle.jh_laws.specs.Operations.{op_of, IsDueOp, IsReady, IsOwn}
+use Rattle.jh_laws.specs.Operations.{op_of, IsDueOp, IsReady, IsCpusOwn}
 use Rattle.jh_laws.proofs.RootLemmas.{op_well_formed}
 use Rattle.jh_laws.proofs.MadeLemmas.{IsSilent, op_silent, IsMade, due_at_made, due_at_running, made_access, roots_at}
 use Rattle.jh_laws.proofs.OutcomeLemmas.{got_of, reached_of, value_of, outcome}
@@ -96,7 +96,7 @@ due_from_ready image entries cpu admitted legal ready =
     ap (λ (o : Option Entry). is_some o) made
 
 -- the entry due is the CPU's own
-pub own_from_due : (image : Image) (entries : List Entry) (cpu : ℕ) (entry : Entry) → IsSilent image → IsLegal image entries → due image entries cpu ≡ Some entry → IsOwn image entries image.system.root cpu entry
+pub own_from_due : (image : Image) (entries : List Entry) (cpu : ℕ) (entry : Entry) → IsSilent image → IsLegal image entries → due image entries cpu ≡ Some entry → IsCpusOwn image entries image.system.root cpu entry
 own_from_due image entries cpu entry admitted legal h =
     let made : IsMade image (facts image entries) cpu entry = due_at_made image (facts image entries) cpu entry (roots_at image entries admitted legal).endpoints (roots_at image entries admitted legal).alone.call ((roots_at image entries admitted legal).cpus cpu) h in
     let of = made_access image (facts image entries) cpu entry made admitted in
@@ -161,7 +161,7 @@ act_from image entries op (Await width at value ok) sound plain is h =
 act_from image entries op _ sound plain is h = absurd h
 
 -- so an entry that is a ready CPU's own is the one due
-pub due_from_own : (image : Image) (entries : List Entry) (cpu : ℕ) (entry : Entry) → IsSilent image → IsLegal image entries → IsReady image entries image.system.root cpu → IsOwn image entries image.system.root cpu entry → due image entries cpu ≡ Some entry
+pub due_from_own : (image : Image) (entries : List Entry) (cpu : ℕ) (entry : Entry) → IsSilent image → IsLegal image entries → IsReady image entries image.system.root cpu → IsCpusOwn image entries image.system.root cpu entry → due image entries cpu ≡ Some entry
 due_from_own image entries cpu entry admitted legal ready own =
     let f = facts image entries in
     let plain = op_well_formed image (name_of image.system.root) cpu (f.cpu cpu).position ready.op admitted.admitted ready.at in

@@ -18,8 +18,7 @@ use Rattle.jh_history.specs.declared.access.Reach.TheVariants.{Window}
 use Rattle.jh_history.specs.Places.{written}
 use Rattle.jh_history.specs.Access.{place_in_cell, write_of, or_behind, with_slot_if, slot_put}
 use Rattle.jh_history.specs.Facts.{Facts}
-use Rattle.jh_history.specs.Grants.{is_kept, granted, behind_in, reach, devices_of}
-use Rattle.jh_history.specs.Lives.{regions_in}
+use Rattle.jh_history.specs.Grants.{granted, behind_of, behind_in, reach, devices_of}
 use Rattle.jh_history.proofs.Public.{reach_by_within, reach_by_beyond, answer_beyond}
 use Rattle.jh_shape.specs.Lives.{configs_of}
 use Rattle.jh_history.specs.Sound.{AreSoundCells, IsSound}
@@ -130,7 +129,7 @@ no_bytes : (image : Image) (f : Facts) (id at value : ℕ) → byte_put image f 
 no_bytes image f id at value = elim (cases_lt ADDRESS_END (at + 0)) [
   | inl beyond ↦
       ap (λ (r : Reach). write_of f.byte (devices_of image f id) (or_behind r (behind_in image f.cells f.endpoints id ToWrite at 0)) value) (reach_by_beyond (granted image f id ToWrite) at 0 beyond)
-      ∙ ap (λ (r : Reach). write_of f.byte (devices_of image f id) r value) (answer_beyond (regions_in image f.cells id) (devices_of image f id) (is_kept image f.cells id) image.system ToWrite at 0 beyond)
+      ∙ ap (λ (r : Reach). write_of f.byte (devices_of image f id) r value) (answer_beyond (behind_of image f.cells f.endpoints id) (record { access = ToWrite; at = at; width = 0 }) beyond)
   | inr within ↦ ap (λ (r : Reach). write_of f.byte (devices_of image f id) (or_behind r (behind_in image f.cells f.endpoints id ToWrite at 0)) value) (reach_by_within (granted image f id ToWrite) at 0 within)
 ]
 

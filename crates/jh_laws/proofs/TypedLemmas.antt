@@ -18,7 +18,7 @@ use Rattle.jh_call.specs.declared.seen.Seen.{Seen}
 use Rattle.jh_call.specs.declared.seen.CpuSeen.{CpuSeen}
 use Rattle.jh_call.specs.declared.seen.CpuSeen.TheVariants.{Absent, Foreign, Fine, Failed}
 use Rattle.jh_call.specs.Calls.{decoded, is_management}
-use Rattle.jh_call.specs.Answers.{info_of, state_told, cpu_told, answer_of}
+use Rattle.jh_call.specs.Answers.{info_of, state_answer, cpu_answer, answer_of}
 use Rattle.jh_ivshmem.specs.declared.endpoint.Endpoint.{Endpoint}
 use Rattle.jh_ivshmem.specs.declared.vector.Vector.{Vector}
 use Rattle.jh_ivshmem.specs.declared.spec.EndpointSpec.{EndpointSpec}
@@ -152,11 +152,11 @@ info_fits kind seen few =
     (λ _. cond_both (eqb kind 1) _ _ Fits (λ _. number_fits seen.used few.used)
     (λ _. cond_both (eqb kind 4) _ _ Fits (λ _. number_fits seen.cells few.cells) (λ _. invalid_fits)))
 
-state_fits : (state : Option ℕ) → Fits (state_told state)
+state_fits : (state : Option ℕ) → Fits (state_answer state)
 state_fits None = missing_fits
 state_fits (Some state) = cond_both (nat_le state 4) (pos state) EINVAL Fits (λ few. number_fits state (omega (arith, leb-true state 4 few))) (λ _. invalid_fits)
 
-cpu_fits : (kind : ℕ) (cpu : CpuSeen) → Fits (cpu_told kind cpu)
+cpu_fits : (kind : ℕ) (cpu : CpuSeen) → Fits (cpu_answer kind cpu)
 cpu_fits kind Absent = invalid_fits
 cpu_fits kind Foreign = permission_fits
 cpu_fits kind Fine = cond_both (eqb kind 0) (pos 0) EINVAL Fits (λ _. number_fits 0 (omega arith)) (λ _. invalid_fits)
@@ -168,7 +168,7 @@ answer_fits (Start id) seen few = permission_fits
 answer_fits (Loadable id) seen few = permission_fits
 answer_fits (Destroy id) seen few = permission_fits
 answer_fits (Info kind) seen few = info_fits kind seen few
-answer_fits (State id) seen few = cond_both seen.root (state_told seen.state) EPERM Fits (λ _. state_fits seen.state) (λ _. permission_fits)
+answer_fits (State id) seen few = cond_both seen.root (state_answer seen.state) EPERM Fits (λ _. state_fits seen.state) (λ _. permission_fits)
 answer_fits (CpuInfo cpu kind) seen few = cpu_fits kind seen.cpu
 answer_fits Unknown seen few = unknown_fits
 

@@ -36,7 +36,7 @@ use Rattle.jh_history.specs.Due.{IsLegal}
 use Rattle.jh_history.specs.Admitted.{IsAdmitted}
 use Rattle.jh_history.proofs.Public.{same_function, written_over, IsLegal_begin, place_in_cell_further, legal_sound}
 use Rattle.jh_history.specs.Sound.{AreSoundCells, IsSound}
-use Rattle.jh_laws.specs.Grants.{IsGranted}
+use Rattle.jh_laws.specs.Grants.{IsGiven}
 use Rattle.jh_laws.specs.Held.{IsRootOrLive, IsGrantedTo}
 use Rattle.jh_laws.specs.Written.{IsByteBy, Puts, IsByteOfPage, WritesWord, IsByteOfWord, WritesByte, NoneWrites}
 use Rattle.jh_laws.specs.Vectors.{PutsRegister}
@@ -80,7 +80,7 @@ comm_only image configs zero cell r s x y sound is item_x item_y some_x some_y c
 comm_only image configs (suc a) cell r s x y sound is item_x item_y some_x some_y comm_x comm_y =
     sym ((sound.clean.comms (suc a) cell (omega arith) is r x item_x some_x comm_x).only s y item_y some_y comm_y)
 
-single_by : (image : Image) (cells : List Live) (cell : CellConfig) (access : Access) (a b : ℕ) (q : Place) (g : IsGranted cell access a q) (h : IsGranted cell access b q) (one other : Bool) → AreSoundCells image.system (configs_of cells) → IsRootOrLive image cells cell
+single_by : (image : Image) (cells : List Live) (cell : CellConfig) (access : Access) (a b : ℕ) (q : Place) (g : IsGiven cell access a q) (h : IsGiven cell access b q) (one other : Bool) → AreSoundCells image.system (configs_of cells) → IsRootOrLive image cells cell
     → is_comm g.region ≡ one → is_comm h.region ≡ other
     → q ≡ cond one (Page cell.id (a - g.region.virt_start)) (Physical (g.region.phys_start + (a - g.region.virt_start)))
     → q ≡ cond other (Page cell.id (b - h.region.virt_start)) (Physical (h.region.phys_start + (b - h.region.virt_start))) → a ≡ b
@@ -117,8 +117,8 @@ single_address image cells id access a b q sound g h =
     let one : cell_in image cells id ≡ Some g.cell = (let Q : ℕ → Type 0 = λ k. cell_in image cells k ≡ Some g.cell in subst Q g.named (live_cell image cells g.cell sound g.live)) in
     let other : cell_in image cells id ≡ Some h.cell = (let Q : ℕ → Type 0 = λ k. cell_in image cells k ≡ Some h.cell in subst Q h.named (live_cell image cells h.cell sound h.live)) in
     let same : h.cell ≡ g.cell = same_Some h.cell g.cell (sym other ∙ one) in
-    let R : CellConfig → Type 0 = λ c. IsGranted c access b q in
-    let there : IsGranted g.cell access b q = subst R same h.given in
+    let R : CellConfig → Type 0 = λ c. IsGiven c access b q in
+    let there : IsGiven g.cell access b q = subst R same h.given in
     single_by image cells g.cell access a b q g.given there (is_comm g.given.region) (is_comm there.region) sound g.live refl refl g.given.given there.given
 
 -- ---- a write that succeeds

@@ -1,4 +1,4 @@
--- What a cell is granted, by its own regions.
+-- What the regions of a cell give it.
 use Rattle.std.specs.Prelude.{◌≡◌, ◌<◌, ◌≤◌, ◌+◌, ◌-◌, ◌^◌, ℕ, Bool, Contains, IsTrue, if◌then◌else◌}
 use Rattle.jh_cellcfg.specs.declared.region.Region.{Region}
 use Rattle.jh_cellcfg.specs.declared.config.CellConfig.{CellConfig}
@@ -19,9 +19,9 @@ may Read region = (rights_of region).read
 may Write region = (rights_of region).write
 may Fetch region = (rights_of region).execute
 
--- the cell is granted the place at the address: the address lies below 2 ^ 39, and one of the cell's
--- regions has it, is of whole pages, may be accessed so, and gives it that place
-pub record IsGranted (cell : CellConfig) (access : Access) (at : ℕ) (place : Place) : Type 0 where
+-- the cell's regions give it the place at the address: the address lies below 2 ^ 39, and one of them has it, is of whole
+-- pages, may be accessed so, and gives it that place
+pub record IsGiven (cell : CellConfig) (access : Access) (at : ℕ) (place : Place) : Type 0 where
   pub below : at < 2 ^ 39
   pub region : Region
   pub held : Contains cell.memory_regions region

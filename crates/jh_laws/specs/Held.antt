@@ -11,7 +11,7 @@ use Rattle.jh_history.specs.declared.place.Place.{Place}
 use Rattle.jh_history.specs.declared.place.Place.TheVariants.{Physical, Page}
 use Rattle.jh_history.specs.declared.access.Access.{Access}
 use Rattle.jh_shape.specs.Lives.{configs_of}
-use Rattle.jh_laws.specs.Grants.{IsGranted}
+use Rattle.jh_laws.specs.Grants.{IsGiven}
 
 -- the cell is root, or one of those that live besides it
 abbrev pub IsRootOrLive : Image → List Live → CellConfig → Type 0
@@ -28,7 +28,7 @@ pub record IsGrantedTo (image : Image) (cells : List Live) (id : ℕ) (access : 
   pub cell : CellConfig
   pub live : IsRootOrLive image cells cell
   pub named : cell.id ≡ id
-  pub given : IsGranted cell access at place
+  pub given : IsGiven cell access at place
   pub left : IsLeft image cells cell place
 
 -- each of so many bytes from the address on is granted some place

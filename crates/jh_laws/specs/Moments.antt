@@ -1,10 +1,11 @@
 -- Legal journals of admitted images, and which cells live and which call is open after entries of one.
-use Rattle.std.specs.Prelude.{ℕ, List, [], ◌∷◌, ◌++◌, Option}
+use Rattle.std.specs.Prelude.{◌≢◌, ℕ, List, [], ◌∷◌, ◌++◌, Option}
 use Rattle.jh_cellcfg.specs.declared.config.CellConfig.{CellConfig}
 use Rattle.jh_cpu.specs.declared.cpu.Cpu.{Cpu}
 use Rattle.jh_script.specs.declared.image.Image.{Image}
 use Rattle.jh_history.specs.declared.call.OpenCall.{OpenCall}
 use Rattle.jh_history.specs.declared.entry.Entry.{Entry}
+use Rattle.jh_history.specs.declared.place.Place.{Place}
 use Rattle.jh_history.specs.Facts.{Facts}
 use Rattle.jh_history.specs.History.{facts}
 use Rattle.jh_shape.specs.Lives.{configs_of}
@@ -66,6 +67,10 @@ facts_before m = facts m.image m.before
 -- the facts just behind the entry
 abbrev pub facts_behind : AdmittedMoment → Facts
 facts_behind m = facts m.image (m.before ++ m.entry ∷ [])
+
+-- the byte at the place is another just behind the entry than it was just before
+abbrev pub ByteChanges : AdmittedMoment → Place → Type 0
+ByteChanges m place = (facts_behind m).byte place ≢ (facts_before m).byte place
 
 -- the configurations of the cells that live besides root after the journal, in order of creation
 abbrev pub live_configs : AdmittedJournal → List CellConfig

@@ -64,7 +64,7 @@ pub record IsReady (image : Image) (entries : List Entry) (cell : CellConfig) (c
 
 -- the entry is what the CPU, which is the cell's, makes of the operation at its position: it has that
 -- CPU, the id of the CPU's owner, and the operation with its outcome
-pub record IsOwn (image : Image) (entries : List Entry) (cell : CellConfig) (cpu : ℕ) (entry : Entry) : Type 0 where
+pub record IsCpusOwn (image : Image) (entries : List Entry) (cell : CellConfig) (cpu : ℕ) (entry : Entry) : Type 0 where
   pub cpu_is : entry.cpu ≡ cpu
   pub cell_is : entry.cell ≡ (cpu_at image entries cpu).owner
   pub operation : op_of entry.act ≡ slice_get (program_in image cell cpu) (cpu_at image entries cpu).position

@@ -18,13 +18,13 @@ use Rattle.jh_shape.specs.Lives.{configs_of}
 use Rattle.jh_history.specs.Due.{due_at}
 use Rattle.jh_history.specs.Sound.{IsCalm}
 use Rattle.jh_laws.specs.Ends.{IsAnswered, IsReadBy}
-use Rattle.jh_laws.specs.Vectors.{IsPendingIn}
+use Rattle.jh_laws.specs.Vectors.{HasPending}
 
 -- the cell's operation is due: an await where the access is a violation or reads the value that it waits for, an
 -- interrupt where a vector of a device of the cell is pending, any other always
 abbrev pub IsDueIn : Image → Facts → ℕ → Op → Type 0
 IsDueIn image f id (AwaitOp width at value) = IsAnswered image f id ToRead at width → IsReadBy image f id ToRead at width value
-IsDueIn image f id IrqOp = (n : ℕ) × (v : ℕ) × IsPendingIn f id n v
+IsDueIn image f id IrqOp = HasPending f id
 IsDueIn image f id _ = Unit {0}
 
 -- nothing is due to any CPU but the caller
@@ -67,6 +67,14 @@ pub record IsReadyProgram (image : Image) (f : Facts) (cpu : ℕ) : Type 0 where
   pub op : Op
   pub at : op_at image f (f.cpu cpu) cpu ≡ Some op
   pub due : IsDueIn image f (f.cpu cpu).owner op
+
+-- the CPU is the board's, has no call open, goes on with its program, and is at the wait for an interrupt
+pub record IsAtInterrupt (image : Image) (f : Facts) (cpu : ℕ) : Type 0 where
+  pub board : is_on_board image cpu ≡ true
+  pub none : (o : OpenCall) → f.call ≡ Some o → o.caller ≢ cpu
+  pub running : (f.cpu cpu).mode ≡ Running
+  pub calm : IsCalm (f.cpu cpu)
+  pub at : op_at image f (f.cpu cpu) cpu ≡ Some IrqOp
 
 -- the CPU is the board's, and is asked to stop, or has a phase of its call due, or an operation of its program
 pub record IsReadyAt (image : Image) (f : Facts) (cpu : ℕ) : Type 0 where

@@ -21,6 +21,10 @@ use Rattle.jh_laws.specs.Ends.{IsAnsweredByRegister}
 abbrev pub IsPendingIn : Facts → ℕ → ℕ → ℕ → Type 0
 IsPendingIn f id n v = is_pending id n v f.endpoints ≡ true
 
+-- a vector of a device of the cell with the id is pending
+abbrev pub HasPending : Facts → ℕ → Type 0
+HasPending f id = (n : ℕ) × (v : ℕ) × IsPendingIn f id n v
+
 -- the vector is the one that the cell's next interrupt takes: no pending vector of the cell is of a lower device, nor a
 -- lower one of the same device
 pub record IsNext (f : Facts) (id n v : ℕ) : Type 0 where

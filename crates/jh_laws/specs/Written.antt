@@ -67,6 +67,10 @@ WritesByte image f entry place byte =
     ⊎ IsByteOfWord image f entry place byte
     ⊎ ((write : PageWrite) × (page_write_by image f entry entry.act ≡ Some write) × IsByteOfPage f write place byte)
 
+-- the hypervisor writes by the entry into the page of the cell
+abbrev pub WritesPageOf : Image → Facts → Entry → ℕ → Type 0
+WritesPageOf image f entry cell = (write : PageWrite) × (page_write_by image f entry entry.act ≡ Some write) × (write.cell ≡ cell)
+
 -- ---- what a cell holds for itself
 
 -- the entry writes a word of a state table that has the place: that of a device of the holding cell itself, of one with a
@@ -80,6 +84,11 @@ pub record WritesWordThere (image : Image) (f : Facts) (entry : Entry) (holder :
   pub within : index < 4
   pub there : place ≡ spec.table + 4 * spec.id + index
   pub owner : IsOwnOrLinked f.cells holder number spec.cell ⊎ IsOwnOrLinked (cells_after f entry) holder number spec.cell ⊎ (spec.cell ≡ image.system.root.id)
+
+-- the entry may change what the holding cell has at the place, in its region of that number: it is an entry of the cell
+-- itself, or of one with a linked device whose section has it, or writes a word of a state table there
+abbrev pub MayChangeHeld : Image → Facts → Entry → CellConfig → ℕ → ℕ → Type 0
+MayChangeHeld image f entry holder number place = IsOwnOrLinked f.cells holder number entry.cell ⊎ WritesWordThere image f entry holder number place
 
 -- ---- stretches of a journal
 

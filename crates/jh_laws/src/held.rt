@@ -1,5 +1,5 @@
 //! What live cells are granted, and how their accesses end.
-ghost use Rattle.std.specs.Prelude.{◌≡◌, ◌≢◌, ◌↔◌, ◌⊎◌, ℕ, Some, Contains};
+ghost use Rattle.std.specs.Prelude.{◌≡◌, ◌↔◌, ◌⊎◌, ℕ, Some, Contains};
 ghost use Rattle.jh_cellcfg.specs.declared.config.CellConfig.{CellConfig as TheConfig};
 ghost use Rattle.jh_cellcfg.specs.declared.live.Live.{Live as TheLive};
 ghost use Rattle.jh_cellcfg.specs.declared.region.Region.{Region as TheRegion};
@@ -8,15 +8,13 @@ ghost use Rattle.jh_script.specs.declared.image.Image.{Image as TheImage};
 ghost use Rattle.jh_history.specs.declared.access.Access.{Access as TheAccess};
 ghost use Rattle.jh_history.specs.declared.place.Place.{Place as ThePlace};
 ghost use Rattle.jh_history.specs.declared.place.Place.TheVariants.{Physical, Page};
-ghost use Rattle.jh_history.specs.declared.comm.PageWrite.{PageWrite as ThePageWrite};
-ghost use Rattle.jh_history.specs.Pages.{page_write_by};
 ghost use Rattle.jh_history.specs.Admitted.{IsAdmitted};
 ghost use Rattle.jh_history.specs.Grants.{granted};
-ghost use Rattle.jh_laws.specs.Moments.{AdmittedJournal, AdmittedMoment, facts_of, facts_before, facts_behind, live_configs};
-ghost use Rattle.jh_laws.specs.Grants.{IsGranted};
+ghost use Rattle.jh_laws.specs.Moments.{AdmittedJournal, AdmittedMoment, facts_of, facts_before, live_configs, ByteChanges};
+ghost use Rattle.jh_laws.specs.Grants.{IsGiven};
 ghost use Rattle.jh_laws.specs.Ends.{EndsAsGranted};
-ghost use Rattle.jh_laws.specs.Held.{IsGrantedTo, IsHeld, IsOwnOrLinked};
-ghost use Rattle.jh_laws.specs.Written.{WritesWordThere};
+ghost use Rattle.jh_laws.specs.Held.{IsGrantedTo, IsHeld};
+ghost use Rattle.jh_laws.specs.Written.{MayChangeHeld, WritesPageOf};
 
 /// The place that a live cell is granted at an address.
 pub fn cells_are_granted_their_places()
@@ -27,7 +25,7 @@ pub fn cells_are_granted_their_places()
 /// What root is granted at an address is the place of physical memory that has this address.
 pub fn root_is_granted_its_addresses()
     ensures { (image : TheImage) (access : TheAccess) (at : ℕ) (place : ThePlace) → IsAdmitted image →
-        IsGranted image.system.root access at place → place ≡ Physical at }
+        IsGiven image.system.root access at place → place ≡ Physical at }
 {}
 
 /// Root is granted exactly what its regions give, each address as its own place, but for places that a live cell
@@ -36,12 +34,12 @@ pub fn root_is_granted_its_addresses()
 pub fn root_is_granted_the_rest()
     ensures root { (j : AdmittedJournal) (access : TheAccess) (at : ℕ) →
         IsGrantedTo j.image (facts_of j).cells j.image.system.root.id access at (Physical at) ↔
-        (IsGranted j.image.system.root access at (Physical at) × (IsTaken (facts_of j).cells at → ⊥)) }
+        (IsGiven j.image.system.root access at (Physical at) × (IsTaken (facts_of j).cells at → ⊥)) }
     ensures address { (j : AdmittedJournal) (access : TheAccess) (at : ℕ) (place : ThePlace) →
         IsGrantedTo j.image (facts_of j).cells j.image.system.root.id access at place → place ≡ Physical at }
     ensures cells { (j : AdmittedJournal) (cell : TheConfig) (access : TheAccess) (at : ℕ) (place : ThePlace) →
         Contains (live_configs j) cell →
-        (IsGrantedTo j.image (facts_of j).cells cell.id access at place ↔ IsGranted cell access at place) }
+        (IsGrantedTo j.image (facts_of j).cells cell.id access at place ↔ IsGiven cell access at place) }
 {}
 
 /// An access succeeds exactly where its cell is granted each of its bytes, or a subpage region of the cell answers it,
@@ -59,10 +57,8 @@ pub fn accesses_end_as_granted()
 /// cell, or where the hypervisor writes into that page.
 pub fn what_a_cell_holds_is_its_own()
     ensures memory { (m : AdmittedMoment) (live : TheLive) (number : ℕ) (region : TheRegion) (place : ℕ) →
-        IsHeld (facts_before m).cells live number region place →
-        (facts_behind m).byte (Physical place) ≢ (facts_before m).byte (Physical place) →
-        IsOwnOrLinked (facts_before m).cells live.config number m.entry.cell ⊎ WritesWordThere m.image (facts_before m) m.entry live.config number place }
-    ensures pages { (m : AdmittedMoment) (cell offset : ℕ) →
-        (facts_behind m).byte (Page cell offset) ≢ (facts_before m).byte (Page cell offset) →
-        (m.entry.cell ≡ cell) ⊎ ((write : ThePageWrite) × (page_write_by m.image (facts_before m) m.entry m.entry.act ≡ Some write) × (write.cell ≡ cell)) }
+        IsHeld (facts_before m).cells live number region place → ByteChanges m (Physical place) →
+        MayChangeHeld m.image (facts_before m) m.entry live.config number place }
+    ensures pages { (m : AdmittedMoment) (cell offset : ℕ) → ByteChanges m (Page cell offset) →
+        (m.entry.cell ≡ cell) ⊎ WritesPageOf m.image (facts_before m) m.entry cell }
 {}

@@ -7,7 +7,7 @@ ghost use Rattle.jh_laws.specs.RootAlone.{RootAloneJournal, RootAloneMoment, byt
 ghost use Rattle.jh_laws.specs.Outcomes.{HasItsOutcome, is_violation};
 ghost use Rattle.jh_laws.specs.Writes.{Writes, WritesNot};
 ghost use Rattle.jh_laws.specs.Moves.{stepped, ended};
-ghost use Rattle.jh_laws.specs.Operations.{IsReady, IsOwn, operations_by, program_in};
+ghost use Rattle.jh_laws.specs.Operations.{IsReady, IsCpusOwn, operations_by, program_in};
 
 /// Each entry is an access. It succeeds exactly where each of its bytes is granted, or a subpage region of
 /// root answers it, or configuration space, and a value that it reads is the number of the bytes at its
@@ -79,8 +79,8 @@ pub fn ready_cpus_of_root_alone_have_an_entry_due()
 /// that this has then, and what a ready CPU has so is the entry due to it.
 pub fn due_entries_of_root_alone_are_their_cpus_own()
     ensures own { (j : RootAloneJournal) (cpu : ℕ) (entry : TheEntry) →
-        due j.image j.entries cpu ≡ Some entry → IsOwn j.image j.entries (root_of j) cpu entry }
+        due j.image j.entries cpu ≡ Some entry → IsCpusOwn j.image j.entries (root_of j) cpu entry }
     ensures only { (j : RootAloneJournal) (cpu : ℕ) (entry : TheEntry) →
-        IsReady j.image j.entries (root_of j) cpu → IsOwn j.image j.entries (root_of j) cpu entry →
+        IsReady j.image j.entries (root_of j) cpu → IsCpusOwn j.image j.entries (root_of j) cpu entry →
         due j.image j.entries cpu ≡ Some entry }
 {}

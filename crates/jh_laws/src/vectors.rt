@@ -1,27 +1,21 @@
 //! Pending vectors of devices, and interrupts.
-ghost use Rattle.std.specs.Prelude.{◌≡◌, ◌≢◌, ◌↔◌, ◌⊎◌, ℕ, [], true, Some, IsSome, Contains};
-ghost use Rattle.jh_cpu.specs.declared.cpu.Mode.TheVariants.{Running as Runs};
+ghost use Rattle.std.specs.Prelude.{◌≡◌, ◌≢◌, ◌↔◌, ◌⊎◌, ℕ, [], Some, IsSome, Contains};
 ghost use Rattle.jh_ivshmem.specs.declared.endpoint.Endpoint.{Endpoint as TheEndpoint};
 ghost use Rattle.jh_ivshmem.specs.Links.{endpoint_at};
 ghost use Rattle.jh_script.specs.declared.image.Image.{Image as TheImage};
 ghost use Rattle.jh_history.specs.History.{facts};
-ghost use Rattle.jh_script.specs.declared.op.Op.TheVariants.{Irq as IrqOp};
-ghost use Rattle.jh_history.specs.declared.call.OpenCall.{OpenCall};
 ghost use Rattle.jh_history.specs.declared.entry.Act.TheVariants.{Irq};
 ghost use Rattle.jh_history.specs.Due.{due};
-ghost use Rattle.jh_history.specs.Lives.{is_on_board, op_at};
-ghost use Rattle.jh_history.specs.Sound.{IsCalm};
-ghost use Rattle.jh_laws.specs.Moments.{AdmittedJournal, AdmittedMoment, call_of, facts_of, facts_before, facts_behind};
-ghost use Rattle.jh_laws.specs.Vectors.{IsPendingIn, IsNext, Raises, Drops, Clears, IsKeptByOthers};
+ghost use Rattle.jh_laws.specs.Moments.{AdmittedJournal, AdmittedMoment, facts_of, facts_before, facts_behind, owner_of};
+ghost use Rattle.jh_laws.specs.Ready.{IsAtInterrupt};
+ghost use Rattle.jh_laws.specs.Vectors.{HasPending, IsPendingIn, IsNext, Raises, Drops, Clears, IsKeptByOthers};
 
 /// A CPU of the board that goes on with its program, and is at the wait for an interrupt, has an entry due exactly
 /// where a vector of a device of its cell is pending. The entry takes the next: the lowest vector of the lowest device
 /// that has one pending.
 pub fn interrupts_are_due_where_a_vector_is_pending()
-    ensures due { (j : AdmittedJournal) (cpu : ℕ) → is_on_board j.image cpu ≡ true →
-        ((o : OpenCall) → call_of j ≡ Some o → o.caller ≢ cpu) → ((facts_of j).cpu cpu).mode ≡ Runs →
-        IsCalm ((facts_of j).cpu cpu) → op_at j.image (facts_of j) ((facts_of j).cpu cpu) cpu ≡ Some IrqOp →
-        IsSome (due j.image j.entries cpu) ↔ ((n : ℕ) × (v : ℕ) × IsPendingIn (facts_of j) ((facts_of j).cpu cpu).owner n v) }
+    ensures due { (j : AdmittedJournal) (cpu : ℕ) → IsAtInterrupt j.image (facts_of j) cpu →
+        IsSome (due j.image j.entries cpu) ↔ HasPending (facts_of j) (owner_of j cpu) }
     ensures next { (m : AdmittedMoment) (n v : ℕ) → m.entry.act ≡ Irq n v →
         IsNext (facts_before m) m.entry.cell n v }
 {}

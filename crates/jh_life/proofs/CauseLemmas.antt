@@ -15,11 +15,10 @@ use Rattle.jh_check.specs.Refusals.{is_namesake, is_known, names_beyond, by_chec
 use Rattle.jh_check.specs.Verdicts.{names, is_overlap, is_invalid, is_busy, verdict_by, verdict_of}
 use Rattle.jh_check.proofs.Public.{beyond_named, named_beyond, broken_from_listed, listed_from_broken}
 use Rattle.jh_num.specs.Bits.{has_bit}
-use Rattle.jh_shape.specs.Pages.{pages_of}
 use Rattle.jh_life.specs.CellsView.{CellsView}
 use Rattle.jh_life.specs.Lives.{numbered_cells}
 use Rattle.jh_shape.specs.Lives.{configs_of}
-use Rattle.jh_life.specs.Verdict.{may_have}
+use Rattle.jh_life.specs.Verdict.{may_have, pages_with}
 use Rattle.jh_life.specs.Causes.{Create, verdict_on, Cause, Locked, Known, TakenCpu, BrokenRule, Overlap, FewPages, rank, number_for, IsKnownTo, NamesTakenCpu, BreaksRule, SpeaksAgainst, IsFirst}
 
 -- ---- by tests
@@ -114,7 +113,7 @@ test_of seen create Known = is_known (numbered_cells seen) create.new
 test_of seen create TakenCpu = names_beyond (may_have create.owned create.caller) create.new.cpu_set
 test_of seen create BrokenRule = list_any (is_invalid (length (configs_of seen.lives) + 1)) (findings seen.system (configs_of seen.lives ++ create.new ∷ []))
 test_of seen create Overlap = list_any (is_busy (length (configs_of seen.lives) + 1)) (findings seen.system (configs_of seen.lives ++ create.new ∷ []))
-test_of seen create FewPages = nat_lt create.pool (pages_of seen.system.root.memory_regions (configs_of seen.lives ++ create.new ∷ []))
+test_of seen create FewPages = nat_lt create.pool (pages_with seen create.new)
 
 namesake_words : (new cell : CellConfig) → is_namesake new cell ≡ true → (cell.id ≡ new.id) ⊎ (name_of cell ≡ name_of new)
 namesake_words new cell t =
@@ -219,7 +218,7 @@ holds_from seen create Known t = known_words seen create.new t
 holds_from seen create TakenCpu t = cpu_words seen create t
 holds_from seen create BrokenRule t = found_words seen create.new false (is_invalid (length (configs_of seen.lives) + 1)) (invalid_kind (length (configs_of seen.lives) + 1)) t
 holds_from seen create Overlap t = found_words seen create.new true (is_busy (length (configs_of seen.lives) + 1)) (busy_kind (length (configs_of seen.lives) + 1)) t
-holds_from seen create FewPages t = ltb-true create.pool (pages_of seen.system.root.memory_regions (configs_of seen.lives ++ create.new ∷ [])) t
+holds_from seen create FewPages t = ltb-true create.pool (pages_with seen create.new) t
 
 holds_to : (seen : CellsView) (create : Create) (cause : Cause) → SpeaksAgainst seen create cause → test_of seen create cause ≡ true
 holds_to seen create Locked h = h
@@ -227,7 +226,7 @@ holds_to seen create Known h = words_known seen create.new h
 holds_to seen create TakenCpu h = words_cpu seen create h
 holds_to seen create BrokenRule h = words_found seen create.new false (is_invalid (length (configs_of seen.lives) + 1)) (invalid_kind (length (configs_of seen.lives) + 1)) h
 holds_to seen create Overlap h = words_found seen create.new true (is_busy (length (configs_of seen.lives) + 1)) (busy_kind (length (configs_of seen.lives) + 1)) h
-holds_to seen create FewPages h = lt-ltb create.pool (pages_of seen.system.root.memory_regions (configs_of seen.lives ++ create.new ∷ [])) h
+holds_to seen create FewPages h = lt-ltb create.pool (pages_with seen create.new) h
 
 first_words : (seen : CellsView) (create : Create) (cause : Cause) → IsFirstOf (test_of seen create) cause → IsFirst seen create cause
 first_words seen create cause first = record {

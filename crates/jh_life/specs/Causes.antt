@@ -5,13 +5,13 @@ use Rattle.jh_cellcfg.specs.declared.config.CellConfig.{CellConfig}
 use Rattle.jh_cellcfg.specs.Cells.{name_of, is_cpu_set}
 use Rattle.jh_check.specs.declared.finding.Finding.{Finding}
 use Rattle.jh_check.specs.Broken.{IsBroken}
+use Rattle.jh_check.specs.Refusals.{IsAccepted}
 use Rattle.jh_check.specs.Verdicts.{is_overlap}
 use Rattle.jh_num.specs.Bits.{has_bit}
-use Rattle.jh_shape.specs.Pages.{pages_of}
 use Rattle.jh_life.specs.CellsView.{CellsView}
 use Rattle.jh_life.specs.Lives.{numbered_cells}
 use Rattle.jh_shape.specs.Lives.{configs_of}
-use Rattle.jh_life.specs.Verdict.{verdict_of_create}
+use Rattle.jh_life.specs.Verdict.{may_have, pages_with, verdict_of_create}
 
 -- a create that is asked for: whether a live cell allows none, the new cell, the CPUs that are root's as bits, the
 -- one that asks, and how many pages there are
@@ -25,6 +25,12 @@ pub record Create : Type 0 where
 -- the number that the create is refused with, if it is refused
 abbrev pub verdict_on : CellsView → Create → Option ℤ
 verdict_on seen create = verdict_of_create seen create.locked create.new create.owned create.caller create.pool
+
+-- nothing holds that the create would be refused for: no live cell is locked, the check accepts the new cell, it names no
+-- CPU but root's, without the caller's, and the pages of all cells with it are there
+pub record IsLetIn (seen : CellsView) (create : Create) : Type 0 where
+  pub unlocked : create.locked ≡ false
+  pub accepted : IsAccepted seen.system (configs_of seen.lives) create.new (may_have create.owned create.caller) (pages_with seen create.new) create.pool
 
 -- what may speak against a create, in the order in which it is told
 pub data Cause : Type 0 where
@@ -75,7 +81,7 @@ pub record BreaksRule (seen : CellsView) (new : CellConfig) (overlaps : Bool) : 
 
 -- all cells with the new one need more pages than there are
 abbrev pub LacksPages : CellsView → Create → Type 0
-LacksPages seen create = create.pool < pages_of seen.system.root.memory_regions (configs_of seen.lives ++ create.new ∷ [])
+LacksPages seen create = create.pool < pages_with seen create.new
 
 -- the cause speaks against the create
 abbrev pub SpeaksAgainst : CellsView → Create → Cause → Type 0

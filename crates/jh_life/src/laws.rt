@@ -1,5 +1,5 @@
 //! What holds of the live cells, whatever befalls them: each law is the contract of a function that does nothing.
-ghost use Rattle.std.specs.Prelude.{◌≡◌, ◌↔◌, ◌⊎◌, ◌++◌, ◌∷◌, true, false, ℕ, ℤ, Bool, List, [], remove, slice_get, slice_set, fold, map, Some, None};
+ghost use Rattle.std.specs.Prelude.{◌≡◌, ◌↔◌, ◌⊎◌, true, ℕ, ℤ, Bool, List, [], remove, slice_get, slice_set, fold, map, Some, None};
 ghost use Rattle.std.specs.List.{find};
 ghost use Rattle.jh_num.specs.declared.error.TheConstants.{EBUSY, EEXIST, EINVAL, ENOMEM, EPERM};
 ghost use Rattle.jh_cellcfg.specs.declared.live.Live.{Live};
@@ -8,10 +8,8 @@ ghost use Rattle.jh_life.specs.CellsView.{CellsView};
 ghost use Rattle.jh_life.specs.Lives.{marks_of};
 ghost use Rattle.jh_shape.specs.Lives.{configs_of, marked};
 ghost use Rattle.jh_life.specs.Changes.{CellChange, without, after, live_after, lasting, AreNew};
-ghost use Rattle.jh_check.specs.Refusals.{IsAccepted};
-ghost use Rattle.jh_shape.specs.Pages.{pages_of};
-ghost use Rattle.jh_life.specs.Verdict.{may_have, verdict_of_create};
-ghost use Rattle.jh_life.specs.Causes.{Create, verdict_on, Cause, Known, TakenCpu, BrokenRule, Overlap, FewPages, number_for, SpeaksAgainst, IsFirst};
+ghost use Rattle.jh_life.specs.Verdict.{verdict_of_create};
+ghost use Rattle.jh_life.specs.Causes.{Create, IsLetIn, verdict_on, Cause, Known, TakenCpu, BrokenRule, Overlap, FewPages, number_for, SpeaksAgainst, IsFirst};
 
 use crate::cells::{Cells, live_cells_differ};
 use jh_cellcfg::CellConfig;
@@ -54,8 +52,7 @@ pub fn a_verdict_goes_by_the_listed_cells(_new: &CellConfig)
 /// A new cell isn't refused exactly where no cell is locked, nothing of what it would be refused for holds, and the
 /// pages of all cells with it are there.
 pub fn a_cell_is_let_in_where_nothing_holds(cells: &Cells, new: &CellConfig)
-    ensures { (locked : Bool) (owned caller pool : ℕ)
-        → (verdict_of_create cells.now locked new.now owned caller pool ≡ None) ↔ ((locked ≡ false) × IsAccepted cells.now.system (configs_of cells.now.lives) new.now (may_have owned caller) (pages_of cells.now.system.root.memory_regions (configs_of cells.now.lives ++ new.now ∷ [])) pool) }
+    ensures { (create : Create) → create.new ≡ new.now → (verdict_on cells.now create ≡ None) ↔ IsLetIn cells.now create }
 {
     nothing_is_refused_that_is_accepted(cells.system(), cells.list(), new);
 }

@@ -2,7 +2,6 @@
 ghost use Rattle.std.specs.Prelude.{◌≡◌, ℕ, ◌+◌, ◌<◌, ◌≤◌, ◌&&◌, Bool, true, false, [], ◌∷◌, All, AllPairs, Contains, IfOk, map};
 ghost use Rattle.std.specs.List.Sorted.{IsNonDecreasingBy, IsPermutation};
 ghost use Rattle.jh_num.specs.Bytes.{has_byte, AreApart};
-ghost use Rattle.jh_num.specs.declared.address.TheConstants.{ADDRESS_END as address_end};
 ghost use Rattle.jh_num.specs.declared.range.Range.{Range as TheRange};
 ghost use Rattle.jh_cellcfg.specs.declared.region.Region.{Region as TheRegion};
 ghost use Rattle.jh_cellcfg.specs.Regions.{has_place, is_comm, phys_end, virt_end, IsInRange, SharesNoAddress};
@@ -31,7 +30,7 @@ fn free_places(alloc: Global, closed: &ByteSet) -> Result<ByteSet, NoMemory>
 
 /// The places of the region that are free.
 fn left_of(alloc: Global, region: &Region, free: &ByteSet) -> Result<ByteSet, NoMemory>
-    requires { phys_end region.now ≤ address_end }
+    requires { phys_end region.now ≤ ADDRESS_END }
     ensures bytes { IfOk result (λ left. (place : ℕ) → has_byte left.ranges place ≡ (has_byte free.now.ranges place && has_place region.now place)) }
     ensures apart { IfOk result (λ left. AreApart left.ranges) }
 {
@@ -44,7 +43,7 @@ fn left_of(alloc: Global, region: &Region, free: &ByteSet) -> Result<ByteSet, No
 fn run_to_places(region: &Region, places: Range) -> Run
     requires first { region.now.phys_start ≤ places.start }
     requires last { places.end ≤ phys_end region.now }
-    requires within { virt_end region.now ≤ address_end }
+    requires within { virt_end region.now ≤ ADDRESS_END }
     ensures { result ≡ run_to region.now places }
 {
     Run {
@@ -60,7 +59,7 @@ fn run_to_places(region: &Region, places: Range) -> Run
 /// The addresses that the region leads to each of these ranges of its places, a run for each.
 fn runs_to_places(alloc: Global, region: &Region, left: &[Range]) -> Result<Vec<Run>, AllocError>
     requires own { All (λ (places : TheRange). (region.now.phys_start ≤ places.start) × (places.end ≤ phys_end region.now)) left.now }
-    requires within { virt_end region.now ≤ address_end }
+    requires within { virt_end region.now ≤ ADDRESS_END }
     ensures { IfOk result (λ runs. runs.items ≡ map (run_to region.now) left.now) }
 {
     let mut runs = Vec::new(alloc);
@@ -74,7 +73,7 @@ fn runs_to_places(alloc: Global, region: &Region, left: &[Range]) -> Result<Vec<
 fn whole_page(region: &Region) -> Run
     requires some { 0 < region.now.size }
     requires page { is_comm region.now ≡ true }
-    requires within { virt_end region.now ≤ address_end }
+    requires within { virt_end region.now ≤ ADDRESS_END }
     ensures run { (closed : ℕ → Bool) → IsRunOf closed region.now result }
     ensures start { result.start ≡ region.now.virt_start }
     ensures end { result.end ≡ virt_end region.now }

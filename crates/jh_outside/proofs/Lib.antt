@@ -1,2 +1,4 @@
 mod CallerLemmas
 mod ShelfLemmas
+mod TrailLemmas
+pub mod Public

@@ -47,12 +47,12 @@ module _ (m : Names) (a b : List ℕ) (x y : List ℕ) where
       ∙ sym (after_put (names.insert m a x) a y q ∙ ap (cond (eq_by_cmp (slice_cmp nat_cmp) q a) (Some y)) (after_put m a x q)))
 
   -- what is put later under the same name stands
-  insert-same : bytes_eq b a ≡ true → names.insert m a y ≡ names.insert (names.insert m a x) b y
-  insert-same e = twice ∙ ap (λ k. names.insert (names.insert m a x) k y) (sym ((bytes_eq-Decides b a).0 e))
+  insert_same : bytes_eq b a ≡ true → names.insert m a y ≡ names.insert (names.insert m a x) b y
+  insert_same e = twice ∙ ap (λ k. names.insert (names.insert m a x) k y) (sym ((bytes_eq-Decides b a).0 e))
 
   -- two names may be put in either order
-  insert-other : bytes_eq b a ≡ false → names.insert (names.insert m b y) a x ≡ names.insert (names.insert m a x) b y
-  insert-other e = same_names _ _ (λ q.
+  insert_other : bytes_eq b a ≡ false → names.insert (names.insert m b y) a x ≡ names.insert (names.insert m a x) b y
+  insert_other e = same_names _ _ (λ q.
       after_put (names.insert m b y) a x q ∙ ap (cond (eq_by_cmp (slice_cmp nat_cmp) q a) (Some x)) (after_put m b y q)
       ∙ chosen_apart _ _ _ _ _ (λ at_a at_b. other_text b a e (sym (tied_text q b at_b) ∙ tied_text q a at_a))
       ∙ sym (after_put (names.insert m a x) b y q ∙ ap (cond (eq_by_cmp (slice_cmp nat_cmp) q b) (Some y)) (after_put m a x q)))
@@ -77,8 +77,8 @@ module _ {Y : Type 0} where
       by : (b : Bool) → string_eq k e.0 ≡ b →
           names.from_entries {R = slice_cmp nat_cmp} (seen (insert_entry string_eq es k v)) ≡ names.insert (names.from_entries (seen es)) (string_bytes k) v →
           names.from_entries {R = slice_cmp nat_cmp} (seen (if b then (e.0, v) ∷ es else e ∷ insert_entry string_eq es k v)) ≡ names.insert (names.from_entries (seen (e ∷ es))) (string_bytes k) v
-      by true p rest = insert-same _ _ _ _ _ p
-      by false p rest = ap (λ m. names.insert m (string_bytes e.0) e.1) rest ∙ insert-other _ _ _ _ _ p
+      by true p rest = insert_same _ _ _ _ _ p
+      by false p rest = ap (λ m. names.insert m (string_bytes e.0) e.1) rest ∙ insert_other _ _ _ _ _ p
 
 tied_number : (x y : ℕ) → eq_by_cmp nat_cmp x y ≡ nat_eq x y
 tied_number x y = grind (arith, nat_tests)

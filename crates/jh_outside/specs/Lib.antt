@@ -1,8 +1,8 @@
 pub mod Count
 pub mod Trail
-pub mod TrailLaws
 pub mod Reads
-pub mod Refused
+pub mod FailedReads
 pub mod Writes
 pub mod Shelf
 pub mod Buffer
+pub mod Private

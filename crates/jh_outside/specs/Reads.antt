@@ -4,12 +4,12 @@ use Rattle.jh_outside.specs.declared.files.FileFault.{FileFault}
 use Rattle.jh_outside.specs.declared.files.FileFault.TheVariants.{Fault, NoMemory}
 use Rattle.jh_outside.specs.Trail.{ask_of, kept_name}
 
--- What files tell of a name: nothing, that it is missing, or all the bytes that it holds.
+-- what files tell of a name: nothing, that it is missing, or all the bytes that it holds
 abbrev pub KnownFile : Type 0
 KnownFile = Option (Option (List ℕ))
 
 -- these bytes may be handed out: the first `most` that the name holds, none for a name that is missing, and any where nothing is told
-abbrev pub HandsOut : Option (Option (List ℕ)) → ℕ → List ℕ → Type 0
+abbrev pub HandsOut : KnownFile → ℕ → List ℕ → Type 0
 HandsOut None most bytes = ⊤
 HandsOut (Some None) most bytes = ⊥
 HandsOut (Some (Some held)) most bytes = bytes ≡ take most held

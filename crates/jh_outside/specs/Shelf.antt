@@ -6,7 +6,8 @@ use Rattle.std.specs.Cmp.Lexicographic.{slice_cmp}
 use Rattle.std.specs.FinMap as map
 use Rattle.std.specs.FinSet as set
 use Rattle.jh_num.specs.Numbers.{counted_up}
-use Rattle.jh_outside.specs.Trail.{Ask, Answer, Handed, Failed, Wanted}
+use Rattle.jh_outside.specs.Reads.{KnownFile}
+use Rattle.jh_outside.specs.Trail.{Ask, ReadAnswer, Handed, Failed, LackedMemory}
 
 -- the bytes under each name, the numbers of the reads that fail and of the next one, the count of faults, and the name
 -- that failed last
@@ -31,19 +32,19 @@ shelf_code =
     (λ _. refl)
 
 -- what the files tell of the name: the bytes that it holds, or that it is missing
-abbrev pub told_by : Shelf → List ℕ → Option (Option (List ℕ))
+abbrev pub told_by : Shelf → List ℕ → KnownFile
 told_by shelf name = Some (map.get shelf.files name)
 
 -- what the next read finds, if it is of this name: nothing where it fails
-abbrev pub found_by : Shelf → List ℕ → Option (List ℕ)
-found_by shelf name = if set.contains shelf.failing shelf.reads then None else map.get shelf.files name
+abbrev pub next_read_finds : Shelf → List ℕ → Option (List ℕ)
+next_read_finds shelf name = if set.contains shelf.failing shelf.reads then None else map.get shelf.files name
 
 -- the files after a read of the name with this answer
-abbrev pub shelf_after : Shelf → List ℕ → Answer → Shelf
+abbrev pub shelf_after : Shelf → List ℕ → ReadAnswer → Shelf
 shelf_after shelf name Handed = record shelf { reads = counted_up shelf.reads }
 shelf_after shelf name Failed = record shelf { reads = counted_up shelf.reads; faults = counted_up shelf.faults; failed = name }
-shelf_after shelf name Wanted = record shelf { reads = counted_up shelf.reads }
+shelf_after shelf name LackedMemory = record shelf { reads = counted_up shelf.reads }
 
 -- what a read of files in memory does to them
-abbrev pub Serves : Shelf → Ask → Shelf → Type 0
-Serves old ask new = new ≡ shelf_after old ask.name ask.answer
+abbrev pub AsksShelf : Shelf → Ask → Shelf → Type 0
+AsksShelf old ask new = new ≡ shelf_after old ask.name ask.answer

@@ -4,21 +4,21 @@ use Rattle.jh_outside.specs.declared.files.FileFault.{FileFault}
 use Rattle.jh_outside.specs.declared.files.FileFault.TheVariants.{Fault, NoMemory}
 
 -- what a read answers: bytes, that it failed, or want of memory
-pub data Answer : Type 0 where
-  Handed : Answer
-  Failed : Answer
-  Wanted : Answer
+pub data ReadAnswer : Type 0 where
+  Handed : ReadAnswer
+  Failed : ReadAnswer
+  LackedMemory : ReadAnswer
 
 -- one read: the name that was asked, and what was answered
 pub record Ask : Type 0 where
   pub name : List ℕ
-  pub answer : Answer
+  pub answer : ReadAnswer
 
 -- the read of this name with this answer
 abbrev pub ask_of : {X : Type 0} → List ℕ → Result X FileFault → Ask
 ask_of name (Ok _) = record { name = name; answer = Handed }
 ask_of name (Err Fault) = record { name = name; answer = Failed }
-ask_of name (Err NoMemory) = record { name = name; answer = Wanted }
+ask_of name (Err NoMemory) = record { name = name; answer = LackedMemory }
 
 -- the read of the file of this name, which handed out bytes
 abbrev pub handed : List ℕ → Ask
@@ -30,10 +30,10 @@ faulted name = record { name = name; answer = Failed }
 
 -- the name that is kept after a read of this name with this answer, where `failed` was kept before: that of the last
 -- read that answered `Fault`
-abbrev pub kept_name : List ℕ → List ℕ → Answer → List ℕ
+abbrev pub kept_name : List ℕ → List ℕ → ReadAnswer → List ℕ
 kept_name failed name Handed = failed
 kept_name failed name Failed = name
-kept_name failed name Wanted = failed
+kept_name failed name LackedMemory = failed
 
 module _ {S : Type 0} where
   -- these reads, in this order and no other, take the files from the one state to the other; `one` says what each of

@@ -3,7 +3,7 @@ ghost use Rattle.std.specs.Prelude.{◌≡◌, ◌≤◌, ◌↔◌, [], None, l
 ghost use Rattle.std.specs.IoError.{error_kind};
 ghost use Rattle.jh_outside.specs.Count.{Rose};
 ghost use Rattle.jh_outside.specs.Reads.{HandsOut, OnFault, failed_after};
-ghost use Rattle.jh_outside.specs.Refused.{Refuses};
+ghost use Rattle.jh_outside.specs.FailedReads.{AsksSystem};
 ghost use Rattle.jh_outside.specs.Trail.{ask_of};
 
 use crate::files::{FileFault, Files};
@@ -25,9 +25,9 @@ pub struct DirFiles<'a, R> {
 
 impl<'a, R> Model for DirFiles<'a, R> {
     ghost use Rattle.std.specs.Prelude.{string_bytes};
-    ghost use Rattle.jh_outside.specs.Refused.{Refused};
+    ghost use Rattle.jh_outside.specs.FailedReads.{FailedReads};
 
-    ghost Value = { Refused };
+    ghost Value = { FailedReads };
 
     ghost view = { λ s. record { faults = s.faults; failed = string_bytes s.failed } };
 }
@@ -68,7 +68,7 @@ impl<'a, R: rt::Files> Files for DirFiles<'a, R> {
 
     ghost faults = { λ s. s.faults };
 
-    ghost asks = { Refuses };
+    ghost asks = { AsksSystem };
 
     /// Each `Err` is counted, want of memory too.
     fn read(&mut self, name: &str, most: usize) -> Result<Seq<u8>, FileFault>
@@ -78,7 +78,7 @@ impl<'a, R: rt::Files> Files for DirFiles<'a, R> {
         ensures never_falls { self.old.faults ≤ self.new.faults }
         ensures named { self.new.failed ≡ failed_after self.old.failed name.now result }
         // exactly what it leaves
-        ensures asked { Refuses self.old (ask_of name.now result) self.new }
+        ensures asked { AsksSystem self.old (ask_of name.now result) self.new }
     {
         let outcome = self.read_naming(name, most);
         if outcome.is_err() {

@@ -5,7 +5,7 @@ ghost use Rattle.std.specs.FinMap as map;
 ghost use Rattle.std.specs.FinSet as set;
 ghost use Rattle.jh_outside.specs.Count.{Rose};
 ghost use Rattle.jh_outside.specs.Reads.{HandsOut, OnFault, failed_after};
-ghost use Rattle.jh_outside.specs.Shelf.{told_by, found_by, Serves};
+ghost use Rattle.jh_outside.specs.Shelf.{told_by, next_read_finds, AsksShelf};
 ghost use Rattle.jh_outside.specs.Trail.{ask_of};
 
 use crate::files::{FileFault, Files};
@@ -82,7 +82,7 @@ impl MemFiles {
 
     /// What the next read finds, if it is of this name.
     fn found(&self, name: &str) -> Option<&Seq<u8>>
-        ensures { option_copied result ≡ found_by self.now name.now }
+        ensures { option_copied result ≡ next_read_finds self.now name.now }
     {
         if self.failing.contains(&self.reads) {
             return None;
@@ -98,7 +98,7 @@ impl Files for MemFiles {
 
     ghost faults = { λ s. s.faults };
 
-    ghost asks = { Serves };
+    ghost asks = { AsksShelf };
 
     fn read(&mut self, name: &str, most: usize) -> Result<Seq<u8>, FileFault>
         ensures within { IfOk result (λ bytes. length bytes ≤ most) }
@@ -108,9 +108,9 @@ impl Files for MemFiles {
         ensures named { self.new.failed ≡ failed_after self.old.failed name.now result }
         ensures kept { told_by self.new ≡ told_by self.old }
         // exactly when it fails, and what it leaves
-        ensures fails { OnFault result (found_by self.old name.now ≡ None) }
-        ensures finds { IfOk result (λ bytes. option_map (take most) (found_by self.old name.now) ≡ Some bytes) }
-        ensures asked { Serves self.old (ask_of name.now result) self.new }
+        ensures fails { OnFault result (next_read_finds self.old name.now ≡ None) }
+        ensures finds { IfOk result (λ bytes. option_map (take most) (next_read_finds self.old name.now) ≡ Some bytes) }
+        ensures asked { AsksShelf self.old (ask_of name.now result) self.new }
     {
         match self.found(name) {
             Some(held) => {

@@ -3,7 +3,7 @@ ghost use Rattle.std.specs.Prelude.{◌≡◌, ◌<◌, ◌≤◌, None, length,
 ghost use Rattle.std.specs.Io.KnownBytes.{Keeps, Appends};
 ghost use Rattle.jh_outside.specs.Count.{Rose};
 ghost use Rattle.jh_num.specs.Numbers.{counted_up};
-ghost use Rattle.jh_outside.specs.Writes.{Took};
+ghost use Rattle.jh_outside.specs.Private.Writers.{Took};
 
 use crate::sink::{Sink, SinkFault};
 use std::io::{ErrorKind, Stdout, Write};

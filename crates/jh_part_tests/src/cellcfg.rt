@@ -1,6 +1,6 @@
 //! A cell in which each field has another value than all others of its width, so that no two can trade places.
 //! Refusals and limits are shown by the rows.
-use jh_cellcfg::{CellConfig, Irqchip, PciDevice, Region, fits, read_cell, write_cell};
+use jh_cellcfg::{CellConfig, Irqchip, PciDevice, Region, is_within_limits, read_cell, write_cell};
 use jh_num::Seq;
 use std::alloc::{AllocError, Global};
 use std::test::*;
@@ -228,7 +228,7 @@ fn fields(alloc: Global) -> Result<CellConfig, AllocError> {
 #[test]
 fn each_field_of_a_cell_is_written_at_its_offset(rt: HostRuntime) -> Result<(), Fail> {
     let config = fields(rt.alloc())?;
-    if !fits(&config) {
+    if !is_within_limits(&config) {
         return Err("it is within the limits".into());
     }
     let written = write_cell(rt.alloc(), &config)

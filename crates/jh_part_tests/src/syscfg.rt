@@ -2,7 +2,7 @@
 //! Refusals are shown by the rows.
 use jh_cellcfg::{CellConfig, Console, Irqchip, PciDevice, Region, SystemConfig};
 use jh_num::Seq;
-use jh_syscfg::{read_system, system_fits, write_system};
+use jh_syscfg::{read_system, system_is_within_limits, write_system};
 use std::alloc::{AllocError, Global};
 use std::test::*;
 
@@ -185,7 +185,7 @@ fn fields(root: CellConfig) -> SystemConfig {
 #[test]
 fn each_field_of_a_system_is_written_at_its_offset(rt: HostRuntime) -> Result<(), Fail> {
     let system = fields(root(rt.alloc())?);
-    if !system_fits(&system) {
+    if !system_is_within_limits(&system) {
         return Err("it is within the limits".into());
     }
     let written = write_system(rt.alloc(), &system)

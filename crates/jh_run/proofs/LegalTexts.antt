@@ -25,7 +25,7 @@ use Rattle.jh_text.specs.declared.fault.JournalFault.TheVariants.{Line, TooLong,
 use Rattle.jh_text.specs.Faults.{IsFault, IsFirstBadLine, IsJournalText, IsTooLong, max_entries}
 use Rattle.jh_text.specs.Ranges.{IsReadable, IsReadableAct}
 use Rattle.jh_text.specs.Text.{journal_text}
-use Rattle.jh_run.specs.Typed.{IsTypedOp, HasTypedNumbers}
+use Rattle.jh_run.specs.Private.Typed.{IsTypedOp, HasTypedNumbers}
 use Rattle.jh_history.proofs.Public.{program_of_all}
 
 -- the laws of journals that this stands on

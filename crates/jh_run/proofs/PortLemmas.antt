@@ -9,7 +9,7 @@ use Rattle.jh_turn.specs.declared.shared.Port.{Port}
 use Rattle.jh_history.specs.declared.entry.Entry.{Entry}
 use Rattle.jh_run.specs.Origins.{Origin}
 use Rattle.jh_run.specs.Drives.{Shows, SomeShows}
-use Rattle.jh_run.specs.declared.driving.DriveEnd.{DriveEnd}
+use Rattle.jh_board.specs.declared.turn.TurnFault.{TurnFault}
 
 -- the element that was just put into a list is in it
 pub Contains_put : {X : Type 0} (xs : List X) (i : ℕ) (x : X) → i < length xs → Contains (set xs i x) x
@@ -21,16 +21,16 @@ begins_contains {X} first all x b h = let P : List X → Type 0 = λ xs. Contain
 
 module _ {T A : Type 0} {G : Ghosts T Entry A} where
   -- what a port has seen after its turn tells why, if anything does
-  pub some_shows-at : (origin : Origin) (end : Option DriveEnd) (now : List (Port T Entry A G)) (i : ℕ) (q : Port T Entry A G) → i < length now → IfSome end (λ s. Shows origin s q) → IfSome end (λ s. SomeShows origin s (set now i q))
-  some_shows-at origin None now i q lt h = tt
-  some_shows-at origin (Some s) now i q lt h = record { port = q; one = Contains_put now i q lt; shows = h }
+  pub some_shows_at : (origin : Origin) (end : Option (Option TurnFault)) (now : List (Port T Entry A G)) (i : ℕ) (q : Port T Entry A G) → i < length now → IfSome end (λ s. Shows origin s q) → IfSome end (λ s. SomeShows origin s (set now i q))
+  some_shows_at origin None now i q lt h = tt
+  some_shows_at origin (Some s) now i q lt h = record { port = q; one = Contains_put now i q lt; shows = h }
 
   -- what one of the first ports has seen tells why, and that port is one of all
-  pub some_shows-kept : (origin : Origin) (end : DriveEnd) (first all : List (Port T Entry A G)) → IsPrefix first all → SomeShows origin end first → SomeShows origin end all
-  some_shows-kept origin end first all begins s = record { port = s.port; one = begins_contains first all s.port begins s.one; shows = s.shows }
+  pub some_shows_kept : (origin : Origin) (refused : Option TurnFault) (first all : List (Port T Entry A G)) → IsPrefix first all → SomeShows origin refused first → SomeShows origin refused all
+  some_shows_kept origin refused first all begins s = record { port = s.port; one = begins_contains first all s.port begins s.one; shows = s.shows }
 
   -- what the one port has seen tells why
-  pub some_shows-one : (origin : Origin) (end : DriveEnd) (ports : List (Port T Entry A G)) (d : Port T Entry A G) → length ports ≡ 1 → SomeShows origin end ports → SomeShows origin end (get_or ports 0 d ∷ [])
-  some_shows-one origin end [] d one s = absurd (omega arith)
-  some_shows-one origin end (x ∷ []) d one s = s
-  some_shows-one origin end (x ∷ y ∷ rest) d one s = absurd (omega arith)
+  pub some_shows_one : (origin : Origin) (refused : Option TurnFault) (ports : List (Port T Entry A G)) (d : Port T Entry A G) → length ports ≡ 1 → SomeShows origin refused ports → SomeShows origin refused (get_or ports 0 d ∷ [])
+  some_shows_one origin refused [] d one s = absurd (omega arith)
+  some_shows_one origin refused (x ∷ []) d one s = s
+  some_shows_one origin refused (x ∷ y ∷ rest) d one s = absurd (omega arith)

@@ -9,12 +9,12 @@ use Rattle.jh_history.specs.Due.{due, due_at, IsQuiet}
 use Rattle.jh_history.proofs.Public.{by_cpu}
 use Rattle.jh_turn.specs.Histories.{Grows}
 use Rattle.jh_board.specs.BoardView.{BoardView}
-use Rattle.jh_board.specs.Turns.{Turns, Refuses}
+use Rattle.jh_board.specs.Turns.{Turns, RefusesTurn}
 use Rattle.jh_run.specs.Origins.{Origin}
 use Rattle.jh_run.specs.Turns.{Takes}
 use Rattle.jh_run.specs.Running.{whose_entry, IsTurnAnswer}
-use Rattle.jh_run.specs.Drives.{ExplainsEnd, drive_end_after}
-use Rattle.jh_run.specs.declared.driving.DriveEnd.TheVariants.{Quiet, Refused}
+use Rattle.jh_run.specs.Drives.{ExplainsEnd}
+use Rattle.jh_run.specs.Private.Driving.{end_after}
 use Rattle.jh_board.specs.declared.turn.Turn.{Turn}
 use Rattle.jh_board.specs.declared.turn.Turn.TheVariants.{Made, Edited, NotNow, Done}
 use Rattle.jh_board.specs.declared.turn.TurnFault.{TurnFault}
@@ -36,7 +36,7 @@ abbrev entries : BoardView → List Entry
 entries board = board.entries
 
 -- what a board's turn answers or is refused for is what is taken
-pub takes_so : (old : BoardView) (cpu : ℕ) (answer : Result Turn TurnFault) (new : BoardView) → IfOk answer (λ turn. Turns old cpu turn new) → IfErr answer (λ fault. Refuses old cpu fault new) → Takes old cpu answer new
+pub takes_so : (old : BoardView) (cpu : ℕ) (answer : Result Turn TurnFault) (new : BoardView) → IfOk answer (λ turn. Turns old cpu turn new) → IfErr answer (λ fault. RefusesTurn old cpu fault new) → Takes old cpu answer new
 takes_so old cpu (Ok turn) new ok err = ok
 takes_so old cpu (Err fault) new ok err = err
 
@@ -50,16 +50,16 @@ Takes_grows old cpu (Err Full) new h = inl (ap entries h.2)
 Takes_grows old cpu (Err NoMemory) new h = inl (ap entries h)
 
 -- what a port has seen after the last answer
-pub done_tells : (origin : Origin) (cpu : ℕ) (before after : List Entry) → IsTurnAnswer origin cpu before after (Ok Done) → ExplainsEnd origin Quiet after
+pub done_tells : (origin : Origin) (cpu : ℕ) (before after : List Entry) → IsTurnAnswer origin cpu before after (Ok Done) → ExplainsEnd origin None after
 done_tells origin cpu before after h = let P : List Entry → Type 0 = IsQuiet origin.image in subst P (sym h.1) h.0
 
-pub refused_tells : (origin : Origin) (cpu : ℕ) (before after : List Entry) (fault : TurnFault) → IsTurnAnswer origin cpu before after (Err fault) → ExplainsEnd origin (Refused fault) after
+pub refused_tells : (origin : Origin) (cpu : ℕ) (before after : List Entry) (fault : TurnFault) → IsTurnAnswer origin cpu before after (Err fault) → ExplainsEnd origin (Some fault) after
 refused_tells origin cpu before after Full h =
-    let P : List Entry → Type 0 = λ es. ExplainsEnd origin (Refused Full) es in
-    subst P (sym h.2) (h.0, h.1)
+    let P : List Entry → Type 0 = λ es. ExplainsEnd origin (Some Full) es in
+    subst P (sym h.1) h.0
 refused_tells origin cpu before after NoMemory h = tt
 
-pub turn_tells : (origin : Origin) (cpu : ℕ) (before after : List Entry) (answer : Result Turn TurnFault) → IsTurnAnswer origin cpu before after answer → IfSome (drive_end_after answer) (λ end. ExplainsEnd origin end after)
+pub turn_tells : (origin : Origin) (cpu : ℕ) (before after : List Entry) (answer : Result Turn TurnFault) → IsTurnAnswer origin cpu before after answer → IfSome (end_after answer) (λ refused. ExplainsEnd origin refused after)
 turn_tells origin cpu before after (Ok (Made entry)) h = tt
 turn_tells origin cpu before after (Ok (Edited left)) h = tt
 turn_tells origin cpu before after (Ok (NotNow other)) h = tt

@@ -1,20 +1,21 @@
 -- What a beginning of the last journal tells, that journal tells too.
 use Rattle.std.proofs.Common.{◌≡◌, ℕ, ◌≤◌, List, [], ◌∷◌, ◌++◌, refl, sym, ◌∙◌, ap, subst, length, arith, append-nil, length-append}
-use Rattle.std.specs.Prelude.{◌↔◌, Result, IfOk}
+use Rattle.std.specs.Prelude.{◌↔◌, Option, None, Some, Result, IfOk}
 use Rattle.std.proofs.lemmas.List.{nil_from_length}
 use mathlib.Core.List.{IsPrefix}
 use Rattle.jh_script.specs.declared.image.Image.{Image}
 use Rattle.jh_history.specs.declared.entry.Entry.{Entry}
 use Rattle.jh_history.specs.Due.{IsLegal, IsQuiet}
 use Rattle.jh_board.specs.BoardView.{BoardView}
+use Rattle.jh_run.specs.Ends.{IsFullAndBusy}
 use Rattle.jh_run.specs.Origins.{Origin}
 use Rattle.jh_run.specs.Plays.{IsBoardOf}
 use Rattle.jh_run.proofs.TurnLemmas.{board_origin}
-use Rattle.jh_run.specs.Drives.{ExplainsEnd, drive_end_of}
+use Rattle.jh_run.specs.Drives.{ExplainsEnd}
+use Rattle.jh_run.specs.Private.Driving.{last_fault}
 use Rattle.jh_run.specs.declared.ended.Ended.{Ended}
 use Rattle.jh_run.specs.declared.ended.Ended.TheVariants.{Quiet as EndedQuiet, Full as EndedFull}
-use Rattle.jh_run.specs.declared.driving.DriveEnd.{DriveEnd}
-use Rattle.jh_run.specs.declared.driving.DriveEnd.TheVariants.{Quiet, Refused}
+use Rattle.jh_board.specs.declared.turn.TurnFault.{TurnFault}
 use Rattle.jh_board.specs.declared.turn.TurnFault.TheVariants.{Full, NoMemory}
 
 -- the law that nothing legal extends a quiet journal, as it is stated
@@ -30,13 +31,13 @@ whole_same seen rest all e le =
     let none : rest ≡ [] = nil_from_length rest (omega (arith, length-append seen rest, ap length e)) in
     sym (append-nil seen) ∙ (ap (λ (w : List Entry). seen ++ w) (sym none) ∙ e)
 
-pub Tells_whole : QuietEnds → (origin : Origin) (end : DriveEnd) (seen all : List Entry) → IsPrefix seen all → IsLegal origin.image all → length all ≤ origin.limit → ExplainsEnd origin end seen → ExplainsEnd origin end all
-Tells_whole ends origin Quiet seen all p legal few h = whole_quiet ends origin.image seen p.0 all p.1 legal h
-Tells_whole ends origin (Refused Full) seen all p legal few h =
+pub Tells_whole : QuietEnds → (origin : Origin) (refused : Option TurnFault) (seen all : List Entry) → IsPrefix seen all → IsLegal origin.image all → length all ≤ origin.limit → ExplainsEnd origin refused seen → ExplainsEnd origin refused all
+Tells_whole ends origin None seen all p legal few h = whole_quiet ends origin.image seen p.0 all p.1 legal h
+Tells_whole ends origin (Some Full) seen all p legal few h =
     let count : length seen ≡ origin.limit = h.0 in
-    let P : List Entry → Type 0 = λ es. ExplainsEnd origin (Refused Full) es in
+    let P : List Entry → Type 0 = λ es. ExplainsEnd origin (Some Full) es in
     subst P (whole_same seen p.0 all p.1 (omega arith)) h
-Tells_whole ends origin (Refused NoMemory) seen all p legal few h = tt
+Tells_whole ends origin (Some NoMemory) seen all p legal few h = tt
 
 -- a board of that origin is one of the image with the limit
 pub board_of : (origin : Origin) (board : BoardView) → board_origin board ≡ origin → IsBoardOf origin.image origin.limit board
@@ -48,23 +49,23 @@ pub board_legal : (origin : Origin) (board : BoardView) → board_origin board �
 board_legal origin board e legal = let P : Origin → Type 0 = λ o. IsLegal o.image board.entries in subst P e legal
 
 -- what a board's journal begins with tells of it, it tells of the whole journal
-pub board_tells : QuietEnds → (origin : Origin) (board : BoardView) (end : DriveEnd) (seen : List Entry) → board_origin board ≡ origin → IsLegal board.image board.entries → length board.entries ≤ board.limit → IsPrefix seen board.entries → ExplainsEnd origin end seen → ExplainsEnd origin end board.entries
-board_tells ends origin board end seen e legal within begins tells =
+pub board_tells : QuietEnds → (origin : Origin) (board : BoardView) (refused : Option TurnFault) (seen : List Entry) → board_origin board ≡ origin → IsLegal board.image board.entries → length board.entries ≤ board.limit → IsPrefix seen board.entries → ExplainsEnd origin refused seen → ExplainsEnd origin refused board.entries
+board_tells ends origin board refused seen e legal within begins tells =
     let P : Origin → Type 0 = λ o. length board.entries ≤ o.limit in
-    Tells_whole ends origin end seen board.entries begins (board_legal origin board e legal) (subst P e within) tells
+    Tells_whole ends origin refused seen board.entries begins (board_legal origin board e legal) (subst P e within) tells
 
 -- a run that ended quiet, and one that ended full
 abbrev pub QuietExactly : Ended → Image → List Entry → Type 0
 QuietExactly ended image entries = (ended ≡ EndedQuiet) ↔ IsQuiet image entries
 
 abbrev pub FullExactly : Ended → Image → ℕ → List Entry → Type 0
-FullExactly ended image limit entries = (ended ≡ EndedFull) ↔ ((length entries ≡ limit) × ¬ IsQuiet image entries)
+FullExactly ended image limit entries = (ended ≡ EndedFull) ↔ IsFullAndBusy image limit entries
 
-pub quiet_exactly : (origin : Origin) (ended : Ended) (entries : List Entry) → ExplainsEnd origin (drive_end_of ended) entries → QuietExactly ended origin.image entries
+pub quiet_exactly : (origin : Origin) (ended : Ended) (entries : List Entry) → ExplainsEnd origin (last_fault ended) entries → QuietExactly ended origin.image entries
 quiet_exactly origin EndedQuiet entries quiet = (λ e. quiet, λ h. refl)
 quiet_exactly origin EndedFull entries full = (λ e. absurd (cc e), λ quiet. absurd (full.1 quiet))
 
-pub full_exactly : (origin : Origin) (ended : Ended) (entries : List Entry) → ExplainsEnd origin (drive_end_of ended) entries → FullExactly ended origin.image origin.limit entries
+pub full_exactly : (origin : Origin) (ended : Ended) (entries : List Entry) → ExplainsEnd origin (last_fault ended) entries → FullExactly ended origin.image origin.limit entries
 full_exactly origin EndedQuiet entries quiet = (λ e. absurd (cc e), λ h. absurd (h.1 quiet))
 full_exactly origin EndedFull entries full = (λ e. full, λ h. refl)
 

@@ -1,5 +1,8 @@
--- How a schedule ends.
-use Rattle.std.specs.Prelude.{Bool, true, false}
+-- How a schedule or a run ends.
+use Rattle.std.specs.Prelude.{◌≡◌, ℕ, Bool, true, false, List, length}
+use Rattle.jh_script.specs.declared.image.Image.{Image}
+use Rattle.jh_history.specs.declared.entry.Entry.{Entry}
+use Rattle.jh_history.specs.Due.{IsQuiet}
 use Rattle.jh_run.specs.declared.ended.Ended.{Ended}
 use Rattle.jh_run.specs.declared.ended.Ended.TheVariants.{Quiet, Full}
 
@@ -7,3 +10,7 @@ use Rattle.jh_run.specs.declared.ended.Ended.TheVariants.{Quiet, Full}
 abbrev pub is_full : Ended → Bool
 is_full Quiet = false
 is_full Full = true
+
+-- the journal is at its limit and not quiet
+abbrev pub IsFullAndBusy : Image → ℕ → List Entry → Type 0
+IsFullAndBusy image limit entries = (length entries ≡ limit) × ¬ IsQuiet image entries

@@ -1,7 +1,6 @@
 pub mod Ends
 pub mod Maps
 pub mod Plays
-pub mod Typed
 pub mod Origins
 pub mod Turns
 pub mod Running

@@ -1,2 +1,4 @@
 -- Definitions that mirror the code: clauses of private functions alone cite them, and no public clause rests on them.
+pub mod Driving
 pub mod Ran
+pub mod Typed

@@ -3,6 +3,7 @@ use Rattle.std.specs.Prelude.{◌≡◌, ◌<◌, ℕ, List, [], ◌∷◌, ◌+
 use Rattle.jh_history.specs.declared.entry.Entry.{Entry}
 use Rattle.jh_history.specs.Lives.{is_on_board}
 use Rattle.jh_history.specs.Due.{due, IsQuiet}
+use Rattle.jh_run.specs.Ends.{IsFullAndBusy}
 use Rattle.jh_run.specs.Origins.{Origin}
 use Rattle.jh_board.specs.declared.turn.Turn.{Turn}
 use Rattle.jh_board.specs.declared.turn.Turn.TheVariants.{Made, Edited, NotNow, Done}
@@ -23,8 +24,8 @@ abbrev pub Serves : Origin → ℕ → Type 0
 Serves origin cpu = IsTrue (is_on_board origin.image cpu)
 
 -- the entries of the running board
-abbrev pub entries_of : Running → List Entry
-entries_of running = running.board.entries
+abbrev pub journal_of : Running → List Entry
+journal_of running = running.board.entries
 
 -- at these entries a turn of the CPU may answer so, and leave those; no turn edits tables
 abbrev pub IsTurnAnswer : Origin → ℕ → List Entry → List Entry → Result Turn TurnFault → Type 0
@@ -32,5 +33,5 @@ IsTurnAnswer origin cpu before after (Ok (Made entry)) = (due origin.image befor
 IsTurnAnswer origin cpu before after (Ok (Edited left)) = ⊥
 IsTurnAnswer origin cpu before after (Ok (NotNow other)) = (due origin.image before cpu ≡ None) × IsSome (due origin.image before other) × (after ≡ before)
 IsTurnAnswer origin cpu before after (Ok Done) = IsQuiet origin.image before × (after ≡ before)
-IsTurnAnswer origin cpu before after (Err Full) = (length before ≡ origin.limit) × ¬ IsQuiet origin.image before × (after ≡ before)
+IsTurnAnswer origin cpu before after (Err Full) = IsFullAndBusy origin.image origin.limit before × (after ≡ before)
 IsTurnAnswer origin cpu before after (Err NoMemory) = after ≡ before

@@ -1,8 +1,6 @@
 //! A running board may cross threads.
 use crate::running::Running;
-
-/// Takes any value that may be sent to another thread, and does nothing.
-fn may_be_sent<X: Send>(_x: &X) {}
+use jh_num::may_be_sent;
 
 /// A running board may be sent to another thread. It does nothing.
 fn may_cross(running: &Running) {

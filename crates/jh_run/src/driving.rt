@@ -2,7 +2,8 @@
 ghost use Rattle.std.specs.Prelude.{◌≡◌, ◌<◌, All, IfSome, length, None, Some};
 ghost use Rattle.jh_turn.specs.Ports.{IsPortOf, port_caller, opened_value};
 ghost use Rattle.jh_turn.specs.PortSets.{IsSameSet};
-ghost use Rattle.jh_run.specs.Drives.{Shows, SomeShows, drive_end, drive_end_after};
+ghost use Rattle.jh_run.specs.Drives.{Shows, SomeShows};
+ghost use Rattle.jh_run.specs.Private.Driving.{end_after};
 ghost use Rattle.jh_run.specs.Running.{origin_of};
 
 use crate::running::Running;
@@ -12,35 +13,14 @@ use jh_turn::{Port, Shared};
 use std::sync::Wait;
 use std::thread;
 
-/// Why ports are driven no more.
-#[derive(Clone, Copy, PartialEq, Eq, Debug)]
-pub enum DriveEnd {
-    /// Nothing is due to any CPU.
-    Quiet,
-    /// A turn was refused.
-    Refused(TurnFault),
-}
-
-impl DriveEnd {
-    /// For what a turn was refused, if one was.
-    fn fault(self) -> Option<TurnFault>
-        ensures { self ≡ drive_end result }
-    {
-        match self {
-            DriveEnd::Quiet => None,
-            DriveEnd::Refused(fault) => Some(fault),
-        }
-    }
-}
-
-/// Why no turn follows the one that answers this, if so.
-fn end_after(answer: Result<Turn, TurnFault>) -> Option<DriveEnd>
-    ensures { result ≡ drive_end_after answer }
+/// Whether no turn follows the one that answers this, and then for what it was refused, if it was.
+fn end_after(answer: Result<Turn, TurnFault>) -> Option<Option<TurnFault>>
+    ensures { result ≡ end_after answer }
 {
     match answer {
         Ok(Turn::Made(_) | Turn::Edited { .. } | Turn::NotNow { .. }) => None,
-        Ok(Turn::Done) => Some(DriveEnd::Quiet),
-        Err(fault) => Some(DriveEnd::Refused(fault)),
+        Ok(Turn::Done) => Some(None),
+        Err(fault) => Some(Some(fault)),
     }
 }
 
@@ -49,8 +29,8 @@ fn has_made(answer: &Result<Turn, TurnFault>) -> bool {
     matches!(answer, Ok(Turn::Made(_)))
 }
 
-/// A turn of the port behind the gate. `round` is the number of turns of this port before; `idle` becomes false where the
-/// turn makes an entry.
+/// A turn of the port behind the gate; whether none follows it, and then for what it was refused, if it was. `round` is the
+/// number of turns of this port before; `idle` becomes false where the turn makes an entry.
 fn drive_port<R: Wait, G: Gate>(
     rt: &R,
     shared: &Shared<Running>,
@@ -58,11 +38,11 @@ fn drive_port<R: Wait, G: Gate>(
     gate: &G,
     round: u64,
     idle: &mut bool,
-) -> Option<DriveEnd>
+) -> Option<Option<TurnFault>>
     requires { IsPortOf shared.now port.old }
     ensures port { IsPortOf shared.now port.new }
     ensures caller { port_caller port.new ≡ port_caller port.old }
-    ensures shows { IfSome result (λ end. Shows (origin_of (opened_value shared.now)) end port.new) }
+    ensures shows { IfSome result (λ refused. Shows (origin_of (opened_value shared.now)) refused port.new) }
 {
     gate.pass(port.caller(), round);
     let answer = shared.turn(rt, port);
@@ -70,17 +50,18 @@ fn drive_port<R: Wait, G: Gate>(
     end_after(answer)
 }
 
-/// A turn of each port in their order, until one is the last. Where none made an entry, other threads go first.
+/// A turn of each port in their order, until none follows one; whether that is so, and then for what that one was refused, if
+/// it was. Where none made an entry, other threads go first.
 fn drive_round<R: Wait, G: Gate>(
     rt: &R,
     shared: &Shared<Running>,
     ports: &mut [Port<Running>],
     gate: &G,
     round: u64,
-) -> Option<DriveEnd>
+) -> Option<Option<TurnFault>>
     requires { All (IsPortOf shared.now) ports.old }
     ensures same { IsSameSet shared.now ports.old ports.new }
-    ensures shows { IfSome result (λ end. SomeShows (origin_of (opened_value shared.now)) end ports.new) }
+    ensures shows { IfSome result (λ refused. SomeShows (origin_of (opened_value shared.now)) refused ports.new) }
 {
     let mut idle = true;
     for i in 0..ports.len() {
@@ -107,12 +88,12 @@ pub fn drive<R: Wait, G: Gate>(
     requires some { 0 < length ports.old }
     requires own { All (IsPortOf shared.now) ports.old }
     ensures same { IsSameSet shared.now ports.old ports.new }
-    ensures shows { SomeShows (origin_of (opened_value shared.now)) (drive_end result) ports.new }
+    ensures shows { SomeShows (origin_of (opened_value shared.now)) result ports.new }
 {
     let mut round: u64 = 0;
     for _ in rt.forever() {
-        if let Some(end) = drive_round(rt, shared, ports, gate, round) {
-            return end.fault();
+        if let Some(refused) = drive_round(rt, shared, ports, gate, round) {
+            return refused;
         }
         round = round.saturating_add(1);
     }

@@ -1,6 +1,6 @@
 //! A board that callers take turns on.
 ghost use Rattle.std.specs.Prelude.{◌≡◌, Some};
-ghost use Rattle.jh_run.specs.Turns.{IsFullAndBusy};
+ghost use Rattle.jh_run.specs.Ends.{IsFullAndBusy};
 ghost use Rattle.jh_board.specs.declared.turn.TurnFault.TheVariants.{Full};
 
 use jh_board::{Board, TurnFault};
@@ -10,5 +10,5 @@ use jh_board::{Board, TurnFault};
 pub struct Running {
     pub board: Board,
     pub refused: Option<TurnFault>,
-    ghost full: { refused ≡ Some Full → IsFullAndBusy board },
+    ghost full: { refused ≡ Some Full → IsFullAndBusy board.image board.limit board.entries },
 }

@@ -4,8 +4,10 @@ ghost use Rattle.jh_history.specs.Admitted.{IsAdmitted};
 ghost use Rattle.jh_history.specs.Due.{IsLegal, IsQuiet};
 ghost use Rattle.jh_history.specs.Lives.{is_on_board};
 ghost use Rattle.jh_turn.specs.Ports.{AreAllPorts, opened_value};
-ghost use Rattle.jh_run.specs.Drives.{SomeShows, drive_end, drive_end_of};
+ghost use Rattle.jh_run.specs.Drives.{SomeShows};
+ghost use Rattle.jh_run.specs.Ends.{IsFullAndBusy};
 ghost use Rattle.jh_run.specs.Plays.{IsBoardOf};
+ghost use Rattle.jh_run.specs.Private.Driving.{last_fault};
 ghost use Rattle.jh_run.specs.Running.{origin_of};
 
 use crate::ended::Ended;
@@ -24,7 +26,7 @@ use std::sync::Wait;
 use std::thread::Threads;
 
 /// The callers of a board's lock: its CPUs in rising order.
-fn callers_of(alloc: Global, image: &Image) -> Result<Vec<u8>, NoMemory>
+fn callers_of_board(alloc: Global, image: &Image) -> Result<Vec<u8>, NoMemory>
     requires { IsAdmitted image.now }
     ensures some { IfOk result (λ callers. 0 < length callers.items) }
     ensures differ { IfOk result (λ callers. AllPairs (λ a b. a ≢ b) callers.items) }
@@ -48,7 +50,7 @@ fn open_run(
     ensures ports { IfOk result (λ r. AreAllPorts r.0 r.1.items) }
     ensures some { IfOk result (λ r. 0 < length r.1.items) }
 {
-    let callers = callers_of(alloc, &image)?;
+    let callers = callers_of_board(alloc, &image)?;
     let board = opened(alloc, image, limit)?;
     let running = Running {
         board,
@@ -62,7 +64,7 @@ fn open_run(
 
 /// How a run ended in which a turn was refused for this, if one was.
 fn ended_by(refused: Option<TurnFault>) -> Result<Ended, NoMemory>
-    ensures { IfOk result (λ ended. drive_end refused ≡ drive_end_of ended) }
+    ensures { IfOk result (λ ended. refused ≡ last_fault ended) }
 {
     match refused {
         None => Ok(Ended::Quiet),
@@ -75,11 +77,11 @@ fn ended_by(refused: Option<TurnFault>) -> Result<Ended, NoMemory>
 /// tells it, and nothing came behind that.
 fn end_run(shared: Shared<Running>, driven: Driven) -> Result<(Board, Ended), NoMemory>
     requires ports { AreAllPorts shared driven.ports.items }
-    requires shows { SomeShows (origin_of (opened_value shared)) (drive_end driven.refused) driven.ports.items }
+    requires shows { SomeShows (origin_of (opened_value shared)) driven.refused driven.ports.items }
     ensures board { IfOk result (λ r. IsBoardOf (origin_of (opened_value shared)).image (origin_of (opened_value shared)).limit r.0) }
     ensures legal { IfOk result (λ r. IsLegal (origin_of (opened_value shared)).image r.0.entries) }
     ensures quiet { IfOk result (λ r. (r.1 ≡ Ended.Quiet) ↔ IsQuiet (origin_of (opened_value shared)).image r.0.entries) }
-    ensures full { IfOk result (λ r. (r.1 ≡ Ended.Full) ↔ ((length r.0.entries ≡ (origin_of (opened_value shared)).limit) × ¬ IsQuiet (origin_of (opened_value shared)).image r.0.entries)) }
+    ensures full { IfOk result (λ r. (r.1 ≡ Ended.Full) ↔ IsFullAndBusy (origin_of (opened_value shared)).image (origin_of (opened_value shared)).limit r.0.entries) }
 {
     nothing_extends_a_quiet_journal();
     let Driven { ports, refused } = driven;
@@ -104,7 +106,7 @@ pub fn run<R: Threads + Wait + Sync, G: Gate + Sync>(
     ensures board { IfOk result (λ r. IsBoardOf image limit r.0) }
     ensures legal { IfOk result (λ r. IsLegal image r.0.entries) }
     ensures quiet { IfOk result (λ r. (r.1 ≡ Ended.Quiet) ↔ IsQuiet image r.0.entries) }
-    ensures full { IfOk result (λ r. (r.1 ≡ Ended.Full) ↔ ((length r.0.entries ≡ limit) × ¬ IsQuiet image r.0.entries)) }
+    ensures full { IfOk result (λ r. (r.1 ≡ Ended.Full) ↔ IsFullAndBusy image limit r.0.entries) }
 {
     let (shared, ports) = open_run(alloc, image, limit)?;
     let driven = drive_all(rt, alloc, &shared, ports, gate)?;

@@ -2,7 +2,7 @@
 ghost use Rattle.std.specs.Prelude.{◌≡◌, None, Some};
 ghost use Rattle.std.specs.Result.{result_err};
 ghost use Rattle.jh_run.specs.Turns.{Takes};
-ghost use Rattle.jh_run.specs.Running.{whose_entry, origin_of, Serves, entries_of, IsTurnAnswer};
+ghost use Rattle.jh_run.specs.Running.{whose_entry, origin_of, Serves, journal_of, IsTurnAnswer};
 ghost use Rattle.jh_turn.specs.Histories.{Grows};
 
 use crate::running::Running;
@@ -17,7 +17,7 @@ impl Turner for Running {
     type Answer = Result<Turn, TurnFault>;
 
     ghost use Rattle.jh_run.specs.Origins.{Origin as TheOrigin};
-    ghost use Rattle.jh_run.specs.Running.{whose_entry, origin_of, Serves, entries_of, IsTurnAnswer};
+    ghost use Rattle.jh_run.specs.Running.{whose_entry, origin_of, Serves, journal_of, IsTurnAnswer};
 
     ghost Origin = { TheOrigin };
 
@@ -27,15 +27,15 @@ impl Turner for Running {
 
     ghost serves = { Serves };
 
-    ghost history = { entries_of };
+    ghost history = { journal_of };
 
     ghost answers = { IsTurnAnswer };
 
     fn turn(&mut self, who: u8) -> Result<Turn, TurnFault>
         requires { Serves (origin_of self.old) who }
         ensures origin { origin_of self.new ≡ origin_of self.old }
-        ensures history { Grows whose_entry who (entries_of self.old) (entries_of self.new) }
-        ensures answer { IsTurnAnswer (origin_of self.old) who (entries_of self.old) (entries_of self.new) result }
+        ensures history { Grows whose_entry who (journal_of self.old) (journal_of self.new) }
+        ensures answer { IsTurnAnswer (origin_of self.old) who (journal_of self.old) (journal_of self.new) result }
         ensures ran { self.old.refused ≡ None → Takes self.old.board who result self.new.board × (self.new.refused ≡ result_err result) }
         ensures refused { (fault : TurnFault) → self.old.refused ≡ Some fault → (result ≡ Err fault) × (self.new.board ≡ self.old.board) × (self.new.refused ≡ self.old.refused) }
     {

@@ -4,7 +4,7 @@ ghost use Rattle.std.specs.Prelude.{◌<◌, ◌^◌, All};
 ghost use Rattle.jh_script.specs.declared.image.Preload.{Preload as ThePreload};
 ghost use Rattle.jh_script.specs.declared.image.Program.{Program as TheProgram};
 ghost use Rattle.jh_history.specs.Sound.{AreBytes};
-ghost use Rattle.jh_run.specs.Typed.{IsTypedOp, HasTypedNumbers};
+ghost use Rattle.jh_run.specs.Private.Typed.{IsTypedOp, HasTypedNumbers};
 
 use jh_script::{Image, Op, Preload, Program};
 

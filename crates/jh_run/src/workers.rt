@@ -3,7 +3,7 @@ ghost use Rattle.std.specs.Prelude.{◌≡◌, ◌+◌, ◌<◌, ◌≤◌, ◌+
 ghost use mathlib.Core.List.{IsPrefix};
 ghost use Rattle.jh_turn.specs.Ports.{IsPortOf, port_caller, opened_value};
 ghost use Rattle.jh_turn.specs.PortSets.{IsSameSet};
-ghost use Rattle.jh_run.specs.Drives.{SomeShows, drive_end};
+ghost use Rattle.jh_run.specs.Drives.{SomeShows};
 ghost use Rattle.jh_run.specs.Running.{origin_of};
 
 use crate::driving::drive;
@@ -28,7 +28,7 @@ pub struct Driven {
 }
 
 /// The callers of the ports.
-fn callers_of(alloc: Global, ports: &[Port<Running>]) -> Result<Vec<u8>, NoMemory>
+fn callers_of_ports(alloc: Global, ports: &[Port<Running>]) -> Result<Vec<u8>, NoMemory>
     ensures { IfOk result (λ callers. callers.items ≡ map port_caller ports.now) }
 {
     let mut callers = Vec::new(alloc);
@@ -154,7 +154,7 @@ fn see_end<H: Home, R: Wait, G: Gate>(
     requires home { H.shared ≡ Some shared.now }
     ensures own { IsPortOf shared.now result.0 }
     ensures caller { port_caller result.0 ≡ port_caller post.port }
-    ensures shows { SomeShows (origin_of (opened_value shared.now)) (drive_end result.1) (result.0 ∷ []) }
+    ensures shows { SomeShows (origin_of (opened_value shared.now)) result.1 (result.0 ∷ []) }
 {
     let later = Later {
         gate,
@@ -224,9 +224,9 @@ fn drive_at<H: Home + Send + Sync, R: Threads + Wait + Sync, G: Gate + Sync>(
     requires own { All (IsPortOf shared.now) ports.items }
     requires some { 0 < length ports.items }
     ensures same { IfOk result (λ driven. IsSameSet shared.now ports.items driven.ports.items) }
-    ensures shows { IfOk result (λ driven. SomeShows (origin_of (opened_value shared.now)) (drive_end driven.refused) driven.ports.items) }
+    ensures shows { IfOk result (λ driven. SomeShows (origin_of (opened_value shared.now)) driven.refused driven.ports.items) }
 {
-    let callers = callers_of(alloc, ports.as_slice())?;
+    let callers = callers_of_ports(alloc, ports.as_slice())?;
     let mut back = Vec::with_capacity(alloc, ports.len())?;
     let own = Vec::with_capacity(alloc, ports.len())?;
     let posts: Posts<H> = Posts::new(alloc)?;
@@ -254,7 +254,7 @@ pub fn drive_all<R: Threads + Wait + Sync, G: Gate + Sync>(
     requires own { All (IsPortOf shared.now) ports.items }
     requires some { 0 < length ports.items }
     ensures same { IfOk result (λ driven. IsSameSet shared.now ports.items driven.ports.items) }
-    ensures shows { IfOk result (λ driven. SomeShows (origin_of (opened_value shared.now)) (drive_end driven.refused) driven.ports.items) }
+    ensures shows { IfOk result (λ driven. SomeShows (origin_of (opened_value shared.now)) driven.refused driven.ports.items) }
 {
     drive_at::<Brand, R, G>(rt, alloc, shared, ports, gate)
 }

@@ -17,9 +17,9 @@ use Rattle.jh_script.specs.declared.op.Op.{Op}
 use Rattle.jh_script.specs.declared.op.Op.TheVariants.{Read, Write, Fetch, Await, Irq, Hvc}
 use Rattle.jh_script.specs.declared.line.Line.TheVariants.{Blank, Operation, Syntax, Width}
 use Rattle.jh_script.specs.Numbers.{are_digits, value_of, decimal_of, hexadecimal_of, number_written}
-use Rattle.jh_script.specs.Words.{words, blanks}
+use Rattle.jh_script.specs.Words.{words, line_gaps}
 use Rattle.jh_script.specs.Operations.{none_of, one_of, two_of, three_of, op_of, is_well_formed, IsWellFormed, line_of, line_of_op, line_of_words}
-use Rattle.jh_script.specs.Grammar.{IsDecimal, IsNumber, IsCallOf0, IsCallOf1, IsCallOf2, IsCallOf3, are_ascii, IsSkipped, IsTooWide, Writes}
+use Rattle.jh_script.specs.Grammar.{IsDecimal, IsNumber, IsNameAlone, IsNameAndOne, IsNameAndTwo, IsNameAndThree, are_ascii, IsSkipped, IsTooWide, Writes}
 use Rattle.jh_script.proofs.OperationLemmas.{well_formed_by_test, test_from_well_formed}
 
 -- ---- numbers
@@ -162,24 +162,24 @@ number_from word n (inr h) =
 
 -- ---- the words of an operation
 
-none_to : (name : List ℕ) (behind : List (List ℕ)) (x : Unit {0}) → none_of behind ≡ Some x → IsCallOf0 name (name ∷ behind)
+none_to : (name : List ℕ) (behind : List (List ℕ)) (x : Unit {0}) → none_of behind ≡ Some x → IsNameAlone name (name ∷ behind)
 unfolding none_of
 none_to name [] x e = record { are = refl }
 none_to name (a ∷ more) x e = absurd (none-some _ e)
 
-one_to : (name : List ℕ) (behind : List (List ℕ)) (x : ℕ) → one_of behind ≡ Some x → IsCallOf1 name (name ∷ behind) x
+one_to : (name : List ℕ) (behind : List (List ℕ)) (x : ℕ) → one_of behind ≡ Some x → IsNameAndOne name (name ∷ behind) x
 unfolding one_of
 one_to name [] x e = absurd (none-some _ e)
 one_to name (a ∷ []) x e = record { a = a; are = refl; first = number_to a x e }
 one_to name (a ∷ b ∷ more) x e = absurd (none-some _ e)
 
-two_to : (name : List ℕ) (behind : List (List ℕ)) (n : ℕ × ℕ) → two_of behind ≡ Some n → IsCallOf2 name (name ∷ behind) n.0 n.1
+two_to : (name : List ℕ) (behind : List (List ℕ)) (n : ℕ × ℕ) → two_of behind ≡ Some n → IsNameAndTwo name (name ∷ behind) n.0 n.1
 unfolding two_of
 two_to name [] n e = absurd (none-some _ e)
 two_to name (a ∷ []) n e = absurd (none-some _ e)
 two_to name (a ∷ b ∷ []) n e = by (number_written a) (number_written b) refl refl e
   where
-    by : (s t : Option ℕ) → number_written a ≡ s → number_written b ≡ t → option_and_then (λ x. option_and_then (λ y. Some (x, y)) t) s ≡ Some n → IsCallOf2 name (name ∷ a ∷ b ∷ []) n.0 n.1
+    by : (s t : Option ℕ) → number_written a ≡ s → number_written b ≡ t → option_and_then (λ x. option_and_then (λ y. Some (x, y)) t) s ≡ Some n → IsNameAndTwo name (name ∷ a ∷ b ∷ []) n.0 n.1
     by None t f g e = absurd (none-some _ e)
     by (Some x) None f g e = absurd (none-some _ e)
     by (Some x) (Some y) f g e =
@@ -187,14 +187,14 @@ two_to name (a ∷ b ∷ []) n e = by (number_written a) (number_written b) refl
         record { a = a; b = b; are = refl; first = number_to a n.0 (f ∙ ap (λ (m : ℕ × ℕ). Some m.0) same); second = number_to b n.1 (g ∙ ap (λ (m : ℕ × ℕ). Some m.1) same) }
 two_to name (a ∷ b ∷ c ∷ more) n e = absurd (none-some _ e)
 
-three_to : (name : List ℕ) (behind : List (List ℕ)) (n : ℕ × ℕ × ℕ) → three_of behind ≡ Some n → IsCallOf3 name (name ∷ behind) n.0 n.1 n.2
+three_to : (name : List ℕ) (behind : List (List ℕ)) (n : ℕ × ℕ × ℕ) → three_of behind ≡ Some n → IsNameAndThree name (name ∷ behind) n.0 n.1 n.2
 unfolding three_of
 three_to name [] n e = absurd (none-some _ e)
 three_to name (a ∷ []) n e = absurd (none-some _ e)
 three_to name (a ∷ b ∷ []) n e = absurd (none-some _ e)
 three_to name (a ∷ b ∷ c ∷ []) n e = by (number_written a) (number_written b) (number_written c) refl refl refl e
   where
-    by : (r s t : Option ℕ) → number_written a ≡ r → number_written b ≡ s → number_written c ≡ t → option_and_then (λ x. option_and_then (λ y. option_and_then (λ z. Some (x, y, z)) t) s) r ≡ Some n → IsCallOf3 name (name ∷ a ∷ b ∷ c ∷ []) n.0 n.1 n.2
+    by : (r s t : Option ℕ) → number_written a ≡ r → number_written b ≡ s → number_written c ≡ t → option_and_then (λ x. option_and_then (λ y. option_and_then (λ z. Some (x, y, z)) t) s) r ≡ Some n → IsNameAndThree name (name ∷ a ∷ b ∷ c ∷ []) n.0 n.1 n.2
     by None s t f g h e = absurd (none-some _ e)
     by (Some x) None t f g h e = absurd (none-some _ e)
     by (Some x) (Some y) None f g h e = absurd (none-some _ e)
@@ -227,17 +227,17 @@ op_to : (name : List ℕ) (behind : List (List ℕ)) (op : Op) → op_of name be
 unfolding op_of
 op_to name behind op e =
     choose (bytes_eq name (codes "read")) _ _ op (WrittenBy name behind op)
-    (λ is. mapped (λ (n : ℕ × ℕ). Read n.0 n.1) (two_of behind) op (WrittenBy name behind) (λ n f. subst (λ (x : List ℕ). IsCallOf2 x (name ∷ behind) n.0 n.1) ((bytes_eq-Decides name (codes "read")).0 is) (two_to name behind n f)))
+    (λ is. mapped (λ (n : ℕ × ℕ). Read n.0 n.1) (two_of behind) op (WrittenBy name behind) (λ n f. subst (λ (x : List ℕ). IsNameAndTwo x (name ∷ behind) n.0 n.1) ((bytes_eq-Decides name (codes "read")).0 is) (two_to name behind n f)))
     (choose (bytes_eq name (codes "write")) _ _ op (WrittenBy name behind op)
-    (λ is. mapped (λ (n : ℕ × ℕ × ℕ). Write n.0 n.1 n.2) (three_of behind) op (WrittenBy name behind) (λ n f. subst (λ (x : List ℕ). IsCallOf3 x (name ∷ behind) n.0 n.1 n.2) ((bytes_eq-Decides name (codes "write")).0 is) (three_to name behind n f)))
+    (λ is. mapped (λ (n : ℕ × ℕ × ℕ). Write n.0 n.1 n.2) (three_of behind) op (WrittenBy name behind) (λ n f. subst (λ (x : List ℕ). IsNameAndThree x (name ∷ behind) n.0 n.1 n.2) ((bytes_eq-Decides name (codes "write")).0 is) (three_to name behind n f)))
     (choose (bytes_eq name (codes "fetch")) _ _ op (WrittenBy name behind op)
-    (λ is. mapped (λ (n : ℕ). Fetch n) (one_of behind) op (WrittenBy name behind) (λ n f. subst (λ (x : List ℕ). IsCallOf1 x (name ∷ behind) n) ((bytes_eq-Decides name (codes "fetch")).0 is) (one_to name behind n f)))
+    (λ is. mapped (λ (n : ℕ). Fetch n) (one_of behind) op (WrittenBy name behind) (λ n f. subst (λ (x : List ℕ). IsNameAndOne x (name ∷ behind) n) ((bytes_eq-Decides name (codes "fetch")).0 is) (one_to name behind n f)))
     (choose (bytes_eq name (codes "await")) _ _ op (WrittenBy name behind op)
-    (λ is. mapped (λ (n : ℕ × ℕ × ℕ). Await n.0 n.1 n.2) (three_of behind) op (WrittenBy name behind) (λ n f. subst (λ (x : List ℕ). IsCallOf3 x (name ∷ behind) n.0 n.1 n.2) ((bytes_eq-Decides name (codes "await")).0 is) (three_to name behind n f)))
+    (λ is. mapped (λ (n : ℕ × ℕ × ℕ). Await n.0 n.1 n.2) (three_of behind) op (WrittenBy name behind) (λ n f. subst (λ (x : List ℕ). IsNameAndThree x (name ∷ behind) n.0 n.1 n.2) ((bytes_eq-Decides name (codes "await")).0 is) (three_to name behind n f)))
     (choose (bytes_eq name (codes "irq")) _ _ op (WrittenBy name behind op)
-    (λ is. mapped (λ (n : Unit {0}). Irq) (none_of behind) op (WrittenBy name behind) (λ n f. subst (λ (x : List ℕ). IsCallOf0 x (name ∷ behind)) ((bytes_eq-Decides name (codes "irq")).0 is) (none_to name behind n f)))
+    (λ is. mapped (λ (n : Unit {0}). Irq) (none_of behind) op (WrittenBy name behind) (λ n f. subst (λ (x : List ℕ). IsNameAlone x (name ∷ behind)) ((bytes_eq-Decides name (codes "irq")).0 is) (none_to name behind n f)))
     (choose (bytes_eq name (codes "hvc")) _ _ op (WrittenBy name behind op)
-    (λ is. mapped (λ (n : ℕ × ℕ × ℕ). Hvc n.0 n.1 n.2) (three_of behind) op (WrittenBy name behind) (λ n f. subst (λ (x : List ℕ). IsCallOf3 x (name ∷ behind) n.0 n.1 n.2) ((bytes_eq-Decides name (codes "hvc")).0 is) (three_to name behind n f)))
+    (λ is. mapped (λ (n : ℕ × ℕ × ℕ). Hvc n.0 n.1 n.2) (three_of behind) op (WrittenBy name behind) (λ n f. subst (λ (x : List ℕ). IsNameAndThree x (name ∷ behind) n.0 n.1 n.2) ((bytes_eq-Decides name (codes "hvc")).0 is) (three_to name behind n f)))
     (λ none. absurd (none-some _ none))))))) e
 
 three_from : (a b c : List ℕ) (x y z : ℕ) → IsNumber a x → IsNumber b y → IsNumber c z → three_of (a ∷ b ∷ c ∷ []) ≡ Some (x, y, z)
@@ -283,23 +283,23 @@ words_told (name ∷ behind) op e = by (starts_with nat_eq name (codes "#")) e
         let told = op_told (op_of name behind) op e in
         (op_to name behind op told.0, told.1)
 
-pub line_to : (text : List ℕ) (op : Op) → line_of text ≡ Operation op → (are_ascii text ≡ true) × Writes (words blanks text) op × IsWellFormed op
+pub line_to : (text : List ℕ) (op : Op) → line_of text ≡ Operation op → (are_ascii text ≡ true) × Writes (words line_gaps text) op × IsWellFormed op
 unfolding line_of
 line_to text op e = by (are_ascii text) refl e
   where
-    by : (t : Bool) → are_ascii text ≡ t → cond t (line_of_words (words blanks text)) Syntax ≡ Operation op → (are_ascii text ≡ true) × Writes (words blanks text) op × IsWellFormed op
+    by : (t : Bool) → are_ascii text ≡ t → cond t (line_of_words (words line_gaps text)) Syntax ≡ Operation op → (are_ascii text ≡ true) × Writes (words line_gaps text) op × IsWellFormed op
     by false h e = cc
     by true h e =
-        let told = words_told (words blanks text) op e in
+        let told = words_told (words line_gaps text) op e in
         (h, told.0, told.1)
 
 well_formed_line : (op : Op) → IsWellFormed op → line_of_op (Some op) ≡ Operation op
 unfolding line_of_op
 well_formed_line op h = rw (test_from_well_formed op h) refl
 
-pub line_from : (text : List ℕ) (op : Op) → (are_ascii text ≡ true) × Writes (words blanks text) op × IsWellFormed op → line_of text ≡ Operation op
+pub line_from : (text : List ℕ) (op : Op) → (are_ascii text ≡ true) × Writes (words line_gaps text) op × IsWellFormed op → line_of text ≡ Operation op
 unfolding line_of
-line_from text op h = rw (h.0) (op_from (words blanks text) op h.1 ∙ well_formed_line op h.2)
+line_from text op h = rw (h.0) (op_from (words line_gaps text) op h.1 ∙ well_formed_line op h.2)
 
 -- the words of an operation that isn't within its limits
 wide_line : (op : Op) → (IsWellFormed op → ⊥) → line_of_op (Some op) ≡ Width
@@ -334,15 +334,15 @@ pub width_to : (text : List ℕ) → line_of text ≡ Width → IsTooWide text
 unfolding line_of
 width_to text e = by (are_ascii text) refl e
   where
-    by : (t : Bool) → are_ascii text ≡ t → cond t (line_of_words (words blanks text)) Syntax ≡ Width → IsTooWide text
+    by : (t : Bool) → are_ascii text ≡ t → cond t (line_of_words (words line_gaps text)) Syntax ≡ Width → IsTooWide text
     by false h e = cc
     by true h e =
-        let wide = words_wide (words blanks text) e in
+        let wide = words_wide (words line_gaps text) e in
         record { ascii = h; op = wide.0; written = wide.1; wide = wide.2 }
 
 pub width_from : (text : List ℕ) → IsTooWide text → line_of text ≡ Width
 unfolding line_of
-width_from text w = rw (w.ascii) (op_from (words blanks text) w.op w.written ∙ wide_line w.op w.wide)
+width_from text w = rw (w.ascii) (op_from (words line_gaps text) w.op w.written ∙ wide_line w.op w.wide)
 
 no_blank : (o : Option Op) → line_of_op o ≡ Blank → ⊥
 unfolding line_of_op
@@ -367,14 +367,14 @@ unfolding line_of_words
 skipped [] h = refl
 skipped (name ∷ behind) h = ap (λ t. cond t Blank (line_of_op (op_of name behind))) h
 
-pub blank_to : (text : List ℕ) → line_of text ≡ Blank → (are_ascii text ≡ true) × IsSkipped (words blanks text)
+pub blank_to : (text : List ℕ) → line_of text ≡ Blank → (are_ascii text ≡ true) × IsSkipped (words line_gaps text)
 unfolding line_of
 blank_to text e = by (are_ascii text) refl e
   where
-    by : (t : Bool) → are_ascii text ≡ t → cond t (line_of_words (words blanks text)) Syntax ≡ Blank → (are_ascii text ≡ true) × IsSkipped (words blanks text)
+    by : (t : Bool) → are_ascii text ≡ t → cond t (line_of_words (words line_gaps text)) Syntax ≡ Blank → (are_ascii text ≡ true) × IsSkipped (words line_gaps text)
     by false h e = cc
-    by true h e = (h, words_blank (words blanks text) e)
+    by true h e = (h, words_blank (words line_gaps text) e)
 
-pub blank_from : (text : List ℕ) → (are_ascii text ≡ true) × IsSkipped (words blanks text) → line_of text ≡ Blank
+pub blank_from : (text : List ℕ) → (are_ascii text ≡ true) × IsSkipped (words line_gaps text) → line_of text ≡ Blank
 unfolding line_of
-blank_from text h = rw (h.0) (skipped (words blanks text) h.1)
+blank_from text h = rw (h.0) (skipped (words line_gaps text) h.1)

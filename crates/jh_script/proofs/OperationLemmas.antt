@@ -4,7 +4,8 @@ use Rattle.std.proofs.lemmas.Bool.{lt-ltb, eq-eqb, ltb-true, eqb-true, and_parts
 use Rattle.jh_script.specs.declared.op.Op.{Op}
 use Rattle.jh_script.specs.declared.op.Op.TheVariants.{Read, Write, Fetch, Await, Irq, Hvc}
 use Rattle.jh_script.specs.declared.line.Line.TheVariants.{Operation, Width}
-use Rattle.jh_script.specs.Operations.{IsWellFormed, IsWellFormedLine, is_well_formed, is_width, line_of_op}
+use Rattle.jh_script.specs.Operations.{IsWellFormed, is_well_formed, is_width, line_of_op}
+use Rattle.jh_script.specs.Private.Lines.{IsWellFormedLine}
 
 pub well_formed_by_test : (op : Op) → is_well_formed op ≡ true → IsWellFormed op
 unfolding is_well_formed

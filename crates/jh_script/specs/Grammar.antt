@@ -7,7 +7,7 @@ use Rattle.std.specs.Str.Parse.{AllDigits, digits_value}
 use Rattle.jh_script.specs.declared.op.Op.{Op}
 use Rattle.jh_script.specs.declared.op.Op.TheVariants.{Read, Write, Fetch, Await, Irq, Hvc}
 use Rattle.jh_script.specs.Operations.{IsWellFormed}
-use Rattle.jh_script.specs.Words.{blanks, words}
+use Rattle.jh_script.specs.Words.{line_gaps, words}
 
 -- the word is the number in decimal
 pub record IsDecimal (word : List ℕ) (n : ℕ) : Type 0 where
@@ -28,17 +28,17 @@ abbrev pub IsNumber : List ℕ → ℕ → Type 0
 IsNumber word n = IsDecimal word n ⊎ IsHexadecimal word n
 
 -- the words are this name alone
-pub record IsCallOf0 (name : List ℕ) (words : List (List ℕ)) : Type 0 where
+pub record IsNameAlone (name : List ℕ) (words : List (List ℕ)) : Type 0 where
   pub are : words ≡ name ∷ []
 
 -- the words are this name and one number
-pub record IsCallOf1 (name : List ℕ) (words : List (List ℕ)) (x : ℕ) : Type 0 where
+pub record IsNameAndOne (name : List ℕ) (words : List (List ℕ)) (x : ℕ) : Type 0 where
   pub a : List ℕ
   pub are : words ≡ name ∷ a ∷ []
   pub first : IsNumber a x
 
 -- the words are this name and two numbers
-pub record IsCallOf2 (name : List ℕ) (words : List (List ℕ)) (x y : ℕ) : Type 0 where
+pub record IsNameAndTwo (name : List ℕ) (words : List (List ℕ)) (x y : ℕ) : Type 0 where
   pub a : List ℕ
   pub b : List ℕ
   pub are : words ≡ name ∷ a ∷ b ∷ []
@@ -46,7 +46,7 @@ pub record IsCallOf2 (name : List ℕ) (words : List (List ℕ)) (x y : ℕ) : T
   pub second : IsNumber b y
 
 -- the words are this name and three numbers
-pub record IsCallOf3 (name : List ℕ) (words : List (List ℕ)) (x y z : ℕ) : Type 0 where
+pub record IsNameAndThree (name : List ℕ) (words : List (List ℕ)) (x y z : ℕ) : Type 0 where
   pub a : List ℕ
   pub b : List ℕ
   pub c : List ℕ
@@ -57,12 +57,12 @@ pub record IsCallOf3 (name : List ℕ) (words : List (List ℕ)) (x y z : ℕ) :
 
 -- the words write the operation
 abbrev pub Writes : List (List ℕ) → Op → Type 0
-Writes words (Read width at) = IsCallOf2 (codes "read") words width at
-Writes words (Write width at value) = IsCallOf3 (codes "write") words width at value
-Writes words (Fetch at) = IsCallOf1 (codes "fetch") words at
-Writes words (Await width at value) = IsCallOf3 (codes "await") words width at value
-Writes words Irq = IsCallOf0 (codes "irq") words
-Writes words (Hvc code a b) = IsCallOf3 (codes "hvc") words code a b
+Writes words (Read width at) = IsNameAndTwo (codes "read") words width at
+Writes words (Write width at value) = IsNameAndThree (codes "write") words width at value
+Writes words (Fetch at) = IsNameAndOne (codes "fetch") words at
+Writes words (Await width at value) = IsNameAndThree (codes "await") words width at value
+Writes words Irq = IsNameAlone (codes "irq") words
+Writes words (Hvc code a b) = IsNameAndThree (codes "hvc") words code a b
 
 -- the words are those of a line that is skipped: none, or a comment's
 abbrev pub IsSkipped : List (List ℕ) → Type 0
@@ -77,5 +77,5 @@ are_ascii text = list_all (λ byte. nat_lt byte 128) text
 pub record IsTooWide (text : List ℕ) : Type 0 where
   pub ascii : are_ascii text ≡ true
   pub op : Op
-  pub written : Writes (words blanks text) op
+  pub written : Writes (words line_gaps text) op
   pub wide : IsWellFormed op → ⊥

@@ -8,7 +8,7 @@ use Rattle.jh_script.specs.declared.op.Op.TheVariants.{Read, Write, Fetch, Await
 use Rattle.jh_script.specs.declared.line.Line.{Line}
 use Rattle.jh_script.specs.declared.line.Line.TheVariants.{Blank, Operation, Syntax, Width}
 use Rattle.jh_script.specs.Numbers.{number_written}
-use Rattle.jh_script.specs.Words.{words, blanks}
+use Rattle.jh_script.specs.Words.{words, line_gaps}
 
 infixl 10 ◌>>=◌
 -- the next step of a `do`, where this one tells something
@@ -94,11 +94,4 @@ line_of_words (name ∷ behind) = if starts_with nat_eq name (codes "#") then Bl
 
 -- what a line of these bytes tells: a byte of 128 or more is a fault, in a comment too
 unfoldable pub line_of : List ℕ → Line
-line_of line = if list_all (λ byte. nat_lt byte 128) line then line_of_words (words blanks line) else Syntax
-
--- the operation of the line, where it is one of an operation, is within its limits
-abbrev pub IsWellFormedLine : Line → Type 0
-IsWellFormedLine Blank = Unit {0}
-IsWellFormedLine (Operation op) = IsWellFormed op
-IsWellFormedLine Syntax = Unit {0}
-IsWellFormedLine Width = Unit {0}
+line_of line = if list_all (λ byte. nat_lt byte 128) line then line_of_words (words line_gaps line) else Syntax

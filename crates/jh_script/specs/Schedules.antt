@@ -4,7 +4,7 @@ use Rattle.jh_num.specs.Bits.{has_bit}
 use Rattle.jh_script.specs.declared.fault.ScheduleFault.{ScheduleFault}
 use Rattle.jh_script.specs.declared.fault.ScheduleFault.TheVariants as faults
 use Rattle.jh_script.specs.Numbers.{decimal_of}
-use Rattle.jh_script.specs.Words.{words, spaces}
+use Rattle.jh_script.specs.Words.{words, schedule_gaps}
 use Rattle.jh_script.specs.Programs.{unless}
 use Rattle.jh_script.specs.Limits.{most_items}
 
@@ -23,7 +23,7 @@ cpu_of cpus (Some n) = if nat_lt n 16 && has_cpu cpus n then Some n else None
 
 -- the items of the text, in order: a CPU of the board in decimal, or none
 unfoldable pub items_of : ℕ → List ℕ → List (Option ℕ)
-items_of cpus text = map (λ word. cpu_of cpus (decimal_of word)) (words spaces text)
+items_of cpus text = map (λ word. cpu_of cpus (decimal_of word)) (words schedule_gaps text)
 
 -- the first fault of items that stand behind others; items count from 1
 unfoldable pub first_refusal : ℕ → List (Option ℕ) → Option ScheduleFault

@@ -11,9 +11,9 @@ unfoldable pub words : List ℕ → List ℕ → List (List ℕ)
 words gaps text = filter (λ word. nat_lt 0 (length word)) (slice_split (is_gap gaps) text)
 
 -- the bytes that part words in a line: the space and the tab
-abbrev pub blanks : List ℕ
-blanks = 32 ∷ 9 ∷ []
+abbrev pub line_gaps : List ℕ
+line_gaps = 32 ∷ 9 ∷ []
 
 -- the bytes that part words in a schedule: the space, the tab, the line feed and the carriage return
-abbrev pub spaces : List ℕ
-spaces = 32 ∷ 9 ∷ 10 ∷ 13 ∷ []
+abbrev pub schedule_gaps : List ℕ
+schedule_gaps = 32 ∷ 9 ∷ 10 ∷ 13 ∷ []

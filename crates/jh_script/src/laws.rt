@@ -12,7 +12,7 @@ ghost use Rattle.jh_script.specs.Numbers.{number_written};
 ghost use Rattle.jh_script.specs.Operations.{IsWellFormed, line_of};
 ghost use Rattle.jh_script.specs.Programs.{lines_of, program_of};
 ghost use Rattle.jh_script.specs.Schedules.{schedule_of};
-ghost use Rattle.jh_script.specs.Words.{blanks, words};
+ghost use Rattle.jh_script.specs.Words.{line_gaps, words};
 
 /// A text is a program where none of its lines has a fault and the operations aren't too many; else the first
 /// line with a fault decides, or the first operation that is one too many, whichever comes first.
@@ -36,10 +36,10 @@ pub fn first_fault_of_a_schedule_decides()
 /// bytes are below 128 and it has no words or begins a comment. Any other line is a fault of syntax.
 pub fn lines_are_words_of_operations()
     ensures operation { (text : List ℕ) (op : TheOp) → (line_of text ≡ lines.Operation op)
-        ↔ ((are_ascii text ≡ true) × Writes (words blanks text) op × IsWellFormed op) }
+        ↔ ((are_ascii text ≡ true) × Writes (words line_gaps text) op × IsWellFormed op) }
     ensures width { (text : List ℕ) → (line_of text ≡ lines.Width) ↔ IsTooWide text }
     ensures skipped { (text : List ℕ) → (line_of text ≡ lines.Blank)
-        ↔ ((are_ascii text ≡ true) × IsSkipped (words blanks text)) }
+        ↔ ((are_ascii text ≡ true) × IsSkipped (words line_gaps text)) }
 {}
 
 /// A word is a number exactly where it is the number in decimal, or `0x` and 1 to 16 hexadecimal digits that

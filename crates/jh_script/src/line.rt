@@ -3,15 +3,16 @@ ghost use Rattle.std.specs.Prelude.{◌≡◌, nat_lt, IfSome, IfNone, IsTrue};
 ghost use Rattle.std.specs.List.{list_all};
 ghost use Rattle.std.specs.Option.{option_map};
 ghost use Rattle.jh_script.specs.declared.op.Op.TheVariants as ops;
-ghost use Rattle.jh_script.specs.Operations.{IsWellFormedLine, is_width, line_of, line_of_op, none_of, one_of, two_of, three_of, op_of};
-ghost use Rattle.jh_script.specs.Words.{words, blanks};
+ghost use Rattle.jh_script.specs.Operations.{is_width, line_of, line_of_op, none_of, one_of, two_of, three_of, op_of};
+ghost use Rattle.jh_script.specs.Private.Lines.{IsWellFormedLine};
+ghost use Rattle.jh_script.specs.Words.{words, line_gaps};
 
 use crate::number::number;
 use crate::op::{Op, access_width, max_of_width};
 use crate::words::{is, next_word};
 
 /// The bytes that part the words of a line.
-const BLANKS: &[u8] = b" \t";
+const LINE_GAPS: &[u8] = b" \t";
 
 /// What a line tells.
 #[derive(Clone, Copy, PartialEq, Eq, Debug)]
@@ -32,7 +33,7 @@ pub(crate) fn read_line(text: &[u8]) -> Line
     if !is_ascii(text) {
         return Line::Syntax;
     }
-    let Some((name, behind)) = next_word(BLANKS, text) else {
+    let Some((name, behind)) = next_word(LINE_GAPS, text) else {
         return Line::Blank;
     };
     if name.starts_with(b"#") {
@@ -51,7 +52,7 @@ fn is_ascii(text: &[u8]) -> bool
 /// The operation with this name, by the words behind it.
 #[tactic(auto, unfolding(crate::specs::Operations::op_of))]
 fn operation(name: &[u8], behind: &[u8]) -> Line
-    ensures { result ≡ line_of_op (op_of name.now (words blanks behind.now)) }
+    ensures { result ≡ line_of_op (op_of name.now (words line_gaps behind.now)) }
 {
     if is(name, "read") {
         return read(behind);
@@ -77,7 +78,7 @@ fn operation(name: &[u8], behind: &[u8]) -> Line
 /// `read W A`, by the words behind the name: a read of W bytes at A.
 #[tactic(auto, unfolding(crate::specs::Operations::line_of_op, crate::specs::Operations::is_well_formed))]
 fn read(behind: &[u8]) -> Line
-    ensures { result ≡ line_of_op (option_map (λ n. ops.Read n.0 n.1) (two_of (words blanks behind.now))) }
+    ensures { result ≡ line_of_op (option_map (λ n. ops.Read n.0 n.1) (two_of (words line_gaps behind.now))) }
 {
     let Some((width, at)) = two_numbers(behind) else {
         return Line::Syntax;
@@ -91,7 +92,7 @@ fn read(behind: &[u8]) -> Line
 /// `write W A V`, by the words behind the name: a write of the value V over W bytes at A.
 #[tactic(auto, unfolding(crate::specs::Operations::line_of_op, crate::specs::Operations::is_well_formed))]
 fn write(behind: &[u8]) -> Line
-    ensures { result ≡ line_of_op (option_map (λ n. ops.Write n.0 n.1 n.2) (three_of (words blanks behind.now))) }
+    ensures { result ≡ line_of_op (option_map (λ n. ops.Write n.0 n.1 n.2) (three_of (words line_gaps behind.now))) }
 {
     let Some((width, at, value)) = three_numbers(behind) else {
         return Line::Syntax;
@@ -107,7 +108,7 @@ fn write(behind: &[u8]) -> Line
 /// `fetch A`, by the words behind the name: a fetch of four bytes at A, a multiple of 4.
 #[tactic(auto, unfolding(crate::specs::Operations::line_of_op, crate::specs::Operations::is_well_formed))]
 fn fetch(behind: &[u8]) -> Line
-    ensures { result ≡ line_of_op (option_map (λ n. ops.Fetch n) (one_of (words blanks behind.now))) }
+    ensures { result ≡ line_of_op (option_map (λ n. ops.Fetch n) (one_of (words line_gaps behind.now))) }
 {
     let Some(at) = one_number(behind) else {
         return Line::Syntax;
@@ -122,7 +123,7 @@ fn fetch(behind: &[u8]) -> Line
 /// `await W A V`, by the words behind the name: a wait until a read of W bytes at A gives V.
 #[tactic(auto, unfolding(crate::specs::Operations::line_of_op, crate::specs::Operations::is_well_formed))]
 fn wait(behind: &[u8]) -> Line
-    ensures { result ≡ line_of_op (option_map (λ n. ops.Await n.0 n.1 n.2) (three_of (words blanks behind.now))) }
+    ensures { result ≡ line_of_op (option_map (λ n. ops.Await n.0 n.1 n.2) (three_of (words line_gaps behind.now))) }
 {
     let Some((width, at, value)) = three_numbers(behind) else {
         return Line::Syntax;
@@ -138,9 +139,9 @@ fn wait(behind: &[u8]) -> Line
 /// `irq`, behind which no word stands: a wait for an interrupt.
 #[tactic(auto, unfolding(crate::specs::Operations::line_of_op, crate::specs::Operations::is_well_formed, crate::specs::Operations::none_of))]
 fn interrupt(behind: &[u8]) -> Line
-    ensures { result ≡ line_of_op (option_map (λ n. ops.Irq) (none_of (words blanks behind.now))) }
+    ensures { result ≡ line_of_op (option_map (λ n. ops.Irq) (none_of (words line_gaps behind.now))) }
 {
-    match next_word(BLANKS, behind) {
+    match next_word(LINE_GAPS, behind) {
         Some(_) => Line::Syntax,
         None => Line::Operation(Op::Irq),
     }
@@ -149,7 +150,7 @@ fn interrupt(behind: &[u8]) -> Line
 /// `hvc C A B`, by the words behind the name: a hypercall with the code C and two arguments.
 #[tactic(auto, unfolding(crate::specs::Operations::line_of_op, crate::specs::Operations::is_well_formed))]
 fn call(behind: &[u8]) -> Line
-    ensures { result ≡ line_of_op (option_map (λ n. ops.Hvc n.0 n.1 n.2) (three_of (words blanks behind.now))) }
+    ensures { result ≡ line_of_op (option_map (λ n. ops.Hvc n.0 n.1 n.2) (three_of (words line_gaps behind.now))) }
 {
     match three_numbers(behind) {
         Some((code, a, b)) => Line::Operation(Op::Hvc { code, a, b }),
@@ -160,10 +161,10 @@ fn call(behind: &[u8]) -> Line
 /// The one word of the text, a number.
 #[tactic(auto, unfolding(crate::specs::Operations::one_of))]
 fn one_number(text: &[u8]) -> Option<u64>
-    ensures { result ≡ one_of (words blanks text.now) }
+    ensures { result ≡ one_of (words line_gaps text.now) }
 {
-    let (a, rest) = next_word(BLANKS, text)?;
-    if next_word(BLANKS, rest).is_some() {
+    let (a, rest) = next_word(LINE_GAPS, text)?;
+    if next_word(LINE_GAPS, rest).is_some() {
         return None;
     }
     number(a)
@@ -172,11 +173,11 @@ fn one_number(text: &[u8]) -> Option<u64>
 /// The two words of the text, numbers both.
 #[tactic(auto, unfolding(crate::specs::Operations::two_of))]
 fn two_numbers(text: &[u8]) -> Option<(u64, u64)>
-    ensures { result ≡ two_of (words blanks text.now) }
+    ensures { result ≡ two_of (words line_gaps text.now) }
 {
-    let (a, rest) = next_word(BLANKS, text)?;
-    let (b, rest) = next_word(BLANKS, rest)?;
-    if next_word(BLANKS, rest).is_some() {
+    let (a, rest) = next_word(LINE_GAPS, text)?;
+    let (b, rest) = next_word(LINE_GAPS, rest)?;
+    if next_word(LINE_GAPS, rest).is_some() {
         return None;
     }
     Some((number(a)?, number(b)?))
@@ -185,12 +186,12 @@ fn two_numbers(text: &[u8]) -> Option<(u64, u64)>
 /// The three words of the text, numbers all.
 #[tactic(auto, unfolding(crate::specs::Operations::three_of))]
 fn three_numbers(text: &[u8]) -> Option<(u64, u64, u64)>
-    ensures { result ≡ three_of (words blanks text.now) }
+    ensures { result ≡ three_of (words line_gaps text.now) }
 {
-    let (a, rest) = next_word(BLANKS, text)?;
-    let (b, rest) = next_word(BLANKS, rest)?;
-    let (c, rest) = next_word(BLANKS, rest)?;
-    if next_word(BLANKS, rest).is_some() {
+    let (a, rest) = next_word(LINE_GAPS, text)?;
+    let (b, rest) = next_word(LINE_GAPS, rest)?;
+    let (c, rest) = next_word(LINE_GAPS, rest)?;
+    if next_word(LINE_GAPS, rest).is_some() {
         return None;
     }
     Some((number(a)?, number(b)?, number(c)?))

@@ -1,6 +1,7 @@
 //! From a program's text to its operations.
 ghost use Rattle.std.specs.Prelude.{◌≡◌, ◌≢◌, ◌≤◌, ◌<◌, All, length, IfOk, IfSome, MatchOption, [], ◌∷◌, ◌++◌};
-ghost use Rattle.jh_script.specs.Operations.{IsWellFormed, IsWellFormedLine};
+ghost use Rattle.jh_script.specs.Operations.{IsWellFormed};
+ghost use Rattle.jh_script.specs.Private.Lines.{IsWellFormedLine};
 ghost use Rattle.jh_script.specs.Programs.{lines_of, program_of};
 
 use crate::fault::{MAX_OPS, ScriptFault};

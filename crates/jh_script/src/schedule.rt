@@ -11,7 +11,7 @@ use jh_num::Seq;
 use std::alloc::Global;
 
 /// The bytes that part the items of a schedule.
-const SPACES: &[u8] = b" \t\n\r";
+const SCHEDULE_GAPS: &[u8] = b" \t\n\r";
 
 /// The CPUs of a schedule's text: decimal numbers from 0 to 15 without leading zeros, parted by spaces, tabs, line
 /// feeds and carriage returns. Bit n of `cpus` says that the board has CPU n.
@@ -49,7 +49,7 @@ fn first_item(text: &[u8], cpus: u16) -> Option<(Option<u8>, &[u8])>
     ensures present { IfSome result (λ x. IfSome x.0 (IsPresent cpus)) }
     ensures shorter { IfSome result (λ x. length x.1.now < length text.now) }
 {
-    let (word, rest) = next_word(SPACES, text)?;
+    let (word, rest) = next_word(SCHEDULE_GAPS, text)?;
     Some((cpu(word, cpus), rest))
 }
 

@@ -16,7 +16,7 @@ use Rattle.jh_cellcfg.specs.declared.region.Region.{Region}
 use Rattle.jh_cellcfg.specs.Regions.{virt_end, place_in}
 use Rattle.jh_shape.specs.Claims.{Claims}
 use Rattle.jh_shape.specs.Intervals.{touches, spans}
-use Rattle.jh_shape.specs.Marks.{is_marked, is_inside, marked_slots, past_slot, is_beyond, AreMarkedWithin}
+use Rattle.jh_shape.specs.Private.Marks.{is_marked, is_inside, marked_slots, past_slot, is_beyond, AreMarkedWithin}
 use Rattle.jh_shape.specs.Shapes.{is_mapped, is_met_by, are_cut, is_cut_for_root, fits_blocks, may_be_block, is_leaf_by}
 use Rattle.jh_num.specs.Levels.{slot_size}
 use Rattle.jh_shape.proofs.CountLemmas.{count_below_le}

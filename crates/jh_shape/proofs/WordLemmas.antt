@@ -11,7 +11,7 @@ use Rattle.std.proofs.Math.Bool.{or-false}
 use native.Mathlib.Numerals.{unary_clauses}
 use Rattle.jh_num.specs.Bits.{has_bit}
 use Rattle.jh_num.proofs.Public.{or_assoc}
-use Rattle.jh_shape.specs.Marks.{is_marked}
+use Rattle.jh_shape.specs.Private.Marks.{is_marked}
 use Rattle.jh_shape.specs.Pages.{count_below}
 use Rattle.jh_shape.proofs.CountLemmas.{count_below_none, count_below_suc, count_below_agree, count_below_either, count_below_le}
 

@@ -3,7 +3,7 @@ pub mod Grants
 pub mod Intervals
 pub mod Laws
 pub mod Lives
-pub mod Marks
 pub mod Pages
+pub mod Private
 pub mod Shapes
 pub mod Suits

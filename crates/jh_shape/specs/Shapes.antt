@@ -95,12 +95,12 @@ leaf_of claims region start =
     else Leaf (out_of claims region start) (rights_of region) (is_device region)
 
 -- what stands in a slot where no region makes a leaf
-abbrev pub not_leaf : Bool → Want
-not_leaf met = if met then Table else Nothing
+abbrev pub want_without_leaf : Bool → Want
+want_without_leaf met = if met then Table else Nothing
 
 -- what stands in a slot, where that is the region that makes it a leaf, if one does
 abbrev pub want_from : Claims → ℕ → ℕ → Option Region → Want
-want_from claims level start None = not_leaf (is_met claims level start)
+want_from claims level start None = want_without_leaf (is_met claims level start)
 want_from claims level start (Some region) = leaf_of claims region start
 
 -- what stands in a slot: nothing, a table, or a leaf with its place, rights and kind of memory

@@ -3,14 +3,16 @@
 ghost use Rattle.std.specs.Prelude.{◌≡◌, ℕ, ◌+◌, ◌*◌, ◌^◌, ◌<◌, ◌≤◌, ◌&&◌, ◌||◌, false, true, not, nat_le, nat_lt, length};
 ghost use Rattle.std.specs.List.{list_any};
 ghost use Rattle.jh_shape.specs.Claims.{claims_of};
-ghost use Rattle.jh_shape.specs.Marks.{is_beyond, is_marked, marked_slots, past_slot, AreMarked, AreMarkedBelow, AreCuts};
+ghost use Rattle.jh_shape.specs.Private.Marks.{is_beyond, is_marked, marked_slots, past_slot, AreMarked, AreMarkedBelow, AreCuts};
 ghost use Rattle.jh_shape.specs.Pages.{tables_at, tables_of};
 ghost use Rattle.jh_cellcfg.specs.Regions.{place_in, virt_end};
 ghost use Rattle.jh_shape.specs.Shapes.{are_cut, is_aligned_alike, is_cut_for_root, is_leaf, is_leaf_by, is_met};
 ghost use Rattle.jh_num.specs.Levels.{slot_size};
 
 use crate::interval::{NO_SPAN, Slots};
-use crate::marks::{LOW_SLOTS, LOW_WORDS, SLOTS, WORDS, is_marked, mark, mark_free, mark_span};
+use crate::marks::{
+    LOW_SLOTS, LOW_WORDS, SLOTS, WORD_BITS, WORDS, is_marked, mark, mark_free, mark_span,
+};
 use crate::region::{addresses, any_beyond, any_place_beyond, fits_blocks, is_mapped, mark_cuts};
 use crate::target::Target;
 use jh_cellcfg::Region;
@@ -21,7 +23,7 @@ impl<'a> Target<'a> {
     fn fill_cuts(&self, words: &mut [u64], level: u8, limit: usize)
         requires cells { length self.now.cells.now ≤ 15 }
         requires level { level < LAST_LEVEL }
-        requires room { limit ≤ 64 * length words.old }
+        requires room { limit ≤ WORD_BITS * length words.old }
         requires clear { (n : ℕ) → is_marked words.old n ≡ false }
         ensures { AreMarkedBelow limit words.new level (λ n. are_cut (claims_of self.now).holders (n * slot_size level) (slot_size level)) }
     {
@@ -43,7 +45,7 @@ impl<'a> Target<'a> {
         requires cuts { AreCuts cuts.now level (claims_of self.now) }
         ensures { result ≡ are_cut (claims_of self.now).holders (n * slot_size level) (slot_size level) }
     {
-        if n < slot_of(level, ADDRESS_END) && n / 64 < cuts.len() as u64 {
+        if n < slot_of(level, ADDRESS_END) && n / (WORD_BITS as u64) < cuts.len() as u64 {
             return is_marked(cuts, n as usize);
         }
         let size = u128::from(slot_size(level));
@@ -55,7 +57,7 @@ impl<'a> Target<'a> {
         requires cells { length self.now.cells.now ≤ 15 }
         requires level { level < LAST_LEVEL }
         requires cuts { AreCuts cuts.now level (claims_of self.now) }
-        requires few { n < 262144 }
+        requires few { n < SLOTS }
         requires alike { is_aligned_alike level region.now ≡ true }
         requires within { region.now.virt_start ≤ n * slot_size level }
         ensures { result ≡ (self.now.root && are_cut (claims_of self.now).holders (place_in region.now (n * slot_size level)) (slot_size level)) }
@@ -76,8 +78,8 @@ impl<'a> Target<'a> {
     )
         requires cells { length self.now.cells.now ≤ 15 }
         requires level { level < LAST_LEVEL }
-        requires room { slots.to ≤ 64 * length words.old }
-        requires few { slots.to ≤ 262144 }
+        requires room { slots.to ≤ WORD_BITS * length words.old }
+        requires few { slots.to ≤ SLOTS }
         requires alike { is_aligned_alike level region.now ≡ true }
         requires within { (n : ℕ) → slots.from ≤ n → n < slots.to → region.now.virt_start ≤ n * slot_size level }
         requires cuts { AreCuts cuts.now level (claims_of self.now) }
@@ -95,7 +97,7 @@ impl<'a> Target<'a> {
     fn mark_leaves(&self, words: &mut [u64], cuts: &[u64], level: u8, region: &Region)
         requires cells { length self.now.cells.now ≤ 15 }
         requires level { level < LAST_LEVEL }
-        requires room { past_slot level (virt_end region.now) ≤ 64 * length words.old }
+        requires room { past_slot level (virt_end region.now) ≤ WORD_BITS * length words.old }
         requires cuts { AreCuts cuts.now level (claims_of self.now) }
         ensures { AreMarked words.new level (λ n. is_marked words.old n || is_leaf_by (claims_of self.now) level (n * slot_size level) region.now) }
     {
@@ -104,7 +106,7 @@ impl<'a> Target<'a> {
             if !self.root {
                 mark_span(words, slots.from, slots.to);
             } else if region.phys_start == region.virt_start
-                && slots.to.div_ceil(64) <= cuts.len()
+                && slots.to.div_ceil(WORD_BITS) <= cuts.len()
             {
                 mark_free(words, cuts, slots.from, slots.to);
             } else {
@@ -117,7 +119,7 @@ impl<'a> Target<'a> {
     fn fill_leaves(&self, words: &mut [u64], cuts: &[u64], level: u8)
         requires cells { length self.now.cells.now ≤ 15 }
         requires level { level < LAST_LEVEL }
-        requires room { list_any (λ region. is_beyond (64 * length words.old) level region) self.now.regions.now ≡ false }
+        requires room { list_any (λ region. is_beyond (WORD_BITS * length words.old) level region) self.now.regions.now ≡ false }
         requires clear { (n : ℕ) → is_marked words.old n ≡ false }
         requires cuts { AreCuts cuts.now level (claims_of self.now) }
         ensures { AreMarked words.new level (λ n. is_leaf (claims_of self.now) level (n * slot_size level)) }
@@ -130,10 +132,10 @@ impl<'a> Target<'a> {
     /// Marks the slots that page-mapped regions meet, and tells how many marks that adds.
     fn add_met(&self, words: &mut [u64], level: u8) -> u64
         requires level { level < LAST_LEVEL }
-        requires room { list_any (λ region. is_beyond (64 * length words.old) level region) self.now.regions.now ≡ false }
+        requires room { list_any (λ region. is_beyond (WORD_BITS * length words.old) level region) self.now.regions.now ≡ false }
         ensures met { AreMarked words.new level (λ n. is_marked words.old n || is_met (claims_of self.now) level (n * slot_size level)) }
         ensures more { marked_slots words.new level ≡ marked_slots words.old level + result }
-        ensures bound { result ≤ 262144 }
+        ensures bound { result ≤ SLOTS }
     {
         let mut more = 0;
         let mut done = NO_SPAN;
@@ -152,11 +154,11 @@ impl<'a> Target<'a> {
     fn count_in(&self, words: &mut [u64], cuts: &[u64], level: u8) -> u64
         requires cells { length self.now.cells.now ≤ 15 }
         requires level { level < LAST_LEVEL }
-        requires room { list_any (λ region. is_beyond (64 * length words.old) level region) self.now.regions.now ≡ false }
+        requires room { list_any (λ region. is_beyond (WORD_BITS * length words.old) level region) self.now.regions.now ≡ false }
         requires clear { (n : ℕ) → is_marked words.old n ≡ false }
         requires cuts { AreCuts cuts.now level (claims_of self.now) }
         ensures value { result ≡ tables_at (claims_of self.now) level }
-        ensures bound { result ≤ 262144 }
+        ensures bound { result ≤ SLOTS }
     {
         self.fill_leaves(words, cuts, level);
         self.add_met(words, level)
@@ -167,10 +169,10 @@ impl<'a> Target<'a> {
     fn count_low(&self, cuts: &[u64], level: u8) -> u64
         requires cells { length self.now.cells.now ≤ 15 }
         requires level { level < LAST_LEVEL }
-        requires low { list_any (λ region. is_beyond 8192 level region) self.now.regions.now ≡ false }
+        requires low { list_any (λ region. is_beyond LOW_SLOTS level region) self.now.regions.now ≡ false }
         requires cuts { AreCuts cuts.now level (claims_of self.now) }
         ensures value { result ≡ tables_at (claims_of self.now) level }
-        ensures bound { result ≤ 262144 }
+        ensures bound { result ≤ SLOTS }
     {
         let mut words = [0; LOW_WORDS];
         self.count_in(&mut words, cuts, level)
@@ -182,7 +184,7 @@ impl<'a> Target<'a> {
         requires level { level < LAST_LEVEL }
         requires cuts { AreCuts cuts.now level (claims_of self.now) }
         ensures value { result ≡ tables_at (claims_of self.now) level }
-        ensures bound { result ≤ 262144 }
+        ensures bound { result ≤ SLOTS }
     {
         let mut words = [0; WORDS];
         self.count_in(&mut words, cuts, level)
@@ -192,9 +194,9 @@ impl<'a> Target<'a> {
     fn count_root_low(&self, level: u8) -> u64
         requires cells { length self.now.cells.now ≤ 15 }
         requires level { level < LAST_LEVEL }
-        requires low { list_any (λ region. is_beyond 8192 level region) self.now.regions.now ≡ false }
+        requires low { list_any (λ region. is_beyond LOW_SLOTS level region) self.now.regions.now ≡ false }
         ensures value { result ≡ tables_at (claims_of self.now) level }
-        ensures bound { result ≤ 262144 }
+        ensures bound { result ≤ SLOTS }
     {
         let mut cuts = [0; LOW_WORDS];
         self.fill_cuts(&mut cuts, level, LOW_SLOTS);
@@ -207,7 +209,7 @@ impl<'a> Target<'a> {
         requires cells { length self.now.cells.now ≤ 15 }
         requires level { level < LAST_LEVEL }
         ensures value { result ≡ tables_at (claims_of self.now) level }
-        ensures bound { result ≤ 262144 }
+        ensures bound { result ≤ SLOTS }
     {
         let mut cuts = [0; WORDS];
         self.fill_cuts(&mut cuts, level, SLOTS);
@@ -220,7 +222,7 @@ impl<'a> Target<'a> {
         requires cells { length self.now.cells.now ≤ 15 }
         requires level { level < LAST_LEVEL }
         ensures value { result ≡ tables_at (claims_of self.now) level }
-        ensures bound { result ≤ 262144 }
+        ensures bound { result ≤ SLOTS }
     {
         if any_beyond(self.regions, level, LOW_SLOTS) {
             return self.count_root_all(level);
@@ -237,7 +239,7 @@ impl<'a> Target<'a> {
         requires level { level < LAST_LEVEL }
         requires root { self.now.root ≡ false }
         ensures value { result ≡ tables_at (claims_of self.now) level }
-        ensures bound { result ≤ 262144 }
+        ensures bound { result ≤ SLOTS }
     {
         if any_beyond(self.regions, level, LOW_SLOTS) {
             self.count_all(&[], level)

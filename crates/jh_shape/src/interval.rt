@@ -1,7 +1,8 @@
 //! Intervals of addresses or places, and slots beside them.
 ghost use Rattle.std.specs.Prelude.{◌≡◌, ℕ, ◌+◌, ◌-◌, ◌*◌, ◌/◌, ◌^◌, ◌<◌, ◌≤◌, ◌&&◌, true, min, nat_le, nat_lt};
 ghost use Rattle.jh_shape.specs.Intervals.{touches, spans};
-ghost use Rattle.jh_shape.specs.Marks.{past_slot};
+ghost use Rattle.jh_shape.specs.declared.marks.TheConstants.{SLOTS};
+ghost use Rattle.jh_shape.specs.Private.Marks.{past_slot};
 ghost use Rattle.jh_num.specs.Levels.{slot_size};
 
 use jh_num::{ADDRESS_END, LAST_LEVEL, slot_of, slot_size};
@@ -54,8 +55,8 @@ impl Slots {
     /// The numbers in these slots of the level.
     pub(crate) fn span(&self, level: u8) -> Span
         requires level { level < LAST_LEVEL }
-        requires from { self.now.from ≤ 262144 }
-        requires to { self.now.to ≤ 262144 }
+        requires from { self.now.from ≤ SLOTS }
+        requires to { self.now.to ≤ SLOTS }
         ensures { (n : ℕ) → touches result.start result.end (n * slot_size level) (slot_size level) ≡ true → (nat_le self.now.from n && nat_lt n self.now.to) ≡ true }
     {
         let size = slot_size(level);
@@ -88,7 +89,7 @@ impl Interval {
         requires { level < LAST_LEVEL }
         ensures value { result ≡ past_slot level self.now.end }
         ensures within { result ≤ ADDRESS_END / slot_size level }
-        ensures bound { result ≤ 262144 }
+        ensures bound { result ≤ SLOTS }
     {
         slot_of(level, capped(self.end) + (slot_size(level) - 1)) as usize
     }
@@ -99,8 +100,8 @@ impl Interval {
         requires level { level < LAST_LEVEL }
         ensures past { result.to ≡ past_slot level self.now.end }
         ensures within { result.to ≤ ADDRESS_END / slot_size level }
-        ensures first { result.from ≤ 262144 }
-        ensures bound { result.to ≤ 262144 }
+        ensures first { result.from ≤ SLOTS }
+        ensures bound { result.to ≤ SLOTS }
         ensures slots { (n : ℕ) → n < ADDRESS_END / slot_size level → (nat_le result.from n && nat_lt n result.to) ≡ touches self.now.start self.now.end (n * slot_size level) (slot_size level) }
     {
         let from = slot_of(level, capped(self.start));
@@ -114,7 +115,7 @@ impl Interval {
     pub(crate) fn spanned(&self, level: u8) -> Slots
         requires { level < LAST_LEVEL }
         ensures past { result.to ≤ past_slot level self.now.end }
-        ensures bound { result.to ≤ 262144 }
+        ensures bound { result.to ≤ SLOTS }
         ensures slots { (n : ℕ) → n < ADDRESS_END / slot_size level → (nat_le result.from n && nat_lt n result.to) ≡ spans self.now.start self.now.end (n * slot_size level) (slot_size level) }
     {
         let from = slot_of(level, capped(self.start) + (slot_size(level) - 1));

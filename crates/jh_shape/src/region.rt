@@ -3,7 +3,8 @@ ghost use Rattle.std.specs.Prelude.{◌≡◌, ◌+◌, ◌*◌, ◌^◌, ◌<�
 ghost use Rattle.std.specs.List.{list_any};
 ghost use Rattle.jh_cellcfg.specs.Regions.{virt_end, phys_end, place_in};
 ghost use Rattle.jh_cellcfg.specs.declared.region.Region.{Region};
-ghost use Rattle.jh_shape.specs.Marks.{is_beyond, is_inside, is_marked, is_place_beyond, AreMarkedBelow, AreMarkedWithin};
+ghost use Rattle.jh_shape.specs.declared.marks.TheConstants.{SLOTS, WORD_BITS};
+ghost use Rattle.jh_shape.specs.Private.Marks.{is_beyond, is_inside, is_marked, is_place_beyond, past_slot, AreMarkedBelow, AreMarkedWithin};
 ghost use Rattle.jh_shape.specs.Shapes.{fits_blocks, is_mapped, is_met_by, meets_in_part, takes};
 ghost use Rattle.jh_num.specs.Levels.{slot_size};
 
@@ -112,60 +113,45 @@ pub(crate) fn fits_blocks(level: u8, region: &Region) -> bool
         && region.phys_start % size == region.virt_start % size
 }
 
-/// Whether the region has addresses past that end.
-fn ends_past(region: &Region, end: u64) -> bool
-    ensures { result ≡ nat_lt end (virt_end region.now) }
+/// Whether an interval that ends there has numbers in slots of the number `limit` and above, of the level's below the
+/// end of addresses.
+fn is_past(number: u128, level: u8, limit: usize) -> bool
+    requires level { level < LAST_LEVEL }
+    requires limit { limit ≤ SLOTS }
+    ensures { result ≡ nat_lt limit (past_slot level number) }
 {
-    u128::from(end) < region.virt_end()
-}
-
-/// Whether one of the regions has addresses past that end.
-fn any_ends_past(regions: &[Region], end: u64) -> bool
-    ensures { result ≡ list_any (λ region. nat_lt end (virt_end region)) regions.now }
-{
-    regions.iter().any(|region| ends_past(region, end))
+    let end = limit as u64 * slot_size(level);
+    end < ADDRESS_END && u128::from(end) < number
 }
 
 /// Whether one of the regions has addresses in slots of the number `limit` and above, of the level's below the end of
 /// addresses.
 pub(crate) fn any_beyond(regions: &[Region], level: u8, limit: usize) -> bool
     requires level { level < LAST_LEVEL }
-    requires limit { limit ≤ 262144 }
+    requires limit { limit ≤ SLOTS }
     ensures { result ≡ list_any (λ region. is_beyond limit level region) regions.now }
 {
-    let end = limit as u64 * slot_size(level);
-    end < ADDRESS_END && any_ends_past(regions, end)
-}
-
-/// Whether the region has places past that end.
-fn ends_past_place(region: &Region, end: u64) -> bool
-    ensures { result ≡ nat_lt end (phys_end region.now) }
-{
-    u128::from(end) < region.phys_end()
-}
-
-/// Whether one of the regions has places past that end.
-fn any_ends_past_place(regions: &[Region], end: u64) -> bool
-    ensures { result ≡ list_any (λ region. nat_lt end (phys_end region)) regions.now }
-{
-    regions.iter().any(|region| ends_past_place(region, end))
+    regions
+        .iter()
+        .any(|region| is_past(region.virt_end(), level, limit))
 }
 
 /// Whether one of the regions has places in slots of the number `limit` and above, of the level's below the end of
 /// places.
 pub(crate) fn any_place_beyond(regions: &[Region], level: u8, limit: usize) -> bool
     requires level { level < LAST_LEVEL }
-    requires limit { limit ≤ 262144 }
+    requires limit { limit ≤ SLOTS }
     ensures { result ≡ list_any (λ region. is_place_beyond limit level region) regions.now }
 {
-    let end = limit as u64 * slot_size(level);
-    end < ADDRESS_END && any_ends_past_place(regions, end)
+    regions
+        .iter()
+        .any(|region| is_past(region.phys_end(), level, limit))
 }
 
 /// Marks the slot that the number lies in, unless it is the first there, or the slot isn't below the limit.
 fn mark_inside(words: &mut [u64], level: u8, number: u128, limit: usize)
     requires level { level < LAST_LEVEL }
-    requires room { limit ≤ 64 * length words.old }
+    requires room { limit ≤ WORD_BITS * length words.old }
     ensures { AreMarkedBelow limit words.new level (λ n. is_marked words.old n || is_inside (n * slot_size level) (slot_size level) number) }
 {
     if number < u128::from(ADDRESS_END) {
@@ -182,7 +168,7 @@ fn mark_inside(words: &mut [u64], level: u8, number: u128, limit: usize)
 /// Marks the slots of places below the limit of which the region, where it is unshared, has some places but not all.
 fn mark_cut(words: &mut [u64], level: u8, region: &Region, limit: usize)
     requires level { level < LAST_LEVEL }
-    requires room { limit ≤ 64 * length words.old }
+    requires room { limit ≤ WORD_BITS * length words.old }
     ensures { AreMarkedBelow limit words.new level (λ n. is_marked words.old n || meets_in_part region.now (n * slot_size level) (slot_size level)) }
 {
     let its = places(region);
@@ -195,7 +181,7 @@ fn mark_cut(words: &mut [u64], level: u8, region: &Region, limit: usize)
 /// The places of the slot that the place lies in, where that is marked; else none.
 fn marked_around(words: &[u64], level: u8, place: u64, limit: usize) -> Span
     requires level { level < LAST_LEVEL }
-    requires room { limit ≤ 64 * length words.now }
+    requires room { limit ≤ WORD_BITS * length words.now }
     ensures { AreMarkedWithin limit words.now level result.start result.end }
 {
     let n = slot_of(level, place) as usize;
@@ -209,7 +195,7 @@ fn marked_around(words: &[u64], level: u8, place: u64, limit: usize) -> Span
 /// Marks the slots of places below the limit of which some unshared region of these has some places but not all.
 pub(crate) fn mark_cuts(words: &mut [u64], level: u8, regions: &[Region], limit: usize)
     requires level { level < LAST_LEVEL }
-    requires room { limit ≤ 64 * length words.old }
+    requires room { limit ≤ WORD_BITS * length words.old }
     ensures { AreMarkedBelow limit words.new level (λ n. is_marked words.old n || list_any (λ region. meets_in_part region (n * slot_size level) (slot_size level)) regions.now) }
 {
     let mut done = NO_SPAN;

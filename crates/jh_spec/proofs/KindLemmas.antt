@@ -7,7 +7,8 @@ use Rattle.jh_spec.specs.declared.spec.Spec.TheVariants.{Cell as CellSpec, Syste
 use Rattle.jh_spec.specs.declared.spec.Kind.{Kind}
 use Rattle.jh_spec.specs.declared.spec.Kind.TheVariants.{Cell, System}
 use Rattle.jh_spec.specs.Cells.{cell_told, system_told}
-use Rattle.jh_spec.specs.Faults.{◌>>=◌, IsAsWanted}
+use Rattle.jh_spec.specs.Faults.{◌>>=◌}
+use Rattle.jh_spec.specs.Private.Faults.{IsAsWanted}
 use Rattle.jh_spec.specs.Specs.{names_with_kind, told_by}
 
 pub cell_by : (kind : Option Kind) (d : Data) (r : Result Spec JsonFault) → Some Cell ≡ kind → IsAsWanted (cell_told names_with_kind d >>= λ config. Ok (CellSpec config)) r → IsAsWanted (told_by kind d) r

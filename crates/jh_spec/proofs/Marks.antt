@@ -1,6 +1,7 @@
 -- What the loop over a list of CPUs has marked.
 use Rattle.std.proofs.Common.{◌≡◌, ℕ, zero, suc, ◌+◌, ◌*◌, ◌≤◌, Bool, List, [], ◌∷◌, ◌++◌, length, length-append, take, drop, refl, arith, add-one}
-use Rattle.jh_spec.specs.Cpus.{are_new, cpu_byte, mark_byte, bitmap, AreMarks}
+use Rattle.jh_spec.specs.Cpus.{are_new, cpu_byte, bitmap}
+use Rattle.jh_spec.specs.Private.Cpus.{mark_byte, AreMarks}
 
 -- so many CPUs of the list are new, and marked
 pub record MarkedSoFar (limit : ℕ) (cpus : List ℕ) (count : ℕ) (marks : List Bool) : Type 0 where

@@ -5,8 +5,9 @@ use Rattle.serde_json.specs.Data.{Data}
 use Rattle.jh_cellcfg.specs.declared.config.CellConfig.{CellConfig}
 use Rattle.jh_spec.specs.declared.fault.JsonFault.{JsonFault}
 use Rattle.jh_spec.specs.declared.fault.JsonFault.TheVariants.{Json, Member, NoMemory}
-use Rattle.jh_spec.specs.Cells.{cell_told, cell_names, root_of, root_in, IsFaultInRoot}
-use Rattle.jh_spec.specs.Faults.{IsAsWanted}
+use Rattle.jh_spec.specs.Cells.{cell_told, cell_names, root_of, root_in}
+use Rattle.jh_spec.specs.Private.Cells.{IsFaultInRoot}
+use Rattle.jh_spec.specs.Private.Faults.{IsAsWanted}
 use Rattle.jh_spec.proofs.Steps.{at_fault, no_memory}
 
 root_of_ok : (w : Result CellConfig JsonFault) (config : CellConfig) → IsAsWanted w (Ok config) → IsAsWanted (root_of w) (Ok config)

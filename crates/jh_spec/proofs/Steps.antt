@@ -2,7 +2,8 @@
 use Rattle.std.proofs.Common.{◌≡◌, ℕ, List, Result, Ok, Err, refl, sym, ap, ◌∙◌}
 use Rattle.jh_spec.specs.declared.fault.JsonFault.{JsonFault}
 use Rattle.jh_spec.specs.declared.fault.JsonFault.TheVariants.{Json, Member, NoMemory}
-use Rattle.jh_spec.specs.Faults.{◌>>=◌, IsAsWanted, IsFaultOf}
+use Rattle.jh_spec.specs.Faults.{◌>>=◌, IsFaultOf}
+use Rattle.jh_spec.specs.Private.Faults.{IsAsWanted}
 
 -- this step found no fault
 pub step : {X Y : Type 0} (w : Result X JsonFault) (x : X) (next : X → Result Y JsonFault) (r : Result Y JsonFault) → IsAsWanted w (Ok x) → IsAsWanted (next x) r → IsAsWanted (w >>= next) r

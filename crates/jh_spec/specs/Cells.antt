@@ -1,5 +1,5 @@
 -- The configurations that a JSON object's members tell, and the member that is at fault where they tell none.
-use Rattle.std.specs.Prelude.{◌≡◌, ℕ, ◌≤◌, ◌-◌, ◌&&◌, not, nat_lt, nat_le, List, [], ◌∷◌, ◌++◌, length, codes, Option, Some, None, Result, Ok, Err, option_and_then, if◌then◌else◌, replicate, IsTrue}
+use Rattle.std.specs.Prelude.{ℕ, ◌-◌, ◌&&◌, not, nat_lt, nat_le, List, [], ◌∷◌, ◌++◌, length, codes, Option, Some, None, Result, Ok, Err, option_and_then, if◌then◌else◌, replicate}
 use Rattle.std.specs.List.{list_any}
 use Rattle.serde_json.specs.Data.{Data}
 use Rattle.serde_json.specs.Find.{get, as_str}
@@ -15,26 +15,26 @@ use Rattle.jh_cellcfg.specs.Spelling.{console_bytes}
 use Rattle.jh_syscfg.specs.declared.platform.Platform.{Platform}
 use Rattle.jh_syscfg.specs.Layout.{system_of}
 use Rattle.jh_spec.specs.declared.fault.JsonFault.{JsonFault}
-use Rattle.jh_spec.specs.declared.fault.JsonFault.TheVariants.{Json, Member, NoMemory}
+use Rattle.jh_spec.specs.declared.fault.JsonFault.TheVariants.{Member}
 use Rattle.jh_spec.specs.declared.cell.Identity.{Identity}
 use Rattle.jh_spec.specs.declared.cell.Lists.{Lists}
 use Rattle.jh_spec.specs.declared.cell.Settings.{Settings}
-use Rattle.jh_spec.specs.Faults.{◌>>=◌, member_told, all_listed, IsFaultOf}
+use Rattle.jh_spec.specs.Faults.{◌>>=◌, member_told, all_listed}
 use Rattle.jh_spec.specs.Json.{told_or, list_at}
 use Rattle.jh_spec.specs.Fields.{u8_at, u16_at, u32_at, u64_at, u32_told, region_told, irqchip_told, device_told, console_told}
 use Rattle.jh_spec.specs.Cpus.{bitmap, cpus_told}
 
 -- ---- a cell's members
 
--- the name that a text without a zero byte tells: the text with zero bytes behind it, up to 32
-abbrev pub name_of : List ℕ → Option (List ℕ)
-name_of text =
+-- the name that a text tells: the text, which has no zero byte, with zero bytes behind it, 32 in all
+abbrev pub padded_name : List ℕ → Option (List ℕ)
+padded_name text =
     let whole = text ++ replicate (32 - length text) 0 in
     if nat_le (length text) 32 && not (list_any is_zero text) && is_name whole then Some whole else None
 
 -- the name that the cell's member of that name tells
 abbrev pub cell_name : Data → Option (List ℕ)
-cell_name d = option_and_then name_of (option_and_then as_str (get (codes "name") d))
+cell_name d = option_and_then padded_name (option_and_then as_str (get (codes "name") d))
 
 -- how many bytes a value says that the CPU bitmap has: 1 to 64
 abbrev pub size_told : Data → Option ℕ
@@ -148,20 +148,6 @@ cell_told names d = do
   _ ← all_listed names d
   Ok (cell_of identity lists settings)
 
--- ---- what is told keeps the limits
-
--- the name and the CPU bitmap that are told are within the limits
-pub record IsIdentity (identity : Identity) : Type 0 where
-  pub name : IsTrue (is_name identity.name)
-  pub some_cpus : 1 ≤ length identity.cpu_set
-  pub cpu_set : length identity.cpu_set ≤ 64
-
--- the lists that are told are within the limits
-pub record AreLists (lists : Lists) : Type 0 where
-  pub memory_regions : length lists.memory_regions ≤ 1024
-  pub irqchips : length lists.irqchips ≤ 64
-  pub pci_devices : length lists.pci_devices ≤ 256
-
 -- ---- a system's members
 
 -- the names of a system's members, in their order
@@ -187,12 +173,6 @@ root_in None = Err (Member (codes "root"))
 -- the cell that the member `root` tells, which must be there; else a fault of root
 abbrev pub root_told : Data → Result CellConfig JsonFault
 root_told d = root_in (get (codes "root") d)
-
--- what a fault inside root is found to be
-abbrev pub IsFaultInRoot : JsonFault → JsonFault → Type 0
-IsFaultInRoot NoMemory found = found ≡ NoMemory
-IsFaultInRoot Json found = IsFaultOf (codes "root") found
-IsFaultInRoot (Member name) found = IsFaultOf (codes "root") found
 
 -- what an object's members tell of a system but root; else the first fault
 unfoldable pub platform_told : Data → Result Platform JsonFault

@@ -1,5 +1,5 @@
 -- The bitmap of a list of CPUs: CPU i is bit i mod 8 of byte i div 8.
-use Rattle.std.specs.Prelude.{◌≡◌, ◌<◌, ℕ, zero, suc, ◌+◌, ◌*◌, length, get_or, false, Bool, true, ◌&&◌, not, ◌==◌, nat_lt, List, [], ◌∷◌, ◌++◌, Option, Some, None, option_and_then, if◌then◌else◌}
+use Rattle.std.specs.Prelude.{ℕ, zero, suc, ◌+◌, ◌*◌, Bool, true, ◌&&◌, not, ◌==◌, nat_lt, List, [], ◌∷◌, ◌++◌, Option, Some, None, option_and_then, if◌then◌else◌}
 use Rattle.std.specs.List.{list_any}
 use Rattle.serde_json.specs.Data.{Data}
 use Rattle.jh_spec.specs.Json.{list_told}
@@ -23,21 +23,6 @@ abbrev pub cpu_byte : List ℕ → ℕ → ℕ
 cpu_byte cpus first =
     cpu_bit cpus first 1 + cpu_bit cpus (first + 1) 2 + cpu_bit cpus (first + 2) 4 + cpu_bit cpus (first + 3) 8
     + cpu_bit cpus (first + 4) 16 + cpu_bit cpus (first + 5) 32 + cpu_bit cpus (first + 6) 64 + cpu_bit cpus (first + 7) 128
-
--- the marks say for each CPU below the limit whether it is named
-pub record AreMarks (limit : ℕ) (cpus : List ℕ) (marks : List Bool) : Type 0 where
-  pub len : length marks ≡ limit
-  pub marked : (cpu : ℕ) → cpu < limit → get_or marks cpu false ≡ names_cpu cpus cpu
-
--- a mark's bit in its byte, by its weight there
-abbrev pub mark_bit : List Bool → ℕ → ℕ → ℕ
-mark_bit marks cpu weight = if get_or marks cpu false then weight else 0
-
--- the byte of eight marks, from this one on
-abbrev pub mark_byte : List Bool → ℕ → ℕ
-mark_byte marks first =
-    mark_bit marks first 1 + mark_bit marks (first + 1) 2 + mark_bit marks (first + 2) 4 + mark_bit marks (first + 3) 8
-    + mark_bit marks (first + 4) 16 + mark_bit marks (first + 5) 32 + mark_bit marks (first + 6) 64 + mark_bit marks (first + 7) 128
 
 -- the bitmap of these CPUs, of so many bytes
 unfoldable pub bitmap : ℕ → List ℕ → List ℕ

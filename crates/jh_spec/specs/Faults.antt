@@ -39,10 +39,6 @@ IsWantedReading wanted (Err NoMemory) = ⊤
 IsWantedReading wanted (Err Json) = wanted ≡ Err Json
 IsWantedReading wanted (Err (Member name)) = wanted ≡ Err (Member name)
 
--- an answer is the one that is wanted, or want of memory
-pub record IsAsWanted {X : Type 0} (wanted result : Result X JsonFault) : Type 0 where
-  pub answer : IsWantedReading wanted result
-
 -- why no object was read: the bytes are no object's text, or there is want of memory
 abbrev pub IsNoObject : List ℕ → JsonFault → Type 0
 IsNoObject bytes Json = (d : Data) → IsText bytes d → is_some (as_object d) ≡ false

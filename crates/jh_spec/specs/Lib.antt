@@ -5,3 +5,4 @@ pub mod Cpus
 pub mod Cells
 pub mod Specs
 pub mod Laws
+pub mod Private

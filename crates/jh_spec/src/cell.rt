@@ -1,12 +1,14 @@
 //! A cell's members.
-ghost use Rattle.std.specs.Prelude.{◌≡◌, map, IfOk};
+ghost use Rattle.std.specs.Prelude.{◌≡◌, ◌≤◌, length, map, IfOk};
 ghost use Rattle.serde_json.specs.Find.{get};
 ghost use Rattle.serde_json.specs.View.{view};
 ghost use Rattle.jh_cellcfg.specs.Limits.{IsWithinLimits};
 ghost use Rattle.jh_cellcfg.specs.Spelling.{console_bytes as bytes_of};
-ghost use Rattle.jh_spec.specs.Cells.{cell_told, identity_told, lists_told, settings_told, IsIdentity, AreLists};
-ghost use Rattle.jh_spec.specs.Faults.{IsAsWanted, all_listed, member_told};
-ghost use Rattle.jh_spec.specs.Json.{told_or};
+ghost use Rattle.jh_spec.specs.Cells.{cell_told, identity_told, lists_told, settings_told};
+ghost use Rattle.jh_spec.specs.Private.Cells.{IsIdentity, AreLists};
+ghost use Rattle.jh_spec.specs.Faults.{all_listed, member_told};
+ghost use Rattle.jh_spec.specs.Private.Faults.{IsAsWanted};
+ghost use Rattle.jh_spec.specs.Json.{told_or, list_at};
 
 use crate::cpus::{cpu_set, cpu_set_size};
 use crate::fault::{JsonFault, fault_of, named};
@@ -14,7 +16,10 @@ use crate::from_json::{FromJson, member};
 use crate::json::first_unlisted;
 use crate::list::list_at;
 use crate::name::cell_name;
-use jh_cellcfg::{CellConfig, Console, Irqchip, PciDevice, Record, Region, Writer};
+use jh_cellcfg::{
+    CellConfig, Console, Irqchip, MAX_IRQCHIPS, MAX_MEMORY_REGIONS, MAX_PCI_DEVICES, PciDevice,
+    Record, Region, Writer,
+};
 use jh_num::{NoMemory, Seq};
 use serde_json::Value;
 use std::alloc::Global;
@@ -91,6 +96,19 @@ fn identity_of(alloc: Global, object: &Value) -> Result<Identity, JsonFault>
     })
 }
 
+/// What the list in the member of this name tells, of at most `most` items; else the member is at fault.
+fn short_list<T: FromJson + Drop>(
+    alloc: Global,
+    object: &Value,
+    name: &str,
+    most: u32,
+) -> Result<Seq<T>, JsonFault>
+    ensures told { IsAsWanted (member_told name.now (list_at T.tells most name.now (view object.now))) result }
+    ensures most { IfOk result (λ items. length items ≤ most) }
+{
+    named(alloc, name, list_at(alloc, object, name, most as usize)?)
+}
+
 /// A cell's lists.
 #[derive(Drop)]
 struct Lists {
@@ -104,9 +122,9 @@ fn lists_of(alloc: Global, object: &Value) -> Result<Lists, JsonFault>
     ensures told { IsAsWanted (lists_told (view object.now)) result }
     ensures limits { IfOk result AreLists }
 {
-    let memory_regions = named(alloc, "regions", list_at(alloc, object, "regions", 1024)?)?;
-    let irqchips = named(alloc, "irqchips", list_at(alloc, object, "irqchips", 64)?)?;
-    let pci_devices = named(alloc, "devices", list_at(alloc, object, "devices", 256)?)?;
+    let memory_regions = short_list(alloc, object, "regions", MAX_MEMORY_REGIONS)?;
+    let irqchips = short_list(alloc, object, "irqchips", MAX_IRQCHIPS)?;
+    let pci_devices = short_list(alloc, object, "devices", MAX_PCI_DEVICES)?;
     Ok(Lists {
         memory_regions,
         irqchips,

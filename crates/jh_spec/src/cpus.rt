@@ -2,11 +2,13 @@
 ghost use Rattle.std.specs.Prelude.{◌≡◌, ◌≤◌, ◌<◌, ◌+◌, length, IfOk, IfSome, is_some, get_or, false, []};
 ghost use Rattle.serde_json.specs.View.{view};
 ghost use Rattle.jh_num.specs.Bits.{bits_where};
-ghost use Rattle.jh_spec.specs.Cpus.{bitmap_of, are_new, mark_byte, AreMarks};
+ghost use Rattle.jh_spec.specs.Cpus.{bitmap_of, are_new};
+ghost use Rattle.jh_spec.specs.Private.Cpus.{mark_byte, AreMarks};
 ghost use Rattle.jh_spec.specs.Cells.{cpu_set_size, cpu_set_in, size_told};
 
 use crate::from_json::FromJson;
 use crate::list::list;
+use jh_cellcfg::MAX_CPU_SET_BYTES;
 use jh_num::{NoMemory, Seq};
 use serde_json::Value;
 use std::alloc::Global;
@@ -30,7 +32,7 @@ fn size_told(value: &Value) -> Option<u32>
     ensures most { IfSome result (λ bytes. bytes ≤ 64) }
 {
     let bytes = u32::from_json(value)?;
-    if bytes > 0 && bytes <= 64 {
+    if bytes > 0 && bytes <= MAX_CPU_SET_BYTES {
         Some(bytes)
     } else {
         None

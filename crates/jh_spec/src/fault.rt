@@ -1,6 +1,7 @@
 //! Faults of texts, by the name of their member.
 ghost use Rattle.std.specs.Prelude.{◌≡◌, IfOk, Some};
-ghost use Rattle.jh_spec.specs.Faults.{member_told, IsAsWanted, IsFaultOf};
+ghost use Rattle.jh_spec.specs.Faults.{member_told, IsFaultOf};
+ghost use Rattle.jh_spec.specs.Private.Faults.{IsAsWanted};
 ghost use Rattle.jh_spec.specs.declared.fault.JsonFault.TheVariants.{NoMemory as WantOfMemory};
 
 use jh_num::{NoMemory, Seq};

@@ -2,14 +2,14 @@
 ghost use Rattle.std.specs.Prelude.{◌≡◌, IfSome, IsTrue};
 ghost use Rattle.jh_cellcfg.specs.Limits.{is_name};
 ghost use Rattle.serde_json.specs.View.{view};
-ghost use Rattle.jh_spec.specs.Cells.{name_of, cell_name};
+ghost use Rattle.jh_spec.specs.Cells.{padded_name, cell_name};
 
 use jh_cellcfg::is_name;
 use serde_json::Value;
 
 /// The text with zero bytes behind it, where that is a name.
-fn name_of(text: &[u8]) -> Option<[u8; 32]>
-    ensures told { result ≡ name_of text.now }
+fn padded_name(text: &[u8]) -> Option<[u8; 32]>
+    ensures told { result ≡ padded_name text.now }
     ensures limits { IfSome result (λ name. IsTrue (is_name name)) }
 {
     if text.len() > 32 || text.contains(&0) {
@@ -27,5 +27,5 @@ pub fn cell_name(object: &Value) -> Option<[u8; 32]>
     ensures limits { IfSome result (λ name. IsTrue (is_name name)) }
 {
     let text = object.get("name")?.as_str()?;
-    name_of(text.as_bytes())
+    padded_name(text.as_bytes())
 }

@@ -8,6 +8,7 @@ use crate::json::has_only;
 use jh_cellcfg::{Console, Irqchip, PciDevice, Region};
 use serde_json::Value;
 
+/// The names of a PCI device's members.
 const DEVICE_NAMES: [&str; 16] = [
     "kind",
     "iommu",
@@ -27,6 +28,7 @@ const DEVICE_NAMES: [&str; 16] = [
     "shmem_protocol",
 ];
 
+/// The names of a console's members.
 const CONSOLE_NAMES: [&str; 7] = [
     "address",
     "size",

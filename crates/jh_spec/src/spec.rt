@@ -2,7 +2,7 @@
 ghost use Rattle.std.specs.Prelude.{◌≡◌, IfOk};
 ghost use Rattle.serde_json.specs.View.{view};
 ghost use Rattle.jh_spec.specs.Specs.{IsSpecAnswer, MayBeWritten, kind_told, object_told};
-ghost use Rattle.jh_spec.specs.Faults.{IsAsWanted};
+ghost use Rattle.jh_spec.specs.Private.Faults.{IsAsWanted};
 
 use crate::cell::{CELL_NAMES, cell};
 use crate::fault::{JsonFault, fault_of};
@@ -19,6 +19,7 @@ pub enum Spec {
     System(SystemConfig),
 }
 
+/// What a SPEC may tell, by the word of its member `kind`.
 #[derive(Clone, Copy)]
 enum Kind {
     Cell,

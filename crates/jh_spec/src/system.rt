@@ -3,8 +3,9 @@ ghost use Rattle.std.specs.Prelude.{◌≡◌, IfOk};
 ghost use Rattle.serde_json.specs.View.{view};
 ghost use Rattle.jh_cellcfg.specs.Limits.{IsWithinLimits};
 ghost use Rattle.jh_syscfg.specs.Layout.{IsSystemWithinLimits};
-ghost use Rattle.jh_spec.specs.Cells.{platform_told, root_told, system_told, IsFaultInRoot};
-ghost use Rattle.jh_spec.specs.Faults.{IsAsWanted};
+ghost use Rattle.jh_spec.specs.Cells.{platform_told, root_told, system_told};
+ghost use Rattle.jh_spec.specs.Private.Cells.{IsFaultInRoot};
+ghost use Rattle.jh_spec.specs.Private.Faults.{IsAsWanted};
 
 use crate::cell::{CELL_NAMES, all_listed, cell, field};
 use crate::fault::{JsonFault, fault_of};
@@ -13,7 +14,8 @@ use jh_syscfg::Platform;
 use serde_json::Value;
 use std::alloc::Global;
 
-const NAMES: [&str; 9] = [
+/// The names of a system's members, its kind first.
+const SYSTEM_NAMES: [&str; 9] = [
     "kind",
     "flags",
     "hypervisor",
@@ -79,6 +81,6 @@ pub fn system(alloc: Global, object: &Value) -> Result<SystemConfig, JsonFault>
 {
     let platform = platform_of(alloc, object)?;
     let root = root(alloc, object)?;
-    all_listed(alloc, object, &NAMES)?;
+    all_listed(alloc, object, &SYSTEM_NAMES)?;
     Ok(platform.with(root))
 }

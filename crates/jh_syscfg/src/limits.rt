@@ -2,12 +2,12 @@
 ghost use Rattle.std.specs.Prelude.{◌↔◌, IsTrue};
 ghost use Rattle.jh_syscfg.specs.Layout.{IsSystemWithinLimits};
 
-use jh_cellcfg::{SystemConfig, fits};
+use jh_cellcfg::{SystemConfig, is_within_limits};
 
 /// Whether the system is within the limits, so that it can be written: root is, and the whole from
 /// root's head on has at most 65,536 bytes.
-pub fn system_fits(system: &SystemConfig) -> bool
+pub fn system_is_within_limits(system: &SystemConfig) -> bool
     ensures { IsTrue result ↔ IsSystemWithinLimits system.now }
 {
-    fits(&system.root)
+    is_within_limits(&system.root)
 }

@@ -8,7 +8,7 @@ use jh_num::NoMemory;
 /// What a system's configuration begins with.
 pub const SIGNATURE: &[u8; 6] = b"JHSYST";
 
-/// The fields of a system but root, in their order: 88 bytes behind the signature and the revision.
+/// The fields of a system but root, in their order, behind the signature and the revision.
 #[derive(Clone, Copy, PartialEq, Eq, Debug)]
 pub struct Platform {
     pub flags: u32,
@@ -28,7 +28,7 @@ impl Record for Platform {
 
     ghost Fits = { IsPlatform };
 
-    const SIZE: usize = 88;
+    const SIZE: usize = 4 + Region::SIZE + Console::SIZE + 8 + 1 + 1 + 2 + 8;
 
     fn read(reader: &mut Reader) -> Platform {
         Platform {

@@ -6,8 +6,17 @@ ghost use Rattle.jh_syscfg.specs.Layout.{platform_bytes, system_of, system_spell
 ghost use Rattle.jh_syscfg.specs.SystemFaults.{system_fault, GivesSystem};
 
 use crate::platform::{Platform, SIGNATURE};
-use jh_cellcfg::{CellConfig, ConfigFault, Reader, Record, SystemConfig, check_start, read_body};
+use jh_cellcfg::{
+    CellConfig, ConfigFault, Header, Reader, Record, START_SIZE, SystemConfig, check_start,
+    read_body,
+};
 use std::alloc::Global;
+
+/// How many bytes stand before root's name.
+const FRONT_SIZE: usize = START_SIZE + Platform::SIZE;
+
+/// How many bytes stand before root's parts.
+const HEADER_SIZE: usize = FRONT_SIZE + Header::SIZE;
 
 impl Platform {
     /// What stands behind the revision, and the bytes from root's name on.
@@ -48,12 +57,14 @@ fn read_whole(alloc: Global, bytes: &[u8]) -> Result<SystemConfig, ConfigFault>
     ensures spelled { IfOk result (λ system. bytes.now ≡ system_spelling system) }
     ensures fault { refusal result ≡ system_fault bytes.now }
 {
-    if bytes.len() < 220 {
-        return Err(ConfigFault::Short { need: 220 });
+    if bytes.len() < HEADER_SIZE {
+        return Err(ConfigFault::Short {
+            need: HEADER_SIZE as u32,
+        });
     }
     check_start(bytes, SIGNATURE)?;
-    let (platform, body) = Platform::at(&bytes[8..]);
-    let root = read_body(alloc, 96, body)?;
+    let (platform, body) = Platform::at(&bytes[START_SIZE..]);
+    let root = read_body(alloc, FRONT_SIZE as u32, body)?;
     Ok(platform.with(root))
 }
 

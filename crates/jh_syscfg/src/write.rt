@@ -26,7 +26,7 @@ impl Platform {
     }
 }
 
-/// The one spelling of a system that [`system_fits`](crate::system_fits).
+/// The one spelling of a system that [is within the limits](crate::system_is_within_limits).
 pub fn write_system(alloc: Global, system: &SystemConfig) -> Result<Vec<u8>, NoMemory>
     requires { IsSystemWithinLimits system.now }
     ensures { IfOk result (λ bytes. bytes.items ≡ system_spelling system.now) }

@@ -13,19 +13,22 @@ abbrev pub place_text : Bool → List ℕ
 place_text true = codes "comm"
 place_text false = codes "phys"
 
--- the letter of a right, or `-` where it is missing
+-- `r` with the right to read, else `-`
 abbrev pub read_text : Bool → List ℕ
 read_text true = codes "r"
 read_text false = codes "-"
 
+-- `w` with the right to write, else `-`
 abbrev pub write_text : Bool → List ℕ
 write_text true = codes "w"
 write_text false = codes "-"
 
+-- `x` with the right to execute, else `-`
 abbrev pub execute_text : Bool → List ℕ
 execute_text true = codes "x"
 execute_text false = codes "-"
 
+-- the letters of the three rights
 abbrev pub rights_text : Rights → List ℕ
 rights_text rights = read_text rights.read ++ write_text rights.write ++ execute_text rights.execute
 
@@ -46,6 +49,7 @@ cell_words cell = codes "cell" ∷ decimal cell.id ∷ name_of cell ∷ []
 abbrev pub words_line : List (List ℕ) → List ℕ
 words_line words = join_with_byte 32 words ++ 10 ∷ []
 
+-- the line of a run
 abbrev pub run_line : Run → List ℕ
 run_line run = words_line (run_words run)
 

@@ -29,11 +29,13 @@ abbrev pub decision_text : Option ℤ → List ℕ
 decision_text None = codes "go"
 decision_text (Some number) = signed_decimal number
 
+-- how a cell met the request to shut down
 abbrev pub settled_text : Settled → List ℕ
 settled_text settled.Agreed = codes "agreed"
 settled_text settled.Denied = codes "denied"
 settled_text settled.Timeout = codes "timeout"
 
+-- how a cell met the note of a change
 abbrev pub heard_text : Heard → List ℕ
 heard_text heard.Received = codes "received"
 heard_text heard.Down = codes "down"

@@ -24,7 +24,7 @@ pub(crate) fn entry(text: &mut Reader) -> Option<Entry>
     Some(Entry { cpu, cell, act })
 }
 
-/// The act of a program.
+/// An act: an access, an interrupt, or one of a call.
 #[tactic(auto, unfolding(crate::specs::Private::Reading::act_of))]
 fn act(text: &mut Reader) -> Option<Act>
     ensures value { Reads result text.new (act_of text.old) }

@@ -5,7 +5,7 @@ use Rattle.jh_num.proofs.Public.{Contains_head, Contains_from_map}
 use Rattle.jh_turn.specs.declared.turner.Turner.{Ghosts}
 use Rattle.jh_turn.specs.declared.shared.Port.{Port}
 use Rattle.jh_turn.specs.declared.rule.Hand.{Hand}
-use Rattle.jh_turn.specs.Hands.{hand}
+use Rattle.jh_turn.specs.Private.Rule.{hand}
 use Rattle.jh_turn.specs.Ports.{port_caller, seen_by}
 use Rattle.jh_turn.specs.Private.Closing.{HasCaller, HasHands}
 

@@ -12,9 +12,9 @@ use Rattle.atomic_table.proofs.Lists.{set_here, set_again}
 use Rattle.jh_turn.specs.declared.rule.Hand.{Hand}
 use Rattle.jh_turn.specs.declared.rule.View.{View}
 use Rattle.jh_turn.specs.declared.rule.Opening.{Opening}
-use Rattle.jh_turn.specs.Hands.{hand, caller_of, seen_of}
+use Rattle.jh_turn.specs.Hands.{caller_of, seen_of}
 use Rattle.jh_turn.specs.Histories.{entries_of, Grows}
-use Rattle.jh_turn.specs.Rule.{free, Slot, Seated, view, HandFits, Fits, IsFree, IsHeld, Kept, claims, notes, releases}
+use Rattle.jh_turn.specs.Private.Rule.{free, Slot, Seated, hand, view, HandFits, Fits, IsFree, IsHeld, Kept, Claims, Notes, Releases}
 use Rattle.jh_turn.proofs.Prefixes.{prefix_self, prefix_trans, others_stay, grows_on}
 use Rattle.jh_turn.proofs.Seats.{inside, seats_stay, one_there, contains_one}
 
@@ -84,7 +84,7 @@ module _ {T E O : Type 0} (whose : E → ℕ) (origin : T → O) (serves : O →
         }
 
     pub claim_keeps : (n id who : ℕ) (me : M) (seen : List E) → me.0.hands ≡ hand who seen ∷ [] → who < free
-        → Allows Rule n id me 0 (λ x. either (eqb x free) who x) (claims whose origin serves history (step n 0 free who maybe.none) me)
+        → Allows Rule n id me 0 (λ x. either (eqb x free) who x) (Claims whose origin serves history (step n 0 free who maybe.none) me)
     claim_keeps n id who me seen is small s r wide at little = ⊎_elim
         (λ f. let fits = hand_fits s r id me.0 who seen at is in let found : get_or s.words 0 0 ≡ free = ap (λ (ws : List ℕ). get_or ws 0 0) f.words in let front : seen_of me.0.hands ≡ seen = ap seen_of is in (
           view me.0.opened (hand who (history f.value.value) ∷ []) true,
@@ -94,7 +94,7 @@ module _ {T E O : Type 0} (whose : E → ℕ) (origin : T → O) (serves : O →
           (
             (λ _. record {
               value = f.value;
-              in_hand = refl;
+              has_slot = refl;
               knows = refl;
               seen = subst (λ (z : List E × List E). IsPrefix z.0 z.1) (λ i. (sym front i, sym f.all_entries i)) fits.seen;
               own = ap (entries_of whose who) f.all_entries ∙ (fits.own ∙ ap (entries_of whose who) (sym front));
@@ -167,19 +167,19 @@ module _ {T E O : Type 0} (whose : E → ℕ) (origin : T → O) (serves : O →
         }
 
     pub note_keeps : (n id who k : ℕ) (me : M) (seen : List E) (value : Box T Global) → me.0.hands ≡ hand who seen ∷ [] → me.0.holding ≡ true → me.1 ≡ (0, Some value) ∷ [] → Grows whose who seen (history value.value)
-        → k ≡ length (history value.value) → Allows Rule n id me 1 (λ _. k) (λ _ m. notes history me m)
-    note_keeps n id who k me seen value is holds in_hand grew long s r wide at little = (
+        → k ≡ length (history value.value) → Allows Rule n id me 1 (λ _. k) (λ _ m. Notes history me m)
+    note_keeps n id who k me seen value is holds has_slot grew long s r wide at little = (
       view me.0.opened (hand who (history value.value) ∷ []) true,
       keeps,
       tt,
       ⊎_elim (λ f. absurd (true≢false (sym holds ∙ f.none_holds id me.0 at))) (λ h. noted s r h id who k me seen value is holds grew long at) r.lock,
-      λ other same. let slot : Some value ≡ Some other = ap first_slot (sym in_hand ∙ same) in let one : value ≡ other = cc slot in
+      λ other same. let slot : Some value ≡ Some other = ap first_slot (sym has_slot ∙ same) in let one : value ≡ other = cc slot in
           (λ i. (view me.0.opened (hand (sym (ap caller_of is) i) (history (one i).value) ∷ []) true, me.1)),
     )
 
     pub release_keeps : (n id who : ℕ) (me : M) (value : Box T Global) (opened : T) → me.0.hands ≡ hand who (history value.value) ∷ [] → me.0.holding ≡ true → me.1 ≡ (0, Some value) ∷ [] → me.0.opened ≡ Some opened → origin value.value ≡ origin opened
-        → Allows Rule n id me 0 (λ _. free) (λ _ m. releases me m)
-    release_keeps n id who me value opened is holds in_hand from same_origin s r wide at little =
+        → Allows Rule n id me 0 (λ _. free) (λ _ m. Releases me m)
+    release_keeps n id who me value opened is holds has_slot from same_origin s r wide at little =
         let w : V = view me.0.opened me.0.hands false in (
           w,
           gives,
@@ -196,7 +196,7 @@ module _ {T E O : Type 0} (whose : E → ℕ) (origin : T → O) (serves : O →
                 lock = inl record {
                   value = value;
                   words = ap (λ (ws : List ℕ). set ws 0 free) h.words;
-                  homes = λ i. put_back (h.homes i) (in_hand i);
+                  homes = λ i. put_back (h.homes i) (has_slot i);
                   all_entries = whole;
                   same_origin = same_origin ∙ ap origin ((r.each_seat id me.0 at).same opened from);
                   none_holds = seats_stay (λ j (v : V). v.holding ≡ false) s.views id w refl (λ j v other e. false_from_ne_true v.holding (λ held. other (h.one_holds j v e held ∙ here.0)));

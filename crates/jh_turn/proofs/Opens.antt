@@ -5,8 +5,7 @@ use Rattle.atomic_table.specs.Table.{Splits}
 use Rattle.jh_turn.specs.declared.rule.Hand.{Hand}
 use Rattle.jh_turn.specs.declared.rule.View.{View}
 use Rattle.jh_turn.specs.declared.rule.Opening.{Opening}
-use Rattle.jh_turn.specs.Hands.{hand}
-use Rattle.jh_turn.specs.Rule.{view, without_first, only_first, Kept}
+use Rattle.jh_turn.specs.Private.Rule.{hand, view, without_first, only_first, Kept}
 use Rattle.jh_turn.proofs.Seating.{split_keeps}
 
 module _ {E : Type 0} (seen : List E) where

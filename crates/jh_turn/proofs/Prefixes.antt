@@ -15,8 +15,8 @@ module _ {A : Type 0} where
   prefix_trans xs ys zs p q = (p.0 ++ q.0, sym (append_assoc xs p.0 q.0) ∙ (ap (λ w. w ++ q.0) p.1 ∙ q.1))
 
 module _ {E : Type 0} (whose : E → ℕ) where
-  pub entries-append : (who : ℕ) (xs ys : List E) → entries_of whose who (xs ++ ys) ≡ entries_of whose who xs ++ entries_of whose who ys
-  entries-append who xs ys = filter-append (λ e. whose e == who) xs ys
+  pub entries_append : (who : ℕ) (xs ys : List E) → entries_of whose who (xs ++ ys) ≡ entries_of whose who xs ++ entries_of whose who ys
+  entries_append who xs ys = filter-append (λ e. whose e == who) xs ys
 
   entries_of_other : (who : ℕ) (e : E) → who ≢ whose e → entries_of whose who (e ∷ []) ≡ []
   entries_of_other who e other = ap (λ (b : Bool). cond b (e ∷ []) []) (ne_eqb (whose e) who (λ same. other (sym same)))
@@ -38,7 +38,7 @@ module _ {E : Type 0} (whose : E → ℕ) where
   pub others_stay : (who other : ℕ) (before after : List E) → other ≢ who → Grows whose who before after → entries_of whose other after ≡ entries_of whose other before
   others_stay who other before after apart (inl same) = ap (entries_of whose other) same
   others_stay who other before after apart (inr added) =
-      ap (entries_of whose other) added.2 ∙ (entries-append other before (added.0 ∷ []) ∙ (ap (λ w. entries_of whose other before ++ w) (entries_of_other other added.0 (λ same. apart (same ∙ added.1))) ∙ append-nil (entries_of whose other before)))
+      ap (entries_of whose other) added.2 ∙ (entries_append other before (added.0 ∷ []) ∙ (ap (λ w. entries_of whose other before ++ w) (entries_of_other other added.0 (λ same. apart (same ∙ added.1))) ∙ append-nil (entries_of whose other before)))
 
   pub grows_on : (who : ℕ) (before after : List E) → Grows whose who before after → IsPrefix before after
   grows_on who before after (inl same) = ([], append-nil before ∙ sym same)
@@ -52,4 +52,4 @@ module _ {E : Type 0} (whose : E → ℕ) where
 
   -- where a caller has no entry past xs, each entry there is another's
   pub foreign_rest : (who : ℕ) (xs ys : List E) → entries_of whose who (xs ++ ys) ≡ entries_of whose who xs → All (λ e. whose e ≢ who) ys
-  foreign_rest who xs ys same = let f = entries_of whose who in all_others who ys (append_cancel_left (f xs) (f ys) [] (sym (entries-append who xs ys) ∙ (same ∙ sym (append-nil (f xs)))))
+  foreign_rest who xs ys same = let f = entries_of whose who in all_others who ys (append_cancel_left (f xs) (f ys) [] (sym (entries_append who xs ys) ∙ (same ∙ sym (append-nil (f xs)))))

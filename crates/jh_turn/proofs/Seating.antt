@@ -11,9 +11,8 @@ use Rattle.jh_turn.specs.declared.rule.Hand.{Hand}
 use Rattle.jh_turn.specs.declared.rule.View.{View}
 use Rattle.jh_turn.specs.declared.rule.Opening.{Opening}
 use Rattle.jh_turn.specs.Private.Closing.{HasCaller, IsLast}
-use Rattle.jh_turn.specs.Hands.{hand}
 use Rattle.jh_turn.specs.Histories.{entries_of}
-use Rattle.jh_turn.specs.Rule.{free, Slot, without_first, only_first, together, spent_view, opening_view, HandFits, Fits, Kept}
+use Rattle.jh_turn.specs.Private.Rule.{free, Slot, without_first, only_first, together, spent_view, opening_view, HandFits, Fits, Kept, hand}
 use Rattle.jh_turn.proofs.Prefixes.{prefix_self}
 use Rattle.jh_turn.proofs.Seats.{seats_stay, seats_and_one, only_seat, contains_one, contains_none}
 use Rattle.jh_turn.proofs.Keeps.{hand_fits, not_holder}

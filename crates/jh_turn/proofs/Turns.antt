@@ -3,8 +3,8 @@ use Rattle.std.proofs.Common.{◌≡◌, ℕ, List, [], ◌∷◌, ◌++◌, Som
 use mathlib.Core.List.{IsPrefix}
 use Rattle.jh_turn.specs.Histories.{entries_of, Grows, IsTurn}
 use Rattle.jh_turn.specs.Hands.{seen_of}
-use Rattle.jh_turn.specs.Rule.{Slot, Seated, Claimed}
-use Rattle.jh_turn.proofs.Prefixes.{entries-append, entries_made, foreign_rest, grown_by, grows_on, prefix_trans}
+use Rattle.jh_turn.specs.Private.Rule.{Slot, Seated, Claimed}
+use Rattle.jh_turn.proofs.Prefixes.{entries_append, entries_made, foreign_rest, grown_by, grows_on, prefix_trans}
 use Rattle.jh_turn.proofs.Keeps.{first_slot}
 
 module _ {E O A : Type 0} (whose : E → ℕ) (answers : O → ℕ → List E → List E → A → Type 0) where
@@ -17,15 +17,15 @@ module _ {E O A : Type 0} (whose : E → ℕ) (answers : O → ℕ → List E �
     one_at_most = g.1;
     after = g.2 ∙ ap (λ l. l ++ g.0) (sym start.1);
     answered = subst (λ (z : O × List E). answers z.0 who z.1 after answer) (λ i. (same i, sym start.1 i)) told;
-    own = ap (entries_of whose who) g.2 ∙ (entries-append whose who before g.0 ∙ ap₂ (λ x y. x ++ y) own (entries_made whose who g.0 g.1));
+    own = ap (entries_of whose who) g.2 ∙ (entries_append whose who before g.0 ∙ ap₂ (λ x y. x ++ y) own (entries_made whose who g.0 g.1));
   }
 
 -- two names of what one slot has
-pub one_value : {T : Type 0} (hand : List (ℕ × Slot T)) (a b : Box T Global) → hand ≡ (0, Some a) ∷ [] → hand ≡ (0, Some b) ∷ [] → a ≡ b
-one_value hand a b e f = let slot : Some a ≡ Some b = ap first_slot (sym e ∙ f) in cc slot
+pub one_value : {T : Type 0} (slots : List (ℕ × Slot T)) (a b : Box T Global) → slots ≡ (0, Some a) ∷ [] → slots ≡ (0, Some b) ∷ [] → a ≡ b
+one_value slots a b e f = let slot : Some a ≡ Some b = ap first_slot (sym e ∙ f) in cc slot
 
 module _ {T E O A : Type 0} (whose : E → ℕ) (origin : T → O) (serves : O → ℕ → Type 0) (history : T → List E) (answers : O → ℕ → List E → List E → A → Type 0) where
-  -- from a claim of the turn and a turn of the value in hand
+  -- from a claim of the turn and a turn of the value in the slot
   pub told : (who : ℕ) (me claimed : Seated T E) (k : Claimed whose origin serves history who me claimed) (opened before after : T) (answer : A) → me.0.opened ≡ Some opened → before ≡ k.value.value
       → Grows whose who (history before) (history after) → answers (origin before) who (history before) (history after) answer → IsTurn whose (answers (origin opened) who) who (seen_of me.0.hands) answer (history after)
   told who me claimed k opened before after answer from is grew says = turned whose answers who (seen_of me.0.hands) (history before) (history after) (origin before) (origin opened) answer

@@ -1,12 +1,8 @@
--- What a seat knows of a caller: its number, and the history that it has seen.
+-- What a seat knows of the caller of its first hand.
 use Rattle.std.specs.Prelude.{ℕ, List, [], ◌∷◌}
 use Rattle.jh_turn.specs.declared.rule.Hand.{Hand}
 
 module _ {E : Type 0} where
-  -- what a seat knows of the caller, which has seen that history
-  abbrev pub hand : ℕ → List E → Hand E
-  hand caller seen = record { caller = caller; seen = seen }
-
   -- the number of the caller of the first hand, 0 where there is none
   abbrev pub caller_of : List (Hand E) → ℕ
   caller_of [] = 0

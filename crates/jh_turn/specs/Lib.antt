@@ -4,4 +4,3 @@ pub mod Opened
 pub mod PortSets
 pub mod Ports
 pub mod Private
-pub mod Rule

@@ -1,9 +1,7 @@
 //! A shared value and its ports cross threads where the value may. It is proved here once, for every value.
 use crate::shared::{Port, Shared};
 use crate::turner::Turner;
-
-/// Takes any value that may be sent to another thread, and does nothing.
-fn may_be_sent<X: Send>(_x: &X) {}
+use jh_num::may_be_sent;
 
 /// Takes any value that several threads may use at a time, and does nothing.
 fn may_be_lent<X: Sync>(_x: &X) {}

@@ -31,7 +31,7 @@ pub struct Opening<T> {
 pub struct Law;
 
 impl<T: Turner> TableRule<Option<Box<T>>, View<T, T::Entry>, Opening<T>> for Law {
-    ghost use Rattle.jh_turn.specs.Rule.{Kept, opening_view};
+    ghost use Rattle.jh_turn.specs.Private.Rule.{Kept, opening_view};
 
     ghost holds = { Kept T.whose T.origin T.serves T.history };
 
@@ -42,34 +42,34 @@ impl<T: Turner> TableRule<Option<Box<T>>, View<T, T::Entry>, Opening<T>> for Law
 pub struct Claim;
 
 impl<T: Turner> Play<Option<Box<T>>, View<T, T::Entry>> for Claim {
-    ghost use Rattle.jh_turn.specs.Rule.{claims};
+    ghost use Rattle.jh_turn.specs.Private.Rule.{Claims};
 
-    ghost then = { claims T.whose T.origin T.serves T.history };
+    ghost then = { Claims T.whose T.origin T.serves T.history };
 }
 
-/// Word 1 becomes the length of the history of the value in hand.
+/// Word 1 becomes the length of the history of the value in the slot that the seat has.
 pub struct Note;
 
 impl<T: Turner> Play<Option<Box<T>>, View<T, T::Entry>> for Note {
-    ghost use Rattle.jh_turn.specs.Rule.{notes};
+    ghost use Rattle.jh_turn.specs.Private.Rule.{Notes};
 
-    ghost then = { λ _ before _ after. notes T.history before after };
+    ghost then = { λ _ before _ after. Notes T.history before after };
 }
 
 /// Word 0 becomes `free`, and the slot goes home.
 pub struct Release;
 
 impl<T: Turner> Play<Option<Box<T>>, View<T, T::Entry>> for Release {
-    ghost use Rattle.jh_turn.specs.Rule.{releases};
+    ghost use Rattle.jh_turn.specs.Private.Rule.{Releases};
 
-    ghost then = { λ _ before _ after. releases before after };
+    ghost then = { λ _ before _ after. Releases before after };
 }
 
 /// A new seat gets the first caller.
 pub struct FirstCaller;
 
 impl<T, E> Split<View<T, E>> for FirstCaller {
-    ghost use Rattle.jh_turn.specs.Rule.{without_first, only_first};
+    ghost use Rattle.jh_turn.specs.Private.Rule.{without_first, only_first};
 
     ghost left = { without_first };
 
@@ -80,7 +80,7 @@ impl<T, E> Split<View<T, E>> for FirstCaller {
 pub struct Together;
 
 impl<T, E> Join<View<T, E>> for Together {
-    ghost use Rattle.jh_turn.specs.Rule.{together, spent_view};
+    ghost use Rattle.jh_turn.specs.Private.Rule.{together, spent_view};
 
     ghost both = { together };
 

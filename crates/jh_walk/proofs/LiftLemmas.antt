@@ -68,7 +68,10 @@ count_same w word word' inner alike (suc n) page all none =
 pub on_times : (word : ℕ → ℕ) (n page m inner : ℕ) → IsReached word n page m inner → 0 < times word n page inner
 on_times word zero page m inner on = elim on [ ]
 on_times word (suc n) page m inner (inl (e, is)) = self_times word n page inner is
-on_times word (suc n) page m inner (inr (i, (next, (lt, (leads, on))))) =
+on_times word (suc n) page m inner (inr (next, (names, on))) =
+    let i = names.slot in
+    let lt : i < 512 = names.within in
+    let leads : read_of (word (page + 8 * i)) (LAST_LEVEL - n) ≡ Table next = names.descriptor in
     let below : 0 < times word n next inner = on_times word n next m inner on in
     let e : slot_counts (is_page inner) word n page i ≡ times word n next inner = slot_is (is_page inner) word n page i next leads in
     let le : is_page inner word n page + slot_counts (is_page inner) word n page i ≤ times word (suc n) page inner = slot_le (is_page inner) word n page i lt in
@@ -79,7 +82,10 @@ pub count_falls : (w : Weight) (word word' : ℕ → ℕ) (inner m : ℕ) → Al
 count_falls w word word' inner m alike fall zero page all once on = elim on [ ]
 count_falls w word word' inner m alike fall (suc n) page all once (inl (e, is)) =
     subst (λ z. count w word' z page + 1 ≡ count w word z page) (sym e) (subst (λ z. count w word' m z + 1 ≡ count w word m z) (sym is) fall)
-count_falls w word word' inner m alike fall (suc n) page all once (inr (i, (next, (lt, (leads, on))))) =
+count_falls w word word' inner m alike fall (suc n) page all once (inr (next, (names, on))) =
+    let i = names.slot in
+    let lt : i < 512 = names.within in
+    let leads : read_of (word (page + 8 * i)) (LAST_LEVEL - n) ≡ Table next = names.descriptor in
     let some : 0 < times word n next inner = on_times word n next m inner on in
     let e : slot_counts (is_page inner) word n page i ≡ times word n next inner = slot_is (is_page inner) word n page i next leads in
     let le : is_page inner word n page + slot_counts (is_page inner) word n page i ≤ times word (suc n) page inner = slot_le (is_page inner) word n page i lt in

@@ -22,36 +22,43 @@ Weight = (ℕ → ℕ) → ℕ → ℕ → ℕ
 
 -- the sum of the weights of the table, with so many levels left, and of all tables that it reaches
 unfoldable pub count : Weight → (ℕ → ℕ) → ℕ → ℕ → ℕ
-count weight word zero page = 0
-count weight word (suc n) page =
-    weight word n page + sum_below 512 (λ i. by_next (count weight word n) (read_of (word (page + 8 * i)) (LAST_LEVEL - n)))
+count weight word zero table = 0
+count weight word (suc n) table =
+    weight word n table + sum_below 512 (λ slot. by_next (count weight word n) (read_of (word (table + 8 * slot)) (LAST_LEVEL - n)))
 
 -- the weight of a page: 1 where it is this one, else 0
 abbrev pub is_page : ℕ → Weight
-is_page q word n page = if nat_eq page q then 1 else 0
+is_page page word n other = if nat_eq other page then 1 else 0
 
 -- how often the page is reached from a table with so many levels left
 abbrev pub times : (ℕ → ℕ) → ℕ → ℕ → ℕ → ℕ
-times word n page q = count (is_page q) word n page
+times word n table page = count (is_page page) word n table
 
 -- the 512 words of each page that is reached are the same
 pub record SameTables (word word' : ℕ → ℕ) (n table : ℕ) : Type 0 where
-  pub words : (page i : ℕ) → 0 < times word n table page → i < 512 → word' (page + 8 * i) ≡ word (page + 8 * i)
+  pub words : (page slot : ℕ) → 0 < times word n table page → slot < 512 → word' (page + 8 * slot) ≡ word (page + 8 * slot)
 
 -- each page that is reached is aligned
 abbrev pub AreAligned : (ℕ → ℕ) → ℕ → ℕ → Type 0
-AreAligned word n page = (q : ℕ) → 0 < times word n page q → q % 4096 ≡ 0
+AreAligned word n table = (page : ℕ) → 0 < times word n table page → page % 4096 ≡ 0
 
 -- aligned pages other than `inner` have the same words and weights
-pub record AlikeBut (inner : ℕ) (w : Weight) (word word' : ℕ → ℕ) : Type 0 where
-  pub words : (q i : ℕ) → q % 4096 ≡ 0 → q ≢ inner → i < 512 → word' (q + 8 * i) ≡ word (q + 8 * i)
-  pub weights : (m q : ℕ) → q % 4096 ≡ 0 → q ≢ inner → w word' m q ≡ w word m q
+pub record AlikeBut (inner : ℕ) (weight : Weight) (word word' : ℕ → ℕ) : Type 0 where
+  pub words : (page slot : ℕ) → page % 4096 ≡ 0 → page ≢ inner → slot < 512 → word' (page + 8 * slot) ≡ word (page + 8 * slot)
+  pub weights : (n page : ℕ) → page % 4096 ≡ 0 → page ≢ inner → weight word' n page ≡ weight word n page
 
--- the page is reached over slots, with m levels left at it
+-- a slot of the table of the level has the descriptor of that table of the next level
+pub record NamesTable (word : ℕ → ℕ) (level table next : ℕ) : Type 0 where
+  pub slot : ℕ
+  pub within : slot < 512
+  pub descriptor : read_of (word (table + 8 * slot)) level ≡ Table next
+
+-- from a table with so many levels left the page is reached, with `left` levels left at it: it is that table, or it is
+-- reached from one that the table names
 abbrev pub IsReached : (ℕ → ℕ) → ℕ → ℕ → ℕ → ℕ → Type 0
-IsReached word zero page m inner = ⊥
-IsReached word (suc n) page m inner =
-    ((suc n ≡ m) × (page ≡ inner)) ⊎ ((i : ℕ) × ((next : ℕ) × ((i < 512) × ((read_of (word (page + 8 * i)) (LAST_LEVEL - n) ≡ Table next) × IsReached word n next m inner))))
+IsReached word zero table left page = ⊥
+IsReached word (suc n) table left page =
+    ((suc n ≡ left) × (table ≡ page)) ⊎ ((next : ℕ) × (NamesTable word (LAST_LEVEL - n) table next × IsReached word n next left page))
 
 -- what is asked of a slot: where its descriptor is valid its word stays, and below a table the same goes on
 abbrev pub IsKept : (ℕ → Type 0) → Descriptor → Type 0 → Type 0
@@ -61,6 +68,6 @@ IsKept below (Table next) same = same × below next
 
 -- each word that reads valid stays, in each page that is reached from a table with so many levels left
 abbrev pub Grows : (ℕ → ℕ) → (ℕ → ℕ) → ℕ → ℕ → Type 0
-Grows word word' zero page = Unit {0}
-Grows word word' (suc n) page =
-    (i : ℕ) → i < 512 → IsKept (Grows word word' n) (read_of (word (page + 8 * i)) (LAST_LEVEL - n)) (word' (page + 8 * i) ≡ word (page + 8 * i))
+Grows word word' zero table = Unit {0}
+Grows word word' (suc n) table =
+    (slot : ℕ) → slot < 512 → IsKept (Grows word word' n) (read_of (word (table + 8 * slot)) (LAST_LEVEL - n)) (word' (table + 8 * slot) ≡ word (table + 8 * slot))

@@ -9,12 +9,12 @@ use Rattle.jh_text.specs.Lines.{IsReadTo}
 -- from `old` to `new` the lines of some entries are read
 pub record ReadsOn (old new : LinesView) : Type 0 where
   pub between : List Entry
-  pub told : (text : List ℕ) (before : List Entry) → IsReadTo text before old → IsReadTo text (before ++ between) new
+  pub reads : (text : List ℕ) (before : List Entry) → IsReadTo text before old → IsReadTo text (before ++ between) new
 
 -- what is left are the lines of some entries, and with those before them they are a journal's text
 pub record EndsJournal (lines : LinesView) : Type 0 where
   pub rest : List Entry
-  pub told : (text : List ℕ) (before : List Entry) → IsReadTo text before lines → IsJournalText text (before ++ rest)
+  pub spelled : (text : List ℕ) (before : List Entry) → IsReadTo text before lines → IsJournalText text (before ++ rest)
 
 -- the text of which so much is read has this fault
 abbrev pub EndsAtFault : LinesView → JournalFault → Type 0

@@ -39,7 +39,8 @@ use Rattle.jh_board.specs.declared.held.Held.{Held}
 use Rattle.jh_board.specs.Private.Closed.{AreInRange}
 use Rattle.jh_board.specs.Private.LiveView.{LiveView}
 use Rattle.jh_board.specs.Means.{Means, HoldsWords, IsReady, IsReadyFor}
-use Rattle.jh_board.specs.Pages.{MemoryView, MayHold, HoldsPlace, HoldsSlot}
+use Rattle.jh_board.specs.Pages.{MemoryView, HoldsPlace, HoldsSlot}
+use Rattle.jh_board.specs.Private.Pages.{MayHold}
 
 -- the act is a Decide that goes on
 abbrev pub decides_to_go_on : Act → Bool
@@ -166,8 +167,8 @@ abbrev pub IsRead : Image → Facts → Entry → Option CellConfig → Type 0
 IsRead image facts entry coming = call_by facts.cells coming facts.call entry entry.act ≡ call_after image facts entry
 
 -- where the configuration of a cell comes, the open call isn't yet about to make one: whatever is held is ready for it
-abbrev pub IsFree : Facts → Option CellConfig → Type 0
-IsFree facts coming = IfSome coming (λ config. (held : Held) → IsReady held facts.call)
+abbrev pub NeedsNothingYet : Facts → Option CellConfig → Type 0
+NeedsNothingYet facts coming = IfSome coming (λ config. (held : Held) → IsReady held facts.call)
 
 -- what is held is ready for what the call goes on to do, where it is ready for the cell that comes
 abbrev pub WillBeReady : Image → Facts → Entry → Option CellConfig → Type 0

@@ -1,10 +1,10 @@
 -- The bdfs at which all devices of different cells are known to fit each other.
-use Rattle.std.specs.Prelude.{◌≡◌, ◌≢◌, ℕ, ◌<◌, Bool, true, false, ◌&&◌, not, ◌==◌, List, length, slice_index_or, Contains}
+use Rattle.std.specs.Prelude.{◌≡◌, ◌≢◌, ℕ, ◌<◌, Bool, true, false, ◌&&◌, ◌==◌, List, length, slice_index_or, Contains}
 use Rattle.jh_cellcfg.specs.declared.region.Region.{Region}
 use Rattle.jh_cellcfg.specs.declared.config.PciDevice.{PciDevice}
 use Rattle.jh_cellcfg.specs.declared.config.CellConfig.{CellConfig}
 use Rattle.jh_check.specs.declared.seats.Seat.{Seat}
-use Rattle.jh_check.specs.Devices.{are_same_memory, sections_of}
+use Rattle.jh_check.specs.Devices.{are_same_memory, sections_of, fits}
 
 -- the seat is that of the device, which is of the cell
 pub record IsAt (cells : List CellConfig) (seat : Seat) (cell : CellConfig) (device : PciDevice) : Type 0 where
@@ -37,11 +37,6 @@ LikeAt cells regions device seat =
 pub record AreLike (cells : List CellConfig) (regions : List Region) (device : PciDevice) (run : List Seat) (n : ℕ) : Type 0 where
   pub each : (k : ℕ) (d : Seat) → k < n → LikeAt cells regions device (slice_index_or run k d)
   pub ids : (j k : ℕ) (d : Seat) → j < k → k < n → (slice_index_or run j d).id ≢ (slice_index_or run k d).id
-
--- the two linked devices of different cells fit each other: as many peers, different numbers, and the same memory
-abbrev pub fits : List Region → PciDevice → List Region → PciDevice → Bool
-fits regions device other_regions other =
-    (device.shmem_peers == other.shmem_peers) && (not (device.shmem_dev_id == other.shmem_dev_id) && are_same_memory (sections_of regions device) (sections_of other_regions other))
 
 -- the devices of the two seats fit each other
 abbrev pub FitAt : List CellConfig → Seat → Seat → Type 0

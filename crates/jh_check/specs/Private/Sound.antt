@@ -15,21 +15,21 @@ breaks_in_cell cell earlier region =
 
 -- the region, where it has a size, breaks one of the rules about one region
 abbrev pub breaks_one : Region → ℕ → List Region → Region → Bool
-breaks_one h cell earlier region =
-    breaks_alone Hypervisor h cell earlier region
-    || (breaks_alone OutOfRange h cell earlier region
-    || (breaks_alone ExecuteWithoutRead h cell earlier region
-    || (breaks_alone PhysAlign h cell earlier region || breaks_in_cell cell earlier region)))
+breaks_one memory cell earlier region =
+    breaks_alone Hypervisor memory cell earlier region
+    || (breaks_alone OutOfRange memory cell earlier region
+    || (breaks_alone ExecuteWithoutRead memory cell earlier region
+    || (breaks_alone PhysAlign memory cell earlier region || breaks_in_cell cell earlier region)))
 
 -- the region has a size, and breaks one of the rules about one region
 abbrev pub breaks_any : Region → ℕ → List Region → Region → Bool
-breaks_any h cell earlier region = has_size region && breaks_one h cell earlier region
+breaks_any memory cell earlier region = has_size region && breaks_one memory cell earlier region
 
 -- no region of the cell of that number breaks a rule about one region
 abbrev pub AreSound : Region → ℕ → List Region → Type 0
-AreSound h cell regions = (rule : Rule) → in_cell rule h cell regions ≡ []
+AreSound memory cell regions = (rule : Rule) → in_cell rule memory cell regions ≡ []
 
 -- each cell that is said to be sound has no region that breaks a rule about one region
 abbrev pub AreSoundEach : Region → List CellConfig → List Bool → Type 0
-AreSoundEach h all sound =
-    (a : ℕ) (c : CellConfig) → a < length all → slice_index_or sound a false ≡ true → AreSound h a (slice_index_or all a c).memory_regions
+AreSoundEach memory all sound =
+    (a : ℕ) (c : CellConfig) → a < length all → slice_index_or sound a false ≡ true → AreSound memory a (slice_index_or all a c).memory_regions

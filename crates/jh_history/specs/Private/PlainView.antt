@@ -1,7 +1,8 @@
 -- What the slow plain program keeps of a journal: CPUs, the live cells, the endpoints of their devices, the open call,
 -- and the bytes that were written.
-use Rattle.std.specs.Prelude.{◌≡◌, ℕ, ◌+◌, ◌^◌, ◌<◌, ◌≤◌, ◌==◌, List, length, fold, slice_get, if◌then◌else◌, Option, Some, IfSome}
+use Rattle.std.specs.Prelude.{◌≡◌, ℕ, ◌+◌, ◌^◌, ◌<◌, ◌≤◌, ◌==◌, ◌++◌, List, length, fold, slice_get, if◌then◌else◌, Option, Some, IfSome}
 use Rattle.jh_num.specs.Memory.{stored}
+use Rattle.jh_cellcfg.specs.declared.config.CellConfig.{CellConfig}
 use Rattle.jh_cellcfg.specs.declared.live.Live.{Live}
 use Rattle.jh_cpu.specs.declared.cpu.Cpu.{Cpu}
 use Rattle.jh_ivshmem.specs.declared.endpoint.Endpoint.{Endpoint}
@@ -14,14 +15,16 @@ use Rattle.jh_history.specs.declared.entry.Entry.{Entry}
 use Rattle.jh_history.specs.declared.place.Place.{Place}
 use Rattle.jh_history.specs.declared.place.Place.TheVariants.{Physical, Page}
 use Rattle.jh_history.specs.declared.written.WrittenByte.{WrittenByte}
-use Rattle.jh_history.specs.Places.{is_same}
+use Rattle.jh_history.specs.Places.{is_same, over}
 use Rattle.jh_history.specs.declared.access.Access.TheVariants.{Read}
 use Rattle.jh_history.specs.Access.{reach_by, memory_read, slot_of_reach}
 use Rattle.jh_history.specs.Grants.{granted_in}
 use Rattle.jh_history.specs.Devices.{devices_in}
-use Rattle.jh_history.specs.Endpoints.{change_by, changing_by, IsNextOf, MayChange}
+use Rattle.jh_history.specs.Calls.{call_by}
+use Rattle.jh_history.specs.Endpoints.{change_by, changing_by, specs_changing, with_words, IsNextOf, MayChange}
 use Rattle.jh_history.specs.Facts.{Facts}
 use Rattle.jh_history.specs.Bytes.{loaded_byte}
+use Rattle.jh_history.specs.History.{coming_of}
 use Rattle.jh_history.specs.Admitted.{IsAdmitted}
 use Rattle.jh_shape.specs.Lives.{configs_of}
 use Rattle.jh_history.specs.Due.{due_at}
@@ -68,6 +71,25 @@ pub record Represents (plain : PlainView) (image : Image) (facts : Facts) : Type
   pub call : facts.call ≡ plain.call
   pub cpus : (i : ℕ) → i < 16 → slice_get plain.cpus i ≡ Some (facts.cpu i)
   pub bytes : (q : Place) → facts.byte q ≡ last_byte image plain.bytes q
+
+-- the bytes are these of the facts, whatever facts the old one stands for
+abbrev pub HasBytes : PlainView → PlainView → (Image → Facts → Place → ℕ) → Type 0
+HasBytes old new byte = (i : Image) (f : Facts) → Represents old i f → (q : Place) → last_byte i new.bytes q ≡ byte i f q
+
+-- the words that the act clears in state tables are written over the bytes of the old one, by its cells and its call
+abbrev pub HasWritten : PlainView → PlainView → Act → Type 0
+HasWritten old new act =
+    (i : Image) (f : Facts) → f.cells ≡ old.cells → f.call ≡ old.call → (q : Place) → last_byte i new.bytes q ≡ with_words (specs_changing f act) (last_byte i old.bytes) q
+
+-- with this configuration as the one that a create reads, the open call goes on by the entry as it has to
+abbrev pub IsComing : PlainView → Entry → Option CellConfig → Type 0
+IsComing plain entry coming =
+    (i : Image) (f : Facts) → Represents plain i f → (lives : List Live) → call_by lives coming f.call entry entry.act ≡ call_by lives (coming_of i f) f.call entry entry.act
+
+-- the row of places has the lowest bytes of the value, and the rest of it is left for the places behind
+abbrev pub IsRest : List WrittenByte → List WrittenByte → List Place → ℕ → ℕ → Type 0
+IsRest old new row value rest =
+    (image : Image) (places : List Place) (q : Place) → over places rest q (last_byte image new q) ≡ over (row ++ places) value q (last_byte image old q)
 
 -- all but the bytes and the endpoints stay
 pub record IsSameBut (old new : PlainView) : Type 0 where

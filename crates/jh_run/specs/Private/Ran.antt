@@ -4,10 +4,10 @@ use Rattle.jh_laws.specs.Items.{ItemsLead, IsCutShort}
 use Rattle.jh_board.specs.BoardView.{BoardView}
 
 -- the board has the image and the limit of another
-abbrev pub IsSameBut : BoardView → BoardView → Type 0
-IsSameBut old new = new ≡ record old { entries = new.entries }
+abbrev pub IsSameBoard : BoardView → BoardView → Type 0
+IsSameBoard old new = new ≡ record old { entries = new.entries }
 
 -- the items of the CPUs lead from the one board to the other: to their end, or until the limit stops one
 abbrev pub Ran : BoardView → List ℕ → Bool → BoardView → Type 0
-Ran old cpus false new = ItemsLead old.image old.limit cpus old.entries new.entries × IsSameBut old new
-Ran old cpus true new = IsCutShort old.image old.limit cpus old.entries new.entries × IsSameBut old new
+Ran old cpus false new = ItemsLead old.image old.limit cpus old.entries new.entries × IsSameBoard old new
+Ran old cpus true new = IsCutShort old.image old.limit cpus old.entries new.entries × IsSameBoard old new

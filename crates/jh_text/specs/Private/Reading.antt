@@ -13,6 +13,7 @@ use Rattle.jh_history.specs.declared.entry.Heard.{Heard}
 use Rattle.jh_history.specs.declared.entry.Heard.TheVariants as heard
 
 infixl 10 ◌>>=◌
+-- the next step of a `do`, where this one finds something
 abbrev pub ◌>>=◌ : {A B : Type 0} → Option A → (A → Option B) → Option B
 o >>= f = option_and_then f o
 
@@ -84,17 +85,21 @@ unfoldable pub number_until : ℕ → ℕ → ℕ → List ℕ → Option (ℕ �
 number_until radix end most text =
     if begins_canonical end text then (digits_until radix end 0 text >>= λ x. if nat_le x.0 most then Some x else None) else None
 
+-- the largest number of 64 bits
 abbrev pub max_u64 : ℕ
 max_u64 = 2 ^ 64 - 1
 
+-- the number whose digits stand behind `0x` in the word before the end, where it is most at most
 unfoldable pub hexadecimal_until : ℕ → ℕ → List ℕ → Option (ℕ × List ℕ)
 hexadecimal_until end most (a ∷ x ∷ text) = if a == 48 then (if x == 120 then number_until 16 end most text else None) else None
 hexadecimal_until end most (a ∷ []) = None
 hexadecimal_until end most [] = None
 
+-- the number below 0 that has these digits behind its sign, where it is one of 64 bits
 abbrev pub negative : ℕ → Option ℤ
 negative n = if n == 0 then None else (if nat_le n (2 ^ 63) then Some (pos 0 -ℤ pos n) else None)
 
+-- the number of 64 bits with a sign that is the last word of its line
 unfoldable pub answer_of : List ℕ → Option (ℤ × List ℕ)
 answer_of [] = None
 answer_of (c ∷ text) =
@@ -113,26 +118,31 @@ width_of (c ∷ d ∷ text) = if d == 32 then option_map (λ width. (width, text
 
 -- ---- the last word of a line
 
+-- what a read or a fetch gave, most at most; no value where it was a violation
 unfoldable pub got_of : ℕ → List ℕ → Option (Option ℕ × List ℕ)
 got_of most text =
     if begins (codes "0") text then mapped Some (hexadecimal_until 10 most text)
     else (if begins (last (codes "violation")) text then Some (None, behind (last (codes "violation")) text) else None)
 
+-- whether a write or a wait was granted
 unfoldable pub ok_of : List ℕ → Option (Bool × List ℕ)
 ok_of text =
     if begins (last (codes "ok")) text then Some (true, behind (last (codes "ok")) text)
     else (if begins (last (codes "violation")) text then Some (false, behind (last (codes "violation")) text) else None)
 
+-- the number with which a call is refused; none where it goes on
 unfoldable pub decision_of : List ℕ → Option (Option ℤ × List ℕ)
 decision_of text =
     if begins (last (codes "go")) text then Some (None, behind (last (codes "go")) text) else mapped Some (answer_of text)
 
+-- how a cell met the request to shut down
 unfoldable pub settled_of : List ℕ → Option (Settled × List ℕ)
 settled_of text =
     if begins (last (codes "agreed")) text then Some (settled.Agreed, behind (last (codes "agreed")) text)
     else (if begins (last (codes "denied")) text then Some (settled.Denied, behind (last (codes "denied")) text)
     else (if begins (last (codes "timeout")) text then Some (settled.Timeout, behind (last (codes "timeout")) text) else None))
 
+-- how a cell met the note of a change
 unfoldable pub heard_of : List ℕ → Option (Heard × List ℕ)
 heard_of text =
     if begins (last (codes "received")) text then Some (heard.Received, behind (last (codes "received")) text)
@@ -142,6 +152,7 @@ heard_of text =
 
 -- ---- what stands behind the name of an act
 
+-- a read, behind its name
 unfoldable pub read_of : List ℕ → Option (Act × List ℕ)
 read_of text = do
   width ← width_of text
@@ -158,18 +169,22 @@ attempt_of text = do
   ok ← behind_sign ok_of value.1
   Some ((width.0, at.0, value.0, ok.0), ok.1)
 
+-- a write, behind its name
 unfoldable pub write_of : List ℕ → Option (Act × List ℕ)
 write_of text = mapped (λ x. Write x.0 x.1 x.2 x.3) (attempt_of text)
 
+-- a wait for a value, behind its name
 unfoldable pub await_of : List ℕ → Option (Act × List ℕ)
 await_of text = mapped (λ x. Await x.0 x.1 x.2 x.3) (attempt_of text)
 
+-- a fetch, behind its name
 unfoldable pub fetch_of : List ℕ → Option (Act × List ℕ)
 fetch_of text = do
   at ← hexadecimal_until 32 max_u64 text
   got ← behind_sign (got_of (2 ^ 32 - 1)) at.1
   Some (Fetch at.0 got.0, got.1)
 
+-- an interrupt, behind its name and the equals sign
 unfoldable pub irq_of : List ℕ → Option (Act × List ℕ)
 irq_of text = do
   device ← number_until 10 32 (2 ^ 32 - 1) text
@@ -182,6 +197,7 @@ outcome_of code a b text =
     if begins (last (codes "begin")) text then Some (Begin code a b, behind (last (codes "begin")) text)
     else mapped (Hvc code a b) (answer_of text)
 
+-- a hypercall, behind its name
 unfoldable pub call_of : List ℕ → Option (Act × List ℕ)
 call_of text = do
   code ← number_until 10 32 max_u64 text
@@ -189,6 +205,7 @@ call_of text = do
   b ← hexadecimal_until 32 max_u64 a.1
   behind_sign (outcome_of code.0 a.0 b.0) b.1
 
+-- how a cell met the note of a change, behind the name
 unfoldable pub noted_of : List ℕ → Option (Act × List ℕ)
 noted_of text = do
   id ← number_until 10 32 (2 ^ 32 - 1) text
@@ -208,6 +225,7 @@ act_of_call text =
     else (if begins (last (codes "commit")) text then Some (Commit, behind (last (codes "commit")) text)
     else None)))))))
 
+-- an act: an access, an interrupt, or one of a call
 unfoldable pub act_of : List ℕ → Option (Act × List ℕ)
 act_of text =
     if begins (codes "read ") text then read_of (behind (codes "read ") text)
@@ -217,6 +235,7 @@ act_of text =
     else (if begins (codes "irq = ") text then irq_of (behind (codes "irq = ") text)
     else act_of_call text))))
 
+-- the entry with whose line the text begins
 unfoldable pub entry_of : List ℕ → Option (Entry × List ℕ)
 entry_of text = do
   cpu ← number_until 10 32 15 text

@@ -4,7 +4,7 @@ use mathlib.Core.List.{IsPrefix}
 use Rattle.jh_turn.specs.declared.turner.Turner.{Ghosts}
 use Rattle.jh_turn.specs.declared.shared.Port.{Port}
 use Rattle.jh_turn.specs.declared.rule.Hand.{Hand}
-use Rattle.jh_turn.specs.Hands.{hand}
+use Rattle.jh_turn.specs.Private.Rule.{hand}
 use Rattle.jh_turn.specs.Histories.{entries_of}
 use Rattle.jh_turn.specs.Ports.{port_caller, seen_by}
 

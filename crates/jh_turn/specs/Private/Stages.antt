@@ -2,16 +2,16 @@
 use Rattle.std.specs.Prelude.{◌≡◌, ℕ, true, false, List, [], ◌∷◌, Some, None}
 use Rattle.atomic_table.specs.declared.shared.Seat.{Seat}
 use Rattle.jh_turn.specs.declared.rule.View.{View}
-use Rattle.jh_turn.specs.Hands.{hand, seen_of}
+use Rattle.jh_turn.specs.Hands.{seen_of}
 use Rattle.jh_turn.specs.Histories.{Grows}
-use Rattle.jh_turn.specs.Rule.{Slot, Seated, view}
+use Rattle.jh_turn.specs.Private.Rule.{Slot, Seated, hand, view}
 
 module _ {T E : Type 0} where
   -- the seat is the same after as before: it has the same table and the same number
   abbrev pub IsSameSeat : Seat (Slot T) (View T E) → Seat (Slot T) (View T E) → Type 0
   IsSameSeat before after = (after.table_id ≡ before.table_id) × (after.id ≡ before.id)
 
-  -- the seat is one caller's, waits for the turn, and has nothing in hand
+  -- the seat is one caller's, waits for the turn, and has no slot
   pub record IsWaiting (who : ℕ) (me : Seated T E) : Type 0 where
     pub one_hand : me.0.hands ≡ hand who (seen_of me.0.hands) ∷ []
     pub waits : me.0.holding ≡ false

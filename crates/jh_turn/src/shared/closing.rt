@@ -62,7 +62,7 @@ impl<T: Turner> Shared<T> {
 }
 
 impl<T: Turner> Port<T> {
-    ghost use Rattle.jh_turn.specs.Hands.{hand};
+    ghost use Rattle.jh_turn.specs.Private.Rule.{hand};
     ghost use Rattle.jh_turn.specs.Ports.{port_caller, seen_by};
 
     /// The seat of the port, with its caller's one hand.

@@ -45,7 +45,8 @@ fn unboxed<T>(mut slots: Vec<Option<Box<T>>>) -> T
 
 impl<T: Turner> Shared<T> {
     ghost use Rattle.jh_turn.specs.Ports.{opened_value, port_caller, seen_by, AreAllPorts};
-    ghost use Rattle.jh_turn.specs.Opened.{IsOpenedAs, HasToGive, IsNewPort};
+    ghost use Rattle.jh_turn.specs.Opened.{IsOpenedAs};
+    ghost use Rattle.jh_turn.specs.Private.Dealing.{HasToGive, IsNewPort};
 
     /// Opens a value for these callers, with a port for each, in their order. It hands the value back for want of memory alone.
     pub fn open(alloc: Global, value: T, callers: &[u8]) -> Result<(Shared<T>, Vec<Port<T>>), T>

@@ -12,7 +12,7 @@ use std::thread;
 
 impl<T: Turner> Shared<T> {
     ghost use Rattle.jh_turn.specs.Ports.{opened_value, port_caller, seen_by, IsPortOf};
-    ghost use Rattle.jh_turn.specs.Rule.{Claimed};
+    ghost use Rattle.jh_turn.specs.Private.Rule.{Claimed};
     ghost use Rattle.jh_turn.specs.Private.Stages.{IsSameSeat, IsWaiting, IsAtWork, HasDone, MayReturn};
 
     /// A turn of the port's caller. It waits while another caller has the turn, and may wait for ever.

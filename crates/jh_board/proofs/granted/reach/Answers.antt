@@ -13,5 +13,5 @@ returns-in-Some c =
 pub returns-in-None : goal.returns-in-None
 returns-in-None c =
     let wanted = c.args.wanted.now in
-    c.behind.ensures
+    c.behind_in.ensures
     ∙ ap (λ (r : Reach). or_behind r (behind_in c.args.image.now c.args.cells.now.lives c.args.endpoints.now.list c.args.cell wanted.access wanted.at wanted.width)) (sym (ap memory_or_nothing c.in-None.is) ∙ c.memory.ensures)

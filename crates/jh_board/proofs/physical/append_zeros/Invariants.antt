@@ -1,6 +1,6 @@
 -- The zeros so far.
 use Rattle.std.proofs.Common.{◌≡◌, ℕ, ◌++◌}
-use Rattle.jh_board.specs.Pages.{bytes_from}
+use Rattle.jh_board.specs.Private.Pages.{bytes_from}
 use Rattle.jh_board.proofs.physical.append_zeros.Given as goal
 
 abbrev pub invariant-loop-k : goal.invariant-loop-k

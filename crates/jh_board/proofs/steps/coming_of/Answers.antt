@@ -20,7 +20,7 @@ unreachable-requires c =
     let act : c.args.entry.now.act ≡ Decide None = going_decides c.args.entry.now.act (sym c.decides_to_go_on.ensures ∙ c.if-not-decides_to_go_on.false) in
     let is : f.call ≡ Some o = sym c.requires.next.means.call ∙ c.in-Some.is in
     let create : o.call ≡ Create at = create_at o.call at (sym c.create_of.ensures ∙ c.in-Some-create_of.is) in
-    let read = c.decides_are_of_the_open_call.ensures.goes_on image f c.args.entry.now o at c.requires.next.sound c.requires.next.due act is create in
+    let read = c.decides_are_of_the_open_call.ensures.goes_on image f c.args.entry.now o at (record { sound = c.requires.next.sound; due = c.requires.next.due }) act is create in
     not_refused read.config c.in-Refused.number (creation_of image f o.caller at) read.comes
     (sym (c.in_ok-config.ensures f c.requires.next.means) ∙ c.in-Refused.is)
 
@@ -53,7 +53,7 @@ returns-clause-free c = λ f means due held.
     let act : c.args.entry.now.act ≡ Decide None = going_decides c.args.entry.now.act (sym c.decides_to_go_on.ensures ∙ c.if-not-decides_to_go_on.false) in
     let is : c.requires.next.facts.call ≡ Some o = sym c.requires.next.means.call ∙ c.in-Some.is in
     ready_early held f.call o (sym means.call ∙ c.in-Some.is)
-    (c.decides_are_of_the_open_call.ensures.phase c.args.image.now c.requires.next.facts c.args.entry.now None o c.requires.next.sound c.requires.next.due act is)
+    (c.decides_are_of_the_open_call.ensures.phase c.args.image.now c.requires.next.facts c.args.entry.now None o (record { sound = c.requires.next.sound; due = c.requires.next.due }) act is)
 
 pub returns-clause-apart : goal.returns-clause-apart
 returns-clause-apart c =

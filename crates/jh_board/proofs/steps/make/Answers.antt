@@ -72,7 +72,7 @@ make_commit-requires c =
       list = λ commit. acted.list ∙ ap (λ (act : Act). endpoints_acted_by (devices_held image held entry.cell) act c.args.reach.now) commit;
       spare = acted.spare;
       pages = λ q there. acted.others.pages q (c.make_bytes.ensures.held q there);
-    }) (c.devices_may_change.ensures.commit image f entry c.requires.next.sound c.requires.next.due)
+    }) (c.devices_may_change.ensures.commit image f entry (record { sound = c.requires.next.sound; due = c.requires.next.due }))
 
 pub make_page-requires : goal.make_page-requires
 make_page-requires c =
@@ -94,7 +94,7 @@ make_page-requires c =
     if_some c.page_write-write.result (λ (w : PageWrite). HoldsComm c.make_commit.new.held.memory.comms w.cell) (λ w is.
     comms_kept held.memory c.make_commit.new.held.memory w.cell (λ q there. changed.pages q (acted.pages q (c.make_bytes.ensures.held q there)))
     (page_held image held f entry.act w.cell means
-    (c.pages_written_are_of_cells.ensures image f entry w c.requires.next.sound c.requires.next.due (sym write ∙ is))))
+    (c.pages_written_are_of_cells.ensures image f entry w (record { sound = c.requires.next.sound; due = c.requires.next.due }) (sym write ∙ is))))
 
 pub make_call-requires : goal.make_call-requires
 make_call-requires c =
@@ -138,7 +138,7 @@ returns-clause-ok c = λ f old due.
     ∙ ap (λ (im : Image). page_write_by im f entry entry.act) c.image-2.ensures.image in
     let known = c.requires.next in
     let P : List Endpoint → Type 0 = λ list. IsNextOf entry.cell list entry.act in
-    let next = subst P (sym known.means.endpoints ∙ old.endpoints) (c.devices_may_change.ensures.interrupt image known.facts entry known.sound known.due) in
+    let next = subst P (sym known.means.endpoints ∙ old.endpoints) (c.devices_may_change.ensures.interrupt image known.facts entry (record { sound = known.sound; due = known.due })) in
     let called : Held = c.make_call.new.held in
     let new : Held = record { memory = called.memory; cpus = called.cpus; cells = called.cells; programs = c.renew_programs.new.programs; endpoints = called.endpoints; call = called.call; index = called.index; alloc = called.alloc } in
     let F : List Live → List ProgramIndex → Type 0 = AreProgramIndices image in

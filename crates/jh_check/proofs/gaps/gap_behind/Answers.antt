@@ -4,8 +4,8 @@ use Rattle.jh_check.proofs.gaps.gap_behind.Goals as goal
 
 pub returns : goal.returns
 returns c = λ span lies.
-    let n = c.min-behind.result in
-    let m = c.min-behind.ensures in
+    let n = c.min-before.result in
+    let m = c.min-before.ensures in
     let low = lies.starts in
     let high = lies.ends in
     lies_unreached c.args.reaches.now span n c.requires (λ h d. let e = c.end_before-start.ensures h d in omega arith) (λ h d. let e = c.start_behind-end.ensures h d in omega arith) (omega (arith, m))

@@ -2,7 +2,7 @@
 use Rattle.std.proofs.Common.{◌+◌, [], ◌∷◌, length, ◌∙◌, ap, refl, arith}
 use Rattle.std.specs.Prelude.{string_bytes}
 use Rattle.std.proofs.lemmas.List.{length-append}
-use Rattle.jh_outside.specs.TrailLaws.{loop-more}
+use Rattle.jh_outside.proofs.Public.{loop_more}
 use Rattle.jh_outside.specs.Trail.{no_ask}
 use Rattle.jh_cli.proofs.OrderLemmas.{next_stops}
 use Rattle.jh_cli.proofs.CellLemmas.{spell_next, stops_next}
@@ -28,7 +28,7 @@ loop-name-preserved g c =
       spelled = rw c.in_ok-push-in-Ok.ensures.ok (spell_next string_bytes contents c.args.names.now c.loop-name.name-index _ c.loop-name.cells c.in-Ok.cell c.loop-name-test.true c.loop-name.invariant.spelled one);
       few = ap length c.in_ok-push-in-Ok.ensures.ok ∙ length-append c.loop-name.cells (c.in-Ok.cell ∷ []) ∙ ap (λ n. n + 1) c.loop-name.invariant.few;
       kept = c.cell.ensures.kept ∙ c.loop-name.invariant.kept;
-      asked = loop-more string_bytes g.F.Files.asks g.F.Files.failed c.args.files.now c.loop-name.files c.cell.new.files c.args.names.now c.loop-name.name-index c.name-item.result c.loop-name-test.true c.name-item.is c.loop-name.invariant.asked (rw c.as_str.ensures.value at c.in-Ok.ensures.asked);
+      asked = loop_more string_bytes g.F.Files.asks g.F.Files.failed c.args.files.now c.loop-name.files c.cell.new.files c.args.names.now c.loop-name.name-index c.name-item.result c.loop-name-test.true c.name-item.is c.loop-name.invariant.asked (rw c.as_str.ensures.value at c.in-Ok.ensures.asked);
       counted = omega arith;
     }
 

@@ -1,9 +1,8 @@
 -- The system is read, and then the cells.
 use Rattle.std.proofs.Common.{◌∷◌}
 use Rattle.std.specs.Prelude.{map, string_bytes}
-use Rattle.jh_cli.specs.Limits.{most_of_a_file}
-use Rattle.jh_cli.specs.Check.{IsSystemFile, SystemRefusal, ChecksCells}
-use Rattle.jh_cli.specs.Order.{ReadsIn}
+use Rattle.jh_cli.specs.Check.{system_file, ChecksCells}
+use Rattle.jh_cli.specs.Order.{AsksIn}
 use Rattle.jh_cli.proofs.OrderLemmas.{file_behind, first_stops}
 use Rattle.jh_cli.proofs.StopLemmas.{goes_on, counted_behind, told_up}
 use Rattle.jh_cli.proofs.check.check.Goals as goal
@@ -12,7 +11,7 @@ pub returns-clause-ends : goal.returns-clause-ends
 returns-clause-ends g c =
     let contents = g.F.Files.contents c.args.files.now in
     let rest = rw c.system.ensures.kept at c.check_cells.ensures.ends in
-    goes_on most_of_a_file contents c.args.system_name.now SystemRefusal IsSystemFile (ChecksCells contents (map string_bytes c.args.names.now)) c.in_ok-system.system c.in_ok-system.ensures.ok c.check_cells.result rest
+    goes_on contents c.args.system_name.now system_file (ChecksCells contents (map string_bytes c.args.names.now)) c.in_ok-system.system c.in_ok-system.ensures.ok c.check_cells.result rest
 
 pub returns-clause-counted : goal.returns-clause-counted
 returns-clause-counted g c =
@@ -25,5 +24,5 @@ returns-clause-asked g c =
 pub returns-in_err-system-clause-asked : goal.returns-in_err-system-clause-asked
 returns-in_err-system-clause-asked g c =
     let names = map string_bytes c.args.names.now in
-    told_up (ReadsIn g.F.Files.asks g.F.Files.failed (c.args.system_name.now ∷ names) c.args.files.now c.system.new.files) c.from_residual.result c.in_err-system.field-0.0 c.from_residual.ensures.1
+    told_up (AsksIn g.F.Files.asks g.F.Files.failed c.args.files.now c.system.new.files (c.args.system_name.now ∷ names)) c.from_residual.result c.in_err-system.field-0.0 c.from_residual.ensures.1
     (first_stops g.F.Files.asks g.F.Files.failed c.args.system_name.now names c.args.files.now c.system.new.files c.in_err-system.field-0.0 c.in_err-system.ensures.asked_until)

@@ -2,7 +2,7 @@
 use Rattle.std.proofs.Common.{[], Ok, inl}
 use Rattle.jh_outside.specs.Trail.{no_ask}
 use Rattle.jh_cli.specs.Run.{IsRan}
-use Rattle.jh_cli.specs.Endings.{reply_of}
+use Rattle.jh_cli.specs.Private.Endings.{reply_of}
 use Rattle.jh_cli.proofs.BoardLemmas.{opens}
 use Rattle.jh_cli.proofs.OrderLemmas.{board_behind}
 use Rattle.jh_cli.proofs.RunLemmas.{ran_counted}

@@ -4,10 +4,9 @@ use Rattle.std.proofs.lemmas.Bool.{cases_lt, false≢true}
 use Rattle.jh_num.specs.declared.address.TheConstants.{ADDRESS_END}
 use Rattle.jh_cellcfg.specs.declared.config.PciDevice.{PciDevice}
 use Rattle.jh_cellcfg.specs.declared.region.Region.{Region}
-use Rattle.jh_history.specs.Behind.{answer_to, ecam_start, ecam_end, window_of_access}
-use Rattle.jh_history.specs.Devices.{Devices, devices_in}
-use Rattle.jh_history.specs.Grants.{is_kept}
-use Rattle.jh_history.specs.Lives.{regions_in}
+use Rattle.jh_history.specs.Behind.{Asked, answer_behind, asked_by, window_of_access}
+use Rattle.jh_history.specs.Devices.{Devices}
+use Rattle.jh_history.specs.Grants.{behind_of}
 use Rattle.jh_history.proofs.BehindLemmas.{answer_within, answer_beyond, answer_no_bytes}
 use Rattle.jh_history.proofs.cells.behind_in.Goals as goal
 
@@ -17,33 +16,32 @@ returns-then-is_within c =
     let cells = c.args.cells.now in
     let cell = c.args.cell in
     let wanted = c.args.wanted.now in
-    let devices = devices_in image cells c.args.endpoints.now.list cell in
+    let behind = behind_of image cells c.args.endpoints.now.list cell in
+    let asked = asked_by behind wanted in
     let within = c.is_within.ensures.0 c.if-is_within.true in
     let region = c.subpage_of-region.result in
-    let start = ecam_start image.system in
-    let end = ecam_end image.system in
-    let listed : c.devices_in-list.result.now ≡ devices.list = c.devices_in-list.ensures cells (sym c.configs.ensures) in
-    let same : c.new-devices.result ≡ devices = c.new-devices.ensures ∙ ap (λ (list : List PciDevice). record devices { list = list }) listed in
-    c.answer_of.ensures
-    ∙ ap (λ (d : Devices). answer_to d.cell region c.ecam_of.result.start c.ecam_of.result.end (window_of_access d wanted.at wanted.width) wanted.access wanted.at wanted.width) same
-    ∙ ap (λ (s : ℕ). answer_to cell region s c.ecam_of.result.end (window_of_access devices wanted.at wanted.width) wanted.access wanted.at wanted.width) c.ecam_of.ensures.start
-    ∙ ap (λ (e : ℕ). answer_to cell region start e (window_of_access devices wanted.at wanted.width) wanted.access wanted.at wanted.width) c.ecam_of.ensures.end
-    ∙ ap (λ (o : Option Region). answer_to cell o start end (window_of_access devices wanted.at wanted.width) wanted.access wanted.at wanted.width) c.subpage_of-region.ensures.found
-    ∙ sym (answer_within (regions_in image cells cell) devices (is_kept image cells cell) image.system wanted.access wanted.at wanted.width within.1)
+    let ecam = c.ecam_of.result in
+    let listed : c.devices_in-list.result.now ≡ behind.devices.list = c.devices_in-list.ensures cells (sym c.configs.ensures) in
+    let same : c.new-devices.result ≡ behind.devices = c.new-devices.ensures ∙ ap (λ (list : List PciDevice). record behind.devices { list = list }) listed in
+    let asks : Devices → Asked = λ d. record { cell = d.cell; region = region; windows = record { start = ecam.start; end = ecam.end; device = window_of_access d wanted.at wanted.width } } in
+    let from : ℕ → Asked = λ s. record { cell = cell; region = region; windows = record asked.windows { start = s; end = ecam.end } } in
+    let until : ℕ → Asked = λ e. record { cell = cell; region = region; windows = record asked.windows { end = e } } in
+    let having : Option Region → Asked = λ o. record asked { region = o } in
+    c.answer_behind.ensures
+    ∙ ap (λ (d : Devices). answer_behind (asks d) wanted) same
+    ∙ ap (λ (s : ℕ). answer_behind (from s) wanted) c.ecam_of.ensures.start
+    ∙ ap (λ (e : ℕ). answer_behind (until e) wanted) c.ecam_of.ensures.end
+    ∙ ap (λ (o : Option Region). answer_behind (having o) wanted) c.subpage_of-region.ensures.found
+    ∙ sym (answer_within behind wanted within.1)
 
 pub returns-else-is_within : goal.returns-else-is_within
 returns-else-is_within c =
-    let image = c.args.image.now in
-    let cells = c.args.cells.now in
-    let cell = c.args.cell in
     let wanted = c.args.wanted.now in
-    let regions = regions_in image cells cell in
-    let devices = devices_in image cells c.args.endpoints.now.list cell in
-    let kept = is_kept image cells cell in
+    let behind = behind_of c.args.image.now c.args.cells.now c.args.endpoints.now.list c.args.cell in
     sym (elim (cases_lt ADDRESS_END (wanted.at + wanted.width)) [
-      | inl beyond ↦ answer_beyond regions devices kept image.system wanted.access wanted.at wanted.width beyond
+      | inl beyond ↦ answer_beyond behind wanted beyond
       | inr within ↦ elim (cases_lt 0 wanted.width) [
         | inl some ↦ absurd (false≢true (sym c.if-is_within.false ∙ c.is_within.ensures.1 (some, within)))
-        | inr none ↦ answer_no_bytes regions devices kept image.system wanted.access wanted.at wanted.width (omega arith)
+        | inr none ↦ answer_no_bytes behind wanted (omega arith)
       ]
     ])

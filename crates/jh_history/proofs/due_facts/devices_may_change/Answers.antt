@@ -5,8 +5,8 @@ use Rattle.jh_history.proofs.due_facts.devices_may_change.Goals as goal
 pub returns : goal.returns
 returns c = record {
   opening = opening_joins;
-  commit = λ image f entry sound due. commit_changes image f entry.act sound;
+  commit = λ image f entry h. commit_changes image f entry.act h.sound;
   comes = comes_good;
-  interrupt = interrupt_next;
+  interrupt = λ image f entry h. interrupt_next image f entry h.sound h.due;
   word = reach_word;
 }

@@ -1,7 +1,7 @@
 -- The pool has fewer pages than root takes.
 use Rattle.std.proofs.Common.{refl}
 use Rattle.jh_image.specs.declared.fault.ImageCause.TheVariants.{PoolSmall}
-use Rattle.jh_image.specs.Causes.{IsPoolSmall}
+use Rattle.jh_image.specs.Private.Causes.{IsPoolSmall}
 use Rattle.jh_image.proofs.StopLemmas.{on_refusal}
 use Rattle.jh_image.proofs.admission.check_pool.Goals as goal
 

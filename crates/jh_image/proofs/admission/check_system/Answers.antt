@@ -3,7 +3,7 @@ use Rattle.std.proofs.Common.{◌≡◌, [], sym, ◌∙◌, refl}
 use Rattle.std.proofs.lemmas.Bool.{false≢true}
 use Rattle.jh_check.specs.Findings.{findings}
 use Rattle.jh_image.specs.declared.fault.ImageCause.TheVariants.{Findings}
-use Rattle.jh_image.specs.Causes.{IsUnsound}
+use Rattle.jh_image.specs.Private.Causes.{IsUnsound}
 use Rattle.jh_check.proofs.Public.{capped_none, capped_nil}
 use Rattle.jh_image.proofs.StopLemmas.{on_refusal, checked_ok, checked_err}
 use Rattle.jh_image.proofs.admission.check_system.Goals as goal

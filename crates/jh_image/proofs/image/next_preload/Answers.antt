@@ -6,7 +6,8 @@ use Rattle.jh_outside.specs.Trail.{Asks}
 use Rattle.jh_image.specs.declared.fault.ImageCause.TheVariants.{Preload as BadPreload}
 use Rattle.jh_image.specs.Order.{ask_for}
 use Rattle.jh_image.specs.Images.{with_system, so_far_of, a_preload}
-use Rattle.jh_image.specs.Causes.{HandsOutNothing, OnRefused, IsCauseOf}
+use Rattle.jh_image.specs.Causes.{OnRefused, IsCauseOf}
+use Rattle.jh_image.specs.Private.Causes.{HandsOutNothing}
 use Rattle.jh_image.proofs.StopLemmas.{on_refusal, on_refused, unread_stops, preload_stops}
 use Rattle.jh_image.proofs.image.next_preload.Goals as goal
 

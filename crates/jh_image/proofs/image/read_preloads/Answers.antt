@@ -4,7 +4,7 @@ use Rattle.std.proofs.lemmas.List.{take_all}
 use Rattle.jh_num.proofs.Public.{passed_up}
 use Rattle.jh_outside.specs.Trail.{Asks, no_ask, AsksAll, AsksUntil}
 use Rattle.jh_image.specs.Order.{ask_for, preload_name}
-use Rattle.jh_outside.specs.TrailLaws.{loop-more, loop-until}
+use Rattle.jh_outside.proofs.Public.{loop_more, loop_until}
 use Rattle.jh_image.specs.Causes.{OnRefused}
 use Rattle.jh_image.proofs.StopLemmas.{on_refused}
 use Rattle.jh_image.proofs.LoadLemmas.{LoadedSoFar, loaded_start, loaded_next, loaded_more, loaded_all}
@@ -46,7 +46,7 @@ loop-file-preserved g c =
     record {
       kept = cc;
       rises = omega arith;
-      asked = loop-more preload_name g.F.Files.asks g.F.Files.failed c.args.files.now c.loop-file.files c.next_preload.new.files listing.preloads i file lt is c.loop-file.invariant.asked c.in_ok-preload.ensures.asked;
+      asked = loop_more preload_name g.F.Files.asks g.F.Files.failed c.args.files.now c.loop-file.files c.next_preload.new.files listing.preloads i file lt is c.loop-file.invariant.asked c.in_ok-preload.ensures.asked;
       so_far = subst (λ ps. LoadedSoFar contents board listing system (i + 1) ps) (sym c.in_ok-push.ensures.ok) (loaded_more contents board listing system i file c.loop-file.preloads c.in_ok-preload.preload lt is of fit c.loop-file.invariant.so_far);
     }
 
@@ -64,7 +64,7 @@ returns-in_err-preload-clause-asked_until g c =
     let u = c.next_preload.new.files in
     passed_up c.from_residual.result c.in_err-preload.field-0.0 (λ e. OnRefused (λ _ cause. AsksUntil one failed (map preload_name files) (ask_for cause) s u) e) c.from_residual.ensures.1
     (on_refused (λ _ cause. Asks one failed t (ask_for cause file.file ∷ []) u) (λ _ cause. AsksUntil one failed (map preload_name files) (ask_for cause) s u) c.in_err-preload.field-0.0
-    (λ _ cause asked. loop-until preload_name one failed s t u files i file (ask_for cause) lt is c.loop-file.invariant.asked asked) c.in_err-preload.ensures.asked_until)
+    (λ _ cause asked. loop_until preload_name one failed s t u files i file (ask_for cause) lt is c.loop-file.invariant.asked asked) c.in_err-preload.ensures.asked_until)
 
 pub returns-clause-asked : goal.returns-clause-asked
 returns-clause-asked g c =

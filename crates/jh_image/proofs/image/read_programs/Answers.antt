@@ -3,11 +3,12 @@ use Rattle.std.proofs.Common.{◌≡◌, ◌+◌, ◌<◌, ◌≤◌, length, ge
 use Rattle.std.proofs.lemmas.List.{take_all}
 use Rattle.jh_num.proofs.Public.{passed_up}
 use Rattle.jh_image.specs.Images.{so_far_of}
-use Rattle.jh_image.specs.Causes.{IsProgramCause, OnRefused, IsCauseOf}
+use Rattle.jh_image.specs.Causes.{OnRefused, IsCauseOf}
+use Rattle.jh_image.specs.Private.Causes.{IsProgramCause}
 use Rattle.jh_image.proofs.StopLemmas.{on_refused, program_stops}
 use Rattle.jh_outside.specs.Trail.{Asks, no_ask, AsksAll, AsksUntil}
 use Rattle.jh_image.specs.Order.{ask_for, program_name}
-use Rattle.jh_outside.specs.TrailLaws.{loop-more, loop-until}
+use Rattle.jh_outside.proofs.Public.{loop_more, loop_until}
 use Rattle.jh_image.proofs.LoadLemmas.{ScriptsSoFar, scripts_start, scripts_more, scripts_next, scripts_all, scripts_owned}
 use Rattle.jh_image.proofs.image.read_programs.Goals as goal
 
@@ -51,7 +52,7 @@ loop-file-preserved g c =
     record {
       kept = cc;
       rises = omega arith;
-      asked = loop-more program_name g.F.Files.asks g.F.Files.failed c.args.files.now c.loop-file.files c.read_program_file.new.files listing.programs i file lt is c.loop-file.invariant.asked c.in_ok-program.ensures.asked;
+      asked = loop_more program_name g.F.Files.asks g.F.Files.failed c.args.files.now c.loop-file.files c.read_program_file.new.files listing.programs i file lt is c.loop-file.invariant.asked c.in_ok-program.ensures.asked;
       so_far = subst (λ ps. ScriptsSoFar contents board listing system preloads (i + 1) ps) (sym c.in_ok-push.ensures.ok) (scripts_more contents board listing system preloads i file c.loop-file.programs c.in_ok-program.program c.requires.all lt is of c.in_ok-program.ensures.sound c.loop-file.invariant.so_far);
     }
 
@@ -75,7 +76,7 @@ returns-in_err-program-clause-asked_until g c =
     let u = c.read_program_file.new.files in
     passed_up c.from_residual.result c.in_err-program.field-0.0 (λ e. OnRefused (λ _ cause. AsksUntil one failed (map program_name files) (ask_for cause) s u) e) c.from_residual.ensures.1
     (on_refused (λ _ cause. Asks one failed t (ask_for cause file.file ∷ []) u) (λ _ cause. AsksUntil one failed (map program_name files) (ask_for cause) s u) c.in_err-program.field-0.0
-    (λ _ cause asked. loop-until program_name one failed s t u files i file (ask_for cause) lt is c.loop-file.invariant.asked asked) c.in_err-program.ensures.asked_until)
+    (λ _ cause asked. loop_until program_name one failed s t u files i file (ask_for cause) lt is c.loop-file.invariant.asked asked) c.in_err-program.ensures.asked_until)
 
 pub returns-clause-asked : goal.returns-clause-asked
 returns-clause-asked g c =

@@ -1,6 +1,7 @@
 -- The system is admitted, or isn't.
 use Rattle.jh_num.proofs.Public.{passed_up}
-use Rattle.jh_image.specs.Causes.{IsUnsound, OnRefused, IsCauseOf}
+use Rattle.jh_image.specs.Causes.{OnRefused, IsCauseOf}
+use Rattle.jh_image.specs.Private.Causes.{IsUnsound}
 use Rattle.jh_image.proofs.StopLemmas.{on_refused, system_read, unsound_stops}
 use Rattle.jh_image.proofs.image.read_ready.Goals as goal
 

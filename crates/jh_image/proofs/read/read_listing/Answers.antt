@@ -5,7 +5,8 @@ use Rattle.jh_outside.specs.Trail.{Ask, Asks}
 use Rattle.jh_image.specs.Order.{ask_for}
 use Rattle.jh_image.proofs.OrderLemmas.{board_asked}
 use Rattle.jh_image.specs.Images.{nothing, the_board, nothing_read}
-use Rattle.jh_image.specs.Causes.{HandsOutNothing, IsBoardRefusal, OnRefused, IsCauseOf}
+use Rattle.jh_image.specs.Causes.{OnRefused, IsCauseOf}
+use Rattle.jh_image.specs.Private.Causes.{HandsOutNothing, IsBoardRefusal}
 use Rattle.jh_image.proofs.StopLemmas.{on_refused, unread_stops, board_stops}
 use Rattle.jh_image.proofs.read.read_listing.Goals as goal
 

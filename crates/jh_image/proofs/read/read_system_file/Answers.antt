@@ -6,7 +6,8 @@ use Rattle.jh_outside.specs.Trail.{Asks}
 use Rattle.jh_image.specs.declared.fault.ImageCause.TheVariants.{System}
 use Rattle.jh_image.specs.Order.{ask_for}
 use Rattle.jh_image.specs.Images.{IsNextFile, with_listing, the_system}
-use Rattle.jh_image.specs.Causes.{HandsOutNothing, IsRefusal, OnRefused, IsCauseOf}
+use Rattle.jh_image.specs.Causes.{OnRefused, IsCauseOf}
+use Rattle.jh_image.specs.Private.Causes.{HandsOutNothing, IsRefusal}
 use Rattle.jh_image.proofs.StopLemmas.{on_refusal, on_refused, unread_stops, system_stops}
 use Rattle.jh_image.proofs.read.read_system_file.Goals as goal
 

@@ -6,10 +6,10 @@ use Rattle.jh_laws.proofs.InterruptLemmas.{ready_pending, pending_ready, interru
 use Rattle.jh_laws.proofs.vectors.interrupts_are_due_where_a_vector_is_pending.Goals as goal
 
 pub returns-clause-due : goal.returns-clause-due
-returns-clause-due c = λ j cpu board none running calm at.
+returns-clause-due c = λ j cpu is.
     let sound = legal_sound j.image j.entries j.admitted j.legal in (
-      λ due. ready_pending j.image (facts_of j) cpu none calm at (ready_from_due j.image (facts_of j) cpu j.admitted sound due),
-      λ pending. due_from_ready j.image (facts_of j) cpu j.admitted sound (pending_ready j.image (facts_of j) cpu board none running calm at pending),
+      λ due. ready_pending j.image (facts_of j) cpu is (ready_from_due j.image (facts_of j) cpu j.admitted sound due),
+      λ pending. due_from_ready j.image (facts_of j) cpu j.admitted sound (pending_ready j.image (facts_of j) cpu is pending),
     )
 
 pub returns-clause-next : goal.returns-clause-next

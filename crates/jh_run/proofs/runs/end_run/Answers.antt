@@ -1,8 +1,9 @@
 -- What the port has seen that tells how the run ended is the beginning of the whole journal.
+use Rattle.std.proofs.Common.{subst}
 use Rattle.std.proofs.lemmas.List.Elements.{All-contains}
 use mathlib.Core.List.{IsPrefix}
 use Rattle.jh_turn.specs.Ports.{opened_value, seen_by}
-use Rattle.jh_run.specs.Drives.{drive_end}
+use Rattle.jh_run.specs.Drives.{ExplainsEnd}
 use Rattle.jh_run.specs.Running.{origin_of}
 use Rattle.jh_run.proofs.WholeLemmas.{board_of, board_legal, board_tells, quiet_exactly, full_exactly}
 use Rattle.jh_run.proofs.runs.end_run.Goals as goal
@@ -19,8 +20,8 @@ returns-clause-quiet c =
     let board = c.close-board.result.board in
     let shows = c.requires.shows in
     let begins = All-contains (λ p. IsPrefix (seen_by p) board.entries) c.args.driven.ports.items shows.port c.close-board.ensures.seen shows.one in
-    let tells = board_tells c.nothing_extends_a_quiet_journal.ensures origin board (drive_end c.args.driven.refused) (seen_by shows.port) c.close-board.ensures.origin c.journal.ensures.legal c.journal.ensures.within begins shows.shows in
-    quiet_exactly origin c.in_ok-ended.ended board.entries (rw c.in_ok-ended.ensures at tells)
+    let tells = board_tells c.nothing_extends_a_quiet_journal.ensures origin board c.args.driven.refused (seen_by shows.port) c.close-board.ensures.origin c.journal.ensures.legal c.journal.ensures.within begins shows.shows in
+    quiet_exactly origin c.in_ok-ended.ended board.entries (subst (λ refused. ExplainsEnd origin refused board.entries) c.in_ok-ended.ensures tells)
 
 pub returns-clause-full : goal.returns-clause-full
 returns-clause-full c =
@@ -28,5 +29,5 @@ returns-clause-full c =
     let board = c.close-board.result.board in
     let shows = c.requires.shows in
     let begins = All-contains (λ p. IsPrefix (seen_by p) board.entries) c.args.driven.ports.items shows.port c.close-board.ensures.seen shows.one in
-    let tells = board_tells c.nothing_extends_a_quiet_journal.ensures origin board (drive_end c.args.driven.refused) (seen_by shows.port) c.close-board.ensures.origin c.journal.ensures.legal c.journal.ensures.within begins shows.shows in
-    full_exactly origin c.in_ok-ended.ended board.entries (rw c.in_ok-ended.ensures at tells)
+    let tells = board_tells c.nothing_extends_a_quiet_journal.ensures origin board c.args.driven.refused (seen_by shows.port) c.close-board.ensures.origin c.journal.ensures.legal c.journal.ensures.within begins shows.shows in
+    full_exactly origin c.in_ok-ended.ended board.entries (subst (λ refused. ExplainsEnd origin refused board.entries) c.in_ok-ended.ensures tells)

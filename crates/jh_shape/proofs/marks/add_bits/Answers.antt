@@ -1,5 +1,5 @@
 use Rattle.std.proofs.Common.{◌+◌, ◌*◌, ◌^◌, ◌<◌, slice_index, sym, ap, ◌∙◌, arith}
-use Rattle.jh_shape.specs.Marks.{is_marked}
+use Rattle.jh_shape.specs.Private.Marks.{is_marked}
 use Rattle.jh_shape.specs.Pages.{count_below}
 use Rattle.jh_shape.proofs.WordLemmas.{added, added_more}
 use Rattle.jh_shape.proofs.marks.add_bits.Goals as goal

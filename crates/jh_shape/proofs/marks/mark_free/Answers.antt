@@ -1,5 +1,5 @@
 use Rattle.std.proofs.Common.{◌<◌, ◌^◌, ◌&&◌, not, nat_le, nat_lt, slice_index, refl, arith}
-use Rattle.jh_shape.specs.Marks.{is_marked}
+use Rattle.jh_shape.specs.Private.Marks.{is_marked}
 use Rattle.jh_shape.proofs.WordLemmas.{free_none, free_bit, free_more, free_end}
 use Rattle.jh_shape.proofs.marks.mark_free.Goals as goal
 

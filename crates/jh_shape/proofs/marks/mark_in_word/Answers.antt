@@ -1,5 +1,5 @@
 use Rattle.std.proofs.Common.{◌+◌, ◌*◌, min, arith}
-use Rattle.jh_shape.specs.Marks.{is_marked}
+use Rattle.jh_shape.specs.Private.Marks.{is_marked}
 use Rattle.jh_shape.proofs.WordLemmas.{grows_alike, past_span}
 use Rattle.jh_shape.proofs.marks.mark_in_word.Goals as goal
 

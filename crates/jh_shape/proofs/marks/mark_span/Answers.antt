@@ -1,5 +1,5 @@
 use Rattle.std.proofs.Common.{◌+◌, ◌≤◌, arith}
-use Rattle.jh_shape.specs.Marks.{is_marked}
+use Rattle.jh_shape.specs.Private.Marks.{is_marked}
 use Rattle.jh_shape.proofs.CountLemmas.{grown}
 use Rattle.jh_shape.proofs.WordLemmas.{words_none, words_more, words_end, more_fit}
 use Rattle.jh_shape.proofs.marks.mark_span.Goals as goal

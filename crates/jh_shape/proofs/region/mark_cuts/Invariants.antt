@@ -1,7 +1,7 @@
 use Rattle.std.proofs.Common.{◌*◌, ◌||◌, take}
 use Rattle.std.specs.List.{list_any}
 use Rattle.jh_cellcfg.specs.declared.region.Region.{Region}
-use Rattle.jh_shape.specs.Marks.{is_marked, AreMarkedBelow, AreMarkedWithin}
+use Rattle.jh_shape.specs.Private.Marks.{is_marked, AreMarkedBelow, AreMarkedWithin}
 use Rattle.jh_shape.specs.Shapes.{meets_in_part}
 use Rattle.jh_num.specs.Levels.{slot_size}
 use Rattle.jh_shape.proofs.region.mark_cuts.Given as goal

@@ -2,7 +2,7 @@ use Rattle.std.proofs.Common.{◌*◌, ◌/◌, ◌<◌, ◌≤◌, ◌||◌, sy
 use Rattle.std.proofs.Math.Bool.{or-false}
 use Rattle.jh_num.specs.declared.address.TheConstants.{ADDRESS_END}
 use Rattle.jh_num.specs.Levels.{slot_size}
-use Rattle.jh_shape.specs.Marks.{is_marked}
+use Rattle.jh_shape.specs.Private.Marks.{is_marked}
 use Rattle.jh_shape.proofs.LawLemmas.{size_some}
 use Rattle.jh_shape.proofs.MarkLemmas.{inside_only, inside_none, inside_past, inside_above}
 use Rattle.jh_shape.proofs.region.mark_inside.Goals as goal

@@ -1,5 +1,6 @@
 use Rattle.std.proofs.Common.{◌≡◌, ◌*◌, List, length, [], ◌∷◌, ◌++◌, Bool, sym, ap, ◌∙◌, arith}
-use Rattle.jh_spec.specs.Cpus.{bitmap, cpu_byte, mark_byte, AreMarks}
+use Rattle.jh_spec.specs.Cpus.{bitmap, cpu_byte}
+use Rattle.jh_spec.specs.Private.Cpus.{mark_byte, AreMarks}
 use Rattle.jh_spec.proofs.Marks.{mark_byte_cpus, bitmap_suc, length_bitmap}
 use Rattle.jh_spec.proofs.cpus.bitmap_of.Goals as goal
 

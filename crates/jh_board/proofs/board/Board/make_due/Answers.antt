@@ -6,7 +6,7 @@ use Rattle.jh_history.specs.declared.entry.Entry.{Entry}
 use Rattle.jh_history.specs.Due.{due}
 use Rattle.jh_history.specs.Lives.{is_on_board}
 use Rattle.jh_board.specs.BoardView.{BoardView}
-use Rattle.jh_board.specs.Turns.{Advances, MakesDue, Refuses}
+use Rattle.jh_board.specs.Turns.{Advances, MakesDue, RefusesTurn}
 use Rattle.jh_board.specs.declared.turn.TurnFault.{TurnFault}
 use Rattle.jh_board.specs.declared.turn.TurnFault.TheVariants.{Full, NoMemory}
 use Rattle.jh_board.proofs.board.Board.make_due.Goals as goal
@@ -28,7 +28,7 @@ abbrev IsFull : Image → ℕ → List Entry → ℕ → Result (Option Entry) T
 IsFull image limit old cpu r = r ≡ Err Full → IsSome (due image old cpu) × (length old ≡ limit)
 
 refuses : (image : Image) (limit : ℕ) (old new : List Entry) (cpu : ℕ) (r : Result (Option Entry) TurnFault) → IsFull image limit old cpu r → OnErr r (new ≡ old)
-    → IfErr r (λ fault. Refuses (board image limit old) cpu fault (board image limit new))
+    → IfErr r (λ fault. RefusesTurn (board image limit old) cpu fault (board image limit new))
 refuses image limit old new cpu (Ok made) full same = tt
 refuses image limit old new cpu (Err Full) full same = ((full refl).0, (full refl).1, ap (board image limit) same)
 refuses image limit old new cpu (Err NoMemory) full same = ap (board image limit) same

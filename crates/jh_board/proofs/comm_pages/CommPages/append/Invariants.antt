@@ -1,6 +1,7 @@
 -- The bytes so far.
 use Rattle.std.proofs.Common.{◌≡◌, ◌++◌}
-use Rattle.jh_board.specs.Pages.{bytes_from, comm_byte}
+use Rattle.jh_board.specs.Pages.{comm_byte}
+use Rattle.jh_board.specs.Private.Pages.{bytes_from}
 use Rattle.jh_board.proofs.comm_pages.CommPages.append.Given as goal
 
 abbrev pub invariant-loop-k : goal.invariant-loop-k

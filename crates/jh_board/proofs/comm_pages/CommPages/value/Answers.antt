@@ -1,7 +1,7 @@
 -- The bytes of a word are those of its page, zeros where it isn't held.
 use Rattle.std.proofs.Common.{◌≡◌, Some, None, ◌∙◌, sym, ap}
 use Rattle.jh_num.specs.Memory.{spelled}
-use Rattle.jh_board.specs.Pages.{bytes_from}
+use Rattle.jh_board.specs.Private.Pages.{bytes_from}
 use Rattle.jh_num.specs.Pages.{page_at, byte_of_page}
 use Rattle.jh_num.proofs.Public.{zero_fits}
 use Rattle.jh_board.proofs.PieceLemmas.{zeros_spell_nothing}

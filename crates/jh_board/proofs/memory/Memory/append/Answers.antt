@@ -3,7 +3,8 @@ use Rattle.std.proofs.Common.{◌≡◌, ℕ, ◌++◌, List, map, ap, subst, sy
 use Rattle.std.specs.Prelude.{OnOk}
 use Rattle.jh_history.specs.declared.place.Place.{Place}
 use Rattle.jh_history.specs.Places.{places_in_row}
-use Rattle.jh_board.specs.Pages.{byte_of, comm_byte, bytes_from, MemoryView}
+use Rattle.jh_board.specs.Pages.{byte_of, comm_byte, MemoryView}
+use Rattle.jh_board.specs.Private.Pages.{bytes_from}
 use Rattle.jh_num.specs.Pages.{paged_byte}
 use Rattle.jh_board.proofs.PieceLemmas.{row_of_memory}
 use Rattle.jh_board.proofs.RowLemmas.{row_of_comm}

@@ -1,6 +1,6 @@
 -- The places are those of the two rows.
 use Rattle.jh_history.specs.Places.{places_of_row}
-use Rattle.jh_board.specs.Pages.{MayHold}
+use Rattle.jh_board.specs.Private.Pages.{MayHold}
 use Rattle.jh_board.proofs.BytesLemmas.{All_high, MayHold_same}
 use Rattle.jh_board.proofs.memory.Memory.hold_places.Goals as goal
 

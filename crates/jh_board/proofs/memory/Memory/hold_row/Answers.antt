@@ -1,7 +1,8 @@
 -- The pages of a row are those of its first and its last place.
 use Rattle.std.proofs.Common.{◌-◌, subst, sym, arith}
 use Rattle.jh_history.proofs.Public.{further_none}
-use Rattle.jh_board.specs.Pages.{HoldsPlace, MayHold}
+use Rattle.jh_board.specs.Pages.{HoldsPlace}
+use Rattle.jh_board.specs.Private.Pages.{MayHold}
 use Rattle.jh_board.proofs.BytesLemmas.{All_at_place, MayHold_same, row_held}
 use Rattle.jh_board.proofs.memory.Memory.hold_row.Goals as goal
 

@@ -2,7 +2,7 @@
 use Rattle.std.proofs.Common.{◌≡◌, ◌+◌, ◌-◌, ◌^◌, ◌<◌}
 use Rattle.std.specs.Prelude.{slice_index}
 use Rattle.jh_num.specs.Memory.{spelled}
-use Rattle.jh_board.specs.Pages.{bytes_from}
+use Rattle.jh_board.specs.Private.Pages.{bytes_from}
 use Rattle.jh_board.proofs.page.Page.value.Given as goal
 
 abbrev pub invariant-loop-k : goal.invariant-loop-k

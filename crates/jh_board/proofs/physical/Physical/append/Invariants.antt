@@ -1,6 +1,6 @@
 -- The bytes so far.
 use Rattle.std.proofs.Common.{◌≡◌, ◌++◌, ◌≤◌, ◌-◌}
-use Rattle.jh_board.specs.Pages.{bytes_from}
+use Rattle.jh_board.specs.Private.Pages.{bytes_from}
 use Rattle.jh_num.specs.Pages.{paged_byte}
 use Rattle.jh_board.proofs.physical.Physical.append.Given as goal
 

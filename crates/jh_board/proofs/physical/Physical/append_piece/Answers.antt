@@ -1,7 +1,7 @@
 -- The bytes of a piece are those of its page, zeros where it isn't held.
 use Rattle.std.proofs.Common.{◌≡◌, ℕ, ◌/◌, ◌%◌, ◌++◌, List, Some, None, Ok, Err, ◌∙◌, sym, ap, subst, arith}
 use Rattle.std.specs.Prelude.{OnOk}
-use Rattle.jh_board.specs.Pages.{bytes_from}
+use Rattle.jh_board.specs.Private.Pages.{bytes_from}
 use Rattle.jh_num.specs.Pages.{page_at, byte_of_page}
 use Rattle.jh_board.proofs.PieceLemmas.{row_of_page}
 use Rattle.jh_board.proofs.physical.Physical.append_piece.Goals as goal

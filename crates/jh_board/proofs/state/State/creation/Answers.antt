@@ -70,7 +70,7 @@ returns-in-Accepted c = λ i f h.
     let read = c.in_ok-refused.refused in
     let reads = subst (λ (x : StateView). as_read read ≡ read_by (read_held x.image x.held) c.args.at) (sym c.self.view_is) c.in_ok-refused.ensures in
     let is = ap (λ (r : Creation). creation_by s.image f c.args.caller (as_read r)) (sym c.in-Accepted.is) ∙ read_is s i f c.args.caller c.args.at read c.has_few_cpus.ensures.admitted seen locked reads in
-    subst (λ (x : Creation). IfOk c.judge.result (λ creation. creation ≡ x)) is (c.judge.ensures f (subst (λ (x : Image). Means x s.held f) seen.0 seen.1))
+    subst (λ (x : Creation). IfOk c.creation_from.result (λ creation. creation ≡ x)) is (c.creation_from.ensures f (subst (λ (x : Image). Means x s.held f) seen.0 seen.1))
 
 pub returns-in_default : goal.returns-in_default
 returns-in_default c = λ i f h.

@@ -48,8 +48,8 @@ follow-requires-clause-may c =
     let sound = c.loop-entry.invariant.sound in
     may_follow i f c.loop-entry.plain (get_or c.args.entries.now c.loop-entry.entry-index any_entry) c.loop-entry.invariant.stands
     (λ id value found. c.devices_may_change.ensures.word i f id value found sound)
-    (c.devices_may_change.ensures.commit i f (get_or c.args.entries.now c.loop-entry.entry-index any_entry) sound due)
-    (c.devices_may_change.ensures.interrupt i f (get_or c.args.entries.now c.loop-entry.entry-index any_entry) sound due)
+    (c.devices_may_change.ensures.commit i f (get_or c.args.entries.now c.loop-entry.entry-index any_entry) (record { sound = sound; due = due }))
+    (c.devices_may_change.ensures.interrupt i f (get_or c.args.entries.now c.loop-entry.entry-index any_entry) (record { sound = sound; due = due }))
 
 pub loop-entry-preserved : goal.loop-entry-preserved
 loop-entry-preserved c =
@@ -58,7 +58,7 @@ loop-entry-preserved c =
     let next = sym (facts_next c.args.image.now c.args.entries.now c.loop-entry.entry-index _ lt) in
     record {
       stands = subst (λ (g : Facts). Represents c.follow.new.self c.args.image.now g) next (c.in_ok-follow.ensures c.args.image.now f c.loop-entry.invariant.stands);
-      sound = subst (λ (g : Facts). IsSound c.args.image.now g) next (c.legal_journals_are_sound.ensures.after c.args.image.now f _ c.loop-entry.invariant.sound (due_index c.args.image.now c.args.entries.now c.loop-entry.entry-index _ c.requires.legal lt));
+      sound = subst (λ (g : Facts). IsSound c.args.image.now g) next (c.legal_journals_are_sound.ensures.after c.args.image.now f _ (record { sound = c.loop-entry.invariant.sound; due = due_index c.args.image.now c.args.entries.now c.loop-entry.entry-index _ c.requires.legal lt }));
     }
 
 pub returns : goal.returns

@@ -49,7 +49,7 @@ invariant_of-self-2 c =
     ∙ ap (λ (k : Option OpenCall). cells_by k c.self.inside.cells entry.act) call
     ∙ ap (λ (lives : List Live). cells_by f.call lives entry.act) (sym cells) in
     let sound : IsSound c.self.inside.image.now (after c.self.inside.image.now f entry) =
-    subst (λ (x : Image). IsSound x (after x f entry)) image (c.legal_journals_are_sound.ensures.after c.args.self.now.image f entry c.requires.sound c.requires.due) in
+    subst (λ (x : Image). IsSound x (after x f entry)) image (c.legal_journals_are_sound.ensures.after c.args.self.now.image f entry (record { sound = c.requires.sound; due = c.requires.due })) in
     let names : All (λ (x : CellConfig). IsSoundBitmap x.cpu_set → IsSoundCpuSet x.cpu_set) (configs_of c.cells_after.new.cells) =
     subst (λ (configs : List CellConfig). All (λ (x : CellConfig). IsSoundBitmap x.cpu_set → IsSoundCpuSet x.cpu_set) configs) c.configs-2.ensures c.sets_name_cpus.ensures in
     fit_after c.self.inside.image.now f entry c.self.inside.cells c.cells_after.new.cells c.self.invariant cells sound is names

@@ -1,23 +1,18 @@
-use Rattle.std.proofs.Common.{◌≡◌, ℕ, ◌<◌, Bool, false, List, [], ◌∷◌, ◌++◌, length, Some, None, nat_lt, refl, sym, ap, ◌∙◌, arith}
+use Rattle.std.proofs.Common.{◌≡◌, ℕ, ◌<◌, Bool, false, List, length, Some, None, nat_lt, refl, sym, ap, ◌∙◌, arith}
 use Rattle.std.specs.Prelude.{if◌then◌else◌}
 use Rattle.jh_num.specs.Bits.{has_bit}
 use Rattle.jh_num.specs.declared.error.TheConstants.{ENOMEM}
 use Rattle.jh_cellcfg.specs.declared.config.CellConfig.{CellConfig}
 use Rattle.jh_cellcfg.specs.declared.config.SystemConfig.{SystemConfig}
 use Rattle.jh_check.specs.Refusals.{is_known, nobody, refusal_of}
-use Rattle.jh_shape.specs.Pages.{pages_of}
 use Rattle.jh_life.specs.CellsView.{CellsView}
 use Rattle.jh_life.specs.Lives.{numbered_cells}
 use Rattle.jh_shape.specs.Lives.{configs_of}
 use Rattle.jh_shape.proofs.Public.{configs_joined, length_joined}
-use Rattle.jh_life.specs.Verdict.{may_have}
+use Rattle.jh_life.specs.Verdict.{may_have, pages_with}
 use Rattle.jh_life.proofs.VerdictLemmas.{refused_same, refused_kept, refused_left, same_cells, accepted_none, accepted_unknown, if_none_from, if_none_some, may_none}
 use Rattle.jh_life.proofs.cells.Cells.verdict.Goals as goal
 use Rattle.jh_life.proofs.cells.Cells.verdict.Goals.{After-refusal_without_cpus}
-
--- the pages of all cells with another
-abbrev pages_with : CellsView → CellConfig → ℕ
-pages_with seen new = pages_of seen.system.root.memory_regions (configs_of seen.lives ++ new ∷ [])
 
 -- beside 15 cells
 told_full : (c : After-refusal_without_cpus) → c.refusal_without_cpus.result ≡ refusal_of c.args.self.now.system (configs_of c.args.self.now.lives) c.args.new.now (may_have c.args.owned c.args.caller) (pages_with c.args.self.now c.args.new.now) c.args.pool

@@ -8,7 +8,7 @@ use Rattle.jh_cellcfg.specs.declared.region.Region.{Region}
 use Rattle.jh_cellcfg.specs.Regions.{virt_end}
 use Rattle.jh_shape.specs.declared.interval.Span.{Span}
 use Rattle.jh_shape.specs.Intervals.{touches}
-use Rattle.jh_shape.specs.Marks.{is_marked, marked_slots, past_slot}
+use Rattle.jh_shape.specs.Private.Marks.{is_marked, marked_slots, past_slot}
 use Rattle.jh_shape.specs.Shapes.{is_mapped, is_met_by}
 use Rattle.jh_num.specs.Levels.{slot_size}
 use Rattle.jh_shape.proofs.CountLemmas.{grown, grown_bound}

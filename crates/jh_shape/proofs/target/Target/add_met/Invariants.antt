@@ -2,7 +2,7 @@ use Rattle.std.proofs.Common.{◌≡◌, ◌+◌, ◌*◌, ◌/◌, ◌≤◌, �
 use Rattle.std.specs.List.{list_any}
 use Rattle.jh_num.specs.declared.address.TheConstants.{ADDRESS_END}
 use Rattle.jh_cellcfg.specs.declared.region.Region.{Region}
-use Rattle.jh_shape.specs.Marks.{is_marked, marked_slots, AreMarked, AreMarkedWithin}
+use Rattle.jh_shape.specs.Private.Marks.{is_marked, marked_slots, AreMarked, AreMarkedWithin}
 use Rattle.jh_shape.specs.Shapes.{is_met_by}
 use Rattle.jh_num.specs.Levels.{slot_size}
 use Rattle.jh_shape.proofs.target.Target.add_met.Given as goal

@@ -3,7 +3,7 @@ use Rattle.std.specs.List.{list_any}
 use Rattle.jh_num.specs.declared.address.TheConstants.{ADDRESS_END}
 use Rattle.jh_cellcfg.specs.declared.region.Region.{Region}
 use Rattle.jh_shape.specs.Claims.{claims_of}
-use Rattle.jh_shape.specs.Marks.{is_beyond, is_marked, marked_slots}
+use Rattle.jh_shape.specs.Private.Marks.{is_beyond, is_marked, marked_slots}
 use Rattle.jh_shape.specs.Pages.{count_below, tables_at}
 use Rattle.jh_shape.specs.Shapes.{is_leaf, is_met}
 use Rattle.jh_num.specs.Levels.{slot_size}

@@ -2,7 +2,7 @@ use Rattle.std.proofs.Common.{ℕ, ◌*◌, ap, ◌∙◌}
 use Rattle.std.proofs.lemmas.List.{length-replicate}
 use Rattle.std.specs.List.{list_any}
 use Rattle.jh_cellcfg.specs.declared.region.Region.{Region}
-use Rattle.jh_shape.specs.Marks.{is_beyond}
+use Rattle.jh_shape.specs.Private.Marks.{is_beyond}
 use Rattle.jh_shape.proofs.MarkLemmas.{unmarked}
 use Rattle.jh_shape.proofs.target.Target.count_low.Goals as goal
 

@@ -2,7 +2,7 @@ use Rattle.std.proofs.Common.{◌≡◌, ◌*◌, ◌||◌, true, false, sym, ap
 use Rattle.std.specs.List.{list_any}
 use Rattle.jh_cellcfg.specs.declared.region.Region.{Region}
 use Rattle.jh_num.specs.Bits.{has_bit}
-use Rattle.jh_shape.specs.Marks.{is_marked}
+use Rattle.jh_shape.specs.Private.Marks.{is_marked}
 use Rattle.jh_shape.specs.Shapes.{meets_in_part}
 use Rattle.jh_num.specs.Levels.{slot_size}
 use Rattle.jh_shape.proofs.HoldersLemmas.{cut_more, cut_same}

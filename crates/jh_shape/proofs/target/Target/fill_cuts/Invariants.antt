@@ -1,6 +1,6 @@
 use Rattle.std.proofs.Common.{◌*◌, take}
 use Rattle.jh_shape.specs.Claims.{held_from}
-use Rattle.jh_shape.specs.Marks.{AreMarkedBelow}
+use Rattle.jh_shape.specs.Private.Marks.{AreMarkedBelow}
 use Rattle.jh_shape.specs.Shapes.{are_cut}
 use Rattle.jh_num.specs.Levels.{slot_size}
 use Rattle.jh_shape.proofs.target.Target.fill_cuts.Given as goal

@@ -2,7 +2,7 @@ use Rattle.std.proofs.Common.{◌*◌, take}
 use Rattle.std.specs.List.{list_any}
 use Rattle.jh_cellcfg.specs.declared.region.Region.{Region}
 use Rattle.jh_shape.specs.Claims.{claims_of}
-use Rattle.jh_shape.specs.Marks.{AreMarked}
+use Rattle.jh_shape.specs.Private.Marks.{AreMarked}
 use Rattle.jh_shape.specs.Shapes.{is_leaf_by}
 use Rattle.jh_num.specs.Levels.{slot_size}
 use Rattle.jh_shape.proofs.target.Target.fill_leaves.Given as goal

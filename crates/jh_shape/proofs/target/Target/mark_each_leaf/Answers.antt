@@ -1,6 +1,6 @@
 use Rattle.std.proofs.Common.{◌≡◌, ℕ, ◌*◌, ◌≤◌, Bool, true, false, refl, sym, ap, ◌∙◌, arith}
 use Rattle.jh_shape.specs.Claims.{claims_of}
-use Rattle.jh_shape.specs.Marks.{is_marked}
+use Rattle.jh_shape.specs.Private.Marks.{is_marked}
 use Rattle.jh_shape.specs.Shapes.{is_cut_for_root}
 use Rattle.jh_num.specs.Levels.{slot_size}
 use Rattle.jh_shape.proofs.MarkLemmas.{is_from, leaf_step, leaf_skip, leaf_end}

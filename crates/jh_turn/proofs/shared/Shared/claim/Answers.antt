@@ -1,5 +1,5 @@
 use Rattle.std.proofs.Common.{rules, ◌<◌, arith, ap, subst, ◌∙◌}
-use Rattle.jh_turn.specs.Rule.{Claimed}
+use Rattle.jh_turn.specs.Private.Rule.{Claimed}
 use Rattle.jh_turn.proofs.Keeps.{claim_keeps}
 use Rattle.jh_turn.proofs.shared.Shared.claim.Goals as goal
 

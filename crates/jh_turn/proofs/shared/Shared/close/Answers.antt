@@ -3,7 +3,7 @@ use Rattle.std.proofs.lemmas.List.{length-map}
 use Rattle.std.proofs.lemmas.List.Elements.{All-weaker}
 use mathlib.Core.List.{IsPrefix}
 use Rattle.jh_turn.specs.Histories.{entries_of}
-use Rattle.jh_turn.specs.Hands.{hand}
+use Rattle.jh_turn.specs.Private.Rule.{hand}
 use Rattle.jh_turn.specs.Ports.{all_callers, port_caller, seen_by}
 use Rattle.jh_turn.proofs.Closes.{callers_joined, Has}
 use Rattle.jh_turn.proofs.shared.Shared.close.Goals as goal

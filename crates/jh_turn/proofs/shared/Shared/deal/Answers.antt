@@ -1,7 +1,7 @@
 use Rattle.std.proofs.Common.{ℕ, ◌+◌, ◌∷◌, ◌++◌, [], List, map, drop, All, ap, ap₂, ◌∙◌, sym, subst, add-zero, drop-drop, get_or-drop, slice_index}
 use Rattle.std.proofs.lemmas.List.{map-append, take_more, take_rest}
 use Rattle.std.proofs.lemmas.List.Elements.{All-push}
-use Rattle.jh_turn.specs.Opened.{HasToGive, IsNewPort}
+use Rattle.jh_turn.specs.Private.Dealing.{HasToGive, IsNewPort}
 use Rattle.jh_turn.specs.Ports.{opened_value, port_caller}
 use Rattle.jh_turn.proofs.shared.Shared.deal.Goals as goal
 

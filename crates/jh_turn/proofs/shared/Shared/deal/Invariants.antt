@@ -1,5 +1,5 @@
 use Rattle.std.proofs.Common.{◌≡◌, All, length, take, drop, map, vec_len, vec_capacity}
-use Rattle.jh_turn.specs.Opened.{HasToGive, IsNewPort}
+use Rattle.jh_turn.specs.Private.Dealing.{HasToGive, IsNewPort}
 use Rattle.jh_turn.specs.Ports.{opened_value, port_caller}
 use Rattle.jh_turn.proofs.shared.Shared.deal.Given as goal
 

@@ -1,7 +1,7 @@
 use Rattle.std.proofs.Common.{◌∷◌, [], List, Contains, ap, ◌∙◌, sym, subst, length, Option, Box, Global}
 use Rattle.std.proofs.lemmas.List.Elements.{All-contains}
 use Rattle.atomic_table.specs.Table.{opening}
-use Rattle.jh_turn.specs.Rule.{Kept, opening_view}
+use Rattle.jh_turn.specs.Private.Rule.{Kept, opening_view}
 use Rattle.jh_turn.proofs.Seating.{opens}
 use Rattle.jh_turn.proofs.shared.Shared.first_seat.Goals as goal
 

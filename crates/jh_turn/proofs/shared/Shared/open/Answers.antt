@@ -1,6 +1,6 @@
 use Rattle.std.proofs.Common.{ℕ, List, Contains, All, sym, subst}
 use Rattle.std.proofs.lemmas.List.Elements.{All-weaker, All-contains_itself}
-use Rattle.jh_turn.specs.Opened.{IsNewPort}
+use Rattle.jh_turn.specs.Private.Dealing.{IsNewPort}
 use Rattle.jh_turn.specs.Ports.{IsPortOf, opened_value}
 use Rattle.jh_turn.proofs.shared.Shared.open.Goals as goal
 

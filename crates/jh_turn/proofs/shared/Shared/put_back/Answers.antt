@@ -1,6 +1,7 @@
 use Rattle.std.proofs.Common.{rules, Some, ap, ◌∙◌, ◌∷◌}
 use Rattle.atomic_table.specs.Table.{rest}
-use Rattle.jh_turn.specs.Hands.{hand, caller_of}
+use Rattle.jh_turn.specs.Hands.{caller_of}
+use Rattle.jh_turn.specs.Private.Rule.{hand}
 use Rattle.jh_turn.proofs.Keeps.{note_keeps, release_keeps}
 use Rattle.jh_turn.proofs.shared.Shared.put_back.Goals as goal
 

@@ -1,0 +1,15 @@
+-- Bytes in a row, and the places whose pages can come to be held.
+use Rattle.std.specs.Prelude.{ℕ, zero, suc, ◌+◌, ◌<◌, List, [], ◌∷◌}
+use Rattle.jh_history.specs.declared.place.Place.{Place}
+use Rattle.jh_history.specs.declared.place.Place.TheVariants.{Physical, Page}
+use Rattle.jh_board.specs.Pages.{HoldsComm, MemoryView}
+
+-- the bytes from the offset on, so many of them
+abbrev pub bytes_from : (ℕ → ℕ) → ℕ → ℕ → List ℕ
+bytes_from byte offset zero = []
+bytes_from byte offset (suc count) = byte offset ∷ bytes_from byte (offset + 1) count
+
+-- the place is one of physical memory, or of a communication page that is held
+abbrev pub MayHold : MemoryView → Place → Type 0
+MayHold memory (Physical address) = Unit {0}
+MayHold memory (Page cell offset) = HoldsComm memory.comms cell × (offset < 4096)

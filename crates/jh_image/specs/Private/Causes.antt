@@ -1,0 +1,54 @@
+-- Why one step of the reading gives nothing: the file that it names, and the cause.
+use Rattle.std.specs.Prelude.{◌≡◌, ◌≢◌, ℕ, ◌<◌, List, [], Err}
+use Rattle.jh_cellcfg.specs.declared.config.SystemConfig.{SystemConfig}
+use Rattle.jh_check.specs.Lists.{capped}
+use Rattle.jh_check.specs.Findings.{findings}
+use Rattle.jh_script.specs.declared.fault.ScriptFault.{ScriptFault}
+use Rattle.jh_script.specs.Programs.{program_of}
+use Rattle.jh_history.specs.Admitted.{root_pages, pool_pages}
+use Rattle.jh_spec.specs.declared.fault.JsonFault.{JsonFault}
+use Rattle.jh_spec.specs.declared.fault.JsonFault.TheVariants as boards
+use Rattle.jh_image.specs.declared.fault.ImageCause.{ImageCause}
+use Rattle.jh_image.specs.declared.fault.ImageCause.TheVariants.{ReadFault, Oversize, Json, Member, Findings, PoolSmall, Program as BadProgram}
+use Rattle.jh_image.specs.Files.{Contents, HasBytes, IsOversize}
+
+-- why a file hands out nothing to go on with
+abbrev pub HandsOutNothing : Contents → List ℕ → List ℕ → ImageCause → Type 0
+HandsOutNothing contents name file ReadFault = file ≡ name
+HandsOutNothing contents name file Oversize = (file ≡ name) × IsOversize contents name
+HandsOutNothing contents name file _ = ⊥
+
+-- the file and the cause are these
+abbrev pub IsRefusal : List ℕ → ImageCause → List ℕ → ImageCause → Type 0
+IsRefusal name wanted file cause = (file ≡ name) × (cause ≡ wanted)
+
+-- the cause is that of the board's fault
+abbrev pub IsBoardRefusal : List ℕ → JsonFault → List ℕ → ImageCause → Type 0
+IsBoardRefusal name boards.Json file cause = IsRefusal name Json file cause
+IsBoardRefusal name (boards.Member member) file cause = IsRefusal name (Member member) file cause
+IsBoardRefusal name boards.NoMemory file cause = ⊥
+
+-- the system isn't admitted: the check finds something in it alone, or the pool has fewer pages than root takes
+abbrev pub IsUnsound : List ℕ → List ℕ → SystemConfig → List ℕ → ImageCause → Type 0
+IsUnsound board name system file (Findings found) = (file ≡ name) × (found ≡ capped (findings system [])) × (findings system [] ≢ [])
+IsUnsound board name system file (PoolSmall need have) = (file ≡ board) × (findings system [] ≡ []) × (need ≡ root_pages system) × (have ≡ pool_pages system) × (have < need)
+IsUnsound board name system file _ = ⊥
+
+-- the text of a program's file has this fault
+pub record IsNoProgram (contents : Contents) (name file : List ℕ) (fault : ScriptFault) : Type 0 where
+  pub file_is : file ≡ name
+  pub bytes : List ℕ
+  pub has : HasBytes contents name bytes
+  pub told : program_of bytes ≡ Err fault
+
+-- why a program's file gives no program: it can't be read, is too large, or its text has a fault
+abbrev pub IsProgramCause : Contents → List ℕ → List ℕ → ImageCause → Type 0
+IsProgramCause contents name file ReadFault = file ≡ name
+IsProgramCause contents name file Oversize = (file ≡ name) × IsOversize contents name
+IsProgramCause contents name file (BadProgram fault) = IsNoProgram contents name file fault
+IsProgramCause contents name file _ = ⊥
+
+-- the pool has fewer pages than root takes, which is the board's fault
+abbrev pub IsPoolSmall : List ℕ → SystemConfig → List ℕ → ImageCause → Type 0
+IsPoolSmall board system file (PoolSmall need have) = (file ≡ board) × (need ≡ root_pages system) × (have ≡ pool_pages system) × (have < need)
+IsPoolSmall board system file _ = ⊥

@@ -1,0 +1,4 @@
+-- Definitions that mirror the code: clauses of private functions alone cite them, and no public clause rests on them.
+pub mod Cells
+pub mod Cpus
+pub mod Faults
