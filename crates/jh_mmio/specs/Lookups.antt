@@ -29,4 +29,4 @@ pub record IsPartlyClosed (l : Lookup) (number : ℕ) (region : Region) : Type 0
   pub byte : ℕ
   pub starts : l.at ≤ byte
   pub ends : byte < l.at + l.width
-  pub shut : l.closed (place_in region byte) ≡ true
+  pub closed : l.closed (place_in region byte) ≡ true

@@ -39,7 +39,9 @@ impl<'a> Target<'a> {
         ensures { result ≡ are_cut (claims_of self.now).holders place size }
     {
         for (i, cell) in self.cells.iter().enumerate() {
-            if has_bit(u32::from(self.held), i) && any_in_part(cell.memory_regions.as_slice(), place, size) {
+            if has_bit(u32::from(self.held), i)
+                && any_in_part(cell.memory_regions.as_slice(), place, size)
+            {
                 return true;
             }
         }

@@ -2,10 +2,10 @@ use Rattle.jh_mmio.proofs.LawLemmas.{closed_own, closed_another, closed_none}
 use Rattle.jh_mmio.proofs.laws.a_closed_byte_is_no_subpage_access.Goals as goal
 
 pub returns-clause-own : goal.returns-clause-own
-returns-clause-own c = λ l k r h. closed_own l.regions l.closed l.ecam l.windows l.at l.width l.write k r h.byte h.listed h.memory h.starts h.ends h.shut
+returns-clause-own c = λ l k r h. closed_own l.regions l.closed l.ecam l.windows l.at l.width l.write k r h.byte h.listed h.memory h.starts h.ends h.closed
 
 pub returns-clause-another : goal.returns-clause-another
-returns-clause-another c = λ l k r h. closed_another l.regions l.closed l.ecam l.windows l.at l.width l.write k r h.byte h.listed h.memory h.starts h.ends h.shut
+returns-clause-another c = λ l k r h. closed_another l.regions l.closed l.ecam l.windows l.at l.width l.write k r h.byte h.listed h.memory h.starts h.ends h.closed
 
 pub returns-clause-none : goal.returns-clause-none
-returns-clause-none c = λ l k r apart h has. closed_none l.regions l.closed l.ecam l.windows l.at l.width l.write k r h.byte apart h.listed has h.memory h.starts h.ends h.shut
+returns-clause-none c = λ l k r apart h has. closed_none l.regions l.closed l.ecam l.windows l.at l.width l.write k r h.byte apart h.listed has h.memory h.starts h.ends h.closed
