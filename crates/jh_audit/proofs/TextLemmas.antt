@@ -6,25 +6,9 @@ use Rattle.jh_history.specs.declared.entry.Entry.{Entry}
 use Rattle.jh_text.specs.declared.fault.JournalFault.{JournalFault}
 use Rattle.jh_text.specs.declared.fault.JournalFault.TheVariants.{Line, TooLong, NoMemory}
 use Rattle.jh_text.specs.Faults.{IsJournalText, IsFirstBadLine, IsTooLong, IsFault}
+use Rattle.jh_text.proofs.Public.{OneJournal, NoBadLine, NotLong, NotBoth, OneLine}
 use Rattle.jh_audit.specs.declared.verdict.Verdict.{Verdict}
 use Rattle.jh_audit.specs.Judges.{Judges, JudgesText}
-
--- what is known of all texts
-
-abbrev pub OneJournal : Type 0
-OneJournal = (text : List ℕ) (a b : List Entry) → IsJournalText text a → IsJournalText text b → a ≡ b
-
-abbrev pub NoBadLine : Type 0
-NoBadLine = (text : List ℕ) (entries : List Entry) (number : ℕ) → IsJournalText text entries → IsFirstBadLine text number → ⊥
-
-abbrev pub NotLong : Type 0
-NotLong = (text : List ℕ) (entries : List Entry) → IsJournalText text entries → IsTooLong text → ⊥
-
-abbrev pub NotBoth : Type 0
-NotBoth = (text : List ℕ) (number : ℕ) → IsFirstBadLine text number → IsTooLong text → ⊥
-
-abbrev pub OneLine : Type 0
-OneLine = (text : List ℕ) (m n : ℕ) → IsFirstBadLine text m → IsFirstBadLine text n → m ≡ n
 
 -- an answer that is right is the one that is right
 pub only_verdict : OneJournal → NoBadLine → NotLong → (image : Image) (text : List ℕ) (r : Result Verdict JournalFault) → IfOk r (JudgesText image text) → IfErr r (IsFault text) → r ≢ Err NoMemory

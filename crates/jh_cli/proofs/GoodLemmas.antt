@@ -29,6 +29,7 @@ use Rattle.jh_history.specs.Items.{items, played}
 use Rattle.jh_text.specs.declared.fault.JournalFault.{JournalFault}
 use Rattle.jh_text.specs.declared.fault.JournalFault.TheVariants as journals
 use Rattle.jh_text.specs.Faults.{IsFirstBadLine, IsJournalText, IsTooLong, IsFault, max_entries}
+use Rattle.jh_text.proofs.Public.{NoBadLine, NotLong}
 use Rattle.jh_audit.specs.declared.verdict.Verdict.{Verdict}
 use Rattle.jh_audit.specs.declared.verdict.Verdict.TheVariants.{Legal, Illegal}
 use Rattle.jh_image.specs.declared.fault.ImageCause.{ImageCause}
@@ -63,12 +64,6 @@ use Rattle.jh_cli.proofs.KnownLemmas.{all_told, each_is_told, is_image, stops}
 
 abbrev pub CellsAreFaultless : Type 0
 CellsAreFaultless = (config : CellConfig) → IsCell config → IsWithinLimits config → first_fault (spelling config) ≡ None
-
-abbrev pub NoBadLine : Type 0
-NoBadLine = (text : List ℕ) (entries : List Entry) (number : ℕ) → IsJournalText text entries → IsFirstBadLine text number → ⊥
-
-abbrev pub NotLong : Type 0
-NotLong = (text : List ℕ) (entries : List Entry) → IsJournalText text entries → IsTooLong text → ⊥
 
 abbrev pub OneImage : Type 0
 OneImage = (contents : Contents) (board : List ℕ) (one other : Image) → AreKnown contents → IsImage contents board one → IsImage contents board other → one ≡ other

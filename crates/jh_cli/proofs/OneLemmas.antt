@@ -23,6 +23,7 @@ use Rattle.jh_history.specs.Due.{due_at, due, IsLegalFrom, IsLegal, IsQuiet}
 use Rattle.jh_text.specs.declared.fault.JournalFault.{JournalFault}
 use Rattle.jh_text.specs.declared.fault.JournalFault.TheVariants as journals
 use Rattle.jh_text.specs.Faults.{IsFirstBadLine, IsJournalText, IsTooLong, IsFault}
+use Rattle.jh_text.proofs.Public.{NotBoth, OneLine}
 use Rattle.jh_text.specs.FaultText.{fault_text as journal_fault_text}
 use Rattle.jh_audit.specs.declared.verdict.Verdict.{Verdict}
 use Rattle.jh_audit.specs.declared.verdict.Verdict.TheVariants.{Legal, Illegal}
@@ -45,15 +46,6 @@ use Rattle.jh_num.proofs.Public.{ok_one}
 
 abbrev pub OneCell : Type 0
 OneCell = (a b : CellConfig) → IsCell a → IsCell b → IsWithinLimits a → IsWithinLimits b → spelling a ≡ spelling b → a ≡ b
-
-abbrev pub OneJournal : Type 0
-OneJournal = (text : List ℕ) (a b : List Entry) → IsJournalText text a → IsJournalText text b → a ≡ b
-
-abbrev pub NotBoth : Type 0
-NotBoth = (text : List ℕ) (number : ℕ) → IsFirstBadLine text number → IsTooLong text → ⊥
-
-abbrev pub OneLine : Type 0
-OneLine = (text : List ℕ) (m n : ℕ) → IsFirstBadLine text m → IsFirstBadLine text n → m ≡ n
 
 -- ---- one file
 

@@ -12,6 +12,7 @@ use Rattle.jh_image.specs.Laws.{AreKnown}
 use Rattle.jh_image.proofs.Public.{OneSpelling, SpellingsAreFaultless}
 use Rattle.jh_run.specs.Maps.{IsMapsText, Maps}
 use Rattle.jh_text.specs.Faults.{max_entries}
+use Rattle.jh_text.proofs.Public.{OneJournal, NoBadLine, NotLong, NotBoth, OneLine}
 use Rattle.jh_cli.specs.declared.status.Status.TheVariants.{Good, ReadFault}
 use Rattle.jh_cli.specs.Limits.{most_of_a_file, most_of_a_journal}
 use Rattle.jh_cli.specs.Words.{Request, CheckOf, PackOf, PlayOf, RunOf, MapOf, AuditOf, SoakOf, IsSerial}
@@ -25,9 +26,9 @@ use Rattle.jh_cli.specs.Map.{map_reply, IsMapped, MapsBy}
 use Rattle.jh_cli.specs.Audit.{IsJournalFile, JournalRefusal, IsAudited, AuditsBy}
 use Rattle.jh_cli.specs.Outcome.{Outcome}
 use Rattle.jh_cli.specs.Complete.{IsKnownBoard, AreKnownFiles}
-use Rattle.jh_cli.proofs.GoodLemmas.{CellsAreFaultless, NoBadLine, NotLong, OneImage, BoardsAreUnrefused, IsAnswered, system_sound, spec_sound, schedule_sound, one_schedule, journal_sound, board_unrefused}
+use Rattle.jh_cli.proofs.GoodLemmas.{CellsAreFaultless, OneImage, BoardsAreUnrefused, IsAnswered, system_sound, spec_sound, schedule_sound, one_schedule, journal_sound, board_unrefused}
 use Rattle.jh_cli.proofs.KnownLemmas.{all_told, each_is_told, is_image, stops}
-use Rattle.jh_cli.proofs.OneLemmas.{OneCell, OneJournal, NotBoth, OneLine, IsRead, one_reading, system_words, system_values, one_check, spec_words, spec_values, schedule_words, journal_words, one_audited}
+use Rattle.jh_cli.proofs.OneLemmas.{OneCell, IsRead, one_reading, system_words, system_values, one_check, spec_words, spec_values, schedule_words, journal_words, one_audited}
 
 -- ---- boards
 

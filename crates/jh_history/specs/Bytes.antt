@@ -20,7 +20,7 @@ use Rattle.jh_history.specs.Pages.{with_page_write, page_write_by}
 abbrev pub preloaded : (ℕ → ℕ) → Preload → ℕ → ℕ
 preloaded byte preload = stored byte preload.at preload.bytes
 
--- physical memory is what the preloads put and 0 elsewhere, and so is each page
+-- physical memory is what the preloads put, and 0 elsewhere; each page is 0
 abbrev pub loaded_byte : Image → Place → ℕ
 loaded_byte image (Physical p) = fold preloaded (λ _. 0) image.preloads p
 loaded_byte image (Page cell offset) = 0
@@ -34,8 +34,8 @@ abbrev pub byte_written : Image → Facts → ℕ → Act → Place → ℕ
 byte_written image facts cell (Write width at value true) = write_of facts.byte (devices_of image facts cell) (reach image facts cell ToWrite at width) value
 byte_written image facts cell _ = facts.byte
 
--- the bytes after an entry: by the Commit of a create, a start or a destroy the words of the cell's devices in their
--- state tables become 0, too
+-- the bytes after an entry: what its act writes, and what the hypervisor writes into a communication page with it; by the
+-- Commit of a create, a start or a destroy the words of the cell's devices in their state tables become 0, too
 abbrev pub byte_after : Image → Facts → Entry → Place → ℕ
 byte_after image facts entry =
     with_page_write (page_write_by image facts entry entry.act) (with_words (specs_changing facts entry.act) (byte_written image facts entry.cell entry.act))

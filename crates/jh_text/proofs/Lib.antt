@@ -10,3 +10,5 @@ mod Spellings
 mod Splits
 mod Texts
 mod TypedTexts
+mod JournalLaws
+pub mod Public
