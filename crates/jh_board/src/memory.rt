@@ -168,7 +168,7 @@ impl Memory {
         }
     }
 
-    /// Writes the value overlaid the places of the row, which are held, the lowest byte first, and tells what
+    /// Writes the value over the places of the row, which are held, the lowest byte first, and tells what
     /// is left of it.
     fn write_row(&mut self, row: Row, value: u64) -> u64
         requires row { IsRow row }
@@ -184,7 +184,7 @@ impl Memory {
         rest
     }
 
-    /// Writes the value overlaid places that are held, the lowest byte first.
+    /// Writes the value over places that are held, the lowest byte first.
     fn write_places(&mut self, places: &Places, value: u64)
         requires { All (HoldsPlace self.old) places.now }
         ensures bytes { (q : ThePlace) → byte_of self.new q ≡ written (byte_of self.old) places.now value q }
@@ -196,7 +196,7 @@ impl Memory {
         let _rest = self.write_row(high, rest);
     }
 
-    /// Writes the value overlaid the places, the lowest byte first.
+    /// Writes the value over the places, the lowest byte first.
     pub fn write_value(&mut self, places: &Places, value: u64) -> Result<(), NoMemory>
         requires { All (MayHold self.old) places.now }
         ensures ok { OnOk result ((q : ThePlace) → byte_of self.new q ≡ written (byte_of self.old) places.now value q) }

@@ -1,4 +1,4 @@
--- Where bytes are kept, and what a write overlaid places leaves.
+-- Where bytes are kept, and what a write over places leaves.
 use Rattle.std.specs.Prelude.{ℕ, zero, suc, ◌+◌, ◌/◌, ◌%◌, ◌^◌, ◌<◌, Bool, false, ◌&&◌, ◌==◌, if◌then◌else◌, List, [], ◌∷◌}
 use Rattle.jh_history.specs.declared.place.Place.{Place}
 use Rattle.jh_history.specs.declared.place.Place.TheVariants.{Physical, Page}
@@ -38,12 +38,12 @@ IsRow row = number_of row.first + row.count < 2 ^ 64
 abbrev pub with_byte : (Place → ℕ) → Place → ℕ → Place → ℕ
 with_byte byte place value q = if is_same q place then value else byte q
 
--- the bytes, with the value written overlaid the places, the lowest byte first
+-- the bytes, with the value written over the places, the lowest byte first
 abbrev pub written : (Place → ℕ) → List Place → ℕ → Place → ℕ
 written byte [] value = byte
 written byte (place ∷ places) value = written (with_byte byte place (value % 256)) places (value / 256)
 
--- the byte of a place after the value is written overlaid the places, where it was b
+-- the byte of a place after the value is written over the places, where it was b
 abbrev pub overlaid : List Place → ℕ → Place → ℕ → ℕ
 overlaid [] value q b = b
 overlaid (place ∷ places) value q b = overlaid places (value / 256) q (if is_same q place then value % 256 else b)

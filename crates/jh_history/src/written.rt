@@ -62,7 +62,7 @@ pub(crate) fn loaded_byte(image: &Image, place: Place) -> u8
     }
 }
 
-/// Writes the value overlaid the places of the row, the lowest byte first, and tells what is left of it.
+/// Writes the value over the places of the row, the lowest byte first, and tells what is left of it.
 fn write_row(bytes: &mut Vec<WrittenByte>, row: Row, value: u64) -> Result<u64, NoMemory>
     requires { IsRow row }
     ensures { IfOk result (IsRest bytes.old.items bytes.new.items (places_of_row row) value) }
@@ -78,7 +78,7 @@ fn write_row(bytes: &mut Vec<WrittenByte>, row: Row, value: u64) -> Result<u64, 
     Ok(rest)
 }
 
-/// Writes the value overlaid the places, the lowest byte first.
+/// Writes the value over the places, the lowest byte first.
 pub(crate) fn write_places(
     bytes: &mut Vec<WrittenByte>,
     places: &Places,

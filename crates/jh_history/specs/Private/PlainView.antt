@@ -76,7 +76,7 @@ pub record Represents (plain : PlainView) (image : Image) (facts : Facts) : Type
 abbrev pub HasBytes : PlainView → PlainView → (Image → Facts → Place → ℕ) → Type 0
 HasBytes old new byte = (i : Image) (f : Facts) → Represents old i f → (q : Place) → last_byte i new.bytes q ≡ byte i f q
 
--- the words that the act clears in state tables are written overlaid the bytes of the old one, by its cells and its call
+-- the words that the act clears in state tables are written over the bytes of the old one, by its cells and its call
 abbrev pub HasWritten : PlainView → PlainView → Act → Type 0
 HasWritten old new act =
     (i : Image) (f : Facts) → f.cells ≡ old.cells → f.call ≡ old.call → (q : Place) → last_byte i new.bytes q ≡ with_words (specs_changing f act) (last_byte i old.bytes) q

@@ -1,4 +1,4 @@
--- What is left to write overlaid the bytes as they stand gives all that is to be written.
+-- What is left to write over the bytes as they stand gives all that is to be written.
 use Rattle.std.proofs.Common.{◌≡◌, ◌-◌, ◌++◌, List}
 use Rattle.jh_script.specs.declared.image.Image.{Image}
 use Rattle.jh_history.specs.declared.place.Place.{Place}

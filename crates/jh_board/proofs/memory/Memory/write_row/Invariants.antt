@@ -1,4 +1,4 @@
--- What is left to write overlaid the bytes as they stand gives all that is to be written, and all places are held.
+-- What is left to write over the bytes as they stand gives all that is to be written, and all places are held.
 use Rattle.std.proofs.Common.{◌≡◌, ◌-◌, ◌++◌, List}
 use Rattle.jh_history.specs.declared.place.Place.{Place}
 use Rattle.jh_history.specs.Places.{further, places_in_row, overlaid}
