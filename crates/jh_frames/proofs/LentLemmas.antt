@@ -5,9 +5,8 @@ use Rattle.std.proofs.lemmas.List.{length-take, length-drop, length-append, get_
 use Rattle.jh_num.specs.Memory.{stored}
 use Rattle.jh_frames.specs.Memory.{OwnView, FramesView, IsOwn, is_own, byte_at, holds}
 use Rattle.jh_frames.specs.Lending.{put_in, with_own_page, with_page}
-use Rattle.jh_frames.proofs.ByteLemmas.{stored_in}
 use Rattle.jh_frames.proofs.MemoryLemmas.{own_all, own_above, own_read, byte_own, byte_guest}
-use Rattle.jh_num.proofs.Public.{stored_before, stored_behind}
+use Rattle.jh_num.proofs.Public.{stored_before, stored_behind, stored_in}
 
 -- the list whose elements are replaced, before it is cut
 laid : List ℕ → ℕ → List ℕ → List ℕ

@@ -1,4 +1,3 @@
-mod ByteLemmas
 mod RangeLemmas
 mod WordLemmas
 mod MemoryLemmas

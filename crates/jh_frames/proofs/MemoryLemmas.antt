@@ -3,11 +3,11 @@ use Rattle.std.proofs.Common.{◌≡◌, ℕ, ◌+◌, ◌-◌, ◌/◌, ◌%◌
 use Rattle.std.specs.List.{range_with_len}
 use Rattle.std.proofs.lemmas.Bool.{and_parts, and_from, le-leb, lt-ltb, leb-true, ltb-true}
 use Rattle.jh_num.specs.Memory.{spelled}
-use Rattle.jh_num.proofs.Public.{same_test}
+use Rattle.jh_num.proofs.Public.{range_read, read_over, same_test}
 use Rattle.jh_frames.specs.Memory.{OwnView, FramesView, IsOwn, is_own, own_byte, byte_at}
 use Rattle.jh_num.specs.Pages.{page_at, byte_of_page, paged_byte}
 use Rattle.jh_frames.specs.Kept.{IsWhole}
-use Rattle.jh_frames.proofs.RangeLemmas.{alike_over, zero_over, read_over, range_read}
+use Rattle.jh_frames.proofs.RangeLemmas.{alike_over, zero_over}
 
 -- places of the hypervisor's memory
 pub own_above : (own : OwnView) (q : ℕ) → is_own own q ≡ true → own.base ≤ q

@@ -1,5 +1,5 @@
 -- Bytes over numbers in a row.
-use Rattle.std.proofs.Common.{◌≡◌, ℕ, zero, suc, ◌+◌, ◌-◌, ◌<◌, ◌≤◌, List, ◌∷◌, get_or, take, drop, length, map, slice_index, slice_range, refl, ap, ◌∙◌, arith, drop-cons}
+use Rattle.std.proofs.Common.{◌≡◌, ℕ, zero, suc, ◌+◌, ◌<◌, List, ◌∷◌, map, refl, ap, ◌∙◌, arith}
 use Rattle.std.specs.List.{range_with_len}
 use Rattle.jh_num.specs.Memory.{spelled}
 
@@ -18,14 +18,3 @@ zero_over f a (suc n) h =
     let first : f a ≡ 0 = h 0 a (omega arith) (omega arith) in
     let rest : 0 ≡ spelled (map f (range_with_len (a + 1) n)) = zero_over f (a + 1) n (λ j x lt p. h (suc j) x (omega arith) (omega arith)) in
     omega arith
-
--- part of a list is what is read of it over a row
-pub read_over : (xs : List ℕ) (i n : ℕ) → i + n ≤ length xs → take n (drop i xs) ≡ map (slice_index xs) (range_with_len i n)
-read_over xs i zero within = refl
-read_over xs i (suc n) within =
-    let next : suc i ≡ i + 1 = omega arith in
-    ap (take (suc n)) (drop-cons xs i 0 (omega arith))
-    ∙ ap (λ l. get_or xs i 0 ∷ l) (ap (λ k. take n (drop k xs)) next ∙ read_over xs (i + 1) n (omega arith))
-
-pub range_read : (xs : List ℕ) (i n : ℕ) → i + n ≤ length xs → slice_range xs i (i + n) ≡ map (slice_index xs) (range_with_len i n)
-range_read xs i n within = let e : (i + n) - i ≡ n = omega arith in ap (λ k. take k (drop i xs)) e ∙ read_over xs i n within

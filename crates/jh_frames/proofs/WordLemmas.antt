@@ -5,9 +5,8 @@ use Rattle.std.specs.Int.{w64, from_le_bytes}
 use Rattle.std.specs.List.{range_with_len}
 use Rattle.jh_num.specs.Memory.{spelled, stored}
 use Rattle.jh_frames.specs.Memory.{word_in}
-use Rattle.jh_frames.proofs.ByteLemmas.{stored_in}
-use Rattle.jh_frames.proofs.RangeLemmas.{alike_over, read_over}
-use Rattle.jh_num.proofs.Public.{stored_before, stored_behind}
+use Rattle.jh_frames.proofs.RangeLemmas.{alike_over}
+use Rattle.jh_num.proofs.Public.{read_over, stored_before, stored_behind, stored_in}
 
 same_eight : (a b c d e f g h a' b' c' d' e' f' g' h' : ℕ) → a' ≡ a → b' ≡ b → c' ≡ c → d' ≡ d → e' ≡ e → f' ≡ f → g' ≡ g → h' ≡ h → a' ∷ b' ∷ c' ∷ d' ∷ e' ∷ f' ∷ g' ∷ h' ∷ [] ≡ a ∷ b ∷ c ∷ d ∷ e ∷ f ∷ g ∷ h ∷ []
 same_eight a b c d e f g h a' b' c' d' e' f' g' h' p q r s t u v w = cc

@@ -7,11 +7,10 @@ ghost use Rattle.jh_frames.specs.Memory.{byte_at, holds, missing, missing_from, 
 ghost use Rattle.jh_num.specs.Pages.{page_at};
 ghost use Rattle.jh_frames.specs.Kept.{IsWhole};
 
-use crate::bytes::spelled;
 use crate::guest::Guest;
 use crate::own::Own;
 use crate::page::Page;
-use jh_num::{NoMemory, PAGE_SIZE};
+use jh_num::{NoMemory, PAGE_SIZE, spelled};
 use std::alloc::Global;
 use std::marker::Model;
 

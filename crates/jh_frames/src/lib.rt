@@ -2,7 +2,6 @@
 //! from their first write on.
 #![tactic(auto)]
 
-mod bytes;
 mod frames;
 mod guest;
 mod laws;

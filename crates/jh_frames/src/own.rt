@@ -5,8 +5,7 @@ ghost use Rattle.jh_num.specs.Memory.{spelled, stored};
 ghost use Rattle.jh_frames.specs.Memory.{is_own, own_byte, word_in, IsOwn};
 ghost use Rattle.jh_frames.specs.Kept.{IsWhole};
 
-use crate::bytes::{put, spelled};
-use jh_num::NoMemory;
+use jh_num::{NoMemory, spelled};
 use std::alloc::Global;
 use std::marker::Model;
 
@@ -143,7 +142,8 @@ impl Own {
         ensures size { length self.new.bytes ≡ length self.old.bytes }
         ensures bytes { (q : ℕ) → is_own self.old q ≡ true → own_byte self.new q ≡ stored (own_byte self.old) at bytes.now q }
     {
-        put(&mut self.bytes, (at - self.base) as usize, bytes);
+        let k = (at - self.base) as usize;
+        self.bytes[k..k + bytes.len()].copy_from_slice(bytes);
     }
 
     /// The 4,096 bytes from the place on.

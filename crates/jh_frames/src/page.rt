@@ -2,7 +2,7 @@
 ghost use Rattle.std.specs.Prelude.{◌≡◌, ℕ, ◌+◌, ◌≤◌, ◌<◌, length, slice_index, slice_range};
 ghost use Rattle.jh_num.specs.Memory.{spelled, stored};
 
-use crate::bytes::{put, spelled};
+use jh_num::spelled;
 use std::marker::Model;
 
 /// The bytes of one page, in place: a row of pages is one block of memory.
@@ -52,6 +52,6 @@ impl Page {
         requires { offset + length bytes.now ≤ 4096 }
         ensures { (k : ℕ) → slice_index self.new k ≡ stored (slice_index self.old) offset bytes.now k }
     {
-        put(&mut self.bytes, offset, bytes);
+        self.bytes[offset..offset + bytes.len()].copy_from_slice(bytes);
     }
 }

@@ -7,6 +7,9 @@ mod RemoveLemmas
 mod ReadLemmas
 mod SearchLemmas
 mod MemoryLemmas
+mod SpelledLemmas
+mod StoredLemmas
+mod RowLemmas
 mod Booleans
 mod Lists
 mod Results

@@ -1,11 +1,12 @@
 //! Numbers and lists that every layer speaks of: where addresses end, levels of tables, bits, rights, numbers that
-//! stop at their last, lists as contracts see them and room in them, sets of bytes, counted descriptor reads, want
-//! of memory, and that a value may be sent to another thread.
+//! stop at their last, numbers that bytes spell, lists as contracts see them and room in them, sets of bytes,
+//! counted descriptor reads, want of memory, and that a value may be sent to another thread.
 #![tactic(auto)]
 
 mod address;
 mod bits;
 mod byte_set;
+mod bytes;
 mod crossing;
 pub mod error;
 mod laws;
@@ -22,6 +23,7 @@ mod steps;
 pub use address::{ADDRESS_END, PAGE_SIZE};
 pub use bits::has_bit;
 pub use byte_set::ByteSet;
+pub use bytes::spelled;
 pub use crossing::may_be_sent;
 pub use laws::{
     a_list_is_stored_at_its_places, addresses_end_here, errors_are_these, levels_are_these,

@@ -1,6 +1,6 @@
-//! Byte sets against plain bytes, and the last probes.
+//! Byte sets against plain bytes, the last probes, lists, and numbers that bytes spell.
 
-use crate::{ByteSet, NoMemory, Probe, Range, Seq, Steps};
+use crate::{ByteSet, NoMemory, Probe, Range, Seq, Steps, spelled};
 use std::alloc::Global;
 use std::test::Fail;
 
@@ -174,4 +174,11 @@ fn a_list_grows_at_its_end(rt: HostRuntime) -> Result<(), Fail> {
     assert_eq!(rt; again.as_slice(), [5, 7].as_slice());
     assert_eq!(rt; again.len(), 2);
     Ok(())
+}
+
+#[test]
+fn the_lowest_byte_is_spelled_first(rt: HostRuntime) {
+    assert_eq!(rt; spelled(&[]), 0);
+    assert_eq!(rt; spelled(&[0x34, 0x12]), 0x1234);
+    assert_eq!(rt; spelled(&[1, 2, 3, 4, 5, 6, 7, 8]), 0x0807_0605_0403_0201);
 }

@@ -2,7 +2,7 @@
 use Rattle.std.proofs.Common.{◌≡◌, ◌+◌, ◌-◌, ◌/◌, ◌%◌, ◌<◌, ◌≤◌, true, cond, length, arith, ap, ◌∙◌}
 use Rattle.std.specs.Prelude.{IsOk}
 use Rattle.jh_frames.specs.Memory.{byte_at, holds, missing, pages_in}
-use Rattle.jh_frames.proofs.ByteLemmas.{stored_more}
+use Rattle.jh_num.proofs.Public.{stored_more}
 use Rattle.jh_frames.proofs.HeldLemmas.{on_ok, lacking, lacking_at, missing_split, within_pages, held_more}
 use Rattle.jh_frames.proofs.frames.Frames.write_pages.Goals as goal
 
@@ -26,7 +26,7 @@ loop-done-preserved c =
     let page : (c.args.at + c.loop-done.done) / 4096 < c.args.at / 4096 + pages_in c.args.at (length c.args.bytes.now) = within_pages c.args.at (length c.args.bytes.now) (c.args.at + c.loop-done.done) (omega arith) (omega arith) in
     record {
       within = inside;
-      bytes = λ q. on_ok c.write_page.result ok c.write_page.ensures.bytes q ∙ stored_more (byte_at c.args.self.now) (byte_at c.loop-done.self) c.args.at c.args.bytes.now c.loop-done.done c.min-end.result q further inside (c.loop-done.invariant.bytes q);
+      bytes = λ q. on_ok c.write_page.result ok c.write_page.ensures.bytes q ∙ stored_more (byte_at c.args.self.now) (byte_at c.loop-done.self) c.args.at c.loop-done.done c.min-end.result c.args.bytes.now q further inside (c.loop-done.invariant.bytes q);
       base = c.write_page.ensures.base ∙ c.loop-done.invariant.base;
       size = c.write_page.ensures.size ∙ c.loop-done.invariant.size;
       held = λ q low high. held_more c.loop-done.self c.write_page.new.self (c.args.at + c.loop-done.done) q c.write_page.ensures.still_whole c.write_page.ensures.kept there (λ lt. c.loop-done.invariant.held q low lt) (λ le. omega arith);

@@ -1,7 +1,7 @@
 -- The number of the last bytes so far.
 use Rattle.std.proofs.Common.{◌≡◌, ◌-◌, ◌^◌, ◌<◌, length, drop}
 use Rattle.jh_num.specs.Memory.{spelled}
-use Rattle.jh_frames.proofs.bytes.spelled.Given as goal
+use Rattle.jh_num.proofs.bytes.spelled.Given as goal
 
 abbrev pub invariant-loop-k : goal.invariant-loop-k
 invariant-loop-k l = record {

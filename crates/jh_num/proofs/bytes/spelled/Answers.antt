@@ -1,8 +1,8 @@
 -- One byte more, from the last on.
-use Rattle.std.proofs.Common.{◌+◌, ◌-◌, ◌*◌, ◌^◌, ◌<◌, length, arith}
-use Rattle.jh_num.proofs.Public.{byte_fits}
-use Rattle.jh_frames.proofs.ByteLemmas.{spelled_start, spelled_more, spelled_end, next_fits}
-use Rattle.jh_frames.proofs.bytes.spelled.Goals as goal
+use Rattle.std.proofs.Common.{◌≡◌, ℕ, ◌+◌, ◌-◌, ◌*◌, ◌^◌, ◌<◌, length, subst, arith}
+use Rattle.jh_num.proofs.MemoryLemmas.{byte_fits}
+use Rattle.jh_num.proofs.SpelledLemmas.{spelled_start, spelled_below, spelled_whole, next_fits}
+use Rattle.jh_num.proofs.bytes.spelled.Goals as goal
 
 pub loop-k-init : goal.loop-k-init
 loop-k-init c = record { number = spelled_start c.args.bytes.now; small = omega arith }
@@ -24,9 +24,14 @@ pub loop-k-preserved : goal.loop-k-preserved
 loop-k-preserved c =
     let byte : c.from.result < 256 = omega (arith, c.from.ensures, c.type_inv.bytes (length c.args.bytes.now - 1 - c.loop-k.k)) in
     record {
-      number = spelled_more c.args.bytes.now c.loop-k.k c.loop-k.number c.from.result c.loop-k-test.true c.loop-k.invariant.number c.from.ensures;
+      number = spelled_below c.args.bytes.now c.loop-k.k c.loop-k.number c.from.result c.loop-k-test.true c.loop-k.invariant.number c.from.ensures;
       small = byte_fits c.loop-k.number c.from.result c.loop-k.k c.loop-k.invariant.small byte;
     }
 
 pub returns : goal.returns
-returns c = spelled_end c.args.bytes.now c.loop-k.k c.loop-k.number (omega arith) c.loop-k.invariant.number
+returns c =
+    let all : c.loop-k.k ≡ length c.args.bytes.now = omega arith in
+    record {
+      value = spelled_whole c.args.bytes.now c.loop-k.k c.loop-k.number (omega arith) c.loop-k.invariant.number;
+      fits = subst (λ (n : ℕ). c.loop-k.number < 256 ^ n) all c.loop-k.invariant.small;
+    }
