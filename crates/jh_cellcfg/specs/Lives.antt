@@ -1,4 +1,4 @@
--- Lists of the cells that live besides root, in order of their creation.
+-- What is said of a cell that lives besides root: its id, and whether it has an id.
 use Rattle.std.specs.Prelude.{ℕ, Bool, ◌==◌}
 use Rattle.jh_cellcfg.specs.declared.live.Live.{Live}
 

@@ -1,5 +1,6 @@
--- Which values the fields' types have: each number below its type's end, each array of its length.
--- A law over all records, whose numbers have no end, says so as a premise.
+-- Which values the fields of records and of a whole cell have: each number below its type's end, each
+-- array of its length. The bytes in arrays and a cell's CPU set are left open. A law over all records, whose
+-- numbers have no end, has this as a premise.
 use Rattle.std.specs.Prelude.{◌≡◌, ℕ, ◌<◌, ◌^◌, List, length}
 use Rattle.std.specs.List.{AllByRecursion}
 use Rattle.jh_cellcfg.specs.declared.region.Region.{Region}

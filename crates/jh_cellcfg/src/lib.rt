@@ -1,5 +1,6 @@
-//! Configurations of cells and of the system, revision 13 of Jailhouse's `cell-config.h`: their types,
-//! and what a memory region grants.
+//! Configurations of cells and of the system, revision 13 of Jailhouse's `cell-config.h`: their types and flags,
+//! what a memory region says of addresses and grants, and the cells that live; of a cell's configuration also its
+//! limits, its reading and writing record by record, the faults that bytes can have, and laws of its spelling.
 #![tactic(auto)]
 
 mod config;

@@ -1,3 +1,4 @@
+-- The newest 63 of the others are kept, and what the new one replaces is none of them.
 use Rattle.jh_cache.proofs.LawLemmas.{filled_full, filled_room, filled_again}
 use Rattle.jh_cache.proofs.laws.a_fill_drops_the_oldest_alone.Goals as goal
 

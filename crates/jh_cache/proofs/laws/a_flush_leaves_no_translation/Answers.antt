@@ -1,3 +1,4 @@
+-- What has the tag is left out, and a look-up of another tag finds nothing of that.
 use Rattle.jh_cache.proofs.LawLemmas.{flushed_gone, flushed_others}
 use Rattle.jh_cache.proofs.laws.a_flush_leaves_no_translation.Goals as goal
 

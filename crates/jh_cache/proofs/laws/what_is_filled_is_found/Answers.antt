@@ -1,3 +1,4 @@
+-- The new one stands last, with none for its page before it, and with room all others stay.
 use Rattle.jh_cache.proofs.LawLemmas.{filled_found, filled_others}
 use Rattle.jh_cache.proofs.laws.what_is_filled_is_found.Goals as goal
 

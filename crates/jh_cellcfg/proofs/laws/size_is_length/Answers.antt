@@ -1,3 +1,4 @@
+-- The header alone has the counts and the name, which tell the length and are in the limits.
 use Rattle.jh_cellcfg.proofs.Faultless.{header_sized, header_unfaulted}
 use Rattle.jh_cellcfg.proofs.laws.size_is_length.Goals as goal
 

@@ -1,3 +1,4 @@
+-- The name and the counts that were read stand in the bytes where they are looked for.
 use Rattle.std.proofs.Common.{ap, ◌∙◌, take}
 use Rattle.jh_cellcfg.specs.Faults.{counts_at}
 use Rattle.jh_cellcfg.proofs.Headers.{header_name, header_counts}

@@ -1,3 +1,4 @@
+-- The configuration's header is the one that was read, and its parts' bytes stand behind it.
 use Rattle.std.proofs.Common.{sym, ◌∙◌, ◌++◌}
 use Rattle.jh_cellcfg.specs.Spelling.{header_bytes}
 use Rattle.jh_cellcfg.proofs.read.read_body.Goals as goal

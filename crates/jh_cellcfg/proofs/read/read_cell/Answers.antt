@@ -1,3 +1,4 @@
+-- Bytes spell one configuration at most, and what they spell has no fault and is told by them.
 use Rattle.jh_cellcfg.proofs.Faultless.{gives}
 use Rattle.jh_cellcfg.proofs.SpelledFields.{told}
 use Rattle.jh_cellcfg.proofs.read.read_cell.Goals as goal

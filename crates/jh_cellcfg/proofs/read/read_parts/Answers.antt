@@ -1,3 +1,4 @@
+-- By the counts the parts take all of the bytes, so that nothing is left behind the last.
 use Rattle.std.proofs.Common.{◌≡◌, [], length, length-append, refl, ◌+◌, arith}
 use Rattle.std.proofs.lemmas.List.{append-nil, nil_from_length}
 use Rattle.jh_cellcfg.proofs.read.read_parts.Goals as goal

@@ -1,3 +1,4 @@
+-- While records are missing, the bytes that are left have room for one more.
 use Rattle.jh_cellcfg.proofs.Lists.{none_yet, one_more, room}
 use Rattle.jh_cellcfg.proofs.record.read_list.Goals as goal
 

@@ -1,3 +1,4 @@
+-- The records so far fit their types, and their bytes and what is left are the whole.
 use Rattle.jh_cellcfg.proofs.Lists.{ReadSoFar}
 use Rattle.jh_cellcfg.proofs.record.read_list.Given as goal
 

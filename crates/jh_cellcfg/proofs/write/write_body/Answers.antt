@@ -1,3 +1,4 @@
+-- The header's bytes are put first, and those of the parts behind them.
 use Rattle.std.proofs.Common.{◌++◌, ap, ◌∙◌, append_assoc, List, ℕ}
 use Rattle.jh_cellcfg.specs.Spelling.{header_bytes, header_of, parts_bytes, body_bytes}
 use Rattle.jh_cellcfg.specs.declared.header.Header.{Header}

@@ -1,3 +1,4 @@
+-- Each of the eight parts is put behind those before it.
 use Rattle.std.proofs.Common.{append_assoc}
 use Rattle.jh_cellcfg.proofs.write.write_parts.Goals as goal
 

@@ -1,3 +1,4 @@
+-- No happening, one after the other, changes what is kept of its position in root.
 use Rattle.std.proofs.Common.{ap, true, false}
 use Rattle.jh_cpu.specs.declared.cpu.Cpu.{Cpu as TheCpu}
 use Rattle.jh_cpu.specs.declared.cpu.Mode.TheVariants.{Running as Runs}

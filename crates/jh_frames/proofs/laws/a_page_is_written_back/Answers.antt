@@ -1,3 +1,4 @@
+-- The page goes in among the hypervisor's bytes, and no place outside of them is the page's.
 use Rattle.jh_frames.proofs.LentLemmas.{lent_bytes, lent_size, lent_held}
 use Rattle.jh_frames.proofs.laws.a_page_is_written_back.Goals as goal
 

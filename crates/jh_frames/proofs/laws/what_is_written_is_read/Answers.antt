@@ -1,3 +1,4 @@
+-- The bytes from the place on are those of the list, one by one.
 use Rattle.jh_frames.proofs.WordLemmas.{stored_spelled}
 use Rattle.jh_frames.proofs.laws.what_is_written_is_read.Goals as goal
 

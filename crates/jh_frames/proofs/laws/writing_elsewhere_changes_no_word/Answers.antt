@@ -1,3 +1,4 @@
+-- Each of the eight bytes lies outside of what is stored, and so stays.
 use Rattle.jh_frames.proofs.WordLemmas.{word_before, word_behind}
 use Rattle.jh_frames.proofs.laws.writing_elsewhere_changes_no_word.Goals as goal
 

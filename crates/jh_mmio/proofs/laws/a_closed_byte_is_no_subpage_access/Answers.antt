@@ -1,3 +1,4 @@
+-- A region with a closed byte of the access doesn't take it, so that what answers is another.
 use Rattle.jh_mmio.proofs.LawLemmas.{closed_own, closed_another, closed_none}
 use Rattle.jh_mmio.proofs.laws.a_closed_byte_is_no_subpage_access.Goals as goal
 

@@ -1,3 +1,4 @@
+-- As no other region has the first byte, it is the first that takes the access.
 use Rattle.jh_mmio.proofs.LawLemmas.{refusal_ends}
 use Rattle.jh_mmio.proofs.laws.a_region_that_refuses_ends_the_search.Goals as goal
 

@@ -1,3 +1,4 @@
+-- No window answers as a region, and of regions that are apart one alone has the first byte.
 use Rattle.jh_mmio.proofs.LawLemmas.{it_answers, only_answers}
 use Rattle.jh_mmio.proofs.laws.the_region_that_answers_is_the_only_one.Goals as goal
 

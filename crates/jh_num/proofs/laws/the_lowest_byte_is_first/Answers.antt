@@ -1,3 +1,4 @@
+-- One byte more in front moves the others up a place, where each counts 256 times as much.
 use Rattle.jh_num.proofs.MemoryLemmas.{spelled_little_endian}
 use Rattle.jh_num.proofs.laws.the_lowest_byte_is_first.Goals as goal
 

@@ -1,3 +1,4 @@
+-- The first range that ends late enough tells for all, and without one all end too early.
 use Rattle.jh_num.proofs.SearchLemmas.{covers_first, covers_past}
 use Rattle.jh_num.proofs.splice.any_covers.Goals as goal
 

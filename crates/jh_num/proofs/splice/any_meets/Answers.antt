@@ -1,3 +1,4 @@
+-- Ranges before the one that tells end too early, and those behind it start no earlier.
 use Rattle.jh_num.proofs.SearchLemmas.{meets_first, meets_past}
 use Rattle.jh_num.proofs.splice.any_meets.Goals as goal
 

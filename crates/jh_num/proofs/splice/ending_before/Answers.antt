@@ -1,3 +1,4 @@
+-- The ends rise, so that all early ones come first, and the search stops behind them.
 use Rattle.std.proofs.Common.{◌≡◌, ltb, true, false, arith, rules}
 use Rattle.std.proofs.lemmas.Bool.{ltb-true, ltb-false}
 use Rattle.std.specs.List.Sorted.{IsPartitionPoint}

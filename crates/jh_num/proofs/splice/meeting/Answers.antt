@@ -1,3 +1,4 @@
+-- The range that ends first is done with; in the other list it is the same with both swapped.
 use Rattle.std.proofs.Common.{◌≡◌, ◌≤◌, max, min, arith}
 use Rattle.jh_num.proofs.MeetingLemmas.{stepped, swapped}
 use Rattle.jh_num.proofs.splice.meeting.Goals as goal

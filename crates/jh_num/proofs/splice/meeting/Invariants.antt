@@ -1,3 +1,4 @@
+-- The bytes found so far and those that the two rests share are all that the lists share.
 use Rattle.std.proofs.Common.{◌+◌, ◌-◌, length}
 use Rattle.jh_num.proofs.MeetingLemmas.{Meets}
 use Rattle.jh_num.proofs.splice.meeting.Given as goal

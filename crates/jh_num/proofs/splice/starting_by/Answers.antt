@@ -1,3 +1,4 @@
+-- The starts rise, so that the ranges are parted at the limit, and the search finds the point.
 use Rattle.std.proofs.Common.{◌≡◌, leb, true, false, arith, rules}
 use Rattle.std.proofs.lemmas.Bool.{leb-true, leb-false}
 use Rattle.std.specs.List.Sorted.{IsPartitionPoint}

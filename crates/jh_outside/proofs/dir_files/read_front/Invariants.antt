@@ -1,3 +1,4 @@
+-- The bytes so far are those that the reader has given, and no more than were asked for.
 use Rattle.std.proofs.Common.{◌≤◌, length}
 use Rattle.std.specs.Io.KnownBytes.{Consumes}
 use Rattle.jh_outside.proofs.dir_files.read_front.Given as goal

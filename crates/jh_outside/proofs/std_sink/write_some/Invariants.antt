@@ -1,3 +1,4 @@
+-- So far each write was interrupted: nothing was taken, and no fault is counted.
 use Rattle.std.proofs.Common.{◌≡◌}
 use Rattle.std.specs.Io.KnownBytes.{Keeps}
 use Rattle.jh_outside.proofs.std_sink.write_some.Given as goal

@@ -1,3 +1,4 @@
+-- What the sink takes from the front of the rest makes the front that was sent longer.
 use Rattle.std.proofs.Common.{◌≤◌, ◌+◌, ◌-◌, ℕ, List, length, take, drop, ap, ◌∙◌, length-drop, length-take, arith, Option}
 use Rattle.std.proofs.lemmas.List.{take_rest}
 use Rattle.std.specs.Io.KnownBytes.{append_known}

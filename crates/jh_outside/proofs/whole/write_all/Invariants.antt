@@ -1,3 +1,4 @@
+-- The front of the text that was sent is appended, and the faults are no fewer than at first.
 use Rattle.std.proofs.Common.{◌≤◌, ◌-◌, length, take}
 use Rattle.jh_outside.specs.Writes.{Appended}
 use Rattle.jh_outside.proofs.whole.write_all.Given as goal

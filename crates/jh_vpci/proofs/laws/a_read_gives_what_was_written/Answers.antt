@@ -1,3 +1,4 @@
+-- An aligned access ends in its word, so that a read shows the very bits of the write.
 use Rattle.std.proofs.Common.{◌≡◌, ◌+◌, ◌*◌, ◌%◌, ◌<◌, ◌≤◌, ◌⊎◌, inl, inr, ℕ, arith, subst, ap}
 use Rattle.jh_vpci.specs.Space.{Space}
 use Rattle.jh_vpci.specs.Windows.{AreWindows}

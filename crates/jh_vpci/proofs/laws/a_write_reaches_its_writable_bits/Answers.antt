@@ -1,3 +1,4 @@
+-- A writable bit is the spliced word's, any other bit stays, and so does every other word.
 use Rattle.std.proofs.Common.{◌<◌, arith, subst, ap}
 use Rattle.jh_vpci.specs.Space.{Space}
 use Rattle.jh_vpci.specs.Windows.{AreWindows}

@@ -1,3 +1,4 @@
+-- The last byte of a word begins at bit 24, and a power of 2 rises with its exponent.
 use Rattle.std.proofs.Common.{ℕ, ◌*◌, ◌^◌, ◌<◌, ◌≤◌, arith, subst, sym}
 use Rattle.std.proofs.Math.Nat.{pow-le-pow_right}
 use Rattle.std.proofs.lemmas.Nat.{one_shl}

@@ -1,3 +1,4 @@
+-- Three blocks of bits are added up, which stay one word where the access ends in it.
 use Rattle.std.proofs.Common.{◌≡◌, ◌+◌, ◌*◌, ◌/◌, ◌%◌, ◌^◌, ◌<◌, ◌≤◌, arith, refl}
 use Rattle.std.proofs.lemmas.Nat.{pow-add}
 use Rattle.jh_vpci.proofs.SplicedLemmas.{placed, placed_lt}

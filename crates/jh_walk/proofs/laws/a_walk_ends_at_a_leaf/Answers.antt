@@ -1,3 +1,4 @@
+-- At each level the descriptor is a leaf, leads to the next table, or ends the walk.
 use Rattle.jh_walk.proofs.PathLemmas.{ends_found, only_ends}
 use Rattle.jh_walk.proofs.laws.a_walk_ends_at_a_leaf.Goals as goal
 

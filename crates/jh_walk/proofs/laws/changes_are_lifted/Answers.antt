@@ -1,3 +1,4 @@
+-- The one slot that leads to the page passes the change on, and all other slots stay.
 use Rattle.jh_walk.proofs.LiftLemmas.{count_same, count_falls}
 use Rattle.jh_walk.proofs.laws.changes_are_lifted.Goals as goal
 

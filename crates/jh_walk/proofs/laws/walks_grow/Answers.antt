@@ -1,3 +1,4 @@
+-- At each level what reads valid keeps its word, and what reads invalid gave nothing before.
 use Rattle.jh_walk.proofs.GrowLemmas.{grown_walk, grown_times}
 use Rattle.jh_walk.proofs.laws.walks_grow.Goals as goal
 

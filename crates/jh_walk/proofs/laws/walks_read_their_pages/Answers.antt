@@ -1,3 +1,4 @@
+-- Each slot that is read stands in a page that is reached, and so it is at each level below.
 use Rattle.jh_walk.proofs.SameLemmas.{walk_same, probes_same, times_same}
 use Rattle.jh_walk.proofs.laws.walks_read_their_pages.Goals as goal
 

@@ -1,3 +1,4 @@
+-- Each turn goes one level down.
 use Rattle.jh_walk.proofs.walking.+walk_from.Given as goal
 
 -- the levels that are left

@@ -1,3 +1,4 @@
+-- Seven fields are put one behind another, from the address to the clock register.
 use Rattle.std.proofs.Common.{append_assoc}
 use Rattle.jh_cellcfg.proofs.record.ConsoleRecord.write.Goals as goal
 

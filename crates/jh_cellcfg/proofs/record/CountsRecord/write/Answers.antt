@@ -1,3 +1,4 @@
+-- The eight counts are put in the order of the parts that they count.
 use Rattle.std.proofs.Common.{append_assoc}
 use Rattle.jh_cellcfg.proofs.record.CountsRecord.write.Goals as goal
 

@@ -1,3 +1,4 @@
+-- What is taken field by field, and for the counts as one record, is the header in one piece.
 use Rattle.std.proofs.Common.{append_assoc}
 use Rattle.jh_cellcfg.proofs.record.HeaderRecord.read.Goals as goal
 

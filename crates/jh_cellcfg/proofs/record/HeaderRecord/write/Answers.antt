@@ -1,3 +1,4 @@
+-- The counts are put as one record, amid the other fields.
 use Rattle.std.proofs.Common.{append_assoc}
 use Rattle.jh_cellcfg.proofs.record.HeaderRecord.write.Goals as goal
 

@@ -1,3 +1,4 @@
+-- The address, the id and the first pin are put, and behind them the words of the bitmap.
 use Rattle.std.proofs.Common.{append_assoc}
 use Rattle.jh_cellcfg.proofs.record.IrqchipRecord.write.Goals as goal
 

@@ -1,3 +1,4 @@
+-- Sixteen fields, each put behind those before it, are the bytes of a device.
 use Rattle.std.proofs.Common.{◌++◌}
 use Rattle.std.specs.List.{flat_map}
 use Rattle.jh_cellcfg.specs.Spelling.{u8_bytes, u16_bytes, u32_bytes, u64_bytes, device_bytes}

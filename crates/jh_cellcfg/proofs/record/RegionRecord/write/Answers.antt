@@ -1,3 +1,4 @@
+-- Both starts, the size and the flags are put one behind another.
 use Rattle.std.proofs.Common.{append_assoc}
 use Rattle.jh_cellcfg.proofs.record.RegionRecord.write.Goals as goal
 

@@ -1,3 +1,4 @@
+-- The bytes so far are those that stood there and behind them those of the first words.
 use Rattle.std.proofs.Common.{◌≡◌, ◌++◌, take}
 use Rattle.std.specs.List.{flat_map}
 use Rattle.jh_cellcfg.specs.Spelling.{u32_bytes}

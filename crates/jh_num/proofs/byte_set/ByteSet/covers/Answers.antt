@@ -1,3 +1,4 @@
+-- The range with the first byte has all of them, as the byte behind a range isn't in the set.
 use Rattle.std.proofs.Common.{◌<◌, arith}
 use Rattle.jh_num.proofs.ReadLemmas.{covers_decided}
 use Rattle.jh_num.proofs.byte_set.ByteSet.covers.Goals as goal

@@ -1,3 +1,4 @@
+-- The ranges that the new one reaches become one with it; reaching none, it stands between.
 use Rattle.std.proofs.Common.{◌-◌, List, arith, ap, sym, subst, ◌∙◌}
 use Rattle.jh_num.specs.declared.range.Range.{Range}
 use Rattle.jh_num.proofs.InsertLemmas.{Inserted, Reaches, inserted_over, inserted_beside}

@@ -1,3 +1,4 @@
+-- A range that meets has the later of both starts, and a shared byte is in a range that meets.
 use Rattle.jh_num.proofs.ReadLemmas.{meets_decided}
 use Rattle.jh_num.proofs.byte_set.ByteSet.meets.Goals as goal
 

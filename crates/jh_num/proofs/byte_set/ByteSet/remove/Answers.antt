@@ -1,3 +1,4 @@
+-- Of the ranges that meet the one that goes, what sticks out on either side is left.
 use Rattle.std.proofs.Common.{ℕ, ◌+◌, ◌-◌, ◌≤◌, ◌<◌, List, length, get_or, arith, sym, refl, subst}
 use Rattle.jh_num.specs.declared.range.Range.{Range}
 use Rattle.jh_num.specs.Bytes.{AreApart}

@@ -1,3 +1,4 @@
+-- With eight reads kept, the oldest is turned to the last place and written over.
 use Rattle.jh_num.proofs.StepsLemmas.{oldest_goes}
 use Rattle.jh_num.proofs.steps.Steps.probe.Goals as goal
 

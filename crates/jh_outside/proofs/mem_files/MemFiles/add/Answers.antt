@@ -1,3 +1,4 @@
+-- An entry put into the table is put into the map that it is seen as, under its name.
 use Rattle.std.proofs.Common.{◌≡◌, ap, ◌∙◌}
 use Rattle.std.specs.Ordering.{nat_cmp}
 use Rattle.std.specs.Cmp.Lexicographic.{slice_cmp}

@@ -1,3 +1,4 @@
+-- A number put among the keys is put into the set that they are seen as.
 use Rattle.std.proofs.Common.{◌≡◌, ap, ◌∙◌}
 use Rattle.std.specs.Ordering.{nat_cmp}
 use Rattle.std.specs.FinSet as set

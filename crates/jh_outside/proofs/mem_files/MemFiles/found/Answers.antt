@@ -1,3 +1,4 @@
+-- Looking among keys and entries is looking in the set and the map that they are seen as.
 use Rattle.std.proofs.Common.{◌≡◌, ℕ, Bool, List, None, if◌then◌else◌, sym, ap, ◌∙◌}
 use Rattle.std.specs.FinMap as map
 use Rattle.std.specs.FinSet as set
