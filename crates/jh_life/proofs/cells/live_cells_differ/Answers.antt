@@ -1,3 +1,4 @@
+-- The invariant of the records says it of root and the configurations.
 use Rattle.std.proofs.Common.{◌≡◌, ◌∷◌, List, length, AllPairs, sym, ap, subst, arith}
 use Rattle.jh_shape.proofs.Public.{configs_joined, length_joined}
 use Rattle.jh_cellcfg.specs.declared.config.CellConfig.{CellConfig}

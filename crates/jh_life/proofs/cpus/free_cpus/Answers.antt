@@ -1,3 +1,4 @@
+-- Each CPU puts its own bit alone, and past the last of the 16 the owned ones have none either.
 use Rattle.std.proofs.Common.{◌≡◌, ◌^◌, ◌<◌, ◌≤◌, ◌==◌, ◌||◌, not, sym, ap, ◌∙◌, ⊎_elim, arith}
 use Rattle.std.proofs.lemmas.Bool.{cases_lt, and_left}
 use Rattle.jh_num.specs.Bits.{has_bit}

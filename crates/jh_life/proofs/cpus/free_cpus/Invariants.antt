@@ -1,3 +1,4 @@
+-- The CPUs so far have a bit where a new cell may have them, and those to come have none.
 use Rattle.std.proofs.Common.{◌≡◌, ℕ, ◌<◌, ◌≤◌, false}
 use Rattle.jh_num.specs.Bits.{has_bit}
 use Rattle.jh_life.specs.Verdict.{may_have}

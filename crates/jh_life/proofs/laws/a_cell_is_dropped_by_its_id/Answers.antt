@@ -1,3 +1,4 @@
+-- No other cell has the id of the one at the index.
 use Rattle.std.proofs.Common.{refl}
 use Rattle.std.proofs.lemmas.Bool.{eq-eqb}
 use Rattle.jh_life.proofs.ChangeLemmas.{single, remove_without}

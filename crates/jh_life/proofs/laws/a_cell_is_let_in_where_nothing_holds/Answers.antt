@@ -1,3 +1,4 @@
+-- A lock refuses by itself; without one, nothing refuses the cell exactly where it is accepted.
 use Rattle.std.proofs.Common.{◌≡◌, ℕ, Bool, true, false, List, Some, None, refl, sym, subst}
 use Rattle.std.specs.Prelude.{Option, ℤ, ◌↔◌, if◌then◌else◌}
 use Rattle.std.proofs.lemmas.Bool.{false≢true}

@@ -1,3 +1,4 @@
+-- Only one cell has the id, and lists with the same configurations and marks are the same.
 use Rattle.std.proofs.Common.{refl, sym, map, ◌∙◌}
 use Rattle.std.proofs.lemmas.Bool.{eq-eqb}
 use Rattle.jh_shape.specs.Lives.{marked}

@@ -1,3 +1,4 @@
+-- Of what it sees the verdict asks the system and the configurations, and nothing else.
 use Rattle.std.proofs.Common.{ℕ, Bool, List, [], ◌∷◌, ◌++◌, Some, ap, ◌∙◌}
 use Rattle.std.specs.Prelude.{Option, ℤ, if◌then◌else◌}
 use Rattle.jh_num.specs.declared.error.TheConstants.{EPERM}

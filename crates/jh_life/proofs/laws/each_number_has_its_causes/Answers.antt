@@ -1,3 +1,4 @@
+-- Each number tells one cause alone, but for EBUSY, which tells one of two.
 use Rattle.std.proofs.Common.{◌≡◌, Some, subst, inl, inr}
 use Rattle.std.specs.Prelude.{◌⊎◌, ℤ}
 use Rattle.jh_num.specs.declared.error.TheConstants.{EBUSY, EEXIST, EINVAL, ENOMEM, EPERM}

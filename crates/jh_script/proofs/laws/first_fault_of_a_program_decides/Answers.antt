@@ -1,3 +1,4 @@
+-- Before the first fault all lines are good, and good lines lead to what stands behind them.
 use Rattle.jh_script.proofs.LawLemmas.{program_to, program_from, syntax_to, syntax_from, width_to, width_from, too_long_to, too_long_from}
 use Rattle.jh_script.proofs.laws.first_fault_of_a_program_decides.Goals as goal
 

@@ -1,3 +1,4 @@
+-- Before the first refused item stand CPUs of the board, and past these the reader comes to it.
 use Rattle.jh_script.proofs.LawLemmas.{schedule_to, schedule_from, item_to, item_from, many_items_to, many_items_from}
 use Rattle.jh_script.proofs.laws.first_fault_of_a_schedule_decides.Goals as goal
 

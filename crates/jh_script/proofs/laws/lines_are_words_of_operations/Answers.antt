@@ -1,3 +1,4 @@
+-- From what a line tells to the words that it must have, and from these words back.
 use Rattle.jh_script.proofs.GrammarLemmas.{line_to, line_from, width_to, width_from, blank_to, blank_from}
 use Rattle.jh_script.proofs.laws.lines_are_words_of_operations.Goals as goal
 

@@ -1,3 +1,4 @@
+-- An operation beyond its limits is told as a fault, so that one that is told is within them.
 use Rattle.std.proofs.Common.{◌≡◌, rules, sym, subst}
 use Rattle.jh_script.specs.Operations.{line_of_op, op_of}
 use Rattle.jh_script.specs.Private.Lines.{IsWellFormedLine}

@@ -1,3 +1,4 @@
+-- Begun at zero, the digits make one by one the value that they write together.
 use Rattle.jh_script.proofs.NumberLemmas.{value_is}
 use Rattle.jh_script.proofs.number.read_digits.Goals as goal
 

@@ -1,3 +1,4 @@
+-- Carrying on from the number so far gives the value of all digits, or none where they have none.
 use Rattle.std.proofs.Common.{◌≡◌, drop}
 use Rattle.jh_script.specs.Private.Reading.{value_after}
 use Rattle.jh_script.specs.Numbers.{value_of}

@@ -1,3 +1,4 @@
+-- A blank line is passed, an operation joins the others, and a bad line decides for the text.
 use Rattle.std.proofs.Common.{◌≡◌, ◌<◌, [], ◌∷◌, ◌++◌, length, rules, arith, length-append, sym, ap, subst}
 use Rattle.std.specs.List.{All}
 use Rattle.std.proofs.lemmas.List.Elements.{All-push}

@@ -1,3 +1,4 @@
+-- The operations so far are few and well formed; the rest, and any fault, are in the lines left.
 use Rattle.std.proofs.Common.{◌≡◌, ◌≤◌, ◌-◌, ◌++◌, length}
 use Rattle.std.specs.List.{All}
 use Rattle.jh_script.specs.Operations.{IsWellFormed}

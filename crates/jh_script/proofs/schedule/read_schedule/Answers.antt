@@ -1,3 +1,4 @@
+-- A CPU of the board joins the others; one too many, or another item, decides for the text.
 use Rattle.std.proofs.Common.{◌≡◌, ◌<◌, ◌+◌, [], ◌∷◌, ◌++◌, length, rules, arith, length-append, sym, ap, ◌∙◌, subst, Some, None, Err}
 use Rattle.std.specs.List.{All}
 use Rattle.std.proofs.lemmas.List.Elements.{All-push}

@@ -1,3 +1,4 @@
+-- The CPUs so far are few and of the board; the rest, and any refusal, are in the items left.
 use Rattle.std.proofs.Common.{◌≡◌, ◌≤◌, ◌++◌, length}
 use Rattle.std.specs.List.{All}
 use Rattle.jh_script.specs.Schedules.{items_of, first_refusal, cpus_of, IsPresent}

@@ -1,3 +1,4 @@
+-- The first line feed ends the line, and where there is none the text is the last line.
 use Rattle.std.proofs.Common.{◌≡◌, ◌+◌, ◌<◌, length, eqb, Some, None, position, rules, take, drop, ap, ◌∙◌, sym, ◌∷◌}
 use Rattle.std.specs.Str.Lines.{lines, strip_carriage_return}
 use Rattle.jh_script.proofs.WordLemmas.{line_found, line_last}

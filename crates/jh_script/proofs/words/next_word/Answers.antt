@@ -1,3 +1,4 @@
+-- The word goes from the first byte that is no gap to the next gap, or to the end of the text.
 use Rattle.std.proofs.Common.{◌≡◌, ◌<◌, length, not, Some, None, position, rules, take, drop, ap, ◌∙◌, sym, ◌∷◌, List, ℕ, subst}
 use Rattle.jh_script.specs.Words.{is_gap, words}
 use Rattle.jh_script.proofs.WordLemmas.{words_found, words_last, words_none, rest_shorter}

@@ -1,3 +1,4 @@
+-- The list without its last cell takes no more pages.
 use Rattle.jh_shape.proofs.OrderLemmas.{pages_of_more}
 use Rattle.jh_shape.proofs.laws.a_new_cell_frees_no_page.Goals as goal
 

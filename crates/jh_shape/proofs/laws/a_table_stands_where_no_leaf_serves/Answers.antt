@@ -1,3 +1,4 @@
+-- What meets a slot, and what serves it, is told by single addresses and places, both ways.
 use Rattle.jh_shape.proofs.LawLemmas.{met_there, met_back, leaf_there, leaf_back, table_there, table_back}
 use Rattle.jh_shape.proofs.laws.a_table_stands_where_no_leaf_serves.Goals as goal
 

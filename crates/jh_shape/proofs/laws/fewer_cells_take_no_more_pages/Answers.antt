@@ -1,3 +1,4 @@
+-- One cell more turns leaves of root into tables, never back, and takes pages of its own.
 use Rattle.jh_shape.proofs.OrderLemmas.{pages_of_fewer}
 use Rattle.jh_shape.proofs.laws.fewer_cells_take_no_more_pages.Goals as goal
 

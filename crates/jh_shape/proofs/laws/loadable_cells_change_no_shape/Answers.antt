@@ -1,3 +1,4 @@
+-- Whichever cells are loadable, the same places are cut, so that neither choice has more tables.
 use Rattle.jh_shape.proofs.OrderLemmas.{leaves_alike, tables_alike, pages_alike}
 use Rattle.jh_shape.proofs.laws.loadable_cells_change_no_shape.Goals as goal
 

@@ -1,3 +1,4 @@
+-- The bits that the word lacked are the new marks, and as many are told.
 use Rattle.std.proofs.Common.{◌+◌, ◌*◌, ◌^◌, ◌<◌, slice_index, sym, ap, ◌∙◌, arith}
 use Rattle.jh_shape.specs.Private.Marks.{is_marked}
 use Rattle.jh_shape.specs.Pages.{count_below}

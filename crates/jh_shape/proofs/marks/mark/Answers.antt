@@ -1,3 +1,4 @@
+-- The bit that is set is the slot's own, and every other keeps what it was.
 use Rattle.std.proofs.Common.{refl}
 use Rattle.jh_shape.proofs.MarkLemmas.{marked}
 use Rattle.jh_shape.proofs.marks.mark.Goals as goal

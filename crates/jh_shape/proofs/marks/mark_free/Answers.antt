@@ -1,3 +1,4 @@
+-- One word more adds its bits of the span that the other list lacks.
 use Rattle.std.proofs.Common.{◌<◌, ◌^◌, ◌&&◌, not, nat_le, nat_lt, slice_index, refl, arith}
 use Rattle.jh_shape.specs.Private.Marks.{is_marked}
 use Rattle.jh_shape.proofs.WordLemmas.{free_none, free_bit, free_more, free_end}

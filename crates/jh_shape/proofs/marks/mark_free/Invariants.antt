@@ -1,3 +1,4 @@
+-- Below the word the span's slots that the other list lacks are marked, besides the old marks.
 use Rattle.std.proofs.Common.{◌≡◌, ℕ, ◌&&◌, ◌||◌, not}
 use Rattle.jh_shape.specs.Private.Marks.{is_marked}
 use Rattle.jh_shape.proofs.WordLemmas.{below_word}

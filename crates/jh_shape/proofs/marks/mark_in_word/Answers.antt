@@ -1,3 +1,4 @@
+-- Past the word and the span no mark differs, so that any end behind them counts the same growth.
 use Rattle.std.proofs.Common.{◌+◌, ◌*◌, min, arith}
 use Rattle.jh_shape.specs.Private.Marks.{is_marked}
 use Rattle.jh_shape.proofs.WordLemmas.{grows_alike, past_span}

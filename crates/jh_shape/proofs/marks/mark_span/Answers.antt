@@ -1,3 +1,4 @@
+-- One word more, and no more marks are added than there are slots below the span's end.
 use Rattle.std.proofs.Common.{◌+◌, ◌≤◌, arith}
 use Rattle.jh_shape.specs.Private.Marks.{is_marked}
 use Rattle.jh_shape.proofs.CountLemmas.{grown}

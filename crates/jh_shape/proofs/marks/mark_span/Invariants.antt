@@ -1,3 +1,4 @@
+-- The span's slots below the word are marked, and any count past the span has grown by the sum.
 use Rattle.std.proofs.Common.{◌≡◌, ℕ, ◌+◌, ◌≤◌, ◌||◌}
 use Rattle.jh_shape.specs.Private.Marks.{is_marked}
 use Rattle.jh_shape.specs.Pages.{count_below}

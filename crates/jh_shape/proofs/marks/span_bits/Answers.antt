@@ -1,3 +1,4 @@
+-- The bits between the two shifts are those of the span's slots in the word.
 use Rattle.std.proofs.Common.{◌-◌, ◌*◌, ◌%◌, min, ◌∙◌, arith}
 use Rattle.jh_shape.proofs.WordLemmas.{bits_between, span_in_word}
 use Rattle.jh_shape.proofs.marks.span_bits.Goals as goal

@@ -1,3 +1,4 @@
+-- The tables are 2^20 at most, and the communication page is one more.
 use Rattle.std.proofs.Common.{◌≤◌, ◌^◌, arith}
 use Rattle.jh_shape.proofs.PageLemmas.{tables_le}
 use Rattle.jh_shape.proofs.pages.cell_pages.Goals as goal

@@ -1,3 +1,4 @@
+-- No cell takes more than 2^20 + 1 pages, and so few cells can't overflow the sum.
 use Rattle.std.proofs.Common.{◌*◌, ◌≤◌, length, arith}
 use Rattle.jh_shape.proofs.PageLemmas.{own_le}
 use Rattle.jh_shape.proofs.pages.pages_of.Goals as goal

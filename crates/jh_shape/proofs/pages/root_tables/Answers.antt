@@ -1,3 +1,4 @@
+-- A mask with all bits set makes each cell a holder, and one with none set makes none loadable.
 use Rattle.std.proofs.Common.{true, List, ap, ◌∙◌}
 use Rattle.jh_shape.specs.Claims.{Holder}
 use Rattle.jh_shape.specs.Pages.{tables_of}

@@ -1,3 +1,4 @@
+-- The number is past the slots where it is past their end, never where they are all of the level's.
 use Rattle.std.proofs.Common.{◌*◌, ◌<◌, ◌≤◌, nat_lt, sym, ap, ◌∙◌, arith}
 use Rattle.std.proofs.lemmas.Bool.{le-ltb}
 use Rattle.jh_num.specs.declared.address.TheConstants.{ADDRESS_END}

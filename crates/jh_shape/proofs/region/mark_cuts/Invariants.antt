@@ -1,3 +1,4 @@
+-- Below the limit what the regions so far cut is marked, and the span done has no gap.
 use Rattle.std.proofs.Common.{◌*◌, ◌||◌, take}
 use Rattle.std.specs.List.{list_any}
 use Rattle.jh_cellcfg.specs.declared.region.Region.{Region}

@@ -1,3 +1,4 @@
+-- A number lies inside one slot at most: its own, and that only where it doesn't begin it.
 use Rattle.std.proofs.Common.{◌*◌, ◌/◌, ◌<◌, ◌≤◌, ◌||◌, sym, ap, ◌∙◌, arith}
 use Rattle.std.proofs.Math.Bool.{or-false}
 use Rattle.jh_num.specs.declared.address.TheConstants.{ADDRESS_END}

@@ -1,3 +1,4 @@
+-- A place below the end of addresses lies in a slot of the level, which has at most 2^18.
 use Rattle.std.proofs.Common.{◌/◌, ◌<◌, ◌≤◌, arith}
 use Rattle.jh_num.specs.declared.address.TheConstants.{ADDRESS_END}
 use Rattle.jh_num.specs.Levels.{slot_size}

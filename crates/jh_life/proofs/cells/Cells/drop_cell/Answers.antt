@@ -1,3 +1,4 @@
+-- Each list of the records loses the same index, and the pages that go are among those taken.
 use Rattle.std.proofs.Common.{◌≡◌, ℕ, ◌+◌, ◌-◌, ◌<◌, List, length, remove, sum_by, vec_len, rules, ap, ◌∙◌, arith}
 use Rattle.std.proofs.lemmas.List.{length-map}
 use Rattle.jh_life.proofs.JoinedLemmas.{own_among, stands_remove}

@@ -1,3 +1,4 @@
+-- Configurations paired with as many marks are the same configurations again.
 use Rattle.std.proofs.Common.{List, length, sym, ap, ◌∙◌}
 use Rattle.jh_shape.proofs.Public.{configs_joined, length_joined}
 use Rattle.jh_cellcfg.specs.declared.config.CellConfig.{CellConfig}

@@ -1,3 +1,4 @@
+-- The mask is made of the list of marks, which are those of the live cells in order.
 use Rattle.std.proofs.Common.{Bool, false, List, get_or, sym, ap, ◌∙◌}
 use Rattle.jh_life.proofs.JoinedLemmas.{marks_joined}
 use Rattle.jh_life.proofs.cells.Cells.loadable.Goals as goal

@@ -1,3 +1,4 @@
+-- The pages that are kept as taken are those that the listed cells take together.
 use Rattle.std.proofs.Common.{List, ◌++◌, sum_by, sym, ap, ◌∙◌}
 use Rattle.std.specs.Prelude.{option_to_list}
 use Rattle.std.specs.Option.{option_copied}

@@ -1,3 +1,4 @@
+-- One mark is replaced in its place, so that configurations and marks pair up as before.
 use Rattle.std.proofs.Common.{◌≡◌, ◌-◌, Bool, List, length, set, vec_len, rules, sym, ap, ◌∙◌, arith}
 use Rattle.std.proofs.lemmas.List.{length-set}
 use Rattle.jh_shape.proofs.Public.{configs_joined, length_joined}

@@ -1,3 +1,4 @@
+-- Beside 15 cells no CPU is free; beside fewer, what nothing else refuses is left to the pages.
 use Rattle.std.proofs.Common.{◌≡◌, ℕ, ◌<◌, Bool, false, List, length, Some, None, nat_lt, refl, sym, ap, ◌∙◌, arith}
 use Rattle.std.specs.Prelude.{if◌then◌else◌}
 use Rattle.jh_num.specs.Bits.{has_bit}

@@ -1,3 +1,4 @@
+-- The end is capped, and rounds up to no more slots than there are below the end of addresses.
 use Rattle.std.proofs.Common.{refl, arith}
 use Rattle.jh_shape.proofs.MarkLemmas.{slots_few, slots_within}
 use Rattle.jh_shape.proofs.interval.Interval.past_slot.Goals as goal

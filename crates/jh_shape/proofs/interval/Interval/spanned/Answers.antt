@@ -1,3 +1,4 @@
+-- The start is rounded up and the end down, so that the slots between are spanned whole.
 use Rattle.std.proofs.Common.{min, arith}
 use Rattle.jh_num.specs.declared.address.TheConstants.{ADDRESS_END}
 use Rattle.jh_num.specs.Levels.{slot_size}

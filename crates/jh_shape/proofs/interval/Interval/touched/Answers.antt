@@ -1,3 +1,4 @@
+-- The slots go from the one that has the start to the last that begins before the end.
 use Rattle.jh_num.specs.declared.address.TheConstants.{ADDRESS_END}
 use Rattle.jh_shape.proofs.LawLemmas.{size_some}
 use Rattle.jh_shape.proofs.MarkLemmas.{touched_slots}

@@ -1,3 +1,4 @@
+-- Slots don't overlap, so that no others have numbers of the span, whose ends fit 64 bits.
 use Rattle.std.proofs.Common.{arith}
 use Rattle.jh_num.specs.Levels.{slot_size}
 use Rattle.jh_shape.proofs.MarkLemmas.{place_fits, slots_alone}

@@ -1,3 +1,4 @@
+-- A mapped region adds the slots that it touches, unless it lies in the span that is done.
 use Rattle.std.proofs.Common.{◌≡◌, ◌+◌, ◌*◌, ◌/◌, ◌<◌, ◌≤◌, ◌||◌, ◌&&◌, true, false, nat_le, nat_lt, ℕ, Bool, List, length, get_or, refl, sym, ap, ◌∙◌, arith}
 use Rattle.std.specs.List.{list_any}
 use Rattle.std.proofs.lemmas.List.{take_all}

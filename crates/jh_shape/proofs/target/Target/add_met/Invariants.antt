@@ -1,3 +1,4 @@
+-- What the regions so far meet is marked, each new mark is counted, and the span done has no gap.
 use Rattle.std.proofs.Common.{◌≡◌, ◌+◌, ◌*◌, ◌/◌, ◌≤◌, ◌||◌, take}
 use Rattle.std.specs.List.{list_any}
 use Rattle.jh_num.specs.declared.address.TheConstants.{ADDRESS_END}

@@ -1,3 +1,4 @@
+-- Whether the places are cut is up to the holders that are left.
 use Rattle.std.proofs.Common.{◌≡◌, ◌++◌, drop}
 use Rattle.jh_shape.specs.Claims.{held_from, holder_to_come}
 use Rattle.jh_shape.specs.Shapes.{are_cut}

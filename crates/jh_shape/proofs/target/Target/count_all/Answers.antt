@@ -1,3 +1,4 @@
+-- No region has slots beyond the full list, and in a new one none is marked.
 use Rattle.std.proofs.Common.{ℕ, ◌*◌, ap, ◌∙◌}
 use Rattle.std.proofs.lemmas.List.{length-replicate}
 use Rattle.std.specs.List.{list_any}

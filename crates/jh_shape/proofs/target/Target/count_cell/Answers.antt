@@ -1,3 +1,4 @@
+-- A cell that isn't root needs no list of cuts, and where no region lies high a short list has all.
 use Rattle.std.proofs.Common.{sym, ◌∙◌}
 use Rattle.std.proofs.lemmas.Bool.{both_ways}
 use Rattle.jh_shape.proofs.target.Target.count_cell.Goals as goal

@@ -1,3 +1,4 @@
+-- Leaves are marked first, so that what the slots that are met add to the marks are the tables.
 use Rattle.std.proofs.Common.{◌≡◌, ℕ, ◌+◌, ◌*◌, ◌/◌, Bool, not, ◌&&◌, ◌||◌, ap, ◌∙◌}
 use Rattle.std.specs.List.{list_any}
 use Rattle.jh_num.specs.declared.address.TheConstants.{ADDRESS_END}

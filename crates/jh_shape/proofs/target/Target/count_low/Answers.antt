@@ -1,3 +1,4 @@
+-- The regions have all their slots in the short list, none of which is marked at first.
 use Rattle.std.proofs.Common.{ℕ, ◌*◌, ap, ◌∙◌}
 use Rattle.std.proofs.lemmas.List.{length-replicate}
 use Rattle.std.specs.List.{list_any}

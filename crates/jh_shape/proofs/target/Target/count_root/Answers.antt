@@ -1,3 +1,4 @@
+-- A short list is made only where no region has addresses beyond the low slots.
 use Rattle.std.proofs.Common.{sym, ◌∙◌}
 use Rattle.jh_shape.proofs.target.Target.count_root.Goals as goal
 

@@ -1,3 +1,4 @@
+-- The full list begins without marks, and is filled with the cuts of the whole level.
 use Rattle.std.proofs.Common.{ℕ, arith}
 use Rattle.std.proofs.lemmas.List.{length-replicate}
 use Rattle.jh_shape.proofs.MarkLemmas.{unmarked}

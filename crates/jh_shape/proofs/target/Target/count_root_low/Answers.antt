@@ -1,3 +1,4 @@
+-- A new short list has no mark, and filled it has the cuts of all its slots.
 use Rattle.std.proofs.Common.{ℕ, arith}
 use Rattle.std.proofs.lemmas.List.{length-replicate}
 use Rattle.jh_shape.proofs.MarkLemmas.{unmarked}

@@ -1,3 +1,4 @@
+-- A holder adds the slots that its regions meet in part, and a cell that doesn't hold adds none.
 use Rattle.std.proofs.Common.{◌≡◌, ◌*◌, ◌||◌, true, false, sym, ap, ◌∙◌}
 use Rattle.std.specs.List.{list_any}
 use Rattle.jh_cellcfg.specs.declared.region.Region.{Region}

@@ -1,3 +1,4 @@
+-- The slots below the limit that the holders so far cut are marked, and no other below it.
 use Rattle.std.proofs.Common.{◌*◌, take}
 use Rattle.jh_shape.specs.Claims.{held_from}
 use Rattle.jh_shape.specs.Private.Marks.{AreMarkedBelow}

@@ -1,3 +1,4 @@
+-- Each region lies within the list of marks, and in the end all regions have marked theirs.
 use Rattle.std.proofs.Common.{◌*◌, List, length, ap, ◌∙◌, arith}
 use Rattle.std.specs.List.{list_any}
 use Rattle.std.proofs.lemmas.List.{take_all}

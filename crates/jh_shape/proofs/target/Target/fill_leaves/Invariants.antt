@@ -1,3 +1,4 @@
+-- The level's slots that the regions so far make leaves are marked, and no other of them.
 use Rattle.std.proofs.Common.{◌*◌, take}
 use Rattle.std.specs.List.{list_any}
 use Rattle.jh_cellcfg.specs.declared.region.Region.{Region}

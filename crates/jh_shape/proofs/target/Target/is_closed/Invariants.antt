@@ -1,3 +1,4 @@
+-- The holders not yet asked close the place exactly where all holders do.
 use Rattle.std.proofs.Common.{◌≡◌, ◌++◌, drop}
 use Rattle.jh_shape.specs.Claims.{held_from, holder_to_come}
 use Rattle.jh_shape.specs.Shapes.{is_closed}

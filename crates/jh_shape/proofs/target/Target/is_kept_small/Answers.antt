@@ -1,3 +1,4 @@
+-- Places are aligned like addresses, so that the slot's places are a slot of places, too.
 use Rattle.std.proofs.Common.{◌≡◌, ℕ, ◌+◌, ◌-◌, ◌*◌, ◌/◌, ◌%◌, ◌^◌, ◌<◌, ◌&&◌, refl, sym, ap, ◌∙◌, arith}
 use Rattle.std.proofs.lemmas.Bool.{eqb-true}
 use Rattle.jh_cellcfg.specs.Regions.{place_in}

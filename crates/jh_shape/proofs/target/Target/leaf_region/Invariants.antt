@@ -1,3 +1,4 @@
+-- A search of the regions left finds what a search of all regions does.
 use Rattle.std.proofs.Common.{◌≡◌, drop}
 use Rattle.std.specs.List.{find}
 use Rattle.jh_cellcfg.specs.declared.region.Region.{Region}

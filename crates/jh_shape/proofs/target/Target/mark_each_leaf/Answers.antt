@@ -1,3 +1,4 @@
+-- A slot that is cut for root leaves the marks as they were, and any other adds its own.
 use Rattle.std.proofs.Common.{◌≡◌, ℕ, ◌*◌, ◌≤◌, Bool, true, false, refl, sym, ap, ◌∙◌, arith}
 use Rattle.jh_shape.specs.Claims.{claims_of}
 use Rattle.jh_shape.specs.Private.Marks.{is_marked}

@@ -1,3 +1,4 @@
+-- Besides the old marks, the slots so far are marked that aren't cut for root.
 use Rattle.std.proofs.Common.{◌≡◌, ℕ, ◌*◌, ◌≤◌, ◌&&◌, ◌||◌, not, max}
 use Rattle.jh_shape.specs.Claims.{claims_of}
 use Rattle.jh_shape.specs.Private.Marks.{is_marked}

@@ -1,3 +1,4 @@
+-- The leaves are the slots that the region spans and nothing cuts, whichever way marks them.
 use Rattle.std.proofs.Common.{◌≡◌, ◌*◌, ◌<◌, true, ◌&&◌, nat_le, nat_lt, length, sym, ◌∙◌, arith}
 use Rattle.std.proofs.lemmas.Bool.{and_parts, ltb-true}
 use Rattle.jh_cellcfg.specs.Regions.{virt_end, place_in}

@@ -1,3 +1,4 @@
+-- A leaf tells what each byte of its slot is granted, and no slot of the last level is a table.
 use Rattle.std.proofs.Common.{◌<◌, sym, ◌∙◌, arith}
 use Rattle.jh_cellcfg.specs.Regions.{place_in}
 use Rattle.jh_num.specs.declared.address.TheConstants.{ADDRESS_END}
