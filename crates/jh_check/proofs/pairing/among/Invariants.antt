@@ -1,3 +1,4 @@
+-- The gaps aren't reached, the block isn't overrun, and found plus still to find is the same.
 use Rattle.std.proofs.Common.{◌≡◌, ◌+◌, ◌≤◌, ◌++◌}
 use Rattle.jh_check.specs.declared.blocks.TheConstants.{BLOCK}
 use Rattle.jh_check.specs.Lists.{capped}

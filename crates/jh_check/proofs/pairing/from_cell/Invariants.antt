@@ -1,3 +1,4 @@
+-- What is found, with what the cells from here on add to it, is all that the one cell gives.
 use Rattle.std.proofs.Common.{◌≡◌, ◌++◌, drop}
 use Rattle.jh_check.specs.Private.Cells.{cells_of}
 use Rattle.jh_check.specs.Lists.{found_from, capped}
