@@ -1,4 +1,4 @@
--- What is found so far, with what the cells from this one on give, is what all pairs give.
+-- Up to the cap, what is found and what the cells from this one on give is what all cells give.
 use Rattle.std.proofs.Common.{◌≡◌, ◌++◌, drop}
 use Rattle.jh_check.specs.Private.Cells.{cells_of}
 use Rattle.jh_check.specs.Lists.{found_from, capped}
