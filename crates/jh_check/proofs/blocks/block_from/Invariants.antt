@@ -1,3 +1,4 @@
+-- The extents have each region of the block read so far that takes part.
 use Rattle.jh_check.specs.Private.Blocks.{AreExtentsOf}
 use Rattle.jh_check.proofs.blocks.block_from.Given as goal
 

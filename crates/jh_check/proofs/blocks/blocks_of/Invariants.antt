@@ -1,3 +1,4 @@
+-- There are as many blocks as turns so far, and each has its own regions that take part.
 use Rattle.std.proofs.Common.{◌≡◌, ◌<◌, ◌+◌, ◌*◌, ℕ, get_or, length}
 use Rattle.jh_check.specs.declared.blocks.Extents.{Extents}
 use Rattle.jh_check.specs.declared.blocks.TheConstants.{BLOCK}

@@ -1,3 +1,4 @@
+-- A region is within one block's extents, and these are within the extents of all blocks.
 use Rattle.std.proofs.Common.{◌+◌, ◌*◌, ◌/◌, ◌<◌, ◌≤◌, length, get_or, arith}
 use Rattle.jh_check.specs.declared.blocks.TheConstants.{BLOCK}
 use Rattle.jh_check.specs.Private.Spans.{span_of}

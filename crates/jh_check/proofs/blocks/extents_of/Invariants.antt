@@ -1,3 +1,4 @@
+-- The extents of each block so far lie within those of all, in both kinds.
 use Rattle.std.proofs.Common.{◌<◌, ℕ, get_or}
 use Rattle.jh_check.specs.declared.blocks.Extents.{Extents}
 use Rattle.jh_check.specs.Private.Blocks.{AreInside}

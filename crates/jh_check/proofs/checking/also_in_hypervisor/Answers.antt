@@ -1,3 +1,4 @@
+-- What the hypervisor's memory breaks stands behind what regions break, under one cap.
 use Rattle.jh_check.specs.Private.Cells.{cells_of}
 use Rattle.jh_check.specs.Findings.{in_regions, in_hypervisor}
 use Rattle.jh_check.proofs.ListLemmas.{capped_then}

@@ -1,3 +1,4 @@
+-- The list stays as it is on its way through a vector, but for the cut at a thousand findings.
 use Rattle.std.proofs.Common.{◌≡◌, take, ◌∙◌}
 use Rattle.jh_check.specs.declared.checking.TheConstants.{MAX_FINDINGS}
 use Rattle.jh_check.specs.Lists.{capped}

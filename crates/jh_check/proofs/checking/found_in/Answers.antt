@@ -1,3 +1,4 @@
+-- Each rule in turn adds what it finds, and behind the last rule nothing is left to find.
 use Rattle.std.proofs.Common.{◌≡◌, ◌<◌, ◌++◌, length, get_or}
 use Rattle.jh_check.specs.declared.rule.Rule.TheVariants.{VirtOverlap}
 use Rattle.jh_check.specs.Private.Cells.{cells_of}

@@ -1,3 +1,4 @@
+-- What is found so far, with what the rules ahead find, is what all rules find, up to the cap.
 use Rattle.std.proofs.Common.{◌≡◌, ◌++◌, drop}
 use Rattle.jh_check.specs.Private.Cells.{cells_of}
 use Rattle.jh_check.specs.Lists.{found_from, capped}

@@ -1,3 +1,4 @@
+-- A device that is linked has its seat at the device's own bdf, where each seat is looked at.
 use Rattle.jh_check.specs.Private.Cells.{cells_of}
 use Rattle.jh_check.proofs.SeatLemmas.{agrees_linked}
 use Rattle.jh_check.proofs.devices.agrees_with_linked.Goals as goal

@@ -1,3 +1,4 @@
+-- The next lower cell's answer decides or leaves it to the others; without a doubt, all agree.
 use Rattle.std.proofs.Common.{◌≡◌, ◌+◌, false, true, ◌&&◌, take, drop, sym, ap, ◌∙◌}
 use Rattle.std.specs.List.{list_all}
 use Rattle.jh_cellcfg.specs.declared.config.CellConfig.{CellConfig}

@@ -1,3 +1,4 @@
+-- The lower cells still to be asked agree exactly where all lower cells do.
 use Rattle.std.proofs.Common.{◌≡◌, take, drop}
 use Rattle.jh_check.specs.Private.Cells.{cells_of}
 use Rattle.jh_check.specs.Devices.{agrees_with_all}

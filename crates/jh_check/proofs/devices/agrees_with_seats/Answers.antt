@@ -1,3 +1,4 @@
+-- The seat just looked at agrees by its own test, the earlier ones as before.
 use Rattle.std.proofs.Common.{get_or, inl, inr, sym, subst, arith}
 use Rattle.std.proofs.lemmas.Bool.{cases_eq}
 use Rattle.std.proofs.lemmas.List.{get_or_default}

@@ -1,3 +1,4 @@
+-- The device of each seat so far agrees with the one, if it is of a lower cell.
 use Rattle.std.proofs.Common.{ℕ, ◌<◌, get_or}
 use Rattle.jh_check.specs.declared.seats.Seat.{Seat}
 use Rattle.jh_check.specs.Private.Cells.{cells_of}

@@ -1,3 +1,4 @@
+-- Lists that match section by section are equally long, so that others aren't the same memory.
 use Rattle.std.proofs.Common.{sym}
 use Rattle.std.specs.Cmp.Lexicographic.{pointwise, as_long}
 use Rattle.std.proofs.lemmas.Bool.{false_from_ne_true}

@@ -1,3 +1,4 @@
+-- The sections still to be compared match exactly where the whole lists do.
 use Rattle.std.proofs.Common.{◌≡◌, drop}
 use Rattle.jh_check.specs.Devices.{are_same_memory}
 use Rattle.jh_check.proofs.devices.are_same_memory.Given as goal

@@ -1,3 +1,4 @@
+-- The sections left follow the end reached exactly where all follow the first one.
 use Rattle.std.proofs.Common.{◌≡◌, drop}
 use Rattle.jh_check.specs.Devices.{follows}
 use Rattle.jh_check.proofs.devices.follows.Given as goal

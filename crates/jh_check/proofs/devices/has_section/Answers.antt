@@ -1,3 +1,4 @@
+-- What isn't a section of the one device can't be one at the same offset of a linked one.
 use Rattle.std.proofs.Common.{◌∙◌, sym}
 use Rattle.jh_check.proofs.SectionLemmas.{no_section}
 use Rattle.jh_check.proofs.devices.has_section.Goals as goal

@@ -1,3 +1,4 @@
+-- Where no device before is said to have the bdf, none has it, as is required.
 use Rattle.std.proofs.Common.{◌∙◌, sym}
 use Rattle.jh_check.proofs.devices.is_repeated.Goals as goal
 

@@ -1,3 +1,4 @@
+-- Each seat adds a device like the one and a new number, and any two such devices fit.
 use Rattle.std.proofs.Common.{◌∙◌, sym, arith}
 use Rattle.jh_check.specs.declared.seats.Seat.{Seat}
 use Rattle.jh_check.specs.Private.Cells.{cells_of}

@@ -1,3 +1,4 @@
+-- At the bdf just marked the devices were found to fit, at each other they were sure before.
 use Rattle.std.proofs.Common.{◌∙◌, true, false, inl, inr, sym}
 use Rattle.std.proofs.lemmas.Bool.{cases_eq}
 use Rattle.std.proofs.lemmas.List.{get_or-set_other}

@@ -1,3 +1,4 @@
+-- Each mark is a copy of one that isn't set, and behind the last one none is set either.
 use Rattle.std.proofs.Common.{◌≡◌, false, get_or, sym, subst}
 use Rattle.std.proofs.Math.ListN.{replicate}
 use Rattle.jh_check.proofs.FitLemmas.{all_false}

@@ -1,3 +1,4 @@
+-- At the start no bdf is marked, so that nothing is claimed of any.
 use Rattle.jh_check.specs.Private.Cells.{cells_of}
 use Rattle.jh_check.proofs.FitLemmas.{sure_none}
 use Rattle.jh_check.proofs.fits.sure_fits.Goals as goal

@@ -1,3 +1,4 @@
+-- Each bdf has a mark, and where it is set the devices of different cells there fit.
 use Rattle.std.proofs.Common.{◌≡◌, length}
 use Rattle.jh_check.specs.Private.Cells.{cells_of}
 use Rattle.jh_check.specs.Private.Fits.{AreSure}

@@ -1,3 +1,4 @@
+-- What begins behind the ends of those before and ends before the others start isn't reached.
 use Rattle.std.proofs.Common.{arith}
 use Rattle.jh_check.proofs.ReachLemmas.{lies_unreached}
 use Rattle.jh_check.proofs.gaps.gap_behind.Goals as goal

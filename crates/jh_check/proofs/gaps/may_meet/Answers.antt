@@ -1,3 +1,4 @@
+-- Only the gap of the kind by which the region is looked for moves; the other stays.
 use Rattle.std.proofs.Common.{subst}
 use Rattle.jh_check.specs.Private.Reaches.{IsGap}
 use Rattle.jh_check.proofs.gaps.may_meet.Goals as goal

@@ -1,3 +1,4 @@
+-- The gap is carried over to the reaches that are looked through, and back.
 use Rattle.std.proofs.Common.{sym, subst}
 use Rattle.jh_check.specs.Private.Reaches.{IsGap}
 use Rattle.jh_check.proofs.gaps.may_reach_unshared.Goals as goal

@@ -1,3 +1,4 @@
+-- A finding with the new cell names it, which the verdict denies, or was there without it.
 use Rattle.jh_check.proofs.JoinLemmas.{joins_clean, joined_clean}
 use Rattle.jh_check.proofs.laws.a_clean_cell_joins.Goals as goal
 

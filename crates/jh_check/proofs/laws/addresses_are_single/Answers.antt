@@ -1,3 +1,4 @@
+-- Where nothing is found the system is clean, which says this of addresses among others.
 use Rattle.jh_check.proofs.JoinLemmas.{clean_from_nothing}
 use Rattle.jh_check.proofs.laws.addresses_are_single.Goals as goal
 

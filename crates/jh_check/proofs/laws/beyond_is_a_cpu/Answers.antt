@@ -1,3 +1,4 @@
+-- The search over the set's bits finds such a CPU, and each CPU named is within these bits.
 use Rattle.jh_check.proofs.RefusalLemmas.{beyond_named, named_beyond}
 use Rattle.jh_check.proofs.laws.beyond_is_a_cpu.Goals as goal
 

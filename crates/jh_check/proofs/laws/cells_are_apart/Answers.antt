@@ -1,3 +1,4 @@
+-- Regions of two cells meet where both are shared or are one section; unshared leaves the latter.
 use Rattle.jh_check.proofs.JoinLemmas.{clean_from_nothing}
 use Rattle.jh_check.proofs.GivenLemmas.{cells_apart}
 use Rattle.jh_check.proofs.laws.cells_are_apart.Goals as goal

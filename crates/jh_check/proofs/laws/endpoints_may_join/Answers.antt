@@ -1,3 +1,4 @@
+-- A sound device has a table with room for its number, and a link is told from either cell.
 use Rattle.jh_check.proofs.GivenLemmas.{may_join, numbers_differ}
 use Rattle.jh_check.proofs.laws.endpoints_may_join.Goals as goal
 

@@ -1,3 +1,4 @@
+-- Each cell that stays was there under a number before, and their order is the same.
 use Rattle.jh_check.proofs.JoinLemmas.{fewer_clean}
 use Rattle.jh_check.proofs.laws.fewer_cells_stay_clean.Goals as goal
 

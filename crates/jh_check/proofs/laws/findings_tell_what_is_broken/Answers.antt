@@ -1,3 +1,4 @@
+-- The tests that list a finding say the same as the words of its rule, rule by rule.
 use Rattle.jh_check.proofs.RuleLemmas.{broken_from_listed, listed_from_broken}
 use Rattle.jh_check.proofs.laws.findings_tell_what_is_broken.Goals as goal
 

@@ -1,3 +1,4 @@
+-- Namesakes, CPUs, the verdict and the pages are asked in turn; none refuses where all are good.
 use Rattle.jh_check.proofs.RefusalLemmas.{accepted_from, accepted_to}
 use Rattle.jh_check.proofs.laws.nothing_is_refused_that_is_accepted.Goals as goal
 

@@ -1,3 +1,4 @@
+-- The lowest set bit of a byte names a CPU, and a byte that is zero names none.
 use Rattle.std.proofs.Common.{◌<◌, get_or, arith}
 use Rattle.jh_check.proofs.GivenLemmas.{sound_set}
 use Rattle.jh_check.proofs.laws.sound_bitmaps_name_few_cpus.Goals as goal

@@ -1,3 +1,4 @@
+-- The pair noted next is of one offset, which is below the section counts of both devices.
 use Rattle.std.proofs.Common.{◌≡◌, ◌≢◌, ℕ, ◌+◌, ◌<◌, true, ◌∙◌, List, None, Some, get_or, sym, subst, arith}
 use Rattle.std.specs.List.{Contains}
 use Rattle.std.proofs.lemmas.List.{get_or_default}

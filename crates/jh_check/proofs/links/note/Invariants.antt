@@ -1,3 +1,4 @@
+-- Each partner noted, for these devices or earlier ones, is the same section of linked devices.
 use Rattle.jh_check.specs.Private.Links.{ArePartners}
 use Rattle.jh_check.proofs.links.note.Given as goal
 

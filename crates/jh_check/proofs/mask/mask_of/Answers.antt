@@ -1,3 +1,4 @@
+-- The bit put last tells its mark, the earlier ones stay, and past the end there is neither.
 use Rattle.std.proofs.Common.{◌≡◌, ◌<◌, ◌≤◌, ◌||◌, false, get_or, sym, ap, ◌∙◌, ⊎_elim, arith}
 use Rattle.std.proofs.lemmas.Bool.{cases_lt}
 use Rattle.jh_num.specs.Bits.{has_bit}

@@ -1,3 +1,4 @@
+-- The bits so far tell the marks, and no bit from there on is set.
 use Rattle.std.proofs.Common.{◌≡◌, ℕ, ◌<◌, ◌≤◌, false, slice_index_or}
 use Rattle.jh_num.specs.Bits.{has_bit}
 use Rattle.jh_check.proofs.mask.mask_of.Given as goal

@@ -1,3 +1,4 @@
+-- A set bit is on whatever it was and leaves the others; where nothing is set all stay.
 use Rattle.std.proofs.Common.{sym, ap, nat_eq, ◌||◌, ◌∙◌}
 use Rattle.std.specs.Int.{w16}
 use Rattle.std.proofs.Math.Bool.{or-false}

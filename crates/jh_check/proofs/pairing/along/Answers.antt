@@ -1,3 +1,4 @@
+-- Regions outside the stretch give nothing, and each within it adds its own findings.
 use Rattle.std.proofs.Common.{◌≡◌, ◌<◌, [], ◌++◌, length, drop, sym, ap, ◌∙◌, arith}
 use Rattle.std.proofs.lemmas.List.{append-nil}
 use Rattle.jh_cellcfg.specs.declared.region.Region.{Region}

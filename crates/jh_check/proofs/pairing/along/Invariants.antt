@@ -1,3 +1,4 @@
+-- What is found so far and what the regions from this one on give is all of the cell, capped.
 use Rattle.std.proofs.Common.{◌≡◌, ◌++◌, drop}
 use Rattle.jh_check.specs.Lists.{found_from, capped}
 use Rattle.jh_check.specs.Findings.{between_at, between}

@@ -1,3 +1,4 @@
+-- A region that may meet none gives nothing, and any other gives what the visit of it finds.
 use Rattle.std.proofs.Common.{◌≡◌, ◌<◌, ◌+◌, [], ◌++◌, length, get_or, refl, sym, ap, ◌∙◌, inl, inr, arith}
 use Rattle.std.proofs.lemmas.Bool.{cases_lt}
 use Rattle.jh_cellcfg.specs.declared.region.Region.{Region}

@@ -1,3 +1,4 @@
+-- The gaps aren't reached, the block isn't overrun, and found plus to be found is the same, capped.
 use Rattle.std.proofs.Common.{◌≡◌, ◌+◌, ◌≤◌, ◌++◌}
 use Rattle.jh_check.specs.declared.blocks.TheConstants.{BLOCK}
 use Rattle.jh_check.specs.Lists.{capped}

@@ -1,3 +1,4 @@
+-- A block that lies in the gaps gives nothing, and the blocks go up to the last region.
 use Rattle.std.proofs.Common.{◌≡◌, ◌+◌, ◌*◌, ◌++◌, refl, sym, ap, ◌∙◌, arith}
 use Rattle.jh_check.specs.declared.blocks.TheConstants.{BLOCK}
 use Rattle.jh_check.specs.Lists.{capped}

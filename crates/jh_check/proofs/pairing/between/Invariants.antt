@@ -1,3 +1,4 @@
+-- The gaps aren't reached, and what is found and what later blocks give is, capped, what all give.
 use Rattle.std.proofs.Common.{◌≡◌, ◌*◌, ◌++◌}
 use Rattle.jh_check.specs.declared.blocks.TheConstants.{BLOCK}
 use Rattle.jh_check.specs.Lists.{capped}

@@ -1,3 +1,4 @@
+-- Each cell in turn adds what its regions give with those of all cells.
 use Rattle.std.proofs.Common.{◌≡◌, ◌<◌, ◌++◌, length, get_or, refl, sym, subst, arith}
 use Rattle.jh_check.specs.Private.Cells.{cells_of}
 use Rattle.jh_check.specs.Private.Reaches.{AreOfEach}

@@ -1,3 +1,4 @@
+-- Where no reach extends into the cell's extents, no region gives anything.
 use Rattle.jh_check.specs.Findings.{between}
 use Rattle.jh_check.proofs.BlockLemmas.{between_beyond}
 use Rattle.jh_check.proofs.ReachLemmas.{capped_none_more}

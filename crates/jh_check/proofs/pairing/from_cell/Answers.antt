@@ -1,3 +1,4 @@
+-- The cells come in turn, each with its own reaches; that of the own number is the one itself.
 use Rattle.std.proofs.Common.{◌≡◌, ◌<◌, ◌++◌, length, get_or, refl, sym, ap, subst, ◌∙◌, arith}
 use Rattle.std.proofs.lemmas.List.{get_or_default}
 use Rattle.jh_check.specs.Private.Cells.{cells_of}

@@ -1,3 +1,4 @@
+-- Up to the cap, what is found and what the cells from here on add is all that the one gives.
 use Rattle.std.proofs.Common.{◌≡◌, ◌++◌, drop}
 use Rattle.jh_check.specs.Private.Cells.{cells_of}
 use Rattle.jh_check.specs.Lists.{found_from, capped}

@@ -1,3 +1,4 @@
+-- By a rule about one cell, a cell gives something with itself only.
 use Rattle.std.proofs.Common.{◌≡◌, ◌<◌, ◌++◌, length, get_or, refl, sym, ap, ◌∙◌, arith}
 use Rattle.jh_check.specs.Private.Cells.{cells_of}
 use Rattle.jh_check.specs.Lists.{capped}

@@ -1,3 +1,4 @@
+-- Up to the cap, what is found and what is still to be found is together what all pairs give.
 use Rattle.std.proofs.Common.{◌≡◌, ◌++◌, drop}
 use Rattle.jh_check.specs.Private.Cells.{cells_of}
 use Rattle.jh_check.specs.Lists.{found_from, capped}

@@ -1,3 +1,4 @@
+-- Two cells of which the rule doesn't speak give nothing.
 use Rattle.std.proofs.Common.{◌≡◌, false}
 use Rattle.jh_check.specs.Private.Spans.{joins}
 use Rattle.jh_check.specs.Findings.{between}

@@ -1,3 +1,4 @@
+-- There are as many reaches as cells so far, and each tells of the cell of its number.
 use Rattle.std.proofs.Common.{◌≡◌, ℕ, ◌<◌, length, get_or}
 use Rattle.jh_cellcfg.specs.declared.config.CellConfig.{CellConfig}
 use Rattle.jh_check.specs.declared.reach.Reaches.{Reaches}

@@ -1,3 +1,4 @@
+-- What breaks the rule with the region reaches it, and so has its number in the window.
 use Rattle.jh_check.specs.Findings.{spot}
 use Rattle.jh_check.proofs.ReachLemmas.{window_hits}
 use Rattle.jh_check.proofs.pairing.visit.Goals as goal
