@@ -1,3 +1,4 @@
+-- Each turn takes the lesser number for the first and the greater one for the last.
 use Rattle.std.proofs.Common.{◌≡◌, ◌≤◌, get_or, inl, inr, sym, subst, arith}
 use Rattle.std.proofs.lemmas.Bool.{cases_eq}
 use Rattle.std.proofs.lemmas.List.{get_or_default}

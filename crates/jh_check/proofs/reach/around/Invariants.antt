@@ -1,3 +1,4 @@
+-- The numbers of the reaches so far lie from the first to the last.
 use Rattle.std.proofs.Common.{ℕ, ◌<◌, ◌≤◌, get_or}
 use Rattle.jh_check.specs.declared.reach.Reach.{Reach}
 use Rattle.jh_check.proofs.reach.around.Given as goal

@@ -1,3 +1,4 @@
+-- As starts and ends never fall, those before end too early and those behind begin too late.
 use Rattle.std.proofs.Common.{arith}
 use Rattle.std.proofs.lemmas.Bool.{leb-true}
 use Rattle.jh_check.proofs.ReachLemmas.{last_reaches}

@@ -1,3 +1,4 @@
+-- A cell that is no pair's other needs no reaches, and both lists of any other tell of it.
 use Rattle.std.proofs.Common.{Bool, true, false, sym, subst}
 use Rattle.jh_check.specs.Private.Reaches.{IsRising, CoversOthers}
 use Rattle.jh_check.proofs.ReachLemmas.{rising_none, others_none, measured}

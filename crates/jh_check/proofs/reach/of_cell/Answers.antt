@@ -1,3 +1,4 @@
+-- What the reaches tell of each span, they tell of the region whose span it is.
 use Rattle.std.proofs.Common.{List, subst}
 use Rattle.std.proofs.lemmas.Result.{IfOk-weaker}
 use Rattle.jh_cellcfg.specs.declared.region.Region.{Region}

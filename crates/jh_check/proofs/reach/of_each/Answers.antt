@@ -1,3 +1,4 @@
+-- The farthest end never falls, so a span is covered by the reach of its number.
 use Rattle.std.proofs.Common.{◌≡◌, get_or, arith}
 use Rattle.std.proofs.lemmas.List.{get_or_default}
 use Rattle.jh_check.specs.declared.spans.Span.{Span}

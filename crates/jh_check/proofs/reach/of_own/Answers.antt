@@ -1,3 +1,4 @@
+-- Two regions that break the rule have spans that meet, and of such pairs the reaches tell.
 use Rattle.std.proofs.Common.{List, subst}
 use Rattle.std.proofs.lemmas.Result.{IfOk-weaker}
 use Rattle.jh_cellcfg.specs.declared.region.Region.{Region}

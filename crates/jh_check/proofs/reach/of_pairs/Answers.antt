@@ -1,3 +1,4 @@
+-- Where two go beyond a span's start, a reach is added, and elsewhere no new pair meets.
 use Rattle.std.proofs.Common.{◌≡◌, ◌<◌, ◌≤◌, get_or, arith}
 use Rattle.std.proofs.lemmas.List.{get_or_default}
 use Rattle.jh_check.specs.declared.spans.Span.{Span}

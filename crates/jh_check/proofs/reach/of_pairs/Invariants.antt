@@ -1,3 +1,4 @@
+-- Where a span so far begins within an earlier one, a reach has the place, and reaches rise.
 use Rattle.jh_check.proofs.ReachLemmas.{ArePairsTo}
 use Rattle.jh_check.proofs.reach.of_pairs.Given as goal
 

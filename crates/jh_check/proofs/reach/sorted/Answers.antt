@@ -1,3 +1,4 @@
+-- A span that was appended stays, also through the sort, which puts the starts in order.
 use Rattle.std.proofs.Common.{◌≡◌, ℕ, ◌<◌, true, length, get_or, inl, inr, sym, subst, arith, rules}
 use Rattle.std.specs.List.{Contains}
 use Rattle.std.proofs.lemmas.Bool.{cases_eq}

@@ -1,3 +1,4 @@
+-- Each region so far that may follow has its span in the list.
 use Rattle.std.proofs.Common.{◌≡◌, ℕ, ◌<◌, true, get_or}
 use Rattle.std.specs.List.{Contains}
 use Rattle.jh_cellcfg.specs.declared.region.Region.{Region}

@@ -1,3 +1,4 @@
+-- Starts and ends rise, so those that reach the span lie between two borders, or are one.
 use Rattle.std.proofs.Common.{◌≡◌, nat_lt, leb, get_or, ap, ◌∙◌, arith, rules}
 use Rattle.std.proofs.lemmas.List.{get_or_default}
 use Rattle.std.proofs.lemmas.List.Sorted.{IsPartitionPoint-from_clause, IsPartitionedBy-ltb, IsPartitionedBy-leb}

@@ -1,3 +1,4 @@
+-- CPU by CPU, up to the first that is named and mustn't be.
 use Rattle.std.proofs.Common.{◌+◌, ◌∙◌, sym, refl, arith}
 use Rattle.jh_num.specs.Bits.{has_bit}
 use Rattle.jh_check.specs.Refusals.{is_beyond}

@@ -1,3 +1,4 @@
+-- No CPU so far is named that mustn't be.
 use Rattle.std.proofs.Common.{◌≡◌, false}
 use Rattle.jh_num.specs.Bits.{has_bit}
 use Rattle.jh_check.specs.Refusals.{any_below, is_beyond}

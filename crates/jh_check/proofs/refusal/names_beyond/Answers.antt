@@ -1,3 +1,4 @@
+-- The first two bytes name CPUs below 16, and of those behind them none may be given away.
 use Rattle.std.proofs.Common.{◌≡◌, ◌<◌, ℕ, ◌∙◌, sym, subst, get_or, drop, not, List}
 use Rattle.std.specs.List.{list_all}
 use Rattle.jh_cellcfg.specs.Limits.{is_zero}

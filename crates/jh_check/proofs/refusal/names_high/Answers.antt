@@ -1,3 +1,4 @@
+-- The bitmap is of bytes, so each of its numbers is below 256.
 use Rattle.std.proofs.Common.{◌<◌, get_or, arith}
 use Rattle.jh_check.proofs.refusal.names_high.Goals as goal
 

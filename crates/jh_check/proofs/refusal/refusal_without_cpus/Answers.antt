@@ -1,3 +1,4 @@
+-- A cell that is neither known nor busy names no CPU, and so breaks the rule of CPUs.
 use Rattle.std.proofs.Common.{◌≡◌, ℕ, Bool, true, false, List, sym, ap, ◌∙◌}
 use Rattle.jh_num.specs.Bits.{has_bit}
 use Rattle.jh_cellcfg.specs.Cells.{is_cpu_set}

@@ -1,3 +1,4 @@
+-- The one test stands for each rule about one region, and every region passes it.
 use Rattle.std.proofs.Common.{◌≡◌, ℕ, false, take, get_or, inl, inr, sym, subst, arith}
 use Rattle.std.proofs.lemmas.Bool.{cases_eq}
 use Rattle.std.proofs.lemmas.List.{get_or_default}

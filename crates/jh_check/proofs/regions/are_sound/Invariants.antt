@@ -1,3 +1,4 @@
+-- No region so far breaks a rule about one region.
 use Rattle.std.proofs.Common.{◌≡◌, ℕ, ◌<◌, false, take, get_or}
 use Rattle.jh_cellcfg.specs.declared.region.Region.{Region}
 use Rattle.jh_check.specs.Private.Sound.{breaks_any}

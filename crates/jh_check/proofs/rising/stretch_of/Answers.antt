@@ -1,3 +1,4 @@
+-- Region by region the row is extended, and the row of all gives the stretch.
 use Rattle.std.proofs.Common.{get_or}
 use Rattle.std.proofs.lemmas.List.{get_or_default}
 use Rattle.jh_cellcfg.specs.declared.region.Region.{Region}

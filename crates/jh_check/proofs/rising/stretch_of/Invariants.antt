@@ -1,3 +1,4 @@
+-- The row bounds the regions so far, and those of them that meet lie in its stretch.
 use Rattle.jh_check.specs.Private.Rising.{IsRowTo}
 use Rattle.jh_check.proofs.rising.stretch_of.Given as goal
 

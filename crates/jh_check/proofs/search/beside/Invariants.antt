@@ -1,3 +1,4 @@
+-- What is found so far and what the other cell's regions ahead give is what all of them give.
 use Rattle.std.proofs.Common.{◌≡◌, ◌++◌, drop}
 use Rattle.jh_check.specs.Private.Sites.{spot_of}
 use Rattle.jh_check.specs.Lists.{found_from, capped}

@@ -1,3 +1,4 @@
+-- A sound cell gives no finding, and any other those of its regions in their order.
 use Rattle.std.proofs.Common.{◌≡◌, ◌++◌, get_or, refl}
 use Rattle.jh_cellcfg.specs.declared.region.Region.{Region}
 use Rattle.jh_check.specs.Lists.{capped}

@@ -1,3 +1,4 @@
+-- The findings so far and those of the regions ahead are the cell's.
 use Rattle.std.proofs.Common.{◌≡◌, ◌++◌, drop}
 use Rattle.jh_check.specs.Lists.{found_from, capped}
 use Rattle.jh_check.specs.Findings.{in_cell_at, in_cell}

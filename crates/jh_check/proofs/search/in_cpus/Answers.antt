@@ -1,3 +1,4 @@
+-- Cell by cell, a bitmap of CPUs that breaks the rule adds one finding.
 use Rattle.std.proofs.Common.{◌≡◌, ◌<◌, ◌++◌, length, get_or, refl, arith}
 use Rattle.jh_check.specs.Private.Cells.{cells_of}
 use Rattle.jh_check.specs.Lists.{capped}

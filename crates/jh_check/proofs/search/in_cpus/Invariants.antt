@@ -1,3 +1,4 @@
+-- The findings so far and those of the cells ahead are all, as far as there is room.
 use Rattle.std.proofs.Common.{◌≡◌, ◌++◌, drop}
 use Rattle.jh_check.specs.Private.Cells.{cells_of}
 use Rattle.jh_check.specs.Lists.{found_from, capped}

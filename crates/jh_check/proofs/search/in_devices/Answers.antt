@@ -1,3 +1,4 @@
+-- Cell by cell, and each leaves its devices' bdfs marked for the cells behind it.
 use Rattle.std.proofs.Common.{◌≡◌, ◌<◌, ◌++◌, length, get_or, refl, sym, subst, arith}
 use Rattle.jh_check.specs.Private.Seats.{HasSeats, AreByBdf}
 use Rattle.jh_check.specs.Private.Fits.{AreSure}

@@ -1,3 +1,4 @@
+-- Findings so far and ahead are all, and the devices of the cells so far have marked bdfs.
 use Rattle.std.proofs.Common.{◌≡◌, ◌++◌, length, take, drop}
 use Rattle.jh_check.specs.Private.Bus.{HasBdfs}
 use Rattle.jh_check.specs.Private.Cells.{cells_of}

@@ -1,3 +1,4 @@
+-- Where a bdf lacks the cell's own mark, none of the cell's earlier devices stands.
 use Rattle.std.proofs.Common.{◌≡◌, ◌≢◌, ℕ, ◌+◌, ◌<◌, ◌≤◌, ◌++◌, List, take, length, get_or, refl, sym, ap, subst, arith}
 use Rattle.jh_cellcfg.specs.declared.config.PciDevice.{PciDevice}
 use Rattle.jh_check.specs.Private.Cells.{cells_of}

@@ -1,3 +1,4 @@
+-- Findings so far and ahead are the cell's, no mark is lost, and devices so far have its own.
 use Rattle.std.proofs.Common.{◌≡◌, ◌<◌, ℕ, ◌++◌, length, take, drop, get_or}
 use Rattle.jh_check.specs.Private.Cells.{cells_of}
 use Rattle.jh_check.specs.Lists.{found_from, capped}

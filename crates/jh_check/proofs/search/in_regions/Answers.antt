@@ -1,3 +1,4 @@
+-- What is known of a cell's soundness is known of its regions, whose findings come in order.
 use Rattle.std.proofs.Common.{◌≡◌, ◌<◌, ◌++◌, length, get_or, refl, sym, subst, arith}
 use Rattle.jh_cellcfg.specs.declared.config.CellConfig.{CellConfig}
 use Rattle.jh_check.specs.Private.Cells.{cells_of}

@@ -1,3 +1,4 @@
+-- With those of the cells ahead, the findings are all, up to the first thousand.
 use Rattle.std.proofs.Common.{◌≡◌, ◌++◌, drop}
 use Rattle.jh_check.specs.Private.Cells.{cells_of}
 use Rattle.jh_check.specs.Lists.{found_from, capped}

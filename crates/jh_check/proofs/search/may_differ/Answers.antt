@@ -1,3 +1,4 @@
+-- No peer stands at an unmarked bdf, all fit at a sure one, and elsewhere they are compared.
 use Rattle.std.proofs.Common.{◌≡◌, true, take, subst, sym, ◌∙◌}
 use Rattle.std.proofs.lemmas.Bool.{not-false}
 use Rattle.jh_check.specs.Private.Cells.{cells_of}

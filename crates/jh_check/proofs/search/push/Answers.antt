@@ -1,3 +1,4 @@
+-- One more behind a thousand findings isn't among the first thousand.
 use Rattle.std.proofs.Common.{[], ◌∷◌, arith}
 use Rattle.jh_check.proofs.ListLemmas.{capped_full}
 use Rattle.jh_check.proofs.search.push.Goals as goal

@@ -1,3 +1,4 @@
+-- Each cell so far has its answer, and those that are said to be sound are.
 use Rattle.std.proofs.Common.{◌≡◌, ℕ, ◌<◌, true, false, length, get_or}
 use Rattle.jh_cellcfg.specs.declared.config.CellConfig.{CellConfig}
 use Rattle.jh_check.specs.Private.Cells.{cells_of}

@@ -1,3 +1,4 @@
+-- In the order of bdfs, the seats of one stand between those below it and those above.
 use Rattle.std.proofs.Common.{nat_lt, leb, arith, rules}
 use Rattle.std.proofs.lemmas.List.Sorted.{IsPartitionPoint-from_clause, IsPartitionedBy-ltb, IsPartitionedBy-leb}
 use Rattle.jh_check.specs.declared.seats.Seat.{Seat}

@@ -1,3 +1,4 @@
+-- The new seat is that of the turn's device, and those in the list stay.
 use Rattle.std.proofs.Common.{◌++◌, [], ◌∷◌, get_or, inl, inr, sym, subst, arith}
 use Rattle.std.specs.List.{Contains}
 use Rattle.std.proofs.lemmas.Bool.{cases_eq}

@@ -1,3 +1,4 @@
+-- The seats from before are still there, and each device so far has its own.
 use Rattle.std.proofs.Common.{ℕ, ◌<◌, get_or}
 use Rattle.std.specs.List.{Contains}
 use Rattle.jh_cellcfg.specs.declared.config.PciDevice.{PciDevice}

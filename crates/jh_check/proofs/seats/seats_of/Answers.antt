@@ -1,3 +1,4 @@
+-- A cell's seats join those of earlier cells, and the sort by bdf loses none.
 use Rattle.std.proofs.Common.{◌<◌, length, get_or, inl, inr, sym, subst, arith, rules}
 use Rattle.std.proofs.lemmas.Bool.{cases_eq}
 use Rattle.std.proofs.lemmas.List.{get_or_default}

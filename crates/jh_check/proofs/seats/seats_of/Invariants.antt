@@ -1,3 +1,4 @@
+-- Each device of the cells so far has its seat.
 use Rattle.std.proofs.Common.{ℕ, ◌<◌, get_or}
 use Rattle.jh_cellcfg.specs.declared.config.CellConfig.{CellConfig}
 use Rattle.jh_check.specs.Private.Cells.{cells_of}

@@ -1,3 +1,4 @@
+-- A span that begins behind the one before it begins behind all, as those stand apart.
 use Rattle.std.proofs.Common.{◌≡◌, true}
 use Rattle.jh_check.proofs.SpanLemmas.{apart_none, apart_more}
 use Rattle.jh_check.proofs.spans.are_apart.Goals as goal

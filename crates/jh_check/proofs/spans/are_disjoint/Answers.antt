@@ -1,3 +1,4 @@
+-- The end never falls, so a region that begins behind it begins behind all before it.
 use Rattle.std.proofs.Common.{get_or}
 use Rattle.std.proofs.lemmas.List.{get_or_default}
 use Rattle.jh_cellcfg.specs.declared.region.Region.{Region}

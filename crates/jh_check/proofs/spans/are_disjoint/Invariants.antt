@@ -1,3 +1,4 @@
+-- Regions so far that take part begin behind each other, and none ends beyond the known end.
 use Rattle.jh_check.specs.Private.Spans.{AreDisjointTo}
 use Rattle.jh_check.proofs.spans.are_disjoint.Given as goal
 

@@ -1,3 +1,4 @@
+-- Regions so far that take part have their spans, and no span has a later region's number.
 use Rattle.std.proofs.Common.{◌≡◌, ℕ, ◌<◌, true, get_or}
 use Rattle.std.specs.List.{Contains}
 use Rattle.jh_cellcfg.specs.declared.region.Region.{Region}

@@ -1,3 +1,4 @@
+-- Spans that stand apart rise in starts and ends, so those that meet lie between two borders.
 use Rattle.std.proofs.Common.{nat_lt, leb, arith, rules}
 use Rattle.std.proofs.lemmas.List.Sorted.{IsPartitionPoint-from_clause}
 use Rattle.jh_check.specs.declared.spans.Span.{Span}

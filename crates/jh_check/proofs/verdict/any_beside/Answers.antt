@@ -1,3 +1,4 @@
+-- A region that takes no part has no finding, and else the first that breaks the rule tells.
 use Rattle.std.proofs.Common.{◌≡◌, ◌<◌, true, false, length, get_or, refl, sym, ap}
 use Rattle.jh_cellcfg.specs.declared.region.Region.{Region}
 use Rattle.jh_check.specs.Private.Sites.{spot_of}

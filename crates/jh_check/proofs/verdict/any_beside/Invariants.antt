@@ -1,3 +1,4 @@
+-- A region ahead breaks the rule with the one exactly if any of the other cell does.
 use Rattle.std.proofs.Common.{◌≡◌, drop}
 use Rattle.jh_check.specs.Private.Sites.{spot_of}
 use Rattle.jh_check.specs.Lists.{found_from, is_any}

@@ -1,3 +1,4 @@
+-- The search goes over the one cell's regions, up to the first that has a finding.
 use Rattle.std.proofs.Common.{◌≡◌, ◌<◌, true, false, length, get_or, refl}
 use Rattle.jh_cellcfg.specs.declared.region.Region.{Region}
 use Rattle.jh_check.specs.Lists.{is_any}

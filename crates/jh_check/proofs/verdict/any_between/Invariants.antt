@@ -1,3 +1,4 @@
+-- A region ahead has a finding exactly if any of the one cell has.
 use Rattle.std.proofs.Common.{◌≡◌, drop}
 use Rattle.jh_check.specs.Lists.{found_from, is_any}
 use Rattle.jh_check.specs.Findings.{between_at, between}

@@ -1,3 +1,4 @@
+-- Device by device, each compared with all others before it, up to the first that breaks a rule.
 use Rattle.std.proofs.Common.{◌≡◌, ◌<◌, true, false, take, length, get_or, refl}
 use Rattle.jh_check.specs.Private.Cells.{cells_of}
 use Rattle.jh_check.specs.Devices.{device_breaks}

@@ -1,3 +1,4 @@
+-- A device ahead breaks a rule exactly if any of the cell does.
 use Rattle.std.proofs.Common.{◌≡◌, drop, take}
 use Rattle.jh_check.specs.Private.Cells.{cells_of}
 use Rattle.jh_check.specs.Lists.{found_from, is_any}

@@ -1,3 +1,4 @@
+-- Each region of the one cell is looked for in the index, up to the first that overlaps.
 use Rattle.std.proofs.Common.{◌≡◌, ◌<◌, true, false, length, get_or, refl}
 use Rattle.jh_check.specs.declared.rule.Rule.TheVariants.{CellsOverlap}
 use Rattle.jh_cellcfg.specs.declared.region.Region.{Region}

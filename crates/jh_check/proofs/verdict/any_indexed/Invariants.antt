@@ -1,3 +1,4 @@
+-- A region ahead overlaps with the other cell exactly if any of the one cell does.
 use Rattle.std.proofs.Common.{◌≡◌, drop}
 use Rattle.jh_check.specs.declared.rule.Rule.TheVariants.{CellsOverlap}
 use Rattle.jh_check.specs.Lists.{found_from, is_any}

@@ -1,3 +1,4 @@
+-- None of the regions met so far overlaps with the one.
 use Rattle.std.proofs.Common.{◌≡◌, ℕ, ◌<◌, false, get_or}
 use Rattle.jh_cellcfg.specs.declared.region.Region.{Region}
 use Rattle.jh_check.specs.declared.rule.Rule.TheVariants.{CellsOverlap}

@@ -1,3 +1,4 @@
+-- A sound cell has no finding, and in any other the first region that breaks the rule tells.
 use Rattle.std.proofs.Common.{◌≡◌, ◌<◌, true, false, take, length, get_or, refl, sym, ap}
 use Rattle.jh_cellcfg.specs.declared.region.Region.{Region}
 use Rattle.jh_check.specs.Regions.{region_breaks}

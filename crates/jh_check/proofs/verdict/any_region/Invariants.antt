@@ -1,3 +1,4 @@
+-- A region ahead breaks the rule exactly if any of the cell does.
 use Rattle.std.proofs.Common.{◌≡◌, drop}
 use Rattle.jh_check.specs.Lists.{found_from, is_any}
 use Rattle.jh_check.specs.Findings.{in_cell_at, in_cell}

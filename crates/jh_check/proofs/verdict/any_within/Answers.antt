@@ -1,3 +1,4 @@
+-- Regions that rise apart or have an index don't meet, and else all pairs are tried.
 use Rattle.std.proofs.Common.{List, sym, ap, subst}
 use Rattle.jh_cellcfg.specs.declared.region.Region.{Region}
 use Rattle.jh_check.specs.Private.Spans.{AreDisjoint, IsIndex}

@@ -1,3 +1,4 @@
+-- By the rule, whose findings that name the new cell are those of the cell's own search.
 use Rattle.std.proofs.Common.{◌≡◌, ◌<◌, [], ◌∷◌, ◌++◌, ◌∙◌, Bool, ap, subst, arith}
 use Rattle.std.specs.Prelude.{IfOk}
 use Rattle.jh_check.specs.Private.Cells.{cells_of}

@@ -1,3 +1,4 @@
+-- Invalid goes before busy, and a cell that is neither is clean.
 use Rattle.std.proofs.Common.{◌≡◌, ◌+◌, true, false, length, sym, ◌∙◌, arith}
 use Rattle.jh_check.proofs.VerdictLemmas.{verdict_from, verdict_invalid}
 use Rattle.jh_check.proofs.verdict.clean_with.Goals as goal

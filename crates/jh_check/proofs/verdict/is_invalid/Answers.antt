@@ -1,3 +1,4 @@
+-- Rule by rule in their order, up to the first that the new cell breaks.
 use Rattle.std.proofs.Common.{◌≡◌, ◌<◌, ◌++◌, [], ◌∷◌, true, false, length, get_or, refl}
 use Rattle.std.specs.List.{list_any}
 use Rattle.jh_check.specs.declared.rule.Rule.TheVariants.{VirtOverlap}

@@ -1,3 +1,4 @@
+-- A rule ahead has a finding that makes the cell invalid exactly if any rule has.
 use Rattle.std.proofs.Common.{◌≡◌, ◌++◌, [], ◌∷◌, drop}
 use Rattle.std.specs.List.{list_any}
 use Rattle.jh_check.specs.Private.Cells.{cells_of}

@@ -1,3 +1,4 @@
+-- Of a live cell's pairs only the one with the new cell counts, and behind them none is left.
 use Rattle.std.proofs.Common.{◌≡◌, ◌<◌, ◌++◌, [], ◌∷◌, true, false, length, get_or, refl, ◌∙◌, sym, length-append, arith}
 use Rattle.std.specs.List.{list_any}
 use Rattle.jh_check.specs.declared.rule.Rule.TheVariants.{CellsOverlap}

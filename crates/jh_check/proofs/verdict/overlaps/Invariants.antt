@@ -1,3 +1,4 @@
+-- A cell ahead has a place in common with the new one exactly if any cell has.
 use Rattle.std.proofs.Common.{◌≡◌, ◌++◌, [], ◌∷◌, drop}
 use Rattle.std.specs.List.{list_any}
 use Rattle.jh_check.specs.declared.rule.Rule.TheVariants.{CellsOverlap}
