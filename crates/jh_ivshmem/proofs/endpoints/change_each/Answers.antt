@@ -1,3 +1,4 @@
+-- The key tells whether the endpoint at the index is meant, and then both are changed.
 use Rattle.std.proofs.Common.{◌<◌, ◌≤◌, length, arith, sym, ◌∙◌, ap, subst}
 use Rattle.std.proofs.lemmas.List.{length-map}
 use Rattle.jh_ivshmem.specs.Keys.{key_of, IsWholeEndpoint}

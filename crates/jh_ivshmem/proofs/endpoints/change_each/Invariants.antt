@@ -1,3 +1,4 @@
+-- Those below the index are changed, the keys are those of the endpoints, and the room stays.
 use Rattle.std.proofs.Common.{◌≡◌, vec_capacity}
 use Rattle.jh_ivshmem.proofs.LoopLemmas.{Changes}
 use Rattle.jh_ivshmem.proofs.endpoints.change_each.Given as goal

@@ -1,3 +1,4 @@
+-- An endpoint stays where its cell or its device is another, as the contract's test has it.
 use Rattle.std.proofs.Common.{rules}
 use Rattle.std.proofs.lemmas.Fn.{filter_same}
 use Rattle.jh_ivshmem.proofs.endpoints.drop_endpoint.Goals as goal

@@ -1,3 +1,4 @@
+-- What keeps a key in the list is the contract's test, key by key.
 use Rattle.std.proofs.Common.{rules}
 use Rattle.std.proofs.lemmas.Fn.{filter_same}
 use Rattle.jh_ivshmem.proofs.endpoints.drop_key.Goals as goal

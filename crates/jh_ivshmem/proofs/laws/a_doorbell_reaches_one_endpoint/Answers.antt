@@ -1,3 +1,4 @@
+-- An endpoint is raised where it has the target's number, which no two that are apart share.
 use Rattle.std.proofs.Common.{List, AllPairs, map, ap, subst}
 use Rattle.jh_ivshmem.specs.declared.endpoint.Endpoint.{Endpoint}
 use Rattle.jh_ivshmem.specs.Specs.{is_peer, AreEndpointsApart}

@@ -1,3 +1,4 @@
+-- After each call the device's endpoint is found again, and its vector is pending there still.
 use Rattle.jh_ivshmem.specs.Links.{pending_of}
 use Rattle.jh_ivshmem.proofs.PendingLemmas.{pending_written, pending_configured, pending_joined, pending_reset, pending_left, pending_taken}
 use Rattle.jh_ivshmem.proofs.laws.a_pending_vector_goes_only_by_its_own.Goals as goal

@@ -1,3 +1,4 @@
+-- Each way of being closed makes one of the four parts fail that an open vector passes.
 use Rattle.jh_ivshmem.proofs.LawLemmas.{closed_control, closed_count, closed_master, closed_enabled, closed_masked, closed_vector}
 use Rattle.jh_ivshmem.proofs.laws.a_raise_of_a_closed_vector_is_forgotten.Goals as goal
 

@@ -1,3 +1,4 @@
+-- A write or a reset means endpoints of its own link, and one that isn't meant stays.
 use Rattle.jh_ivshmem.proofs.LawLemmas.{written_stays, reset_stays}
 use Rattle.jh_ivshmem.proofs.laws.links_never_see_each_other.Goals as goal
 

@@ -1,3 +1,4 @@
+-- Nobody is told of a state that stays, and the endpoint is set to what it was.
 use Rattle.std.proofs.Common.{◌≡◌, ℕ, true, List, Some, AllPairs, map, set, refl, sym, ◌∙◌, ap, subst}
 use Rattle.std.specs.List.{position_or_len}
 use Rattle.std.proofs.lemmas.List.{set-get_or}

@@ -1,3 +1,4 @@
+-- A name that isn't listed is at fault only where identity, lists and settings are told.
 use Rattle.std.proofs.lemmas.Result.{err_from_is_err_and}
 use Rattle.jh_spec.specs.Cells.{cell_told}
 use Rattle.jh_spec.proofs.Steps.{step, stop, ended}

@@ -1,3 +1,4 @@
+-- Name, id, flags, bitmap's size and CPUs, in this order, up to the first at fault.
 use Rattle.std.proofs.lemmas.Result.{err_from_is_err_and}
 use Rattle.jh_spec.specs.Cells.{identity_told}
 use Rattle.jh_spec.proofs.Steps.{step, stop, ended}

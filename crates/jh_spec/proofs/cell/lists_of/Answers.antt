@@ -1,3 +1,4 @@
+-- Regions, irqchips, devices: the first list at fault is told, or all three are.
 use Rattle.std.proofs.lemmas.Result.{err_from_is_err_and}
 use Rattle.jh_spec.specs.Cells.{lists_told}
 use Rattle.jh_spec.proofs.Steps.{step, stop, ended}

@@ -1,3 +1,4 @@
+-- Three numbers and the console, up to the first at fault, and then the console's bytes.
 use Rattle.std.proofs.lemmas.Result.{err_from_is_err_and}
 use Rattle.jh_spec.specs.Cells.{settings_told}
 use Rattle.jh_spec.proofs.Steps.{step, stop, ended}

@@ -1,3 +1,4 @@
+-- Eight marks make the byte that the list makes, since marks and list tell the same.
 use Rattle.std.proofs.Common.{◌≡◌, ◌*◌, List, length, [], ◌∷◌, ◌++◌, Bool, sym, ap, ◌∙◌, arith}
 use Rattle.jh_spec.specs.Cpus.{bitmap, cpu_byte}
 use Rattle.jh_spec.specs.Private.Cpus.{mark_byte, AreMarks}

@@ -1,3 +1,4 @@
+-- Whether all are new rests on the CPUs left, and those so far alone are marked.
 use Rattle.jh_spec.proofs.Marks.{MarkedSoFar}
 use Rattle.jh_spec.proofs.cpus.marks.Given as goal
 

@@ -1,3 +1,4 @@
+-- A listed key leaves the answer to those behind it, and any other is the answer.
 use Rattle.std.proofs.Common.{map, Some, sym, ap, ◌∙◌}
 use Rattle.std.specs.Map.Iter.{deref}
 use Rattle.std.proofs.lemmas.Map.Iter.{rest_more}

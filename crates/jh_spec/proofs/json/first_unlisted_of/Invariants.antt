@@ -1,3 +1,4 @@
+-- The first unlisted name of the keys that are left is the first of all.
 use Rattle.std.proofs.Common.{◌≡◌, map}
 use Rattle.serde_json.specs.View.{members_view}
 use Rattle.jh_spec.specs.Json.{first_unlisted}

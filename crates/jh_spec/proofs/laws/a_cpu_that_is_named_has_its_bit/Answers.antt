@@ -1,3 +1,4 @@
+-- A byte of the bitmap has bit by bit what the list tells of its eight CPUs.
 use Rattle.jh_spec.proofs.BitLaws.{size_law, bitmap_law}
 use Rattle.jh_spec.proofs.laws.a_cpu_that_is_named_has_its_bit.Goals as goal
 

@@ -1,3 +1,4 @@
+-- Where a chain of members tells a record, each of them has told its field.
 use Rattle.jh_spec.proofs.FieldLaws.{region_fields, irqchip_fields, device_fields, console_fields, cell_fields, system_fields}
 use Rattle.jh_spec.proofs.laws.each_field_is_its_members_number.Goals as goal
 

@@ -1,3 +1,4 @@
+-- What all items tell is what is read so far, and then what those that are left tell.
 use Rattle.jh_spec.proofs.ListPrefixes.{IsListPrefix}
 use Rattle.jh_spec.proofs.list.list.Given as goal
 

@@ -1,3 +1,4 @@
+-- The text is copied over zeros, and what it makes with those behind it is a name or isn't.
 use Rattle.std.proofs.Common.{◌≡◌, ◌++◌, length, false, sym, ◌∙◌}
 use Rattle.std.specs.List.{list_any}
 use Rattle.std.proofs.lemmas.List.{drop-replicate}

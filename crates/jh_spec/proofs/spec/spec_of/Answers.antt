@@ -1,3 +1,4 @@
+-- The kind that is found decides what is read, whose answer or fault is the object's.
 use Rattle.std.proofs.lemmas.Result.{err_from_is_err_and}
 use Rattle.jh_spec.proofs.KindLemmas.{cell_by, system_by}
 use Rattle.jh_spec.proofs.Steps.{step, stop, ended}

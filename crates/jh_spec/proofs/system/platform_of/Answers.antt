@@ -1,3 +1,4 @@
+-- Seven members before root, in the order of the table, up to the first at fault.
 use Rattle.std.proofs.lemmas.Result.{err_from_is_err_and}
 use Rattle.jh_spec.specs.Cells.{platform_told}
 use Rattle.jh_spec.proofs.Steps.{step, stop, ended}

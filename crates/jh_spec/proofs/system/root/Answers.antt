@@ -1,3 +1,4 @@
+-- Root is what the cell inside is, and a member at fault in there is root's.
 use Rattle.jh_spec.proofs.Roots.{root_ok, root_err}
 use Rattle.jh_spec.proofs.system.root.Goals as goal
 

@@ -1,3 +1,4 @@
+-- The members before root, root, and whether all names are listed: the first fault is told.
 use Rattle.std.proofs.lemmas.Result.{err_from_is_err_and}
 use Rattle.jh_spec.specs.Cells.{system_told}
 use Rattle.jh_spec.proofs.Steps.{step, stop, ended}

@@ -1,3 +1,4 @@
+-- What spells a system has no fault to refuse, and what is read of it has its spelling.
 use Rattle.jh_syscfg.proofs.Systems.{gives_system}
 use Rattle.jh_syscfg.proofs.read.read_system.Goals as goal
 

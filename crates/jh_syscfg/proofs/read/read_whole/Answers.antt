@@ -1,3 +1,4 @@
+-- The start, the fields and root stand one behind another, and make all of the bytes.
 use Rattle.std.proofs.Common.{◌≡◌, List, ℕ, ◌-◌, ◌++◌, codes, length, take, drop, sym, ap, ◌∙◌, arith}
 use Rattle.std.proofs.lemmas.List.{take_all, length-drop}
 use Rattle.jh_cellcfg.specs.declared.config.SystemConfig.{SystemConfig}

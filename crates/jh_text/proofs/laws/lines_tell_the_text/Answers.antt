@@ -1,3 +1,4 @@
+-- The lines read so far and what is left are the whole text, before each line and behind it.
 use Rattle.jh_text.proofs.ReadLines.{begins, goes_on, ends, refused}
 use Rattle.jh_text.proofs.laws.lines_tell_the_text.Goals as goal
 

@@ -1,3 +1,4 @@
+-- Of two runs of lines at a text's front the shorter begins the longer, and a bad line ends both.
 use Rattle.jh_text.proofs.Texts.{journal_not_bad, journal_not_long, bad_not_long, one_bad_line}
 use Rattle.jh_text.proofs.laws.one_answer.Goals as goal
 

@@ -1,3 +1,4 @@
+-- No word has a space or a line feed, so a text gives back its words, and they their entry.
 use Rattle.jh_text.proofs.TypedTexts.{typed_entries, typed_journals}
 use Rattle.jh_text.proofs.laws.texts_differ.Goals as goal
 

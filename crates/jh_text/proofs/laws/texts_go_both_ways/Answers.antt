@@ -1,3 +1,4 @@
+-- A journal's text is what is printed of it, and is so of one journal alone.
 use Rattle.std.proofs.Common.{refl, sym}
 use Rattle.jh_text.proofs.Texts.{one_journal}
 use Rattle.jh_text.proofs.laws.texts_go_both_ways.Goals as goal

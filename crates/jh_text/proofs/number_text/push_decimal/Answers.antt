@@ -1,3 +1,4 @@
+-- A number below 10 is written as its one digit.
 use Rattle.std.proofs.Common.{rules}
 use Rattle.std.proofs.lemmas.Fmt.{decimal_digit}
 use Rattle.jh_text.proofs.number_text.push_decimal.Goals as goal

@@ -1,3 +1,4 @@
+-- The last digit of what is left goes before those written, and the first digit goes last.
 use Rattle.std.proofs.Common.{rules, ◌≡◌, ◌+◌, ◌-◌, ◌<◌, false, length, drop, sym, ap, ◌∙◌, arith}
 use Rattle.std.specs.Fmt.{digits_onto}
 use Rattle.std.proofs.lemmas.List.{drop-set, drop_all}

@@ -1,3 +1,4 @@
+-- The digits that are left have places before those written, and two bytes are spared.
 use Rattle.std.proofs.Common.{◌≡◌, ◌+◌, ◌-◌, ◌^◌, ◌<◌, ◌≤◌, false, drop}
 use Rattle.std.specs.Fmt.{digits, digits_onto}
 use Rattle.jh_text.specs.declared.number_text.TheConstants.{ROOM}

@@ -1,3 +1,4 @@
+-- So far it is the text of a journal that has the entries so far.
 use Rattle.std.proofs.Common.{◌≡◌, take}
 use Rattle.jh_text.specs.Text.{journal_text}
 use Rattle.jh_text.proofs.print.print_journal.Given as goal

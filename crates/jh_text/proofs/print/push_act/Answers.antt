@@ -1,3 +1,4 @@
+-- Where a call begins, what stands behind the equals sign and its space is the last word.
 use Rattle.jh_text.proofs.Calls.{begin_text}
 use Rattle.jh_text.proofs.print.push_act.Goals as goal
 

@@ -1,3 +1,4 @@
+-- Where no entry is read, no entry's line stands at the front.
 use Rattle.std.proofs.Common.{rules, ◌≡◌, None}
 use Rattle.jh_text.specs.Private.Reading.{entry_of}
 use Rattle.jh_text.proofs.Lines.{no_line}

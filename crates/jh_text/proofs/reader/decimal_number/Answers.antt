@@ -1,3 +1,4 @@
+-- A digit with the end behind it is a whole number, which is within the bound or isn't.
 use Rattle.std.proofs.Common.{rules, ◌≡◌, ◌-◌, ◌≤◌, ◌<◌, length, drop, get_or, length-drop, take_all, arith}
 use Rattle.jh_text.proofs.Numbers.{OneDigit, one_digit_fits, one_digit_large, number_spelled}
 use Rattle.jh_text.proofs.reader.decimal_number.Goals as goal

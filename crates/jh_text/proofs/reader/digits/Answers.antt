@@ -1,3 +1,4 @@
+-- By the byte at the front: a digit is read on, the end answers, and all else tells no number.
 use Rattle.std.proofs.Common.{rules, ◌≡◌, ◌-◌, ◌≤◌, ◌<◌, None, Some, length, drop, get_or, length-drop, take_all, sym, ◌∙◌, arith}
 use Rattle.jh_text.specs.Private.Reading.{with_written_digit, digits_until}
 use Rattle.jh_text.proofs.Numbers.{until_end, until_digit, until_other, until_nothing}

@@ -1,3 +1,4 @@
+-- To read on from here gives what reading from the front gives, and each turn leaves less.
 use Rattle.std.proofs.Common.{◌≡◌, length}
 use Rattle.jh_text.specs.Private.Reading.{digits_until}
 use Rattle.jh_text.proofs.reader.digits.Given as goal

@@ -1,3 +1,4 @@
+-- What is read begins without a needless 0, so the number is written with these digits alone.
 use Rattle.std.proofs.Common.{rules, ◌≡◌, Some}
 use Rattle.jh_text.specs.Private.Reading.{number_until}
 use Rattle.jh_text.proofs.Numbers.{number_spelled}

@@ -1,3 +1,4 @@
+-- Turns change no port's object or caller, so closing still gets all of the ports.
 use Rattle.std.proofs.Common.{length, drop, take_at, sym, subst, ◌∙◌}
 use Rattle.jh_turn.specs.Ports.{AreAllPorts}
 use Rattle.jh_turn.proofs.PortSets.{all_still}

@@ -1,3 +1,4 @@
+-- That the sixteen callers differ is computed.
 use Rattle.std.proofs.Common.{refl, ◌∷◌, []}
 use Rattle.jh_turn.proofs.PortSets.{differ_from_test}
 use Rattle.jh_turn.proofs.tests.sixteen_ports_in_four_threads_make_one_list.Goals as goal

@@ -1,3 +1,4 @@
+-- A turn leaves its port at its place, with its object and its caller.
 use Rattle.jh_turn.proofs.PortSets.{same_set_at}
 use Rattle.jh_turn.proofs.tests.take_round.Goals as goal
 

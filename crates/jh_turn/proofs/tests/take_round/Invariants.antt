@@ -1,3 +1,4 @@
+-- After turns at those below the index the ports are the object's, of the same callers.
 use Rattle.jh_turn.specs.PortSets.{IsSameSet}
 use Rattle.jh_turn.proofs.tests.take_round.Given as goal
 

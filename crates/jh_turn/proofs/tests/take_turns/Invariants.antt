@@ -1,3 +1,4 @@
+-- After each round the ports are the object's still, and of the same callers in their order.
 use Rattle.jh_turn.specs.PortSets.{IsSameSet}
 use Rattle.jh_turn.proofs.tests.take_turns.Given as goal
 

@@ -1,3 +1,4 @@
+-- A change keeps the numbers of endpoints and keys and the room of both, so it keeps the spare.
 use Rattle.std.proofs.Common.{length, arith, ap}
 use Rattle.std.proofs.lemmas.List.{length-map}
 use Rattle.jh_ivshmem.specs.Private.Changes.{is_meant, after}

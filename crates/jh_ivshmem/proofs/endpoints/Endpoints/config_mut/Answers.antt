@@ -1,3 +1,4 @@
+-- Whatever space is written, it is the named endpoint's alone, and the keys still fit.
 use Rattle.std.proofs.Common.{◌≡◌, List, Some, length, set, refl, sym, ◌∙◌, ap}
 use Rattle.std.proofs.lemmas.Option.{slice_get_read}
 use Rattle.jh_vpci.specs.Space.{Space}

@@ -1,3 +1,4 @@
+-- A key is the device's exactly where an endpoint is.
 use Rattle.std.proofs.Common.{is_some, position, sym, ◌∙◌, ap, subst}
 use Rattle.jh_ivshmem.specs.declared.change.Whom.TheVariants.{Device}
 use Rattle.jh_ivshmem.specs.EndpointsView.{EndpointsView}

@@ -1,3 +1,4 @@
+-- A key's index is its endpoint's, and a device without a key would have no endpoint.
 use Rattle.std.proofs.Common.{◌≡◌, ◌<◌, ℕ, List, Some, None, IsSome, position, map, length, sym, ◌∙◌, ap, subst}
 use Rattle.std.specs.List.{slice_get}
 use Rattle.jh_ivshmem.specs.declared.change.Whom.TheVariants.{Device}

@@ -1,3 +1,4 @@
+-- An endpoint is apart from the new one exactly where its key is.
 use Rattle.std.proofs.Common.{◌≡◌, get_or, sym, ◌∙◌, ap}
 use Rattle.std.specs.List.{list_all}
 use Rattle.std.proofs.lemmas.List.Folds.{list_all-map}

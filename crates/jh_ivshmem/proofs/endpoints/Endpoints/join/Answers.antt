@@ -1,3 +1,4 @@
+-- Endpoint and key go to the same index, where the device's place in the order is.
 use Rattle.std.proofs.Common.{◌≤◌, List, All, length, refl, sym, ◌∙◌, ap, subst}
 use Rattle.std.specs.List.{insert}
 use Rattle.jh_ivshmem.specs.declared.endpoint.Endpoint.{Endpoint}

@@ -1,3 +1,4 @@
+-- Endpoints and keys are dropped by one test, after the others of the link are told.
 use Rattle.std.proofs.Common.{◌≡◌, filter, not, refl, sym, ◌∙◌, ap, subst}
 use Rattle.jh_ivshmem.specs.declared.change.Whom.TheVariants.{Device}
 use Rattle.jh_ivshmem.specs.declared.endpoint.Endpoint.{Endpoint}

@@ -1,3 +1,4 @@
+-- At the device's index stands its endpoint, whole as each that is kept.
 use Rattle.std.proofs.Common.{◌<◌, List, length, get_or, refl, sym, ◌∙◌, ap, subst}
 use Rattle.std.proofs.lemmas.Option.{slice_get_read}
 use Rattle.jh_ivshmem.specs.declared.endpoint.Endpoint.{Endpoint}

@@ -1,3 +1,4 @@
+-- A key tells its endpoint's pending vector, so the earliest by the keys is the endpoints'.
 use Rattle.std.proofs.Common.{None, fold, sym, ◌∙◌, ap, subst}
 use Rattle.std.proofs.lemmas.List.Folds.{fold-map}
 use Rattle.jh_ivshmem.specs.declared.key.Key.{Key}

@@ -1,3 +1,4 @@
+-- The others are told of state 0 and the endpoint is cleared: all are among those concerned.
 use Rattle.std.proofs.Common.{◌≡◌, ◌∙◌, ap}
 use Rattle.jh_ivshmem.specs.Specs.{is_device, is_concerned}
 use Rattle.jh_ivshmem.specs.Endpoint.{cleared}

@@ -1,3 +1,4 @@
+-- A vector that is taken changes the endpoint of its device alone.
 use Rattle.std.proofs.Common.{ℕ, Option, sym, ◌∙◌, ap}
 use Rattle.jh_ivshmem.specs.Links.{taken_of}
 use Rattle.jh_ivshmem.proofs.BesidesLemmas.{others_taken}

@@ -1,3 +1,4 @@
+-- The words below the index are those that their items tell, and the array has its length.
 use Rattle.std.proofs.Common.{◌≡◌, length, take}
 use Rattle.jh_spec.specs.Fields.{u32_told}
 use Rattle.jh_spec.proofs.ListPrefixes.{IsListPrefix}

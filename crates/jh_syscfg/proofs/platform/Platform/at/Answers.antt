@@ -1,3 +1,4 @@
+-- The fields that are read spell 88 bytes, so what is left is what stands behind those.
 use Rattle.std.proofs.Common.{sym, ap, ◌∙◌, drop}
 use Rattle.jh_syscfg.proofs.Systems.{behind_platform}
 use Rattle.jh_syscfg.proofs.platform.Platform.at.Goals as goal

@@ -1,3 +1,4 @@
+-- Field by field, each behind the bytes of those before it.
 use Rattle.std.proofs.Common.{append_assoc}
 use Rattle.jh_syscfg.proofs.platform.PlatformRecord.write.Goals as goal
 

@@ -1,3 +1,4 @@
+-- The front that equals the word and what is behind it make the text.
 use Rattle.std.proofs.Common.{rules, ◌≡◌, ◌++◌, true, length, take, drop, ap, ◌∙◌, sym}
 use Rattle.std.specs.Str.{bytes_eq}
 use Rattle.std.proofs.lemmas.Slice.Eq.{bytes_eq-Decides}

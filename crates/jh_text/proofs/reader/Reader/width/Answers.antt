@@ -1,3 +1,4 @@
+-- A width that is read is one digit, its own spelling, with a space behind it.
 use Rattle.std.proofs.Common.{rules, ◌≡◌, ◌-◌, ◌≤◌, length, drop, get_or, length-drop, take_all, Some, arith}
 use Rattle.jh_text.specs.Private.Reading.{width_digit}
 use Rattle.jh_text.proofs.Spellings.{width_spelled}

@@ -1,3 +1,4 @@
+-- A caller's number is below the one of a free turn, and who finds it free has claimed it.
 use Rattle.std.proofs.Common.{rules, ◌<◌, arith, ap, subst, ◌∙◌}
 use Rattle.jh_turn.specs.Private.Rule.{Claimed}
 use Rattle.jh_turn.proofs.Keeps.{claim_keeps}

@@ -1,3 +1,4 @@
+-- Claims that fail leave the seat as it was.
 use Rattle.std.proofs.Common.{◌≡◌}
 use Rattle.jh_turn.specs.Private.Stages.{IsSameSeat}
 use Rattle.jh_turn.proofs.shared.Shared.claim.Given as goal

@@ -1,3 +1,4 @@
+-- All ports together have every caller's hand, and a hand has what its port has seen.
 use Rattle.std.proofs.Common.{◌≡◌, arith}
 use Rattle.std.proofs.lemmas.List.{length-map}
 use Rattle.std.proofs.lemmas.List.Elements.{All-weaker}

@@ -1,3 +1,4 @@
+-- The port that is pushed is of the caller at the index, and the seat keeps those behind it.
 use Rattle.std.proofs.Common.{ℕ, ◌+◌, ◌∷◌, ◌++◌, [], List, map, drop, All, ap, ap₂, ◌∙◌, sym, subst, add-zero, drop-drop, get_or-drop, slice_index}
 use Rattle.std.proofs.lemmas.List.{map-append, take_more, take_rest}
 use Rattle.std.proofs.lemmas.List.Elements.{All-push}

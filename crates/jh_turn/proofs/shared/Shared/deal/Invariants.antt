@@ -1,3 +1,4 @@
+-- Callers below the index have their ports, and the seat has the hands of the rest.
 use Rattle.std.proofs.Common.{◌≡◌, All, length, take, drop, map, vec_len, vec_capacity}
 use Rattle.jh_turn.specs.Private.Dealing.{HasToGive, IsNewPort}
 use Rattle.jh_turn.specs.Ports.{opened_value, port_caller}

@@ -1,3 +1,4 @@
+-- The rule holds at first: the value is in its slot, and one seat has each caller's hand.
 use Rattle.std.proofs.Common.{◌∷◌, [], List, Contains, ap, ◌∙◌, sym, subst, length, Option, Box, Global}
 use Rattle.std.proofs.lemmas.List.Elements.{All-contains}
 use Rattle.atomic_table.specs.Table.{opening}

@@ -1,3 +1,4 @@
+-- The ports left are the object's, and the waiting seat has the hands of all the others.
 use Rattle.std.proofs.Common.{◌≡◌, ◌++◌, false, All, vec_len}
 use Rattle.jh_turn.specs.Private.Closing.{HasHands}
 use Rattle.jh_turn.specs.Ports.{IsPortOf}

@@ -1,3 +1,4 @@
+-- With all hands in one seat that waits, nobody has the turn, and the value is at home.
 use Rattle.std.proofs.Common.{◌≡◌, Some, sym, subst, ap, ◌∙◌}
 use Rattle.std.proofs.lemmas.List.Elements.{All-contains}
 use mathlib.Core.Option.{some-injective}

@@ -1,3 +1,4 @@
+-- As the callers differ, the first hand can go to a seat of its own.
 use Rattle.std.proofs.Common.{rules}
 use Rattle.jh_turn.proofs.Opens.{splits_first}
 use Rattle.jh_turn.proofs.shared.Shared.next_port.Goals as goal

@@ -1,3 +1,4 @@
+-- New ports are the object's, and their callers are all for whom it was opened.
 use Rattle.std.proofs.Common.{ℕ, List, Contains, All, sym, subst}
 use Rattle.std.proofs.lemmas.List.Elements.{All-weaker, All-contains_itself}
 use Rattle.jh_turn.specs.Private.Dealing.{IsNewPort}

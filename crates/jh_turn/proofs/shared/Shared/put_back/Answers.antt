@@ -1,3 +1,4 @@
+-- The rule holds over the note and the release, as the value is in the slot before both.
 use Rattle.std.proofs.Common.{rules, Some, ap, ◌∙◌, ◌∷◌}
 use Rattle.atomic_table.specs.Table.{rest}
 use Rattle.jh_turn.specs.Hands.{caller_of}

@@ -1,3 +1,4 @@
+-- The seat has the one slot with the value in it, so the slot may be exchanged.
 use Rattle.std.proofs.Common.{Some, ap, ◌∙◌, ◌∷◌, sym}
 use Rattle.atomic_table.specs.Table.{rest}
 use Rattle.jh_turn.proofs.shared.Shared.take.Goals as goal

@@ -1,3 +1,4 @@
+-- The value that is taken is the claimed one, whose history begins with what the port has seen.
 use Rattle.std.proofs.Common.{Some, ap, ◌∙◌, ◌≡◌, ◌∷◌, [], sym, subst}
 use Rattle.std.proofs.lemmas.List.{nil_from_length}
 use mathlib.Core.List.{IsPrefix}

@@ -1,3 +1,4 @@
+-- Pushed into a list that has nothing yet, the box is its one slot.
 use Rattle.std.proofs.Common.{◌∷◌, ◌++◌, [], Some, ap, ◌∙◌}
 use Rattle.jh_turn.proofs.shared.opening.boxed.Goals as goal
 
