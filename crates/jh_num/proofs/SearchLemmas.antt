@@ -1,4 +1,4 @@
--- Ranges that are apart, searched by halving.
+-- Ranges that are apart: starts and ends rise, and one range tells whether another is met or covered.
 use Rattle.std.proofs.Common.{◌≡◌, ℕ, ◌+◌, ◌<◌, ◌≤◌, Bool, false, ◌&&◌, leb, ltb, List, length, get_or, sym, ◌∙◌, ⊎_elim, arith}
 use Rattle.std.specs.List.{list_any}
 use Rattle.std.specs.List.Sorted.{IsNonDecreasingBy}

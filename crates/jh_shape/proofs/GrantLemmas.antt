@@ -22,7 +22,7 @@ use Rattle.jh_shape.specs.Grants.{place_at, IsGranted, DescribesGrants}
 use Rattle.jh_shape.proofs.WantLemmas.{LeafBy, found, leaf_parts, is_none_find}
 use Rattle.jh_num.proofs.Public.{same_test}
 
--- the place of a later slot
+-- the place of a later address
 place_later : (region : Region) (start at : ℕ) → region.virt_start ≤ start → place_in region (start + at) ≡ place_in region start + at
 place_later region start at h = omega arith
 

@@ -114,7 +114,7 @@ pub(crate) fn fits_blocks(level: u8, region: &Region) -> bool
 }
 
 /// Whether an interval that ends there has numbers in slots of the number `limit` and above, of the level's below the
-/// end of addresses.
+/// end of addresses, which is that of places too.
 fn is_past(number: u128, level: u8, limit: usize) -> bool
     requires level { level < LAST_LEVEL }
     requires limit { limit ≤ SLOTS }

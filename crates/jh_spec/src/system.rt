@@ -50,7 +50,7 @@ fn platform_of(alloc: Global, object: &Value) -> Result<Platform, JsonFault>
     })
 }
 
-/// The fault that a fault inside root is.
+/// The fault that a fault inside root is. Want of memory stays that.
 fn fault_in_root(alloc: Global, fault: JsonFault) -> JsonFault
     ensures { IsFaultInRoot fault result }
 {

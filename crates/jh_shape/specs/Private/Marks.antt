@@ -22,7 +22,7 @@ AreMarked words level test = (n : ℕ) → n < ADDRESS_END / slot_size level →
 abbrev pub AreMarkedBelow : ℕ → List ℕ → ℕ → (ℕ → Bool) → Type 0
 AreMarkedBelow limit words level test = (n : ℕ) → n < limit → n < ADDRESS_END / slot_size level → is_marked words n ≡ test n
 
--- of the slots below the limit those are marked that have a number from `start` on, below `end`
+-- each slot below the limit that has a number from `start` on, below `end`, is marked
 abbrev pub AreMarkedWithin : ℕ → List ℕ → ℕ → ℕ → ℕ → Type 0
 AreMarkedWithin limit words level start end = (n : ℕ) → n < limit → touches start end (n * slot_size level) (slot_size level) ≡ true → is_marked words n ≡ true
 

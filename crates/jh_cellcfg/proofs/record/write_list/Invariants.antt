@@ -1,4 +1,4 @@
--- The bytes so far are those that stood there and behind them the first records'.
+-- Behind the bytes that stood there are those of the records so far.
 use Rattle.std.proofs.Common.{◌≡◌, ◌++◌, take}
 use Rattle.std.specs.List.{flat_map}
 use Rattle.jh_cellcfg.proofs.record.write_list.Given as goal

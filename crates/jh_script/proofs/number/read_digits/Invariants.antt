@@ -4,6 +4,5 @@ use Rattle.jh_script.specs.Private.Reading.{value_after}
 use Rattle.jh_script.specs.Numbers.{value_of}
 use Rattle.jh_script.proofs.number.read_digits.Given as goal
 
--- the digits that are left make of the number so far what all make
 abbrev pub invariant-loop-byte : goal.invariant-loop-byte
 invariant-loop-byte l = value_after l.base l.n (drop l.byte-index l.digits) ≡ value_of l.base l.digits

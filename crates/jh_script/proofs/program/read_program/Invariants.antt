@@ -6,7 +6,6 @@ use Rattle.jh_script.specs.Programs.{lines_of, first_fault, ops_of}
 use Rattle.jh_script.proofs.program.read_program.Given as goal
 use Rattle.jh_script.specs.Limits.{most_ops}
 
--- the lines that are left have the fault of all, and the operations behind those so far
 abbrev pub invariant-loop-line : goal.invariant-loop-line
 invariant-loop-line l = record {
   faults : first_fault 0 most_ops (lines_of l.text) ≡ first_fault l.number (most_ops - length l.ops) (lines_of l.rest);

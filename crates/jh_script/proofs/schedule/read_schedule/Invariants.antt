@@ -5,7 +5,6 @@ use Rattle.jh_script.specs.Schedules.{items_of, first_refusal, cpus_of, IsPresen
 use Rattle.jh_script.proofs.schedule.read_schedule.Given as goal
 use Rattle.jh_script.specs.Limits.{most_items}
 
--- the items that are left have the fault of all, and the CPUs behind those so far
 abbrev pub invariant-loop-item : goal.invariant-loop-item
 invariant-loop-item l = record {
   faults : first_refusal 0 (items_of l.cpus l.text) ≡ first_refusal (length l.items) (items_of l.cpus l.rest);

@@ -4,7 +4,6 @@ use Rattle.std.specs.Fmt.{digits, digits_onto}
 use Rattle.jh_text.specs.declared.number_text.TheConstants.{ROOM}
 use Rattle.jh_text.proofs.number_text.write_digits.Given as goal
 
--- the number has the digits of what is left, and then those written so far
 abbrev pub invariant-loop-left : goal.invariant-loop-left
 invariant-loop-left l = record {
   before : 2 ≤ l.start;
