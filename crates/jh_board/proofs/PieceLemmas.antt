@@ -1,12 +1,9 @@
 -- Bytes of one page read as a number, and lists of bytes that are stored.
-use Rattle.std.proofs.Common.{◌≡◌, ℕ, zero, suc, ◌+◌, ◌-◌, ◌*◌, ◌/◌, ◌%◌, ◌^◌, ◌<◌, ◌≤◌, List, [], ◌∷◌, ◌++◌, length, length-take, take, map, cond, leb, ltb, eqb, refl, sym, ◌∙◌, ap, inl, inr, arith}
-use Rattle.std.specs.Prelude.{min, slice_index, slice_range, ◌&&◌}
+use Rattle.std.proofs.Common.{◌≡◌, ℕ, zero, suc, ◌+◌, ◌-◌, ◌*◌, ◌/◌, ◌%◌, ◌^◌, ◌<◌, ◌≤◌, List, [], ◌∷◌, length, take, map, cond, eqb, refl, sym, ◌∙◌, ap, inl, inr, arith}
+use Rattle.std.specs.Prelude.{slice_index}
 use Rattle.std.specs.Int.{byte_at as byte_of_number, bytes_low_first}
-use Rattle.std.proofs.lemmas.Bool.{cases_eq, cases_lt, eq-eqb, ne_eqb, le-leb, lt-ltb}
-use Rattle.std.proofs.lemmas.List.{get_or-append_right, get_or_append_left, length-append}
-use Rattle.std.proofs.lemmas.Grind.{pow_more}
-use Rattle.std.proofs.Math.Seq.{take-add}
-use Rattle.std.proofs.Math.Nat.{div-div-eq-div-mul, div-one, pow-suc, pow-le-pow_right}
+use Rattle.std.proofs.lemmas.Bool.{cases_eq, cases_lt, eq-eqb, ne_eqb}
+use Rattle.std.proofs.Math.Nat.{div-div-eq-div-mul, div-one, pow-suc}
 use Rattle.jh_num.specs.Memory.{spelled, stored}
 use Rattle.jh_history.specs.declared.place.Place.{Place}
 use Rattle.jh_history.specs.declared.place.Place.TheVariants.{Physical, Page}
@@ -15,7 +12,7 @@ use Rattle.jh_history.proofs.Public.{row_length}
 use Rattle.jh_board.specs.Pages.{byte_of, comm_byte, MemoryView}
 use Rattle.jh_board.specs.Private.Pages.{bytes_from}
 use Rattle.jh_num.specs.Pages.{page_at, byte_of_page, paged_byte}
-use Rattle.jh_num.proofs.Public.{stored_before, stored_behind}
+use Rattle.jh_num.proofs.Public.{stored_before, stored_behind, stored_in}
 
 abbrev Pages : Type 0
 Pages = List (ℕ × List ℕ)
@@ -46,67 +43,6 @@ zeros_spell_nothing offset zero = refl
 zeros_spell_nothing offset (suc n) =
     let rest : spelled (bytes_from (λ k. 0) (offset + 1) n) ≡ 0 = zeros_spell_nothing (offset + 1) n in omega arith
 
--- one byte more of a number that is read from its highest byte on
-pub spelled_next : (byte : ℕ → ℕ) (offset n k v : ℕ) → 0 < k → k ≤ n → v ≡ spelled (bytes_from byte (offset + k) (n - k)) → v * 256 + byte (offset + (k - 1)) ≡ spelled (bytes_from byte (offset + (k - 1)) (n - (k - 1)))
-spelled_next byte offset n k v some le is =
-    let count : n - (k - 1) ≡ suc (n - k) = omega arith in
-    let next : (offset + (k - 1)) + 1 ≡ offset + k = omega arith in
-    let sum : v * 256 + byte (offset + (k - 1)) ≡ byte (offset + (k - 1)) + 256 * v = omega arith in
-    rw (count, next) (sum ∙ ap (λ (m : ℕ). byte (offset + (k - 1)) + 256 * m) is)
-
--- and it fits as many bytes as it has, so a word
-pub fits_next : (v b n k : ℕ) → 0 < k → k ≤ n → v < 256 ^ (n - k) → b < 256 → v * 256 + b < 256 ^ (n - (k - 1))
-fits_next v b n k some le small byte =
-    let count : n - (k - 1) ≡ (n - k) + 1 = omega arith in rw (count, pow_more 256 (n - k)) (grind arith)
-
-pub word_next : (v b n k : ℕ) → 0 < k → k ≤ n → n ≤ 8 → v < 256 ^ (n - k) → b < 256 → v * 256 + b < 2 ^ 64
-word_next v b n k some le few small byte =
-    let fits : v * 256 + b < 256 ^ (n - (k - 1)) = fits_next v b n k some le small byte in
-    let few_left : n - (k - 1) ≤ 8 = omega arith in
-    let most : 256 ^ (n - (k - 1)) ≤ 256 ^ 8 = pow-le-pow_right (omega arith) few_left in
-    omega arith
-
--- the bytes of a list where it is stored, below it and above it
-stored_there : (byte : ℕ → ℕ) (at : ℕ) (bytes : List ℕ) (q : ℕ) → at ≤ q → q < at + length bytes → stored byte at bytes q ≡ slice_index bytes (q - at)
-stored_there byte at bytes q above below = rw (le-leb at q above, lt-ltb q (at + length bytes) below) refl
-
--- one list behind another
-stored_append : (byte : ℕ → ℕ) (at : ℕ) (xs ys : List ℕ) (q : ℕ) → stored (stored byte at xs) (at + length xs) ys q ≡ stored byte at (xs ++ ys) q
-stored_append byte at xs ys q =
-    let sum : length (xs ++ ys) ≡ length xs + length ys = length-append xs ys in
-    elim (cases_lt q at) [
-      | inl before ↦ stored_before (stored byte at xs) (at + length xs) ys q (omega arith) ∙ stored_before byte at xs q before ∙ sym (stored_before byte at (xs ++ ys) q before)
-      | inr above ↦ elim (cases_lt q (at + length xs)) [
-        | inl low ↦
-            let within : q - at < length xs = omega arith in
-            stored_before (stored byte at xs) (at + length xs) ys q low ∙ stored_there byte at xs q above low
-            ∙ sym (get_or_append_left xs ys 0 (q - at) within) ∙ sym (stored_there byte at (xs ++ ys) q above (omega arith))
-        | inr high ↦ elim (cases_lt q (at + length (xs ++ ys))) [
-          | inl below ↦
-              let e : q - (at + length xs) ≡ (q - at) - length xs = omega arith in
-              stored_there (stored byte at xs) (at + length xs) ys q high (omega arith) ∙ ap (slice_index ys) e
-              ∙ sym (get_or-append_right xs ys (length xs) (q - at) 0 refl (omega arith)) ∙ sym (stored_there byte at (xs ++ ys) q above below)
-          | inr behind ↦
-              stored_behind (stored byte at xs) (at + length xs) ys q (omega arith) ∙ stored_behind byte at xs q high ∙ sym (stored_behind byte at (xs ++ ys) q behind)
-        ]
-      ]
-    ]
-
--- a list that is stored in two steps
-pub stored_more : (byte middle : ℕ → ℕ) (at from upto : ℕ) (bytes : List ℕ) (q : ℕ) → from ≤ upto → upto ≤ length bytes → middle q ≡ stored byte at (take from bytes) q
-    → stored middle (at + from) (slice_range bytes from upto) q ≡ stored byte at (take upto bytes) q
-stored_more byte middle at from upto bytes q le within is =
-    let xs = take from bytes in
-    let ys = slice_range bytes from upto in
-    let shorter : length (take from bytes) ≡ min from (length bytes) = length-take from bytes in
-    let len : length (take from bytes) ≡ from = omega arith in
-    let sum : from + (upto - from) ≡ upto = omega arith in
-    ap (λ (b : ℕ). cond (leb (at + from) q && ltb q (at + from + length ys)) (slice_index ys (q - (at + from))) b) is
-    ∙ ap (λ (n : ℕ). stored (stored byte at xs) (at + n) ys q) (sym len)
-    ∙ stored_append byte at xs ys q
-    ∙ ap (λ (bs : List ℕ). stored byte at bs q) (sym (take-add from (upto - from) bytes))
-    ∙ ap (λ (n : ℕ). stored byte at (take n bytes) q) sum
-
 -- one byte before a list
 stored_first : (byte : ℕ → ℕ) (at b : ℕ) (bytes : List ℕ) (q : ℕ) → stored (λ y. cond (eqb y at) b (byte y)) (at + 1) bytes q ≡ stored byte at (b ∷ bytes) q
 stored_first byte at b bytes q =
@@ -116,11 +52,11 @@ stored_first byte at b bytes q =
       | inr above ↦ elim (cases_eq q at) [
         | inl e ↦
             let none : q - at ≡ 0 = omega arith in
-            stored_before put (at + 1) bytes q (omega arith) ∙ rw (eq-eqb q at e) refl ∙ ap (slice_index (b ∷ bytes)) (sym none) ∙ sym (stored_there byte at (b ∷ bytes) q above (omega arith))
+            stored_before put (at + 1) bytes q (omega arith) ∙ rw (eq-eqb q at e) refl ∙ ap (slice_index (b ∷ bytes)) (sym none) ∙ sym (stored_in byte at (b ∷ bytes) q above (omega arith))
         | inr other ↦ elim (cases_lt q ((at + 1) + length bytes)) [
           | inl below ↦
               let e : q - at ≡ suc (q - (at + 1)) = omega arith in
-              stored_there put (at + 1) bytes q (omega arith) below ∙ ap (slice_index (b ∷ bytes)) (sym e) ∙ sym (stored_there byte at (b ∷ bytes) q above (omega arith))
+              stored_in put (at + 1) bytes q (omega arith) below ∙ ap (slice_index (b ∷ bytes)) (sym e) ∙ sym (stored_in byte at (b ∷ bytes) q above (omega arith))
           | inr behind ↦ stored_behind put (at + 1) bytes q behind ∙ rw (ne_eqb q at other) refl ∙ sym (stored_behind byte at (b ∷ bytes) q (omega arith))
         ]
       ]

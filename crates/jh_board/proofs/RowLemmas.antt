@@ -1,23 +1,10 @@
 -- Bytes in a row, put behind others.
-use Rattle.std.proofs.Common.{◌≡◌, ℕ, zero, suc, ◌+◌, ◌-◌, ◌≤◌, List, [], ◌∷◌, ◌++◌, length, take, drop, map, refl, sym, ap, ◌∙◌, arith}
-use Rattle.std.specs.Prelude.{slice_index, slice_range}
-use Rattle.std.proofs.lemmas.List.{append-nil, append_assoc, drop_more}
+use Rattle.std.proofs.Common.{◌≡◌, ℕ, zero, suc, ◌+◌, List, [], ◌∷◌, ◌++◌, map, refl, sym, ap, ◌∙◌, arith}
+use Rattle.std.proofs.lemmas.List.{append-nil, append_assoc}
 use Rattle.jh_history.specs.declared.place.Place.TheVariants.{Page}
 use Rattle.jh_history.specs.Places.{places_in_row}
 use Rattle.jh_board.specs.Pages.{byte_of, comm_byte, MemoryView}
 use Rattle.jh_board.specs.Private.Pages.{bytes_from}
-
--- a piece of a list
-pub list_piece : (xs : List ℕ) (offset n : ℕ) → offset + n ≤ length xs → take n (drop offset xs) ≡ bytes_from (slice_index xs) offset n
-list_piece xs offset zero within = refl
-list_piece xs offset (suc n) within =
-    ap (take (suc n)) (drop_more xs offset 0 (omega arith))
-    ∙ ap (λ (ys : List ℕ). slice_index xs offset ∷ ys) (list_piece xs (offset + 1) n (omega arith))
-
-pub slice_piece : (xs : List ℕ) (offset n : ℕ) → offset + n ≤ length xs → slice_range xs offset (offset + n) ≡ bytes_from (slice_index xs) offset n
-slice_piece xs offset n within =
-    (let e : (offset + n) - offset ≡ n = omega arith in ap (λ (m : ℕ). take m (drop offset xs)) e)
-    ∙ list_piece xs offset n within
 
 -- a row behind another
 pub row_behind : (byte : ℕ → ℕ) (at m n : ℕ) → bytes_from byte at m ++ bytes_from byte (at + m) n ≡ bytes_from byte at (m + n)

@@ -6,7 +6,7 @@ ghost use Rattle.jh_board.specs.Private.Pages.{bytes_from};
 
 use jh_comm::{fresh, send, set_state};
 use jh_history::PageChange;
-use jh_num::{NoMemory, PAGE_SIZE};
+use jh_num::{NoMemory, PAGE_SIZE, spelled};
 use std::alloc::Global;
 use std::marker::Model;
 
@@ -66,11 +66,7 @@ impl Page {
         ensures spells { result ≡ spelled (bytes_from (slice_index self.now) offset count) }
         ensures fits { result < 256 ^ count }
     {
-        let mut value = 0;
-        for k in (0..count).rev() {
-            value = value * 256 + u64::from(self.get(offset + k));
-        }
-        value
+        spelled(&self.bytes[offset..offset + count])
     }
 
     /// Puts `count` bytes of the page, from the offset on, behind those of the buffer.

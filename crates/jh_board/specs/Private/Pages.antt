@@ -1,13 +1,13 @@
 -- Bytes in a row, and the places whose pages can come to be held.
-use Rattle.std.specs.Prelude.{ℕ, zero, suc, ◌+◌, ◌<◌, List, [], ◌∷◌}
+use Rattle.std.specs.Prelude.{ℕ, ◌<◌, List, map}
+use Rattle.std.specs.List.{range_with_len}
 use Rattle.jh_history.specs.declared.place.Place.{Place}
 use Rattle.jh_history.specs.declared.place.Place.TheVariants.{Physical, Page}
 use Rattle.jh_board.specs.Pages.{HoldsComm, MemoryView}
 
 -- the bytes from the offset on, so many of them
 abbrev pub bytes_from : (ℕ → ℕ) → ℕ → ℕ → List ℕ
-bytes_from byte offset zero = []
-bytes_from byte offset (suc count) = byte offset ∷ bytes_from byte (offset + 1) count
+bytes_from byte offset count = map byte (range_with_len offset count)
 
 -- the place is one of physical memory, or of a communication page that is held
 abbrev pub MayHold : MemoryView → Place → Type 0

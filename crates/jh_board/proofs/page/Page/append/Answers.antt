@@ -1,7 +1,7 @@
 -- A piece of the page's list.
 use Rattle.std.proofs.Common.{ℕ, ◌+◌, ◌≤◌, ◌++◌, List, length, ap, ◌∙◌, arith}
 use Rattle.std.specs.Prelude.{slice_range}
-use Rattle.jh_board.proofs.RowLemmas.{slice_piece}
+use Rattle.jh_num.proofs.Public.{range_read}
 use Rattle.jh_board.proofs.page.Page.append.Goals as goal
 
 pub returns : goal.returns
@@ -12,4 +12,4 @@ returns c =
     rw (← c.self.view_is)
     (c.in_ok-extend_from_slice.ensures.items
     ∙ ap (λ (bs : List ℕ). c.args.bytes.now.items ++ slice_range bs c.args.offset (c.args.offset + c.args.count)) c.deref.ensures.value
-    ∙ ap (λ (bs : List ℕ). c.args.bytes.now.items ++ bs) (slice_piece page c.args.offset c.args.count within))
+    ∙ ap (λ (bs : List ℕ). c.args.bytes.now.items ++ bs) (range_read page c.args.offset c.args.count within))

@@ -1,23 +1,19 @@
--- One byte below those that are spelled already.
-use Rattle.std.proofs.Common.{ℕ, ◌+◌, ◌*◌, ◌^◌, ◌<◌, ◌∙◌, ap, arith}
-use Rattle.std.specs.Prelude.{slice_index}
-use Rattle.jh_board.proofs.PieceLemmas.{spelled_next, fits_next, word_next}
+-- A piece of the page's list.
+use Rattle.std.proofs.Common.{ℕ, ◌+◌, ◌^◌, ◌<◌, ◌≤◌, List, length, ap, subst, ◌∙◌, arith}
+use Rattle.std.specs.Prelude.{slice_index, slice_range}
+use Rattle.std.proofs.lemmas.List.FromFn.{length-map-range_with_len}
+use Rattle.jh_num.specs.Memory.{spelled}
+use Rattle.jh_num.proofs.Public.{range_read}
 use Rattle.jh_board.proofs.page.Page.value.Goals as goal
 
-pub overflow_mul-value : goal.overflow_mul-value
-overflow_mul-value c =
-    let h : c.loop-k.value * 256 + 0 < 2 ^ 64 = word_next c.loop-k.value 0 c.args.count c.loop-k.k c.loop-k-test.true c.loop-k.auto.k c.requires.few c.loop-k.invariant.fits (omega arith) in omega arith
-
-pub overflow_add-value : goal.overflow_add-value
-overflow_add-value c =
-    let byte : c.from.result < 256 = omega arith in
-    let h : c.loop-k.value * 256 + c.from.result < 2 ^ 64 = word_next c.loop-k.value c.from.result c.args.count c.loop-k.k c.loop-k-test.true c.loop-k.auto.k c.requires.few c.loop-k.invariant.fits byte in omega arith
-
-pub loop-k-preserved : goal.loop-k-preserved
-loop-k-preserved c =
-    let byte : c.from.result < 256 = omega arith in
+pub returns : goal.returns
+returns c =
+    let page : List ℕ = c.self.inside.bytes.items in
+    let whole = c.self.invariant in
+    let within : c.args.offset + c.args.count ≤ length page = let bound = c.requires.within in omega (arith, whole) in
+    let piece = ap (λ (bs : List ℕ). slice_range bs c.args.offset (c.args.offset + c.args.count)) c.deref.ensures.value ∙ range_read page c.args.offset c.args.count within in
+    let long = ap (λ (bs : List ℕ). length bs) piece ∙ length-map-range_with_len (slice_index page) c.args.offset c.args.count in
     record {
-      spells = ap (λ (b : ℕ). c.loop-k.value * 256 + b) (c.from.ensures ∙ c.get.ensures)
-          ∙ spelled_next (slice_index c.args.self.now) c.args.offset c.args.count c.loop-k.k c.loop-k.value c.loop-k-test.true c.loop-k.auto.k c.loop-k.invariant.spells;
-      fits = fits_next c.loop-k.value c.from.result c.args.count c.loop-k.k c.loop-k-test.true c.loop-k.auto.k c.loop-k.invariant.fits byte;
+      spells = rw (← c.self.view_is) (c.spelled.ensures.value ∙ ap spelled piece);
+      fits = subst (λ (n : ℕ). c.spelled.result < 256 ^ n) long c.spelled.ensures.fits;
     }

@@ -1,7 +1,7 @@
 -- One piece more.
 use Rattle.std.proofs.Common.{◌≤◌, length, ◌∙◌, arith}
 use Rattle.jh_num.specs.Pages.{paged_byte}
-use Rattle.jh_board.proofs.PieceLemmas.{stored_more}
+use Rattle.jh_num.proofs.Public.{stored_more}
 use Rattle.jh_board.proofs.physical.Physical.store.Goals as goal
 
 pub loop-done-preserved : goal.loop-done-preserved
