@@ -2,13 +2,13 @@
 use Rattle.std.proofs.Common.{◌≡◌, ℕ, ◌+◌, ◌-◌, ◌<◌, ◌≤◌, true, false, ◌&&◌, not, ◌==◌, nat_lt, leb, List, length, get_or, take, drop, length-drop, sym, ap, subst, ◌∙◌, inl, inr, arith}
 use Rattle.std.specs.List.{Contains, AllWithin, list_all}
 use Rattle.std.proofs.lemmas.Bool.{cases_Bool, cases_lt, ltb-true, leb-false, eqb-true, not_from_false, or_left, and_parts}
-use Rattle.std.proofs.lemmas.List.{get_or-take, get_or-drop, length-take}
+use Rattle.std.proofs.lemmas.List.{get_or_default, get_or-take, get_or-drop, length-take}
 use Rattle.jh_cellcfg.specs.declared.region.Region.{Region}
 use Rattle.jh_cellcfg.specs.declared.config.PciDevice.{PciDevice}
 use Rattle.jh_cellcfg.specs.declared.config.CellConfig.{CellConfig}
 use Rattle.jh_check.specs.declared.seats.Seat.{Seat}
 use Rattle.jh_check.specs.Devices.{is_shmem, are_linked, are_same_memory, sections_of, agrees_with, agrees_with_all}
-use Rattle.jh_check.specs.Private.Seats.{seat_of, HasSeats, AgreesAt}
+use Rattle.jh_check.specs.Private.Seats.{seat_of, HasSeats, IsAt, AgreesAt}
 use Rattle.jh_num.proofs.Public.{list_all_each}
 
 -- ---- side by side
@@ -34,6 +34,15 @@ seat_within seats bdf begin m n low high bound after before x cx is =
     let size = length-take (n - begin) (drop begin seats) in
     let rest = length-drop begin seats in
     (k - begin, omega arith, get_or-take (n - begin) (drop begin seats) (k - begin) x (omega arith) ∙ get_or-drop begin seats (k - begin) x ∙ ap (λ i. get_or seats i x) sum ∙ cx.2)
+
+-- ---- the device of a seat
+
+-- what holds of the seat's device and its cell holds of what stands at the seat
+pub holds_at : (cells : List CellConfig) (seat : Seat) (cell : CellConfig) (device : PciDevice) → IsAt cells seat cell device → (P : CellConfig → PciDevice → Type 0) → P cell device → (c : CellConfig) (d : PciDevice) → P (get_or cells seat.cell c) (get_or (get_or cells seat.cell c).pci_devices seat.item d)
+holds_at cells seat cell device at P p c d =
+    let e : get_or cells seat.cell c ≡ cell = get_or_default cells seat.cell c cell at.among ∙ at.cell_is in
+    let f : get_or cell.pci_devices seat.item d ≡ device = get_or_default cell.pci_devices seat.item d device at.within ∙ at.device_is in
+    subst (λ (x : CellConfig). P x (get_or x.pci_devices seat.item d)) (sym e) (subst (λ (y : PciDevice). P cell y) (sym f) p)
 
 -- ---- linked devices
 

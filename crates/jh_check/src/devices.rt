@@ -7,7 +7,7 @@ ghost use Rattle.jh_check.specs.Private.Cells.{cells_of};
 ghost use Rattle.jh_check.specs.Private.Seats.{HasSeats, AreByBdf, AgreesAt};
 ghost use Rattle.jh_check.specs.Devices.{is_shmem, are_linked, section_count, is_section, are_sections_of, are_same_section, sections_of, has_good_peers, has_good_bars, has_all_sections, is_good_table, has_good_table, is_section_region, are_read_only, are_alike, follows, are_in_a_row, is_twice, is_same_memory, are_same_memory, agrees_with, agrees_with_all, has_good_sections, is_good_shmem, device_breaks, cpus_break};
 
-use crate::seats::{Seat, at_bdf};
+use crate::seats::{Seat, at_bdf, device_of};
 use crate::setup::Setup;
 use jh_cellcfg::{CellConfig, PciDevice, Region, RegionFlags, are_zero};
 use jh_num::PAGE_SIZE;
@@ -301,18 +301,15 @@ fn agrees_with_seat(
     requires { number ≤ length (cells_of setup.now) }
     ensures { result ≡ true → AgreesAt (cells_of setup.now) number regions.now device.now seat.now }
 {
-    if seat.cell >= number {
-        return true;
-    }
-    let cell = setup.cell(seat.cell);
-    let others = cell.pci_devices.as_slice();
-    seat.item >= others.len()
-        || agrees_with(
+    match device_of(setup, number, seat) {
+        Some(other) => agrees_with(
             regions,
             device,
-            cell.memory_regions.as_slice(),
-            &others[seat.item],
-        )
+            other.cell.memory_regions.as_slice(),
+            other.device,
+        ),
+        None => true,
+    }
 }
 
 /// Whether the devices of these seats that are of cells below that number fit this one, if they are linked.

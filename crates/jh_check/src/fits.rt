@@ -8,7 +8,7 @@ ghost use Rattle.jh_check.specs.Private.Fits.{is_like, LikeAt, FitEachOther, Are
 
 use crate::bus::MAX_BDFS;
 use crate::devices::{are_same_memory, sections_of};
-use crate::seats::{Seat, at_bdf};
+use crate::seats::{Seat, at_bdf, device_of};
 use crate::setup::Setup;
 use jh_cellcfg::{PciDevice, Region};
 use jh_num::NoMemory;
@@ -37,19 +37,16 @@ fn is_like_at(setup: &Setup, regions: &[Region], device: &PciDevice, seat: &Seat
     requires { length setup.now.cells.now ≤ 15 }
     ensures { result ≡ true → LikeAt (cells_of setup.now) regions.now device.now seat.now }
 {
-    if seat.cell >= setup.count() {
-        return true;
-    }
-    let cell = setup.cell(seat.cell);
-    let others = cell.pci_devices.as_slice();
-    seat.item >= others.len()
-        || is_like(
+    match device_of(setup, setup.count(), seat) {
+        Some(other) => is_like(
             regions,
             device,
-            cell.memory_regions.as_slice(),
-            &others[seat.item],
+            other.cell.memory_regions.as_slice(),
+            other.device,
             seat.id,
-        )
+        ),
+        None => true,
+    }
 }
 
 /// Whether one of the seats has that number among the peers.
@@ -80,18 +77,10 @@ fn are_like_at(setup: &Setup, first: &Seat, run: &[Seat]) -> bool
     requires { length setup.now.cells.now ≤ 15 }
     ensures { result ≡ true → FitEachOther (cells_of setup.now) run.now }
 {
-    if first.cell >= setup.count() {
-        return false;
+    match device_of(setup, setup.count(), first) {
+        Some(one) => are_like(setup, one.cell.memory_regions.as_slice(), one.device, run),
+        None => false,
     }
-    let cell = setup.cell(first.cell);
-    let devices = cell.pci_devices.as_slice();
-    first.item < devices.len()
-        && are_like(
-            setup,
-            cell.memory_regions.as_slice(),
-            &devices[first.item],
-            run,
-        )
 }
 
 /// Whether the devices of these seats fit each other.

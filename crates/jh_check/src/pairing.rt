@@ -39,13 +39,24 @@ fn joins(rule: Rule, a: u32, b: u32) -> bool
     }
 }
 
-/// Two cells and their numbers.
+/// Two cells by their numbers, the rule by which they are compared, and how far the other's regions reach.
 #[derive(Clone, Copy)]
 struct Pair<'a> {
+    rule: Rule,
     a: u32,
     one: &'a CellConfig,
     b: u32,
     other: &'a CellConfig,
+    reaches: &'a Reaches,
+}
+
+/// What is told once of a cell that is compared with many: its devices by their bdfs, what has all regions of each block,
+/// and what has all regions.
+#[derive(Clone, Copy)]
+struct Outline<'a> {
+    holders: &'a [u16],
+    blocks: &'a [Extents],
+    extents: Extents,
 }
 
 /// A region of the one cell with each of the other's, if there is room for a finding. `near` is how many of the
@@ -53,18 +64,16 @@ struct Pair<'a> {
 #[tactic(auto, using(crate::proofs::ListLemmas::append_nil, crate::proofs::ListLemmas::capped_full))]
 fn visit(
     found: &mut Seq<Finding>,
-    rule: Rule,
     pair: &Pair,
     partners: &[Option<u16>],
-    reaches: &Reaches,
     near: usize,
     item: usize,
     region: &Region,
 ) -> Result<(), NoMemory>
     requires partners { ArePartners pair.now.one.now pair.now.other.now partners.now }
-    requires reaches { AreOf rule pair.now.b pair.now.other.now reaches.now }
+    requires reaches { AreOf pair.now.rule pair.now.b pair.now.other.now pair.now.reaches.now }
     requires own { IsOwn (spot pair.now.a pair.now.one.now item region.now) pair.now.b pair.now.other.now }
-    ensures { OnOk result (capped found.new ≡ capped (found.old ++ beside rule (spot pair.now.a pair.now.one.now item region.now) pair.now.b pair.now.other.now)) }
+    ensures { OnOk result (capped found.new ≡ capped (found.old ++ beside pair.now.rule (spot pair.now.a pair.now.one.now item region.now) pair.now.b pair.now.other.now)) }
 {
     if found.len() >= MAX_FINDINGS {
         return Ok(());
@@ -76,37 +85,37 @@ fn visit(
         region,
     };
     let partner = partner_of(partners, item);
-    let window = find_window(reaches, rule, item, region, near);
-    beside(found, rule, &first, partner, window, pair.b, pair.other)
+    let window = find_window(pair.reaches, pair.rule, item, region, near);
+    beside(
+        found, pair.rule, &first, partner, window, pair.b, pair.other,
+    )
 }
 
 /// Each region of a block of a cell, which begins with the number `first`, with each of another; those are passed over that
 /// may meet none of them.
 fn among(
     found: &mut Seq<Finding>,
-    rule: Rule,
     pair: &Pair,
     partners: &[Option<u16>],
-    reaches: &Reaches,
     first: usize,
     gaps: &mut Gaps,
 ) -> Result<(), NoMemory>
     requires partners { ArePartners pair.now.one.now pair.now.other.now partners.now }
-    requires reaches { AreOf rule pair.now.b pair.now.other.now reaches.now }
+    requires reaches { AreOf pair.now.rule pair.now.b pair.now.other.now pair.now.reaches.now }
     requires same { pair.now.a ≡ pair.now.b → pair.now.one.now ≡ pair.now.other.now }
-    requires gaps { AreGaps reaches.now gaps.old }
-    ensures gaps { OnOk result (AreGaps reaches.now gaps.new) }
-    ensures found { OnOk result (capped (found.new ++ between_from rule pair.now.a pair.now.one.now pair.now.b pair.now.other.now (first + BLOCK))
-        ≡ capped (found.old ++ between_from rule pair.now.a pair.now.one.now pair.now.b pair.now.other.now first)) }
+    requires gaps { AreGaps pair.now.reaches.now gaps.old }
+    ensures gaps { OnOk result (AreGaps pair.now.reaches.now gaps.new) }
+    ensures found { OnOk result (capped (found.new ++ between_from pair.now.rule pair.now.a pair.now.one.now pair.now.b pair.now.other.now (first + BLOCK))
+        ≡ capped (found.old ++ between_from pair.now.rule pair.now.a pair.now.one.now pair.now.b pair.now.other.now first)) }
 {
     let regions = pair.one.memory_regions.as_slice();
     for r in first..regions.len().min(first.saturating_add(BLOCK)) {
         let region = &regions[r];
-        if !may_meet(reaches, rule, r, region, gaps) {
+        if !may_meet(pair.reaches, pair.rule, r, region, gaps) {
             continue;
         }
-        let near = before_gap(gaps, rule, region);
-        visit(found, rule, pair, partners, reaches, near, r, region)?;
+        let near = before_gap(gaps, pair.rule, region);
+        visit(found, pair, partners, near, r, region)?;
     }
     Ok(())
 }
@@ -114,77 +123,67 @@ fn among(
 /// Each region of a cell with each of another, block by block; a block is passed over where its regions meet none of them.
 fn between(
     found: &mut Seq<Finding>,
-    rule: Rule,
     pair: &Pair,
     partners: &[Option<u16>],
-    reaches: &Reaches,
     blocks: &[Extents],
 ) -> Result<(), NoMemory>
     requires partners { ArePartners pair.now.one.now pair.now.other.now partners.now }
-    requires reaches { AreOf rule pair.now.b pair.now.other.now reaches.now }
+    requires reaches { AreOf pair.now.rule pair.now.b pair.now.other.now pair.now.reaches.now }
     requires same { pair.now.a ≡ pair.now.b → pair.now.one.now ≡ pair.now.other.now }
-    requires blocks { AreBlocks rule pair.now.one.now.memory_regions blocks.now }
-    ensures { OnOk result (capped found.new ≡ capped (found.old ++ between rule pair.now.a pair.now.one.now pair.now.b pair.now.other.now)) }
+    requires blocks { AreBlocks pair.now.rule pair.now.one.now.memory_regions blocks.now }
+    ensures { OnOk result (capped found.new ≡ capped (found.old ++ between pair.now.rule pair.now.a pair.now.one.now pair.now.b pair.now.other.now)) }
 {
-    let mut gaps = first_gaps(reaches);
+    let mut gaps = first_gaps(pair.reaches);
     for k in 0..blocks.len() {
         if lie_in(&gaps, blocks[k]) {
             continue;
         }
-        among(found, rule, pair, partners, reaches, BLOCK * k, &mut gaps)?;
+        among(found, pair, partners, BLOCK * k, &mut gaps)?;
     }
     Ok(())
 }
 
 /// Each region of a cell with each of another, unless the one cell's regions lie all beyond what the other's reach.
-/// `blocks` and `extents` have all regions of the one cell.
+/// The outline is that of the one cell.
 fn compare(
     alloc: Global,
     found: &mut Seq<Finding>,
-    rule: Rule,
     pair: &Pair,
-    holders: &[u16],
-    reaches: &Reaches,
-    blocks: &[Extents],
-    extents: Extents,
+    outline: &Outline,
 ) -> Result<(), NoMemory>
-    requires reaches { AreOf rule pair.now.b pair.now.other.now reaches.now }
+    requires reaches { AreOf pair.now.rule pair.now.b pair.now.other.now pair.now.reaches.now }
     requires same { pair.now.a ≡ pair.now.b → pair.now.one.now ≡ pair.now.other.now }
-    requires blocks { AreBlocks rule pair.now.one.now.memory_regions blocks.now }
-    requires extents { AreExtents rule pair.now.one.now.memory_regions extents }
-    ensures { OnOk result (capped found.new ≡ capped (found.old ++ between rule pair.now.a pair.now.one.now pair.now.b pair.now.other.now)) }
+    requires blocks { AreBlocks pair.now.rule pair.now.one.now.memory_regions outline.now.blocks.now }
+    requires extents { AreExtents pair.now.rule pair.now.one.now.memory_regions outline.now.extents }
+    ensures { OnOk result (capped found.new ≡ capped (found.old ++ between pair.now.rule pair.now.a pair.now.one.now pair.now.b pair.now.other.now)) }
 {
-    if !may_reach_into(reaches, extents) {
+    if !may_reach_into(pair.reaches, outline.extents) {
         return Ok(());
     }
-    let partners = find_partners(alloc, holders, pair.one, pair.other)?;
-    between(found, rule, pair, partners.as_slice(), reaches, blocks)
+    let partners = find_partners(alloc, outline.holders, pair.one, pair.other)?;
+    between(found, pair, partners.as_slice(), outline.blocks)
 }
 
 /// Each region of a cell with each of another, if the rule speaks of the two cells and there is room for a finding.
-/// `blocks` and `extents` have all regions of the one cell.
+/// The outline is that of the one cell.
 #[tactic(auto, using(crate::proofs::ListLemmas::append_nil, crate::proofs::ListLemmas::capped_full))]
 fn join(
     alloc: Global,
     found: &mut Seq<Finding>,
-    rule: Rule,
     pair: &Pair,
-    holders: &[u16],
-    reaches: &Reaches,
-    blocks: &[Extents],
-    extents: Extents,
+    outline: &Outline,
 ) -> Result<(), NoMemory>
-    requires reaches { AreOf rule pair.now.b pair.now.other.now reaches.now }
+    requires reaches { AreOf pair.now.rule pair.now.b pair.now.other.now pair.now.reaches.now }
     requires same { pair.now.a ≡ pair.now.b → pair.now.one.now ≡ pair.now.other.now }
-    requires blocks { AreBlocks rule pair.now.one.now.memory_regions blocks.now }
-    requires extents { AreExtents rule pair.now.one.now.memory_regions extents }
-    ensures { OnOk result (capped found.new ≡ capped (found.old ++ between rule pair.now.a pair.now.one.now pair.now.b pair.now.other.now)) }
+    requires blocks { AreBlocks pair.now.rule pair.now.one.now.memory_regions outline.now.blocks.now }
+    requires extents { AreExtents pair.now.rule pair.now.one.now.memory_regions outline.now.extents }
+    ensures { OnOk result (capped found.new ≡ capped (found.old ++ between pair.now.rule pair.now.a pair.now.one.now pair.now.b pair.now.other.now)) }
 {
     if found.len() >= MAX_FINDINGS {
         return Ok(());
     }
-    if joins(rule, pair.a, pair.b) {
-        compare(alloc, found, rule, pair, holders, reaches, blocks, extents)
+    if joins(pair.rule, pair.a, pair.b) {
+        compare(alloc, found, pair, outline)
     } else {
         Ok(())
     }
@@ -209,24 +208,21 @@ fn from_cell(
 {
     let holders = holders_of(alloc, rule, one)?;
     let blocks = blocks_of(alloc, rule, one.memory_regions.as_slice())?;
-    let extents = extents_of(blocks.as_slice());
+    let outline = Outline {
+        holders: holders.as_slice(),
+        blocks: blocks.as_slice(),
+        extents: extents_of(blocks.as_slice()),
+    };
     for b in 0..setup.count() {
         let pair = Pair {
+            rule,
             a,
             one,
             b,
             other: setup.cell(b),
+            reaches: &each[b as usize],
         };
-        join(
-            alloc,
-            found,
-            rule,
-            &pair,
-            holders.as_slice(),
-            &each[b as usize],
-            blocks.as_slice(),
-            extents,
-        )?;
+        join(alloc, found, &pair, &outline)?;
     }
     Ok(())
 }
@@ -320,12 +316,14 @@ fn across(
     let reaches = measure(alloc, rule, a, one)?;
     let blocks = blocks_of(alloc, rule, one.memory_regions.as_slice())?;
     let pair = Pair {
+        rule,
         a,
         one,
         b: a,
         other: one,
+        reaches: &reaches,
     };
-    between(found, rule, &pair, &[], &reaches, blocks.as_slice())
+    between(found, &pair, &[], blocks.as_slice())
 }
 
 /// Each region of a cell with each of its own.

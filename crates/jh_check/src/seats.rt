@@ -1,12 +1,13 @@
 //! Where the devices of all cells stand on the bus, by which those that are linked are found.
-ghost use Rattle.std.specs.Prelude.{◌≡◌, ◌≤◌, length, OnOk, IfOk, Contains};
+ghost use Rattle.std.specs.Prelude.{◌≡◌, ◌<◌, ◌≤◌, length, slice_index_or, OnOk, IfOk, IfSome, IfNone, Contains};
 ghost use Rattle.jh_cellcfg.specs.declared.config.PciDevice.{PciDevice};
+ghost use Rattle.jh_cellcfg.specs.declared.config.CellConfig.{CellConfig};
 ghost use Rattle.jh_check.specs.Private.Cells.{cells_of};
 ghost use Rattle.jh_check.specs.declared.seats.Seat.{Seat};
-ghost use Rattle.jh_check.specs.Private.Seats.{HasSeatsOf, HasSeats, AreByBdf};
+ghost use Rattle.jh_check.specs.Private.Seats.{HasSeatsOf, HasSeats, AreByBdf, IsAt};
 
 use crate::setup::Setup;
-use jh_cellcfg::PciDevice;
+use jh_cellcfg::{CellConfig, PciDevice};
 use jh_num::NoMemory;
 use std::alloc::Global;
 
@@ -17,6 +18,13 @@ pub(crate) struct Seat {
     pub(crate) id: u8,
     pub(crate) cell: u32,
     pub(crate) item: usize,
+}
+
+/// A device with the cell that has it.
+#[derive(Clone, Copy)]
+pub(crate) struct CellDevice<'a> {
+    pub(crate) cell: &'a CellConfig,
+    pub(crate) device: &'a PciDevice,
 }
 
 /// Appends the seats of a cell's devices.
@@ -57,4 +65,19 @@ pub(crate) fn at_bdf(seats: &[Seat], bdf: u16) -> &[Seat]
     let end = seats.partition_point(|seat| seat.bdf <= bdf);
     let begin = seats.partition_point(|seat| seat.bdf < bdf);
     &seats[begin.min(end)..end]
+}
+
+/// The device of the seat, with its cell. None, if the cells below that number have no device there.
+pub(crate) fn device_of<'a>(setup: &Setup<'a>, number: u32, seat: &Seat) -> Option<CellDevice<'a>>
+    requires { number ≤ length (cells_of setup.now) }
+    ensures is { IfSome result (λ there. IsAt (cells_of setup.now) seat.now there.cell.now there.device.now) }
+    ensures below { IfSome result (λ there. seat.now.cell < number) }
+    ensures none { IfNone result ((c : CellConfig) → seat.now.cell < number → length (slice_index_or (cells_of setup.now) seat.now.cell c).pci_devices ≤ seat.now.item) }
+{
+    if seat.cell >= number {
+        return None;
+    }
+    let cell = setup.cell(seat.cell);
+    let device = cell.pci_devices.as_slice().get(seat.item)?;
+    Some(CellDevice { cell, device })
 }

@@ -5,13 +5,7 @@ use Rattle.jh_cellcfg.specs.declared.config.PciDevice.{PciDevice}
 use Rattle.jh_cellcfg.specs.declared.config.CellConfig.{CellConfig}
 use Rattle.jh_check.specs.declared.seats.Seat.{Seat}
 use Rattle.jh_check.specs.Devices.{are_same_memory, sections_of, fits}
-
--- the seat is that of the device, which is of the cell
-pub record IsAt (cells : List CellConfig) (seat : Seat) (cell : CellConfig) (device : PciDevice) : Type 0 where
-  pub among : seat.cell < length cells
-  pub cell_is : slice_index_or cells seat.cell cell ≡ cell
-  pub within : seat.item < length cell.pci_devices
-  pub device_is : slice_index_or cell.pci_devices seat.item device ≡ device
+use Rattle.jh_check.specs.Private.Seats.{IsAt}
 
 -- the seat is that of the device, which is of the cell of that number
 pub record IsSeated (cells : List CellConfig) (seats : List Seat) (number : ℕ) (cell : CellConfig) (device : PciDevice) : Type 0 where

@@ -25,6 +25,13 @@ HasSeats cells seats =
 abbrev pub AreByBdf : List Seat → Type 0
 AreByBdf seats = IsNonDecreasingBy (λ (seat : Seat). seat.bdf) seats
 
+-- the seat is that of the device, which is of the cell
+pub record IsAt (cells : List CellConfig) (seat : Seat) (cell : CellConfig) (device : PciDevice) : Type 0 where
+  pub among : seat.cell < length cells
+  pub cell_is : slice_index_or cells seat.cell cell ≡ cell
+  pub within : seat.item < length cell.pci_devices
+  pub device_is : slice_index_or cell.pci_devices seat.item device ≡ device
+
 -- the device of the seat, if it is of one of so many cells, agrees with the one
 abbrev pub AgreesAt : List CellConfig → ℕ → List Region → PciDevice → Seat → Type 0
 AgreesAt cells number regions device seat =

@@ -15,7 +15,7 @@ loop-r-init c = record { gaps = c.requires.gaps; within = omega arith; found = r
 pub loop-r-preserved-then-not-may_meet : goal.loop-r-preserved-then-not-may_meet
 loop-r-preserved-then-not-may_meet c =
     let pair = c.args.pair.now in
-    let found = between_at c.args.rule pair.a pair.one.now pair.b pair.other.now in
+    let found = between_at pair.rule pair.a pair.one.now pair.b pair.other.now in
     let regions = pair.one.now.memory_regions in
     let none : Region = record { phys_start = 0; virt_start = 0; size = 0; flags = 0 } in
     let v = c.as_slice-regions.ensures.value in
@@ -27,7 +27,7 @@ loop-r-preserved-then-not-may_meet c =
     let own = own_spot pair.a pair.one.now c.loop-r.r none pair.b pair.other.now h c.requires.same in
     let told = c.may_meet.ensures.told c.if-not-may_meet.true in
     let missed = rw v at told in
-    let e : found c.loop-r.r (get_or regions c.loop-r.r none) ≡ [] = beside_unreached c.args.rule (spot pair.a pair.one.now c.loop-r.r (get_or regions c.loop-r.r none)) pair.b pair.other.now c.args.reaches.now c.requires.reaches own missed in
+    let e : found c.loop-r.r (get_or regions c.loop-r.r none) ≡ [] = beside_unreached pair.rule (spot pair.a pair.one.now c.loop-r.r (get_or regions c.loop-r.r none)) pair.b pair.other.now pair.reaches.now c.requires.reaches own missed in
     record {
       gaps = c.may_meet.ensures.gaps;
       within = omega arith;
@@ -37,7 +37,7 @@ loop-r-preserved-then-not-may_meet c =
 pub loop-r-preserved : goal.loop-r-preserved
 loop-r-preserved c =
     let pair = c.args.pair.now in
-    let found = between_at c.args.rule pair.a pair.one.now pair.b pair.other.now in
+    let found = between_at pair.rule pair.a pair.one.now pair.b pair.other.now in
     let regions = pair.one.now.memory_regions in
     let none : Region = record { phys_start = 0; virt_start = 0; size = 0; flags = 0 } in
     let v = c.as_slice-regions.ensures.value in
@@ -56,7 +56,7 @@ loop-r-preserved c =
 pub returns-clause-found : goal.returns-clause-found
 returns-clause-found c =
     let pair = c.args.pair.now in
-    let found = between_at c.args.rule pair.a pair.one.now pair.b pair.other.now in
+    let found = between_at pair.rule pair.a pair.one.now pair.b pair.other.now in
     let regions = pair.one.now.memory_regions in
     let v = c.as_slice-regions.ensures.value in
     let t = c.loop-r-test.false in

@@ -8,7 +8,7 @@ use Rattle.jh_check.proofs.pairing.among.Given as goal
 
 abbrev pub invariant-loop-r : goal.invariant-loop-r
 invariant-loop-r l = record {
-  gaps : AreGaps l.reaches l.gaps;
+  gaps : AreGaps l.pair.reaches.now l.gaps;
   within : l.r ≤ l.first + BLOCK;
-  found : capped (l.found ++ between_from l.rule l.pair.a l.pair.one.now l.pair.b l.pair.other.now l.r) ≡ capped (l.initial.found ++ between_from l.rule l.pair.a l.pair.one.now l.pair.b l.pair.other.now l.first);
+  found : capped (l.found ++ between_from l.pair.rule l.pair.a l.pair.one.now l.pair.b l.pair.other.now l.r) ≡ capped (l.initial.found ++ between_from l.pair.rule l.pair.a l.pair.one.now l.pair.b l.pair.other.now l.first);
 }

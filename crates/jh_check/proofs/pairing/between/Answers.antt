@@ -22,10 +22,10 @@ loop-k-preserved-then-lie_in c =
     let unshared = gaps.unshared _ (c.lie_in.ensures.unshared lies) in
     let t = c.loop-k-test.true in
     let e : BLOCK * (k + 1) ≡ BLOCK * k + BLOCK = omega arith in
-    let passed = block_beyond c.args.rule pair.a pair.one.now pair.b pair.other.now c.args.reaches.now (BLOCK * k) BLOCK _ c.requires.reaches c.requires.same (c.requires.blocks.each k _ (omega arith)) any unshared in
+    let passed = block_beyond pair.rule pair.a pair.one.now pair.b pair.other.now pair.reaches.now (BLOCK * k) BLOCK _ c.requires.reaches c.requires.same (c.requires.blocks.each k _ (omega arith)) any unshared in
     record {
       gaps = gaps;
-      found = ap (λ n. capped (c.loop-k.found ++ between_from c.args.rule pair.a pair.one.now pair.b pair.other.now n)) e ∙ ap (λ xs. capped (c.loop-k.found ++ xs)) (sym passed) ∙ c.loop-k.invariant.found;
+      found = ap (λ n. capped (c.loop-k.found ++ between_from pair.rule pair.a pair.one.now pair.b pair.other.now n)) e ∙ ap (λ xs. capped (c.loop-k.found ++ xs)) (sym passed) ∙ c.loop-k.invariant.found;
     }
 
 pub loop-k-preserved : goal.loop-k-preserved
@@ -34,7 +34,7 @@ loop-k-preserved c =
     let e : BLOCK * (c.loop-k.k + 1) ≡ BLOCK * c.loop-k.k + BLOCK = omega arith in
     record {
       gaps = c.in_ok-among.ensures.gaps;
-      found = ap (λ n. capped (c.among.new.found ++ between_from c.args.rule pair.a pair.one.now pair.b pair.other.now n)) e ∙ c.in_ok-among.ensures.found ∙ c.loop-k.invariant.found;
+      found = ap (λ n. capped (c.among.new.found ++ between_from pair.rule pair.a pair.one.now pair.b pair.other.now n)) e ∙ c.in_ok-among.ensures.found ∙ c.loop-k.invariant.found;
     }
 
 pub returns : goal.returns
@@ -42,4 +42,4 @@ returns c =
     let pair = c.args.pair.now in
     let t = c.loop-k-test.false in
     let enough = c.requires.blocks.enough in
-    found_done (between_at c.args.rule pair.a pair.one.now pair.b pair.other.now) pair.one.now.memory_regions (BLOCK * c.loop-k.k) c.loop-k.found _ (omega arith) c.loop-k.invariant.found
+    found_done (between_at pair.rule pair.a pair.one.now pair.b pair.other.now) pair.one.now.memory_regions (BLOCK * c.loop-k.k) c.loop-k.found _ (omega arith) c.loop-k.invariant.found

@@ -9,6 +9,6 @@ use Rattle.jh_check.proofs.pairing.between.Given as goal
 
 abbrev pub invariant-loop-k : goal.invariant-loop-k
 invariant-loop-k l = record {
-  gaps : AreGaps l.reaches l.gaps;
-  found : capped (l.found ++ between_from l.rule l.pair.a l.pair.one.now l.pair.b l.pair.other.now (BLOCK * l.k)) ≡ capped (l.initial.found ++ between l.rule l.pair.a l.pair.one.now l.pair.b l.pair.other.now);
+  gaps : AreGaps l.pair.reaches.now l.gaps;
+  found : capped (l.found ++ between_from l.pair.rule l.pair.a l.pair.one.now l.pair.b l.pair.other.now (BLOCK * l.k)) ≡ capped (l.initial.found ++ between l.pair.rule l.pair.a l.pair.one.now l.pair.b l.pair.other.now);
 }

@@ -8,7 +8,7 @@ use Rattle.jh_check.proofs.pairing.join.Goals as goal
 
 pub returns-else-joins : goal.returns-else-joins
 returns-else-joins c =
-    let rule = c.args.rule in
+    let rule = c.args.pair.now.rule in
     let one = c.args.pair.now.one.now in
     let other = c.args.pair.now.other.now in
     let t = c.joins.ensures in

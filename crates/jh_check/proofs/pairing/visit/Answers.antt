@@ -6,4 +6,4 @@ use Rattle.jh_check.proofs.pairing.visit.Goals as goal
 pub beside-requires-clause-hits : goal.beside-requires-clause-hits
 beside-requires-clause-hits c =
     let pair = c.args.pair.now in
-    window_hits c.args.rule (spot pair.a pair.one.now c.args.item c.args.region.now) pair.b pair.other.now c.args.reaches.now c.find_window-window.result c.requires.reaches c.requires.own c.find_window-window.ensures.behind c.find_window-window.ensures.told
+    window_hits pair.rule (spot pair.a pair.one.now c.args.item c.args.region.now) pair.b pair.other.now pair.reaches.now c.find_window-window.result c.requires.reaches c.requires.own c.find_window-window.ensures.behind c.find_window-window.ensures.told
