@@ -135,22 +135,23 @@ fn put<T: Drop>(list: &mut Vec<T>, index: usize, element: T)
     }
 }
 
-/// Drops the endpoint of the device.
-fn drop_endpoint(endpoints: &mut Vec<Endpoint>, cell: u32, device: u32)
+/// Drops the endpoint of the device and its key.
+fn drop_endpoint(endpoints: &mut Vec<Endpoint>, keys: &mut Vec<Key>, cell: u32, device: u32)
+    requires kept { AreKept endpoints.old.items keys.old.items }
     ensures list { endpoints.new.items ≡ filter (λ (e : Endpoint). not (is_device cell device e.spec)) endpoints.old.items }
+    ensures kept { AreKept endpoints.new.items keys.new.items }
     ensures len { vec_len endpoints.new ≤ vec_len endpoints.old }
+    ensures key_len { vec_len keys.new ≤ vec_len keys.old }
     ensures capacity { vec_capacity endpoints.new ≡ vec_capacity endpoints.old }
+    ensures key_capacity { vec_capacity keys.new ≡ vec_capacity keys.old }
 {
-    endpoints.retain(|e| !(e.spec.cell == cell && e.spec.device == device));
-}
-
-/// Drops the keys whose endpoints are meant.
-fn drop_key(keys: &mut Vec<Key>, whom: Whom)
-    ensures list { keys.new.items ≡ filter (λ (key : Key). not (is_key_meant whom key)) keys.old.items }
-    ensures len { vec_len keys.new ≤ vec_len keys.old }
-    ensures capacity { vec_capacity keys.new ≡ vec_capacity keys.old }
-{
-    keys.retain(|key| !key.is_meant(whom));
+    match key_index(keys, cell, device) {
+        Some(i) => {
+            let _ = endpoints.remove(i);
+            let _ = keys.remove(i);
+        }
+        None => {}
+    }
 }
 
 /// Whether the register is the doorbell of BAR 0.
@@ -285,8 +286,7 @@ impl Endpoints {
         ensures spare { self.old.spare ≤ self.new.spare }
     {
         let slot = self.tell(cell, device, 0);
-        drop_endpoint(&mut self.endpoints, cell, device);
-        drop_key(&mut self.keys, Whom::Device { cell, device });
+        drop_endpoint(&mut self.endpoints, &mut self.keys, cell, device);
         slot
     }
 
