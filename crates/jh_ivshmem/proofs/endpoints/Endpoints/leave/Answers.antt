@@ -17,7 +17,7 @@ returns-clause-list c = λ e named.
     c.args.cell c.args.device c.args.self.now.list e named
     (c.drop_endpoint.ensures.list
     ∙ ap (filter (λ (o : Endpoint). not (is_device c.args.cell c.args.device o.spec)))
-    (ap (λ (seen : EndpointsView). seen.list) c.self.view_is ∙ c.tell-slot.ensures.list e named))
+    (ap (λ (seen : EndpointsView). seen.list) c.self.view_is ∙ c.tell-word.ensures.list e named))
 
 pub returns-clause-others : goal.returns-clause-others
 returns-clause-others c = λ e named. ap (besides (is_concerned e.spec)) (returns-clause-list c e named) ∙ besides_left e c.args.self.now.list
