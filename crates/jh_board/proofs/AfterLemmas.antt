@@ -36,7 +36,7 @@ use Rattle.jh_board.specs.declared.indexed.ProgramIndex.{ProgramIndex}
 use Rattle.jh_board.specs.Indexed.{AreProgramIndices}
 use Rattle.jh_board.specs.Pages.{byte_of, HoldsComm, MemoryView}
 use Rattle.jh_board.specs.Private.Pages.{MayHold}
-use Rattle.jh_board.specs.Means.{Means, HoldsPageOf, HoldsWords, IsReadyToGoOn, IsReadyIn, IsReadyFor}
+use Rattle.jh_board.specs.Means.{Means, HoldsPageOf, HoldsWordsOf, IsReadyToGoOn, IsReadyIn, IsReadyFor}
 use Rattle.jh_board.specs.Private.Steps.{NeedsNothingYet, MayWrite, MayWriteOf, MayJoinCells, IsPrepared}
 use Rattle.jh_board.proofs.KeptLemmas.{KeepsPages, comms_kept, words_kept, all_words_kept}
 use Rattle.jh_board.proofs.MadeLemmas.{ready_written}
@@ -279,8 +279,8 @@ Means_made image old mid new f entry coming prepared written called =
           (if_some (created_by f.call act) (λ (config : CellConfig). HoldsComm new.memory.comms config.id) (λ config made.
           let coming = created_is f.call act config made in
           comms_kept old.memory new.memory config.id pages (ready_coming old f.call coming.begun config means.ready coming.is coming.phase).page));
-      words = all_made (λ (config : CellConfig). HoldsWords new config) f.call f.cells act (all_words_kept old new f.cells pages means.words)
-          (if_some (created_by f.call act) (λ (config : CellConfig). HoldsWords new config) (λ config made.
+      words = all_made (λ (config : CellConfig). HoldsWordsOf new config) f.call f.cells act (all_words_kept old new f.cells pages means.words)
+          (if_some (created_by f.call act) (λ (config : CellConfig). HoldsWordsOf new config) (λ config made.
           let coming = created_is f.call act config made in
           words_kept old.memory new.memory (specs_of config) pages (ready_coming old f.call coming.begun config means.ready coming.is coming.phase).words));
       root_words = words_kept old.memory new.memory (specs_of image.system.root) pages means.root_words;

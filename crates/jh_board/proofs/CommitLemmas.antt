@@ -9,8 +9,8 @@ use Rattle.jh_cellcfg.specs.declared.live.Live.{Live}
 use Rattle.jh_cellcfg.specs.Lives.{has_id}
 use Rattle.jh_ivshmem.specs.declared.endpoint.Endpoint.{Endpoint}
 use Rattle.jh_ivshmem.specs.declared.spec.EndpointSpec.{EndpointSpec}
-use Rattle.jh_ivshmem.specs.declared.spec.Slot.{Slot}
-use Rattle.jh_ivshmem.specs.Specs.{IsInItsLimits, slot_of}
+use Rattle.jh_ivshmem.specs.declared.spec.EndpointWord.{EndpointWord}
+use Rattle.jh_ivshmem.specs.Specs.{IsInItsLimits, endpoint_word_of}
 use Rattle.jh_call.specs.declared.call.Call.{Call}
 use Rattle.jh_call.specs.declared.call.Call.TheVariants.{Create, Start, Loadable, Destroy, Info, State, CpuInfo, Unknown}
 use Rattle.jh_script.specs.declared.image.Image.{Image}
@@ -20,7 +20,7 @@ use Rattle.jh_history.specs.declared.device_change.DeviceChange.TheVariants.{Joi
 use Rattle.jh_history.specs.declared.entry.Act.{Act}
 use Rattle.jh_history.specs.declared.entry.Act.TheVariants.{Read, Write, Fetch, Await, Irq, Hvc, Begin, Stop, Decide, Settle, Commit, Note, Noted, Finish}
 use Rattle.jh_history.specs.declared.place.Place.TheVariants.{Physical}
-use Rattle.jh_history.specs.Access.{slot_of_reach}
+use Rattle.jh_history.specs.Access.{endpoint_word_of_reach}
 use Rattle.jh_history.specs.Devices.{Devices, devices_in, specs_of}
 use Rattle.jh_history.specs.DueFacts.{IsWordOf}
 use Rattle.jh_history.specs.Endpoints.{device_change, changing, changing_at, changing_by, change_by, MayChange}
@@ -31,9 +31,9 @@ use Rattle.jh_shape.specs.Lives.{configs_of}
 use Rattle.jh_history.specs.Places.{places_in_row}
 use Rattle.jh_history.specs.Sound.{IsSound, IsOfDevice}
 use Rattle.jh_board.specs.declared.held.Held.{Held}
-use Rattle.jh_board.specs.Means.{Means, HoldsWords}
-use Rattle.jh_board.specs.Pages.{MemoryView, HoldsPlace, HoldsSlot, HoldsWord}
-use Rattle.jh_board.specs.Private.Steps.{devices_held, slot_after, MayPut, MayWriteSlot, MayCommitDevices, MayCommit}
+use Rattle.jh_board.specs.Means.{Means, HoldsWordsOf}
+use Rattle.jh_board.specs.Pages.{MemoryView, HoldsPlace, HoldsEndpointWord, HoldsWordOf}
+use Rattle.jh_board.specs.Private.Steps.{devices_held, endpoint_word_after, MayPut, MayWriteEndpointWord, MayCommitDevices, MayCommit}
 use Rattle.jh_board.proofs.ActedLemmas.{word_acted}
 use Rattle.jh_board.proofs.AfterLemmas.{if_some, IsComing, created_phase, ready_coming}
 use Rattle.jh_board.proofs.KeptLemmas.{KeepsPages, words_kept}
@@ -41,35 +41,35 @@ use Rattle.jh_board.proofs.KeptLemmas.{KeepsPages, words_kept}
 -- ---- words that are held
 
 -- those of the devices of each cell
-words_of_cell : (image : Image) (held : Held) (f : Facts) (config : CellConfig) → Means image held f → Contains (image.system.root ∷ configs_of f.cells) config → HoldsWords held config
+words_of_cell : (image : Image) (held : Held) (f : Facts) (config : CellConfig) → Means image held f → Contains (image.system.root ∷ configs_of f.cells) config → HoldsWordsOf held config
 words_of_cell image held f config means h =
-    let P : CellConfig → Type 0 = HoldsWords held in
+    let P : CellConfig → Type 0 = HoldsWordsOf held in
     ⊎_elim
     (λ (own : image.system.root ≡ config). subst P own means.root_words)
     (λ (other : Contains (configs_of f.cells) config). All-contains P (configs_of f.cells) config (All-map P (λ (live : Live). live.config) f.cells means.words) other)
     (Contains_cases image.system.root (configs_of f.cells) config h)
 
 -- that of each endpoint
-word_held : (image : Image) (held : Held) (f : Facts) (e : Endpoint) → Means image held f → IsSound image f → Contains f.endpoints e → HoldsWord held.memory e.spec
+word_held : (image : Image) (held : Held) (f : Facts) (e : Endpoint) → Means image held f → IsSound image f → Contains f.endpoints e → HoldsWordOf held.memory e.spec
 word_held image held f e means sound there =
     let own : IsOfDevice image (configs_of f.cells) e.spec = All-contains (λ (o : Endpoint). IsOfDevice image (configs_of f.cells) o.spec) f.endpoints e sound.endpoints.own there in
-    All-contains (HoldsWord held.memory) (specs_of own.0) e.spec (words_of_cell image held f own.0 means own.1) own.2
+    All-contains (HoldsWordOf held.memory) (specs_of own.0) e.spec (words_of_cell image held f own.0 means own.1) own.2
 
-slot_held : (memory : MemoryView) (slot : Slot) (spec : EndpointSpec) → IsInItsLimits spec → slot ≡ slot_of spec slot.value → HoldsWord memory spec → (slot.place + 4 < 2 ^ 64) × HoldsSlot memory slot
-slot_held memory slot spec within is word =
-    let place : slot.place ≡ spec.table + 4 * spec.id = ap (λ (s : Slot). s.place) is in
+endpoint_word_held : (memory : MemoryView) (word : EndpointWord) (spec : EndpointSpec) → IsInItsLimits spec → word ≡ endpoint_word_of spec word.value → HoldsWordOf memory spec → (word.place + 4 < 2 ^ 64) × HoldsEndpointWord memory word
+endpoint_word_held memory word spec within is there =
+    let place : word.place ≡ spec.table + 4 * spec.id = ap (λ (s : EndpointWord). s.place) is in
     let own = within.id in
     let few = within.peers in
     let table = within.table in
     let P : ℕ → Type 0 = λ p. All (HoldsPlace memory) (places_in_row (Physical p) 4) in
-    (omega arith, subst P (sym place) word)
+    (omega arith, subst P (sym place) there)
 
-may_put : (image : Image) (held : Held) (memory : MemoryView) (f : Facts) (slot : Option Slot) → Means image held f → IsSound image f → KeepsPages held.memory memory → IfSome slot (IsWordOf f.endpoints) → MayPut memory slot
+may_put : (image : Image) (held : Held) (memory : MemoryView) (f : Facts) (word : Option EndpointWord) → Means image held f → IsSound image f → KeepsPages held.memory memory → IfSome word (IsWordOf f.endpoints) → MayPut memory word
 may_put image held memory f None means sound pages h = tt
-may_put image held memory f (Some slot) means sound pages h =
-    let word : HoldsWord held.memory h.endpoint.spec = word_held image held f h.endpoint means sound h.there in
-    slot_held memory slot h.endpoint.spec h.within h.is
-    (All-weaker (HoldsPlace held.memory) (HoldsPlace memory) pages (places_in_row (Physical (slot_of h.endpoint.spec 0).place) 4) word)
+may_put image held memory f (Some word) means sound pages h =
+    let there : HoldsWordOf held.memory h.endpoint.spec = word_held image held f h.endpoint means sound h.there in
+    endpoint_word_held memory word h.endpoint.spec h.within h.is
+    (All-weaker (HoldsPlace held.memory) (HoldsPlace memory) pages (places_in_row (Physical (endpoint_word_of h.endpoint.spec 0).place) 4) there)
 
 -- the devices of a cell by what is held are those by the facts
 pub same_devices : (image : Image) (held : Held) (f : Facts) (id : ℕ) → held.cells.lives ≡ f.cells → held.endpoints.list ≡ f.endpoints → devices_held image held id ≡ devices_of image f id
@@ -77,12 +77,12 @@ same_devices image held f id cells endpoints =
     ap (λ (cs : List Live). devices_in image cs held.endpoints.list id) cells ∙ ap (λ (es : List Endpoint). devices_in image f.cells es id) endpoints
 
 -- the word that the act writes may be written
-pub may_write_slot : (image : Image) (held mid : Held) (f : Facts) (id : ℕ) (act : Act) (found : Reach) → Means image held f → IsSound image f → mid.cells ≡ held.cells → mid.endpoints ≡ held.endpoints → KeepsPages held.memory mid.memory
-    → ((value : ℕ) → IfSome (slot_of_reach (devices_of image f id) found value) (IsWordOf f.endpoints)) → MayWriteSlot image mid id act found
-may_write_slot image held mid f id act found means sound cells endpoints pages word =
-    let P : Devices → Type 0 = λ devices. MayPut mid.memory (slot_after devices act found) in
+pub may_write_endpoint_word : (image : Image) (held mid : Held) (f : Facts) (id : ℕ) (act : Act) (found : Reach) → Means image held f → IsSound image f → mid.cells ≡ held.cells → mid.endpoints ≡ held.endpoints → KeepsPages held.memory mid.memory
+    → ((value : ℕ) → IfSome (endpoint_word_of_reach (devices_of image f id) found value) (IsWordOf f.endpoints)) → MayWriteEndpointWord image mid id act found
+may_write_endpoint_word image held mid f id act found means sound cells endpoints pages word =
+    let P : Devices → Type 0 = λ devices. MayPut mid.memory (endpoint_word_after devices act found) in
     let same : devices_held image mid id ≡ devices_of image f id = same_devices image mid f id (rw cells means.cells) (rw endpoints means.endpoints) in
-    subst P (sym same) (may_put image held mid.memory f (slot_after (devices_of image f id) act found) means sound pages (word_acted (IsWordOf f.endpoints) (devices_of image f id) act found word))
+    subst P (sym same) (may_put image held mid.memory f (endpoint_word_after (devices_of image f id) act found) means sound pages (word_acted (IsWordOf f.endpoints) (devices_of image f id) act found word))
 
 -- ---- the devices that a Commit changes
 
@@ -142,9 +142,9 @@ config_has Q (Some live) config is h = subst Q (same_Some live.config config is)
 All_from_find : {X : Type 0} (p : X → Bool) (Q : X → Type 0) (xs : List X) (x : X) → find p xs ≡ Some x → All Q xs → Q x
 All_from_find p Q xs x e all = All-contains Q xs x all (IsFound_from_find p xs x e).held
 
-live_words : (held : Held) (cells : List Live) (id : ℕ) (config : CellConfig) → All (λ (live : Live). HoldsWords held live.config) cells → live_in cells id ≡ Some config → HoldsWords held config
+live_words : (held : Held) (cells : List Live) (id : ℕ) (config : CellConfig) → All (λ (live : Live). HoldsWordsOf held live.config) cells → live_in cells id ≡ Some config → HoldsWordsOf held config
 live_words held cells id config all lives =
-    let Q : CellConfig → Type 0 = HoldsWords held in
+    let Q : CellConfig → Type 0 = HoldsWordsOf held in
     config_has Q (find (has_id id) cells) config lives (λ live found. All_from_find (has_id id) (λ (l : Live). Q l.config) cells live found all)
 
 -- what is held before devices change, and after memory has and other devices may have

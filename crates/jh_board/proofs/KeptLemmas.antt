@@ -7,7 +7,7 @@ use Rattle.jh_cellcfg.specs.declared.config.CellConfig.{CellConfig}
 use Rattle.jh_cellcfg.specs.declared.live.Live.{Live}
 use Rattle.jh_cpu.specs.declared.cpu.Cpu.{Cpu}
 use Rattle.jh_ivshmem.specs.declared.spec.EndpointSpec.{EndpointSpec}
-use Rattle.jh_ivshmem.specs.Specs.{slot_of}
+use Rattle.jh_ivshmem.specs.Specs.{endpoint_word_of}
 use Rattle.jh_script.specs.declared.image.Image.{Image}
 use Rattle.jh_history.specs.declared.call.OpenCall.{OpenCall}
 use Rattle.jh_history.specs.declared.call.Phase.{Phase}
@@ -20,8 +20,8 @@ use Rattle.jh_history.specs.Facts.{Facts}
 use Rattle.jh_board.specs.declared.held.Held.{Held}
 use Rattle.jh_board.specs.declared.indexed.ProgramIndex.{ProgramIndex}
 use Rattle.jh_board.specs.Indexed.{AreProgramIndices}
-use Rattle.jh_board.specs.Pages.{byte_of, HoldsComm, HoldsPlace, HoldsWord, MemoryView}
-use Rattle.jh_board.specs.Means.{Means, HoldsPageOf, HoldsWords, IsReadyFor, IsReadyIn, IsReadyToGoOn}
+use Rattle.jh_board.specs.Pages.{byte_of, HoldsComm, HoldsPlace, HoldsWordOf, MemoryView}
+use Rattle.jh_board.specs.Means.{Means, HoldsPageOf, HoldsWordsOf, IsReadyFor, IsReadyIn, IsReadyToGoOn}
 
 -- the pages that are held stay so
 abbrev pub KeepsPages : MemoryView → MemoryView → Type 0
@@ -32,9 +32,9 @@ pub comms_kept : (old new : MemoryView) (cell : ℕ) → KeepsPages old new → 
 comms_kept old new cell pages h = let first : 0 < 4096 = omega arith in (pages (Page cell 0) (h, first)).0
 
 -- and those of the words of devices
-pub words_kept : (old new : MemoryView) (specs : List EndpointSpec) → KeepsPages old new → All (HoldsWord old) specs → All (HoldsWord new) specs
+pub words_kept : (old new : MemoryView) (specs : List EndpointSpec) → KeepsPages old new → All (HoldsWordOf old) specs → All (HoldsWordOf new) specs
 words_kept old new specs pages h =
-    All-weaker (HoldsWord old) (HoldsWord new) (λ spec word. All-weaker (HoldsPlace old) (HoldsPlace new) pages (places_in_row (Physical (slot_of spec 0).place) 4) word) specs h
+    All-weaker (HoldsWordOf old) (HoldsWordOf new) (λ spec word. All-weaker (HoldsPlace old) (HoldsPlace new) pages (places_in_row (Physical (endpoint_word_of spec 0).place) 4) word) specs h
 
 pub ready_for_kept : (old new : Held) (config : CellConfig) → new.index ≡ old.index → new.cells ≡ old.cells → old.endpoints.spare ≤ new.endpoints.spare → KeepsPages old.memory new.memory → IsReadyFor old config → IsReadyFor new config
 ready_for_kept old new config index cells spare pages h = record {
@@ -62,9 +62,9 @@ ready_kept old new (Some o) index cells spare pages h = ready_in_kept old new o.
 pub pages_kept : (old new : Held) (cells : List Live) → KeepsPages old.memory new.memory → All (HoldsPageOf old) cells → All (HoldsPageOf new) cells
 pages_kept old new cells pages h = All-weaker (HoldsPageOf old) (HoldsPageOf new) (λ live. comms_kept old.memory new.memory live.config.id pages) cells h
 
-pub all_words_kept : (old new : Held) (cells : List Live) → KeepsPages old.memory new.memory → All (λ (live : Live). HoldsWords old live.config) cells → All (λ (live : Live). HoldsWords new live.config) cells
+pub all_words_kept : (old new : Held) (cells : List Live) → KeepsPages old.memory new.memory → All (λ (live : Live). HoldsWordsOf old live.config) cells → All (λ (live : Live). HoldsWordsOf new live.config) cells
 all_words_kept old new cells pages h =
-    All-weaker (λ (live : Live). HoldsWords old live.config) (λ (live : Live). HoldsWords new live.config) (λ live. words_kept old.memory new.memory (specs_of live.config) pages) cells h
+    All-weaker (λ (live : Live). HoldsWordsOf old live.config) (λ (live : Live). HoldsWordsOf new live.config) (λ live. words_kept old.memory new.memory (specs_of live.config) pages) cells h
 
 pub Means_kept : (image : Image) (old new : Held) (f : Facts) → ((q : Place) → byte_of new.memory q ≡ byte_of old.memory q) → KeepsPages old.memory new.memory → new.cpus ≡ old.cpus
     → new.cells.system ≡ old.cells.system → new.cells.lives ≡ old.cells.lives → new.programs ≡ old.programs → new.endpoints.list ≡ old.endpoints.list → new.call ≡ old.call → IsReadyToGoOn new f.call → Means image old f → Means image new f

@@ -17,7 +17,7 @@ use Rattle.jh_board.specs.declared.held.Held.{Held}
 use Rattle.jh_board.specs.Indexed.{AreProgramIndices}
 use Rattle.jh_board.specs.Pages.{byte_of, comm_byte, MemoryView}
 use Rattle.jh_num.specs.Pages.{paged_byte}
-use Rattle.jh_board.specs.Means.{Means, HoldsPageOf, HoldsWords}
+use Rattle.jh_board.specs.Means.{Means, HoldsPageOf, HoldsWordsOf}
 
 -- an element of equal elements
 pub slice_get_replicate : {X : Type 0} (n i : ℕ) (x : X) → i < n → slice_get (replicate n x) i ≡ Some x
@@ -25,7 +25,7 @@ slice_get_replicate n i x lt = slice_get-get_or (replicate n x) i x (rw (length-
 
 -- what is held at opening
 pub Means_opened : (image : Image) (held : Held) (cpu : Cpu) → ((q : Place) → byte_of held.memory q ≡ (start image).byte q) → held.cpus ≡ replicate 16 cpu → ((i : ℕ) → cpu ≡ (start image).cpu i)
-    → held.cells.system ≡ image.system → held.cells.lives ≡ [] → AreProgramIndices image [] held.programs → held.endpoints.list ≡ (start image).endpoints → HoldsWords held image.system.root → held.call ≡ None → Means image held (facts image [])
+    → held.cells.system ≡ image.system → held.cells.lives ≡ [] → AreProgramIndices image [] held.programs → held.endpoints.list ≡ (start image).endpoints → HoldsWordsOf held image.system.root → held.call ≡ None → Means image held (facts image [])
 Means_opened image held cpu bytes cpus same system alone programs joined words closed = rw (facts_nil image) (record {
   bytes = bytes;
   cpus = λ i lt. ap (λ (states : List Cpu). slice_get states i) cpus ∙ slice_get_replicate 16 i cpu lt ∙ ap Some (same i);
@@ -34,7 +34,7 @@ Means_opened image held cpu bytes cpus same system alone programs joined words c
   endpoints = joined;
   call = closed;
   pages = All-from_recursion (HoldsPageOf held) [] tt;
-  words = All-from_recursion (λ (live : Live). HoldsWords held live.config) [] tt;
+  words = All-from_recursion (λ (live : Live). HoldsWordsOf held live.config) [] tt;
   root_words = words;
   named = All-from_recursion (λ (live : Live). NamesCpu live.config) [] tt;
   programs = programs;

@@ -11,7 +11,7 @@ use Rattle.jh_history.specs.DueFacts.{NamesCpu}
 use Rattle.jh_history.specs.Devices.{specs_of}
 use Rattle.jh_history.specs.Facts.{Facts}
 use Rattle.jh_board.specs.Indexed.{AreProgramIndices}
-use Rattle.jh_board.specs.Pages.{byte_of, HoldsComm, HoldsWord}
+use Rattle.jh_board.specs.Pages.{byte_of, HoldsComm, HoldsWordOf}
 use Rattle.jh_board.specs.declared.held.Held.{Held}
 
 -- the communication page of the cell is held
@@ -19,8 +19,8 @@ abbrev pub HoldsPageOf : Held → Live → Type 0
 HoldsPageOf held live = HoldsComm held.memory.comms live.config.id
 
 -- the pages of the words of the cell's devices in their state tables are held
-abbrev pub HoldsWords : Held → CellConfig → Type 0
-HoldsWords held config = All (HoldsWord held.memory) (specs_of config)
+abbrev pub HoldsWordsOf : Held → CellConfig → Type 0
+HoldsWordsOf held config = All (HoldsWordOf held.memory) (specs_of config)
 
 -- what is held has all that the cell takes when it comes: the index of its regions, room for it, its page, and for its
 -- devices room among the endpoints and the pages of their words
@@ -30,7 +30,7 @@ pub record IsReadyFor (held : Held) (config : CellConfig) : Type 0 where
   pub regions : length config.memory_regions ≤ held.cells.regions
   pub page : HoldsComm held.memory.comms config.id
   pub endpoints : length (specs_of config) ≤ held.endpoints.spare
-  pub words : HoldsWords held config
+  pub words : HoldsWordsOf held config
 
 -- what is held is ready for what the phase goes on to do: for the cell that a create is about to make
 abbrev pub IsReadyIn : Held → Phase → Type 0
@@ -51,8 +51,8 @@ pub record Means (image : Image) (held : Held) (facts : Facts) : Type 0 where
   pub endpoints : held.endpoints.list ≡ facts.endpoints
   pub call : held.call ≡ facts.call
   pub pages : All (HoldsPageOf held) facts.cells
-  pub words : All (λ (live : Live). HoldsWords held live.config) facts.cells
-  pub root_words : HoldsWords held image.system.root
+  pub words : All (λ (live : Live). HoldsWordsOf held live.config) facts.cells
+  pub root_words : HoldsWordsOf held image.system.root
   pub named : All (λ (live : Live). NamesCpu live.config) facts.cells
   pub programs : AreProgramIndices image facts.cells held.programs
   pub ready : IsReadyToGoOn held facts.call

@@ -1,27 +1,27 @@
 //! What entries do to the devices of a board.
 ghost use Rattle.std.specs.Prelude.{◌≡◌, ◌≤◌, ◌<◌, ◌+◌, ◌^◌, All, IfSome, OnOk, length};
 ghost use Rattle.std.specs.Option.{option_to_list};
-ghost use Rattle.jh_ivshmem.specs.Specs.{IsInItsLimits, slot_of};
-ghost use Rattle.jh_ivshmem.specs.declared.spec.Slot.{Slot as TheSlot};
+ghost use Rattle.jh_ivshmem.specs.Specs.{IsInItsLimits, endpoint_word_of};
+ghost use Rattle.jh_ivshmem.specs.declared.spec.EndpointWord.{EndpointWord as TheEndpointWord};
 ghost use Rattle.jh_history.specs.declared.place.Place.{Place as ThePlace};
 ghost use Rattle.jh_history.specs.declared.device_change.DeviceChange.TheVariants.{Join as Joins};
-ghost use Rattle.jh_history.specs.Access.{with_slot_if};
+ghost use Rattle.jh_history.specs.Access.{with_endpoint_word_if};
 ghost use Rattle.jh_history.specs.Devices.{specs_of, specs_at};
 ghost use Rattle.jh_history.specs.Endpoints.{endpoints_changed, with_words, HasGoodDevices, MayJoinThem, MayChange};
-ghost use Rattle.jh_board.specs.Pages.{byte_of, HoldsPlace, HoldsSlot, HoldsWord};
+ghost use Rattle.jh_board.specs.Pages.{byte_of, HoldsPlace, HoldsEndpointWord, HoldsWordOf};
 
 use crate::memory::Memory;
 use jh_cellcfg::CellConfig;
 use jh_history::{DeviceChange, endpoint_of};
-use jh_ivshmem::{EndpointSpec, Endpoints, Slot};
+use jh_ivshmem::{EndpointSpec, EndpointWord, Endpoints};
 use jh_num::NoMemory;
 
 /// The endpoint's word of its state table, with the value 0.
-fn cleared_word(spec: &EndpointSpec) -> Slot
+fn cleared_word(spec: &EndpointSpec) -> EndpointWord
     requires { IsInItsLimits spec.now }
-    ensures { result ≡ slot_of spec.now 0 }
+    ensures { result ≡ endpoint_word_of spec.now 0 }
 {
-    Slot {
+    EndpointWord {
         place: spec.table + 4 * u64::from(spec.id),
         value: 0,
     }
@@ -42,11 +42,11 @@ fn hold_device(memory: &mut Memory, config: &CellConfig, number: usize) -> Resul
     requires good { HasGoodDevices config.now }
     requires within { All IsInItsLimits (specs_at config.now number) }
     ensures bytes { (q : ThePlace) → byte_of memory.new q ≡ byte_of memory.old q }
-    ensures held { OnOk result (All (HoldsWord memory.new) (specs_at config.now number)) }
+    ensures held { OnOk result (All (HoldsWordOf memory.new) (specs_at config.now number)) }
     ensures others { (q : ThePlace) → HoldsPlace memory.old q → HoldsPlace memory.new q }
 {
     match spec_at(config, number) {
-        Some(spec) => memory.hold_slot(&cleared_word(&spec)),
+        Some(spec) => memory.hold_endpoint_word(&cleared_word(&spec)),
         None => Ok(()),
     }
 }
@@ -64,7 +64,7 @@ pub fn prepare_devices(
     ensures room { OnOk result (length (specs_of config.now) ≤ endpoints.new.spare) }
     ensures spare { endpoints.old.spare ≤ endpoints.new.spare }
     ensures bytes { (q : ThePlace) → byte_of memory.new q ≡ byte_of memory.old q }
-    ensures held { OnOk result (All (HoldsWord memory.new) (specs_of config.now)) }
+    ensures held { OnOk result (All (HoldsWordOf memory.new) (specs_of config.now)) }
     ensures others { (q : ThePlace) → HoldsPlace memory.old q → HoldsPlace memory.new q }
 {
     endpoints.reserve(config.pci_devices.len())?;
@@ -88,7 +88,7 @@ fn change_device(
     requires within { All IsInItsLimits (specs_at config.now number) }
     requires new { change ≡ Joins → All (MayJoinThem endpoints.old.list) (specs_at config.now number) }
     requires room { change ≡ Joins → length (specs_at config.now number) ≤ endpoints.old.spare }
-    requires held { All (HoldsWord memory.old) (specs_at config.now number) }
+    requires held { All (HoldsWordOf memory.old) (specs_at config.now number) }
     ensures bytes { (q : ThePlace) → byte_of memory.new q ≡ with_words (specs_at config.now number) (byte_of memory.old) q }
     ensures list { endpoints.new.list ≡ endpoints_changed change (specs_at config.now number) endpoints.old.list }
     ensures spare { endpoints.old.spare ≤ endpoints.new.spare + length (specs_at config.now number) }
@@ -98,7 +98,7 @@ fn change_device(
         return;
     };
     match change.apply(endpoints, spec) {
-        Ok(slot) => memory.write_slot(&slot),
+        Ok(word) => memory.write_endpoint_word(&word),
         // there is room, and the device may change
         Err(_) => unreachable!(),
     }
@@ -113,7 +113,7 @@ pub fn change_devices(
 )
     requires may { MayChange change endpoints.old.list config.now }
     requires room { change ≡ Joins → length (specs_of config.now) ≤ endpoints.old.spare }
-    requires held { All (HoldsWord memory.old) (specs_of config.now) }
+    requires held { All (HoldsWordOf memory.old) (specs_of config.now) }
     ensures bytes { (q : ThePlace) → byte_of memory.new q ≡ with_words (specs_of config.now) (byte_of memory.old) q }
     ensures list { endpoints.new.list ≡ endpoints_changed change (specs_of config.now) endpoints.old.list }
     ensures held { (q : ThePlace) → HoldsPlace memory.old q → HoldsPlace memory.new q }
@@ -124,13 +124,13 @@ pub fn change_devices(
 }
 
 /// Writes the word of a state table, where there is one to write. It takes no memory.
-pub fn write_slot_if(memory: &mut Memory, slot: Option<Slot>)
-    requires small { IfSome slot (λ (s : TheSlot). s.place + 4 < 2 ^ 64) }
-    requires held { IfSome slot (HoldsSlot memory.old) }
-    ensures bytes { (q : ThePlace) → byte_of memory.new q ≡ with_slot_if slot (byte_of memory.old) q }
+pub fn write_endpoint_word_if(memory: &mut Memory, word: Option<EndpointWord>)
+    requires small { IfSome word (λ (s : TheEndpointWord). s.place + 4 < 2 ^ 64) }
+    requires held { IfSome word (HoldsEndpointWord memory.old) }
+    ensures bytes { (q : ThePlace) → byte_of memory.new q ≡ with_endpoint_word_if word (byte_of memory.old) q }
     ensures held { (q : ThePlace) → HoldsPlace memory.old q → HoldsPlace memory.new q }
 {
-    if let Some(slot) = &slot {
-        memory.write_slot(slot);
+    if let Some(word) = &word {
+        memory.write_endpoint_word(word);
     }
 }

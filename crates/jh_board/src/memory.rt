@@ -2,17 +2,17 @@
 ghost use Rattle.std.specs.Prelude.{◌≡◌, ℕ, ◌+◌, ◌%◌, ◌<◌, ◌≤◌, ◌^◌, ◌++◌, OnOk, OnErr, IfSome, length, map, List, All};
 ghost use Rattle.jh_num.specs.Memory.{spelled, stored};
 ghost use Rattle.jh_history.specs.declared.place.Place.{Place as ThePlace};
-ghost use Rattle.jh_history.specs.Access.{with_slot};
+ghost use Rattle.jh_history.specs.Access.{with_endpoint_word};
 ghost use Rattle.jh_history.specs.Pages.{with_page};
 ghost use Rattle.jh_history.specs.Places.{number_of, places_in_row, places_of_row, IsRow, with_byte, written, overlaid};
-ghost use Rattle.jh_board.specs.Pages.{byte_of, HoldsComm, HoldsPlace, HoldsSlot};
+ghost use Rattle.jh_board.specs.Pages.{byte_of, HoldsComm, HoldsPlace, HoldsEndpointWord};
 ghost use Rattle.jh_board.specs.Private.Pages.{MayHold};
 ghost use Rattle.jh_num.specs.Pages.{paged_byte};
 
 use crate::comm_pages::{CommPages, Word};
 use crate::physical::{Physical, Piece};
-use jh_history::{Bytes, PageWrite, Place, Places, Row, slot_places, value_of};
-use jh_ivshmem::Slot;
+use jh_history::{Bytes, PageWrite, Place, Places, Row, endpoint_word_places, value_of};
+use jh_ivshmem::EndpointWord;
 use jh_num::{NoMemory, PAGE_SIZE};
 use std::alloc::Global;
 use std::marker::Model;
@@ -218,23 +218,23 @@ impl Memory {
     }
 
     /// Holds the pages of the word of a state table. No byte changes.
-    pub fn hold_slot(&mut self, slot: &Slot) -> Result<(), NoMemory>
-        requires { slot.now.place + 4 < 2 ^ 64 }
+    pub fn hold_endpoint_word(&mut self, word: &EndpointWord) -> Result<(), NoMemory>
+        requires { word.now.place + 4 < 2 ^ 64 }
         ensures bytes { (q : ThePlace) → byte_of self.new q ≡ byte_of self.old q }
-        ensures held { OnOk result (HoldsSlot self.new slot.now) }
+        ensures held { OnOk result (HoldsEndpointWord self.new word.now) }
         ensures others { (q : ThePlace) → HoldsPlace self.old q → HoldsPlace self.new q }
     {
-        self.hold_places(&slot_places(slot))
+        self.hold_places(&endpoint_word_places(word))
     }
 
     /// Writes the word of a state table, the pages of which are held. It takes no memory.
-    pub fn write_slot(&mut self, slot: &Slot)
-        requires small { slot.now.place + 4 < 2 ^ 64 }
-        requires held { HoldsSlot self.old slot.now }
-        ensures bytes { (q : ThePlace) → byte_of self.new q ≡ with_slot slot.now (byte_of self.old) q }
+    pub fn write_endpoint_word(&mut self, word: &EndpointWord)
+        requires small { word.now.place + 4 < 2 ^ 64 }
+        requires held { HoldsEndpointWord self.old word.now }
+        ensures bytes { (q : ThePlace) → byte_of self.new q ≡ with_endpoint_word word.now (byte_of self.old) q }
         ensures held { (q : ThePlace) → HoldsPlace self.old q → HoldsPlace self.new q }
     {
-        self.write_places(&slot_places(slot), u64::from(slot.value));
+        self.write_places(&endpoint_word_places(word), u64::from(word.value));
     }
 
     /// Puts the bytes into physical memory from `at` on.

@@ -5,7 +5,7 @@ ghost use Rattle.jh_ivshmem.specs.Specs.{IsInItsLimits};
 ghost use Rattle.jh_cellcfg.specs.Regions.{SharesNoAddress};
 ghost use Rattle.jh_script.specs.declared.image.Image.{Image};
 ghost use Rattle.jh_history.specs.declared.place.Place.{Place as ThePlace};
-ghost use Rattle.jh_history.specs.Access.{with_slot_if, slot_of_reach};
+ghost use Rattle.jh_history.specs.Access.{with_endpoint_word_if, endpoint_word_of_reach};
 ghost use Rattle.jh_history.specs.Devices.{specs_of, Devices as TheDevices};
 ghost use Rattle.jh_history.specs.declared.call.OpenCall.{OpenCall as TheOpenCall};
 ghost use Rattle.jh_cellcfg.specs.declared.live.Live.{Live as TheLive};
@@ -22,11 +22,11 @@ ghost use Rattle.jh_board.specs.Pages.{byte_of, HoldsComm, HoldsPlace};
 ghost use Rattle.jh_board.specs.Indexed.{AreProgramIndices};
 ghost use Rattle.jh_board.specs.Private.FoundCreation.{IsFoundCreation};
 ghost use Rattle.jh_board.specs.Means.{Means, IsReadyToGoOn, IsReadyFor};
-ghost use Rattle.jh_board.specs.Private.Steps.{decides_to_go_on, create_of, change_of_call, change_of_cells, changed_cells, IsNextEntry, IsRead, NeedsNothingYet, WillBeReady, IsPrepared, MayWrite, MayWriteOf, MayWriteSlot, MayCommit, MayJoinCells, IsSameButDevices, joined_cells, devices_held, memory_written, memory_after, slot_after, endpoints_acted_by};
+ghost use Rattle.jh_board.specs.Private.Steps.{decides_to_go_on, create_of, change_of_call, change_of_cells, changed_cells, IsNextEntry, IsRead, NeedsNothingYet, WillBeReady, IsPrepared, MayWrite, MayWriteOf, MayWriteEndpointWord, MayCommit, MayJoinCells, IsSameButDevices, joined_cells, devices_held, memory_written, memory_after, endpoint_word_after, endpoints_acted_by};
 
 use crate::cell_regions::CellRegions;
 use crate::cells::LiveCells;
-use crate::devices::{change_devices, prepare_devices, write_slot_if};
+use crate::devices::{change_devices, prepare_devices, write_endpoint_word_if};
 use crate::granted::devices_of;
 use crate::held::Held;
 use crate::indexed::{IndexedImage, ProgramIndex};
@@ -212,7 +212,7 @@ fn make_bytes(memory: &mut Memory, act: &Act, reach: &Reach) -> Result<(), NoMem
 
 /// Whether what is reached is a device's. A write of anything else changes no device.
 fn is_of_device(reach: &Reach) -> bool
-    ensures slot { result ≡ false → (d : TheDevices) (value : ℕ) → slot_of_reach d reach.now value ≡ None }
+    ensures word { result ≡ false → (d : TheDevices) (value : ℕ) → endpoint_word_of_reach d reach.now value ≡ None }
     ensures list { result ≡ false → (d : TheDevices) (value : ℕ) → endpoints_put d reach.now value ≡ d.endpoints }
 {
     match reach {
@@ -224,8 +224,8 @@ fn is_of_device(reach: &Reach) -> bool
 /// Changes the cell's devices as its act does itself, with the word of a state table that a write of a state register
 /// writes. It takes no memory.
 fn make_devices(image: &IndexedImage, held: &mut Held, entry: &Entry, reach: &Reach)
-    requires { MayWriteSlot image.now held.old entry.now.cell entry.now.act reach.now }
-    ensures bytes { (q : ThePlace) → byte_of held.new.memory q ≡ with_slot_if (slot_after (devices_held image.now held.old entry.now.cell) entry.now.act reach.now) (byte_of held.old.memory) q }
+    requires { MayWriteEndpointWord image.now held.old entry.now.cell entry.now.act reach.now }
+    ensures bytes { (q : ThePlace) → byte_of held.new.memory q ≡ with_endpoint_word_if (endpoint_word_after (devices_held image.now held.old entry.now.cell) entry.now.act reach.now) (byte_of held.old.memory) q }
     ensures list { held.new.endpoints.list ≡ endpoints_acted_by (devices_held image.now held.old entry.now.cell) entry.now.act reach.now }
     ensures spare { held.new.endpoints.spare ≡ held.old.endpoints.spare }
     ensures others { IsSameButDevices held.old held.new }
@@ -239,8 +239,8 @@ fn make_devices(image: &IndexedImage, held: &mut Held, entry: &Entry, reach: &Re
                 return;
             }
             let list = devices_of(image, &held.cells, entry.cell);
-            let slot = write_device(&mut held.endpoints, entry.cell, list, reach, value);
-            write_slot_if(&mut held.memory, slot);
+            let word = write_device(&mut held.endpoints, entry.cell, list, reach, value);
+            write_endpoint_word_if(&mut held.memory, word);
         }
         Act::Irq { .. } => {
             // the entry names the vector already

@@ -10,15 +10,15 @@ use Rattle.jh_cellcfg.specs.declared.config.CellConfig.{CellConfig}
 use Rattle.jh_cellcfg.specs.declared.config.PciDevice.{PciDevice}
 use Rattle.jh_ivshmem.specs.declared.endpoint.Endpoint.{Endpoint}
 use Rattle.jh_ivshmem.specs.declared.spec.EndpointSpec.{EndpointSpec}
-use Rattle.jh_ivshmem.specs.declared.spec.Slot.{Slot}
+use Rattle.jh_ivshmem.specs.declared.spec.EndpointWord.{EndpointWord}
 use Rattle.jh_ivshmem.specs.Endpoint.{fresh}
 use Rattle.jh_ivshmem.specs.Links.{joined}
-use Rattle.jh_ivshmem.specs.Specs.{is_before, slot_of, IsInItsLimits, AreEndpointsApart}
+use Rattle.jh_ivshmem.specs.Specs.{is_before, endpoint_word_of, IsInItsLimits, AreEndpointsApart}
 use Rattle.jh_history.specs.declared.device_change.DeviceChange.{DeviceChange}
 use Rattle.jh_history.specs.declared.device_change.DeviceChange.TheVariants.{Join}
 use Rattle.jh_history.specs.Devices.{is_endpoint, spec_of, specs_from, specs_of, specs_by, specs_at}
 use Rattle.jh_history.specs.declared.place.Place.{Place}
-use Rattle.jh_history.specs.Access.{with_slot}
+use Rattle.jh_history.specs.Access.{with_endpoint_word}
 use Rattle.jh_history.specs.Endpoints.{endpoint_changed, endpoints_changed, with_words, MayJoinThem, MayChange}
 use Rattle.jh_history.proofs.FactsLemmas.{same_function}
 
@@ -56,9 +56,9 @@ pub first : (P : EndpointSpec → Type 0) (specs : List EndpointSpec) (spec : En
 first P specs spec is all = (recursion_from_All P (spec ∷ []) (subst (λ (xs : List EndpointSpec). All P xs) is all)).0
 
 -- a word of a state table ends below 2^64
-pub word_ends : (spec : EndpointSpec) (slot : Slot) → IsInItsLimits spec → slot ≡ slot_of spec 0 → slot.place + 4 < 2 ^ 64
-word_ends spec slot within is =
-    let place : slot.place ≡ spec.table + 4 * spec.id = ap (λ (s : Slot). s.place) is in
+pub word_ends : (spec : EndpointSpec) (word : EndpointWord) → IsInItsLimits spec → word ≡ endpoint_word_of spec 0 → word.place + 4 < 2 ^ 64
+word_ends spec word within is =
+    let place : word.place ≡ spec.table + 4 * spec.id = ap (λ (s : EndpointWord). s.place) is in
     let id = within.id in
     let peers = within.peers in
     let table = within.table in
@@ -103,7 +103,7 @@ endpoints_next change config i old new lt is =
     ∙ ap (λ (specs : List EndpointSpec). endpoints_changed change specs old) (sym (left_next config i lt))
 
 abbrev word_put : (Place → ℕ) → EndpointSpec → Place → ℕ
-word_put byte spec = with_slot (slot_of spec 0) byte
+word_put byte spec = with_endpoint_word (endpoint_word_of spec 0) byte
 
 pub words_next : (config : CellConfig) (i : ℕ) (old new : Place → ℕ) (q : Place) → i < length config.pci_devices → ((p : Place) → new p ≡ with_words (specs_at config i) old p)
     → with_words (specs_left config (i + 1)) new q ≡ with_words (specs_left config i) old q

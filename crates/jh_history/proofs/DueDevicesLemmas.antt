@@ -15,8 +15,8 @@ use Rattle.jh_call.specs.declared.call.Call.TheVariants.{Create, Start, Loadable
 use Rattle.jh_call.specs.Calls.{decoded, is_management}
 use Rattle.jh_call.specs.Answers.{answer_of}
 use Rattle.jh_ivshmem.specs.declared.endpoint.Endpoint.{Endpoint}
-use Rattle.jh_ivshmem.specs.Specs.{is_device, AreEndpointsApart, slot_of}
-use Rattle.jh_ivshmem.specs.Links.{endpoint_at, pending_of, slot_written}
+use Rattle.jh_ivshmem.specs.Specs.{is_device, AreEndpointsApart, endpoint_word_of}
+use Rattle.jh_ivshmem.specs.Links.{endpoint_at, pending_of, endpoint_word_written}
 use Rattle.jh_script.specs.declared.image.Image.{Image}
 use Rattle.jh_script.specs.declared.op.Op.{Op}
 use Rattle.jh_script.specs.declared.op.Op.TheVariants.{Read as ReadOp, Write as WriteOp, Fetch as FetchOp, Await as AwaitOp, Irq as IrqOp, Hvc as HvcOp}
@@ -32,7 +32,7 @@ use Rattle.jh_history.specs.declared.device_change.DeviceChange.TheVariants.{Joi
 use Rattle.jh_history.specs.declared.entry.Entry.{Entry}
 use Rattle.jh_history.specs.declared.entry.Act.{Act}
 use Rattle.jh_history.specs.declared.entry.Act.TheVariants.{Read, Write, Fetch, Await, Irq, Hvc, Begin, Stop, Decide, Settle, Commit, Note, Noted, Finish}
-use Rattle.jh_history.specs.Access.{slot_of_reach}
+use Rattle.jh_history.specs.Access.{endpoint_word_of_reach}
 use Rattle.jh_history.specs.Admitted.{IsAdmitted}
 use Rattle.jh_history.specs.Devices.{InWindow, specs_of}
 use Rattle.jh_history.specs.Due.{due_at, await_of, act_of, got_by, is_idle_but}
@@ -223,21 +223,21 @@ interrupt_next image f entry sound due =
 
 -- ---- a word of a state table
 
-slot_word : (endpoints : List Endpoint) (e : Endpoint) (bar at value : ℕ) → Contains endpoints e → IsSoundEndpoint e → IfSome (slot_written e bar at value) (IsWordOf endpoints)
-unfolding slot_written
-slot_word endpoints e bar at value there sound =
-    cond_both ((eqb bar 0 && eqb at 0x10) && not (eqb e.state value)) (Some (slot_of e.spec value)) None (λ o. IfSome o (IsWordOf endpoints))
+written_word : (endpoints : List Endpoint) (e : Endpoint) (bar at value : ℕ) → Contains endpoints e → IsSoundEndpoint e → IfSome (endpoint_word_written e bar at value) (IsWordOf endpoints)
+unfolding endpoint_word_written
+written_word endpoints e bar at value there sound =
+    cond_both ((eqb bar 0 && eqb at 0x10) && not (eqb e.state value)) (Some (endpoint_word_of e.spec value)) None (λ o. IfSome o (IsWordOf endpoints))
     (λ _. record { endpoint = e; there = there; within = sound.within; is = refl })
     (λ _. tt)
 
 endpoint_word : (endpoints : List Endpoint) (cell : ℕ) (register : InWindow) (value : ℕ) (o : Option Endpoint) → All IsSoundEndpoint endpoints → endpoint_at cell register.device endpoints ≡ o
-    → IfSome (option_and_then (λ (e : Endpoint). slot_written e register.bar register.at (value % 2 ^ 32)) o) (IsWordOf endpoints)
+    → IfSome (option_and_then (λ (e : Endpoint). endpoint_word_written e register.bar register.at (value % 2 ^ 32)) o) (IsWordOf endpoints)
 endpoint_word endpoints cell register value None sound is = tt
 endpoint_word endpoints cell register value (Some e) sound is =
     let there = (IsFound_from_find (λ (x : Endpoint). is_device cell register.device x.spec) endpoints e is).held in
-    slot_word endpoints e register.bar register.at (value % 2 ^ 32) there (All-contains IsSoundEndpoint endpoints e sound there)
+    written_word endpoints e register.bar register.at (value % 2 ^ 32) there (All-contains IsSoundEndpoint endpoints e sound there)
 
-pub reach_word : (image : Image) (f : Facts) (id value : ℕ) (found : Reach) → IsSound image f → IfSome (slot_of_reach (devices_of image f id) found value) (IsWordOf f.endpoints)
+pub reach_word : (image : Image) (f : Facts) (id value : ℕ) (found : Reach) → IsSound image f → IfSome (endpoint_word_of_reach (devices_of image f id) found value) (IsWordOf f.endpoints)
 reach_word image f id value (Memory places) sound = tt
 reach_word image f id value (Subpage places) sound = tt
 reach_word image f id value (Config bytes) sound = tt

@@ -6,14 +6,14 @@ use Rattle.jh_cellcfg.specs.declared.config.CellConfig.{CellConfig}
 use Rattle.jh_cellcfg.specs.declared.live.Live.{Live}
 use Rattle.jh_ivshmem.specs.declared.endpoint.Endpoint.{Endpoint}
 use Rattle.jh_ivshmem.specs.declared.spec.EndpointSpec.{EndpointSpec}
-use Rattle.jh_ivshmem.specs.declared.spec.Slot.{Slot}
+use Rattle.jh_ivshmem.specs.declared.spec.EndpointWord.{EndpointWord}
 use Rattle.jh_script.specs.declared.image.Image.{Image}
 use Rattle.jh_history.specs.declared.access.Reach.{Reach}
 use Rattle.jh_history.specs.declared.call.OpenCall.{OpenCall}
 use Rattle.jh_history.specs.declared.entry.Entry.{Entry}
 use Rattle.jh_history.specs.declared.entry.Act.{Act}
 use Rattle.jh_history.specs.declared.entry.Act.TheVariants.{Read, Write, Fetch, Await, Irq, Hvc, Begin, Stop, Decide, Settle, Commit, Note, Noted, Finish}
-use Rattle.jh_history.specs.Access.{slot_of_reach}
+use Rattle.jh_history.specs.Access.{endpoint_word_of_reach}
 use Rattle.jh_history.specs.Devices.{devices_in, specs_of}
 use Rattle.jh_history.specs.DueFacts.{IsWordOf}
 use Rattle.jh_history.specs.Endpoints.{change_by, changing_at, changing_by, specs_changing, IsNextOf, MayChange}
@@ -24,18 +24,18 @@ use Rattle.jh_history.proofs.PlainStepLemmas.{commit_or}
 
 -- ---- words of state tables
 
-word_ends : (endpoints : List Endpoint) (slot : Slot) → IsWordOf endpoints slot → slot.place + 4 < 2 ^ 64
-word_ends endpoints slot word =
-    let spec : EndpointSpec = word.endpoint.spec in
-    let place : slot.place ≡ spec.table + 4 * spec.id = ap (λ (s : Slot). s.place) word.is in
-    let id = word.within.id in
-    let peers = word.within.peers in
-    let table = word.within.table in
+word_ends : (endpoints : List Endpoint) (word : EndpointWord) → IsWordOf endpoints word → word.place + 4 < 2 ^ 64
+word_ends endpoints word own =
+    let spec : EndpointSpec = own.endpoint.spec in
+    let place : word.place ≡ spec.table + 4 * spec.id = ap (λ (s : EndpointWord). s.place) own.is in
+    let id = own.within.id in
+    let peers = own.within.peers in
+    let table = own.within.table in
     omega arith
 
-words_end : (endpoints : List Endpoint) (o : Option Slot) → IfSome o (IsWordOf endpoints) → IfSome o (λ (slot : Slot). slot.place + 4 < 2 ^ 64)
-words_end endpoints None word = tt
-words_end endpoints (Some slot) word = word_ends endpoints slot word
+words_end : (endpoints : List Endpoint) (o : Option EndpointWord) → IfSome o (IsWordOf endpoints) → IfSome o (λ (word : EndpointWord). word.place + 4 < 2 ^ 64)
+words_end endpoints None own = tt
+words_end endpoints (Some word) own = word_ends endpoints word own
 
 -- ---- the cell whose devices change
 
@@ -85,15 +85,15 @@ specs_changing_holds f cells call act o alive opened is =
 
 -- what holds of sound facts lets the entry be followed
 pub may_follow : (i : Image) (f : Facts) (plain : PlainView) (entry : Entry) → Represents plain i f
-    → ((id value : ℕ) (found : Reach) → IfSome (slot_of_reach (devices_of i f id) found value) (IsWordOf f.endpoints))
+    → ((id value : ℕ) (found : Reach) → IfSome (endpoint_word_of_reach (devices_of i f id) found value) (IsWordOf f.endpoints))
     → IfSome (changing_by f.cells f.call entry.act) (MayChange (change_by f.call) f.endpoints)
     → IsNextOf entry.cell f.endpoints entry.act → MayBeFollowed plain entry
 may_follow i f plain entry stands words commit next = record {
   words = λ id value found.
-      subst (λ (x : Image). IfSome (slot_of_reach (devices_in x plain.cells plain.endpoints id) found value) (λ (slot : Slot). slot.place + 4 < 2 ^ 64)) stands.same
-      (subst (λ (cells : List Live). IfSome (slot_of_reach (devices_in i cells plain.endpoints id) found value) (λ (slot : Slot). slot.place + 4 < 2 ^ 64)) stands.cells
-      (subst (λ (es : List Endpoint). IfSome (slot_of_reach (devices_in i f.cells es id) found value) (λ (slot : Slot). slot.place + 4 < 2 ^ 64)) stands.endpoints
-      (words_end f.endpoints (slot_of_reach (devices_of i f id) found value) (words id value found))));
+      subst (λ (x : Image). IfSome (endpoint_word_of_reach (devices_in x plain.cells plain.endpoints id) found value) (λ (word : EndpointWord). word.place + 4 < 2 ^ 64)) stands.same
+      (subst (λ (cells : List Live). IfSome (endpoint_word_of_reach (devices_in i cells plain.endpoints id) found value) (λ (word : EndpointWord). word.place + 4 < 2 ^ 64)) stands.cells
+      (subst (λ (es : List Endpoint). IfSome (endpoint_word_of_reach (devices_in i f.cells es id) found value) (λ (word : EndpointWord). word.place + 4 < 2 ^ 64)) stands.endpoints
+      (words_end f.endpoints (endpoint_word_of_reach (devices_of i f id) found value) (words id value found))));
   commit =
       subst (λ (es : List Endpoint). IfSome (changing_by plain.cells plain.call entry.act) (MayChange (change_by plain.call) es)) stands.endpoints
       (subst (λ (call : Option OpenCall). IfSome (changing_by plain.cells call entry.act) (MayChange (change_by call) f.endpoints)) stands.call

@@ -14,7 +14,7 @@ use Rattle.jh_history.specs.Places.{further, places_in_row, written, overlaid}
 use Rattle.jh_cellcfg.specs.declared.config.PciDevice.{PciDevice}
 use Rattle.jh_cellcfg.specs.declared.live.Live.{Live}
 use Rattle.jh_ivshmem.specs.declared.endpoint.Endpoint.{Endpoint}
-use Rattle.jh_history.specs.Access.{with_slot_if, slot_of_reach, write_of}
+use Rattle.jh_history.specs.Access.{with_endpoint_word_if, endpoint_word_of_reach, write_of}
 use Rattle.jh_history.specs.Grants.{devices_of, reach_in}
 use Rattle.jh_history.specs.Devices.{Devices, list_in, devices_in}
 use Rattle.jh_history.specs.Facts.{Facts}
@@ -98,7 +98,7 @@ devices_kept i image lives cells ends endpoints cell list same alive there is =
     ∙ ap (λ (es : List Endpoint). devices_in i lives es cell) there
 
 -- a write where it reaches a device
-pub device_write : (byte : Place → ℕ) (devices : Devices) (found : Reach) (value : ℕ) (q : Place) → is_device found ≡ true → with_slot_if (slot_of_reach devices found value) byte q ≡ write_of byte devices found value q
+pub device_write : (byte : Place → ℕ) (devices : Devices) (found : Reach) (value : ℕ) (q : Place) → is_device found ≡ true → with_endpoint_word_if (endpoint_word_of_reach devices found value) byte q ≡ write_of byte devices found value q
 device_write byte devices (Memory places) value q is = absurd (both_ways true (sym is) refl)
 device_write byte devices (Subpage places) value q is = absurd (both_ways true (sym is) refl)
 device_write byte devices (Config bytes) value q is = refl

@@ -7,9 +7,9 @@ use Rattle.jh_cellcfg.specs.declared.region.Region.{Region}
 use Rattle.jh_cellcfg.specs.Regions.{has_flags, has_address, is_page_mapped, is_comm, place_in, byte_in}
 use Rattle.jh_vpci.specs.Words.{read_of as config_read}
 use Rattle.jh_ivshmem.specs.declared.endpoint.Endpoint.{Endpoint}
-use Rattle.jh_ivshmem.specs.declared.spec.Slot.{Slot}
+use Rattle.jh_ivshmem.specs.declared.spec.EndpointWord.{EndpointWord}
 use Rattle.jh_ivshmem.specs.Registers.{register_of}
-use Rattle.jh_ivshmem.specs.Links.{endpoint_at, slot_written}
+use Rattle.jh_ivshmem.specs.Links.{endpoint_at, endpoint_word_written}
 use Rattle.jh_history.specs.declared.place.Place.{Place}
 use Rattle.jh_history.specs.declared.place.Place.TheVariants.{Physical, Page}
 use Rattle.jh_history.specs.declared.access.Access.{Access}
@@ -98,24 +98,24 @@ is_reached (Window register) = true
 is_reached Nothing = false
 
 -- the bytes, with a word of a state table written
-abbrev pub with_slot : Slot → (Place → ℕ) → Place → ℕ
-with_slot slot byte = written byte (places_in_row (Physical slot.place) 4) slot.value
+abbrev pub with_endpoint_word : EndpointWord → (Place → ℕ) → Place → ℕ
+with_endpoint_word word byte = written byte (places_in_row (Physical word.place) 4) word.value
 
 -- the bytes, with a word of a state table written where there is one to write
-abbrev pub with_slot_if : Option Slot → (Place → ℕ) → Place → ℕ
-with_slot_if None byte = byte
-with_slot_if (Some slot) byte = with_slot slot byte
+abbrev pub with_endpoint_word_if : Option EndpointWord → (Place → ℕ) → Place → ℕ
+with_endpoint_word_if None byte = byte
+with_endpoint_word_if (Some word) byte = with_endpoint_word word byte
 
 -- the word of the state table that a write of the value to the register writes: its endpoint's, where the state register
 -- gets another value
-abbrev pub slot_put : Devices → InWindow → ℕ → Option Slot
-slot_put devices register value =
-    option_and_then (λ (e : Endpoint). slot_written e register.bar register.at (value % 2 ^ 32)) (endpoint_at devices.cell register.device devices.endpoints)
+abbrev pub endpoint_word_put : Devices → InWindow → ℕ → Option EndpointWord
+endpoint_word_put devices register value =
+    option_and_then (λ (e : Endpoint). endpoint_word_written e register.bar register.at (value % 2 ^ 32)) (endpoint_at devices.cell register.device devices.endpoints)
 
 -- the word of a state table that a write of the value writes where it reaches: at most one, by a register
-abbrev pub slot_of_reach : Devices → Reach → ℕ → Option Slot
-slot_of_reach devices (Window register) value = slot_put devices register value
-slot_of_reach devices _ value = None
+abbrev pub endpoint_word_of_reach : Devices → Reach → ℕ → Option EndpointWord
+endpoint_word_of_reach devices (Window register) value = endpoint_word_put devices register value
+endpoint_word_of_reach devices _ value = None
 
 -- the bytes after a cell with these devices writes the value where it reaches: a write in configuration space changes
 -- none, and one of a register at most a word of a state table
@@ -123,5 +123,5 @@ abbrev pub write_of : (Place → ℕ) → Devices → Reach → ℕ → Place �
 write_of byte devices (Memory places) value = written byte places value
 write_of byte devices (Subpage places) value = written byte places value
 write_of byte devices (Config bytes) value = byte
-write_of byte devices (Window register) value = with_slot_if (slot_put devices register value) byte
+write_of byte devices (Window register) value = with_endpoint_word_if (endpoint_word_put devices register value) byte
 write_of byte devices Nothing value = byte

@@ -9,8 +9,8 @@ use Rattle.jh_cellcfg.specs.Regions.{IsInRange, SharesNoAddress}
 use Rattle.jh_check.specs.Clean.{IsSoundBitmap}
 use Rattle.jh_check.specs.Refusals.{is_known}
 use Rattle.jh_ivshmem.specs.declared.endpoint.Endpoint.{Endpoint}
-use Rattle.jh_ivshmem.specs.declared.spec.Slot.{Slot}
-use Rattle.jh_ivshmem.specs.Specs.{IsInItsLimits, slot_of}
+use Rattle.jh_ivshmem.specs.declared.spec.EndpointWord.{EndpointWord}
+use Rattle.jh_ivshmem.specs.Specs.{IsInItsLimits, endpoint_word_of}
 use Rattle.jh_script.specs.declared.image.Image.{Image}
 use Rattle.jh_history.specs.declared.place.Place.{Place}
 use Rattle.jh_history.specs.declared.place.Place.TheVariants.{Physical, Page}
@@ -84,11 +84,11 @@ ReachesCells cells (Window register) = Unit {0}
 ReachesCells cells Nothing = Unit {0}
 
 -- the word of the state table that a write writes is that of an endpoint, within its limits
-pub record IsWordOf (endpoints : List Endpoint) (slot : Slot) : Type 0 where
+pub record IsWordOf (endpoints : List Endpoint) (word : EndpointWord) : Type 0 where
   pub endpoint : Endpoint
   pub there : Contains endpoints endpoint
   pub within : IsInItsLimits endpoint.spec
-  pub is : slot ≡ slot_of endpoint.spec slot.value
+  pub is : word ≡ endpoint_word_of endpoint.spec word.value
 
 -- where the act is a write, each place that it reaches is one of physical memory, or of the page of a cell that lives
 abbrev pub WritesCells : List Live → Act → Reach → Type 0

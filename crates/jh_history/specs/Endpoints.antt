@@ -9,7 +9,7 @@ use Rattle.jh_vpci.specs.Space.{Space}
 use Rattle.jh_vpci.specs.Writes.{written as config_written}
 use Rattle.jh_ivshmem.specs.declared.endpoint.Endpoint.{Endpoint}
 use Rattle.jh_ivshmem.specs.declared.spec.EndpointSpec.{EndpointSpec}
-use Rattle.jh_ivshmem.specs.Specs.{is_device, slot_of, IsInItsLimits, AreEndpointsApart}
+use Rattle.jh_ivshmem.specs.Specs.{is_device, endpoint_word_of, IsInItsLimits, AreEndpointsApart}
 use Rattle.jh_ivshmem.specs.Changes.{changed}
 use Rattle.jh_ivshmem.specs.Links.{endpoint_at, joined, reset_of, left_by, pending_of, taken_of, written}
 use Rattle.jh_call.specs.declared.call.Call.{Call}
@@ -26,7 +26,7 @@ use Rattle.jh_history.specs.declared.entry.Entry.{Entry}
 use Rattle.jh_history.specs.declared.entry.Act.{Act}
 use Rattle.jh_history.specs.declared.entry.Act.TheVariants.{Write, Irq, Commit}
 use Rattle.jh_history.specs.declared.place.Place.{Place}
-use Rattle.jh_history.specs.Access.{with_slot}
+use Rattle.jh_history.specs.Access.{with_endpoint_word}
 use Rattle.jh_history.specs.Commits.{created}
 use Rattle.jh_history.specs.Devices.{Devices, InConfig, InWindow, number_at, specs_of}
 use Rattle.jh_history.specs.Facts.{Facts}
@@ -142,4 +142,4 @@ pub record MayChange (change : DeviceChange) (endpoints : List Endpoint) (config
 
 -- the bytes, with the words of these endpoints 0
 abbrev pub with_words : List EndpointSpec → (Place → ℕ) → Place → ℕ
-with_words specs byte = fold (λ (b : Place → ℕ) (spec : EndpointSpec). with_slot (slot_of spec 0) b) byte specs
+with_words specs byte = fold (λ (b : Place → ℕ) (spec : EndpointSpec). with_endpoint_word (endpoint_word_of spec 0) b) byte specs

@@ -2,7 +2,7 @@
 ghost use Rattle.std.specs.Prelude.{◌≡◌, ◌+◌, ◌<◌, ◌≤◌, All, List, IfOk, IsOk, OnOk, OnErr, Option, option_copied};
 ghost use Rattle.jh_call.specs.declared.call.Call.TheVariants.{Create};
 ghost use Rattle.jh_cellcfg.specs.declared.live.Live.{Live as TheLive};
-ghost use Rattle.jh_ivshmem.specs.Specs.{IsInItsLimits, AreEndpointsApart, slot_of};
+ghost use Rattle.jh_ivshmem.specs.Specs.{IsInItsLimits, AreEndpointsApart, endpoint_word_of};
 ghost use Rattle.jh_history.specs.declared.device_change.DeviceChange.TheVariants.{Join as Joins, Reset as Resets, Leave as Leaves};
 ghost use Rattle.jh_history.specs.Endpoints.{endpoint_changed, device_change, change_by, changing, changing_by};
 ghost use Rattle.jh_shape.specs.Lives.{configs_of};
@@ -12,7 +12,7 @@ use crate::entry::Act;
 use crate::pages::{coming_in, live_in};
 use jh_call::Call;
 use jh_cellcfg::CellConfig;
-use jh_ivshmem::{EndpointSpec, Endpoints, Slot};
+use jh_ivshmem::{EndpointSpec, EndpointWord, Endpoints};
 use jh_num::NoMemory;
 
 /// What is done to an endpoint.
@@ -24,39 +24,39 @@ pub enum DeviceChange {
 }
 
 /// A write of 0 to the endpoint's word of its state table.
-fn cleared(spec: EndpointSpec) -> Slot
+fn cleared(spec: EndpointSpec) -> EndpointWord
     requires { IsInItsLimits spec }
-    ensures { result ≡ slot_of spec 0 }
+    ensures { result ≡ endpoint_word_of spec 0 }
 {
-    Slot {
+    EndpointWord {
         place: spec.table + 4 * u64::from(spec.id),
         value: 0,
     }
 }
 
 /// Resets the endpoint, where it is there.
-fn reset(endpoints: &mut Endpoints, spec: EndpointSpec) -> Slot
+fn reset(endpoints: &mut Endpoints, spec: EndpointSpec) -> EndpointWord
     requires { IsInItsLimits spec }
     ensures list { endpoints.new.list ≡ endpoint_changed Resets endpoints.old.list spec }
-    ensures slot { result ≡ slot_of spec 0 }
+    ensures word { result ≡ endpoint_word_of spec 0 }
     ensures spare { endpoints.new.spare ≡ endpoints.old.spare }
 {
     if endpoints.has(spec.cell, spec.device) {
-        // its slot is the one told below
+        // its word is the one told below
         let _ = endpoints.reset(spec.cell, spec.device);
     }
     cleared(spec)
 }
 
 /// Has the endpoint leave, where it is there.
-fn leave(endpoints: &mut Endpoints, spec: EndpointSpec) -> Slot
+fn leave(endpoints: &mut Endpoints, spec: EndpointSpec) -> EndpointWord
     requires { IsInItsLimits spec }
     ensures list { endpoints.new.list ≡ endpoint_changed Leaves endpoints.old.list spec }
-    ensures slot { result ≡ slot_of spec 0 }
+    ensures word { result ≡ endpoint_word_of spec 0 }
     ensures spare { endpoints.old.spare ≤ endpoints.new.spare }
 {
     if endpoints.has(spec.cell, spec.device) {
-        // its slot is the one told below
+        // its word is the one told below
         let _ = endpoints.leave(spec.cell, spec.device);
     }
     cleared(spec)
@@ -88,11 +88,15 @@ impl DeviceChange {
 
     /// Makes the change at the endpoint, and tells the write to its state table: its word becomes 0. Only one that joins
     /// may need memory, and it needs none with a positive spare.
-    pub fn apply(self, endpoints: &mut Endpoints, spec: EndpointSpec) -> Result<Slot, NoMemory>
+    pub fn apply(
+        self,
+        endpoints: &mut Endpoints,
+        spec: EndpointSpec,
+    ) -> Result<EndpointWord, NoMemory>
         requires within { IsInItsLimits spec }
         requires new { self ≡ Joins → All (λ e. AreEndpointsApart e.spec spec) endpoints.old.list }
         ensures ok { OnOk result (endpoints.new.list ≡ endpoint_changed self endpoints.old.list spec) }
-        ensures slot { IfOk result (λ slot. slot ≡ slot_of spec 0) }
+        ensures word { IfOk result (λ word. word ≡ endpoint_word_of spec 0) }
         ensures err { OnErr result (endpoints.new.list ≡ endpoints.old.list) }
         ensures succeeds { (self ≡ Joins → 0 < endpoints.old.spare) → IsOk result }
         ensures spare { endpoints.old.spare ≤ endpoints.new.spare + 1 }

@@ -2,7 +2,7 @@
 ghost use Rattle.std.specs.Prelude.{◌≡◌, ◌+◌, ◌%◌, ◌^◌, ◌<◌};
 ghost use Rattle.jh_history.specs.declared.place.Place.TheVariants.{Physical};
 ghost use Rattle.jh_history.specs.Places.{places_in_row};
-ghost use Rattle.jh_history.specs.Access.{slot_put, slot_of_reach};
+ghost use Rattle.jh_history.specs.Access.{endpoint_word_put, endpoint_word_of_reach};
 ghost use Rattle.jh_history.specs.Devices.{Devices as TheDevices};
 ghost use Rattle.jh_history.specs.Endpoints.{config_put, register_put, endpoints_put, function_put};
 
@@ -10,14 +10,14 @@ use crate::access::{ConfigBytes, Reach, Register};
 use crate::devices::function_number;
 use crate::place::{Place, Places, Row};
 use jh_cellcfg::PciDevice;
-use jh_ivshmem::{Endpoints, Slot};
+use jh_ivshmem::{EndpointWord, Endpoints};
 
 /// The places of a word of a state table.
-pub fn slot_places(slot: &Slot) -> Places
-    requires { slot.now.place + 4 < 2 ^ 64 }
-    ensures { result ≡ places_in_row (Physical slot.now.place) 4 }
+pub fn endpoint_word_places(word: &EndpointWord) -> Places
+    requires { word.now.place + 4 < 2 ^ 64 }
+    ensures { result ≡ places_in_row (Physical word.now.place) 4 }
 {
-    let first = Place::Physical(slot.place);
+    let first = Place::Physical(word.place);
     Places::new(Row { first, count: 0 }, Row { first, count: 4 })
 }
 
@@ -68,9 +68,9 @@ fn write_register(
     cell: u32,
     register: &Register,
     value: u64,
-) -> Option<Slot>
+) -> Option<EndpointWord>
     ensures list { (d : TheDevices) → d.cell ≡ cell → d.endpoints ≡ endpoints.old.list → endpoints.new.list ≡ register_put d register.now value }
-    ensures slot { (d : TheDevices) → d.cell ≡ cell → d.endpoints ≡ endpoints.old.list → result ≡ slot_put d register.now value }
+    ensures word { (d : TheDevices) → d.cell ≡ cell → d.endpoints ≡ endpoints.old.list → result ≡ endpoint_word_put d register.now value }
     ensures spare { endpoints.new.spare ≡ endpoints.old.spare }
 {
     let device = register.device();
@@ -89,9 +89,9 @@ pub fn write_device(
     list: &[PciDevice],
     reach: &Reach,
     value: u64,
-) -> Option<Slot>
+) -> Option<EndpointWord>
     ensures list { endpoints.new.list ≡ endpoints_put (record { cell = cell; list = list.now; endpoints = endpoints.old.list }) reach.now value }
-    ensures slot { result ≡ slot_of_reach (record { cell = cell; list = list.now; endpoints = endpoints.old.list }) reach.now value }
+    ensures word { result ≡ endpoint_word_of_reach (record { cell = cell; list = list.now; endpoints = endpoints.old.list }) reach.now value }
     ensures spare { endpoints.new.spare ≡ endpoints.old.spare }
 {
     match reach {

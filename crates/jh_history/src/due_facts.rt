@@ -19,7 +19,7 @@ ghost use Rattle.jh_history.specs.Configs.{Reads, read_at};
 ghost use Rattle.jh_history.specs.Phases.{creation_of};
 ghost use Rattle.jh_history.specs.Pages.{page_write_by};
 ghost use Rattle.jh_history.specs.declared.device_change.DeviceChange.TheVariants.{Join as Joins};
-ghost use Rattle.jh_history.specs.Access.{slot_of_reach};
+ghost use Rattle.jh_history.specs.Access.{endpoint_word_of_reach};
 ghost use Rattle.jh_history.specs.Admitted.{IsAdmitted};
 ghost use Rattle.jh_history.specs.Endpoints.{change_by, changing_by, HasGoodDevices, IsNextOf, MayChange};
 ghost use Rattle.jh_history.specs.Grants.{reach, devices_of};
@@ -89,5 +89,5 @@ pub fn devices_may_change()
         IfSome (changing_by f.cells f.call entry.act) (MayChange (change_by f.call) f.endpoints) }
     ensures comes { (image : TheImage) (f : Facts) (caller at : ℕ) (config : TheConfig) → IsSound image f → creation_of image f caller at ≡ Accepted config → HasGoodDevices config }
     ensures interrupt { (image : TheImage) (f : Facts) (entry : TheEntry) → IsDueEntry image f entry → IsNextOf entry.cell f.endpoints entry.act }
-    ensures word { (image : TheImage) (f : Facts) (id value : ℕ) (found : TheReach) → IsSound image f → IfSome (slot_of_reach (devices_of image f id) found value) (IsWordOf f.endpoints) }
+    ensures word { (image : TheImage) (f : Facts) (id value : ℕ) (found : TheReach) → IsSound image f → IfSome (endpoint_word_of_reach (devices_of image f id) found value) (IsWordOf f.endpoints) }
 {}

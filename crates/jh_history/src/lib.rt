@@ -51,7 +51,7 @@ pub use comm::{PageChange, PageWrite};
 pub use creation::unless_refused;
 pub use device_change::{DeviceChange, changing_cell};
 pub use device_specs::{endpoint_of, is_endpoint};
-pub use device_write::{slot_places, write_device};
+pub use device_write::{endpoint_word_places, write_device};
 pub use devices::Devices;
 pub use due_facts::{
     a_cell_that_comes_may_live, decides_are_of_the_open_call, devices_may_change, few_cells_live,

@@ -14,7 +14,7 @@ ghost use Rattle.jh_ivshmem.specs.Specs.{IsInItsLimits};
 ghost use Rattle.jh_ivshmem.specs.Links.{pending_of, taken_of};
 ghost use Rattle.jh_history.specs.declared.device_change.DeviceChange.TheVariants.{Join as Joins};
 ghost use Rattle.jh_history.specs.declared.entry.Act.TheVariants.{Commit as Commits};
-ghost use Rattle.jh_history.specs.Access.{write_of, with_slot_if, slot_of_reach};
+ghost use Rattle.jh_history.specs.Access.{write_of, with_endpoint_word_if, endpoint_word_of_reach};
 ghost use Rattle.jh_history.specs.Devices.{specs_of, specs_at};
 ghost use Rattle.jh_history.specs.Endpoints.{endpoints_put, endpoints_acted, endpoints_after, endpoints_changed, change_by, specs_changing, with_words, HasGoodDevices, IsNextOf, MayJoinThem, MayChange};
 ghost use Rattle.jh_history.specs.Grants.{devices_of};
@@ -45,7 +45,9 @@ use crate::pages::page_write;
 use crate::plain_cells::PlainCells;
 use crate::reading::read_config;
 use crate::sound::legal_journals_are_sound;
-use crate::written::{WrittenByte, write_page_if, write_places, write_slot, write_slot_if};
+use crate::written::{
+    WrittenByte, write_endpoint_word, write_endpoint_word_if, write_page_if, write_places,
+};
 use jh_call::Call;
 use jh_cellcfg::{CellConfig, MAX_CPUS};
 use jh_check::sound_bitmaps_name_few_cpus;
@@ -147,8 +149,8 @@ fn change_device(
 {
     match endpoint_of(config, number, &config.pci_devices.as_slice()[number]) {
         Some(spec) => {
-            let slot = change.apply(endpoints, spec)?;
-            write_slot(bytes, &slot)?;
+            let word = change.apply(endpoints, spec)?;
+            write_endpoint_word(bytes, &word)?;
             Ok(())
         }
         None => Ok(()),
@@ -202,13 +204,13 @@ impl<'a> Plain<'a> {
     /// Writes the value where the cell's access reaches, which is a device.
     fn write_device(&mut self, cell: u32, reach: &Reach, value: u64) -> Result<(), NoMemory>
         requires { HasWords self.old }
-        ensures bytes { OnOk result (HasBytes self.old self.new (λ i f. with_slot_if (slot_of_reach (devices_of i f cell) reach.now value) f.byte)) }
+        ensures bytes { OnOk result (HasBytes self.old self.new (λ i f. with_endpoint_word_if (endpoint_word_of_reach (devices_of i f cell) reach.now value) f.byte)) }
         ensures endpoints { OnOk result ((i : TheImage) (f : Facts) → Represents self.old i f → self.new.endpoints ≡ endpoints_put (devices_of i f cell) reach.now value) }
         ensures others { IsSameBut self.old self.new }
     {
         let list = devices_in(self.image, self.cells.configs(), cell);
-        let slot = write_device(&mut self.endpoints, cell, list, reach, value);
-        write_slot_if(&mut self.bytes, slot)?;
+        let word = write_device(&mut self.endpoints, cell, list, reach, value);
+        write_endpoint_word_if(&mut self.bytes, word)?;
         Ok(())
     }
 

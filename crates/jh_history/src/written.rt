@@ -3,8 +3,8 @@ ghost use Rattle.std.specs.Prelude.{◌≡◌, ℕ, ◌+◌, ◌<◌, ◌^◌, l
 ghost use Rattle.jh_script.specs.declared.image.Image.{Image as TheImage};
 ghost use Rattle.jh_history.specs.declared.place.Place.{Place as ThePlace};
 ghost use Rattle.jh_history.specs.Places.{places_of_row, IsRow, overlaid};
-ghost use Rattle.jh_ivshmem.specs.declared.spec.Slot.{Slot as TheSlot};
-ghost use Rattle.jh_history.specs.Access.{with_slot, with_slot_if};
+ghost use Rattle.jh_ivshmem.specs.declared.spec.EndpointWord.{EndpointWord as TheEndpointWord};
+ghost use Rattle.jh_history.specs.Access.{with_endpoint_word, with_endpoint_word_if};
 ghost use Rattle.jh_history.specs.Bytes.{preloaded, loaded_byte};
 ghost use Rattle.jh_history.specs.declared.comm.PageChange.TheVariants.{State, Message, Fresh};
 ghost use Rattle.jh_history.specs.Pages.{with_page, with_page_write};
@@ -12,10 +12,10 @@ ghost use Rattle.jh_history.specs.Admitted.{IsAdmitted};
 ghost use Rattle.jh_history.specs.Private.PlainView.{last_byte, put_in_page, IsRest};
 
 use crate::comm::{PageChange, PageWrite};
-use crate::device_write::slot_places;
+use crate::device_write::endpoint_word_places;
 use crate::place::{Place, Places, Row};
 use jh_comm::{MESSAGE_AT, REPLY_AT, STATE_AT, fresh};
-use jh_ivshmem::Slot;
+use jh_ivshmem::EndpointWord;
 use jh_num::NoMemory;
 use jh_script::{Image, Preload};
 
@@ -93,23 +93,26 @@ pub(crate) fn write_places(
 }
 
 /// Writes the word of a state table.
-pub(crate) fn write_slot(bytes: &mut Vec<WrittenByte>, slot: &Slot) -> Result<(), NoMemory>
-    requires { slot.now.place + 4 < 2 ^ 64 }
-    ensures { OnOk result ((image : TheImage) (q : ThePlace) → last_byte image bytes.new.items q ≡ with_slot slot.now (last_byte image bytes.old.items) q) }
+pub(crate) fn write_endpoint_word(
+    bytes: &mut Vec<WrittenByte>,
+    word: &EndpointWord,
+) -> Result<(), NoMemory>
+    requires { word.now.place + 4 < 2 ^ 64 }
+    ensures { OnOk result ((image : TheImage) (q : ThePlace) → last_byte image bytes.new.items q ≡ with_endpoint_word word.now (last_byte image bytes.old.items) q) }
 {
-    write_places(bytes, &slot_places(slot), u64::from(slot.value))
+    write_places(bytes, &endpoint_word_places(word), u64::from(word.value))
 }
 
 /// Writes the word of a state table, where there is one to write.
-pub(crate) fn write_slot_if(
+pub(crate) fn write_endpoint_word_if(
     bytes: &mut Vec<WrittenByte>,
-    slot: Option<Slot>,
+    word: Option<EndpointWord>,
 ) -> Result<(), NoMemory>
-    requires { IfSome slot (λ (s : TheSlot). s.place + 4 < 2 ^ 64) }
-    ensures { OnOk result ((image : TheImage) (q : ThePlace) → last_byte image bytes.new.items q ≡ with_slot_if slot (last_byte image bytes.old.items) q) }
+    requires { IfSome word (λ (s : TheEndpointWord). s.place + 4 < 2 ^ 64) }
+    ensures { OnOk result ((image : TheImage) (q : ThePlace) → last_byte image bytes.new.items q ≡ with_endpoint_word_if word (last_byte image bytes.old.items) q) }
 {
-    match slot {
-        Some(slot) => write_slot(bytes, &slot),
+    match word {
+        Some(word) => write_endpoint_word(bytes, &word),
         None => Ok(()),
     }
 }

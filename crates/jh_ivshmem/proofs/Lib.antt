@@ -1,5 +1,6 @@
 mod ChangeLemmas
 mod KeyLemmas
+mod LeaveLemmas
 mod OrderLemmas
 mod LoopLemmas
 mod NamedLemmas

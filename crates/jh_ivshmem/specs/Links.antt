@@ -3,8 +3,8 @@ use Rattle.std.specs.Prelude.{ℕ, ◌≡◌, ◌≢◌, ◌<◌, length, slice_
 use Rattle.std.specs.Option.{option_map_or}
 use Rattle.jh_ivshmem.specs.declared.endpoint.Endpoint.{Endpoint}
 use Rattle.jh_ivshmem.specs.declared.spec.EndpointSpec.{EndpointSpec}
-use Rattle.jh_ivshmem.specs.declared.spec.Slot.{Slot}
-use Rattle.jh_ivshmem.specs.Specs.{is_device, is_before, is_peer, is_other, slot_of}
+use Rattle.jh_ivshmem.specs.declared.spec.EndpointWord.{EndpointWord}
+use Rattle.jh_ivshmem.specs.Specs.{is_device, is_before, is_peer, is_other, endpoint_word_of}
 use Rattle.jh_ivshmem.specs.Endpoint.{raised, taken, cleared, fresh, pending_in, vector_at}
 use Rattle.jh_ivshmem.specs.Registers.{register_written}
 use Rattle.jh_ivshmem.specs.Changes.{changed}
@@ -56,10 +56,10 @@ written e bar at value list =
     else (if (bar == 0) && (at == 0x10) then state_written e value list
     else changed (is_device e.spec.cell e.spec.device) (register_written bar at value) list)
 
--- the write to the state table that comes with a write to a register: where the state gets another value
-unfoldable pub slot_written : Endpoint → ℕ → ℕ → ℕ → Option Slot
-slot_written e bar at value =
-    if ((bar == 0) && (at == 0x10)) && not (e.state == value) then Some (slot_of e.spec value) else None
+-- the endpoint's word that is written with a register, where the state gets another value
+unfoldable pub endpoint_word_written : Endpoint → ℕ → ℕ → ℕ → Option EndpointWord
+endpoint_word_written e bar at value =
+    if ((bar == 0) && (at == 0x10)) && not (e.state == value) then Some (endpoint_word_of e.spec value) else None
 
 -- the endpoints after a reset of the endpoint, which acts on the link as a state write of 0
 abbrev pub reset_of : Endpoint → List Endpoint → List Endpoint

@@ -2,7 +2,7 @@
 use Rattle.std.specs.Prelude.{ℕ, ◌+◌, ◌*◌, ◌^◌, ◌<◌, ◌≤◌, ◌≡◌, Bool, true, false, ◌&&◌, ◌||◌, not, nat_lt, ◌==◌, if◌then◌else◌}
 use Rattle.jh_vpci.specs.Space.{has_vectors}
 use Rattle.jh_ivshmem.specs.declared.spec.EndpointSpec.{EndpointSpec}
-use Rattle.jh_ivshmem.specs.declared.spec.Slot.{Slot}
+use Rattle.jh_ivshmem.specs.declared.spec.EndpointWord.{EndpointWord}
 
 -- the endpoint is within its limits, which is what joining asks of it by itself
 pub record IsInItsLimits (spec : EndpointSpec) : Type 0 where
@@ -44,6 +44,6 @@ pub record AreEndpointsApart (one other : EndpointSpec) : Type 0 where
 abbrev pub vector_count : EndpointSpec → ℕ
 vector_count spec = if has_vectors spec.function then spec.function.vectors else 1
 
--- the write of the value to the endpoint's word of its state table
-abbrev pub slot_of : EndpointSpec → ℕ → Slot
-slot_of spec value = record { place = spec.table + 4 * spec.id; value = value }
+-- the endpoint's word of its state table, with the value
+abbrev pub endpoint_word_of : EndpointSpec → ℕ → EndpointWord
+endpoint_word_of spec value = record { place = spec.table + 4 * spec.id; value = value }

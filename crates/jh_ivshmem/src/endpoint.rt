@@ -18,8 +18,8 @@ pub struct Endpoint {
     pub vectors: [Vector; 16],
 }
 
-/// The first of the vectors that is pending.
-fn first_pending(vectors: &[Vector]) -> Option<usize>
+/// The lowest of the vectors that is pending.
+fn lowest_pending(vectors: &[Vector]) -> Option<usize>
     ensures value { result ≡ position (λ vector. vector.pending) vectors.now }
     ensures bound { IfSome result (λ v. v < length vectors.now) }
 {
@@ -74,7 +74,7 @@ impl Endpoint {
         requires sound { IsWholeEndpoint self.now }
         ensures { result ≡ pending_in self.now }
     {
-        match first_pending(&self.vectors) {
+        match lowest_pending(&self.vectors) {
             Some(v) => Some(v as u8),
             None => None,
         }

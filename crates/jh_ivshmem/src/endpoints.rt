@@ -4,20 +4,20 @@ ghost use Rattle.std.specs.List.{list_all, insert};
 ghost use Rattle.std.specs.List.Sorted.{IsPartitionPoint};
 ghost use Rattle.jh_vpci.specs.Space.{Space};
 ghost use Rattle.jh_vpci.specs.Windows.{window_size};
-ghost use Rattle.jh_ivshmem.specs.Specs.{IsInItsLimits, AreEndpointsApart, is_device, is_concerned, slot_of};
+ghost use Rattle.jh_ivshmem.specs.Specs.{IsInItsLimits, AreEndpointsApart, is_device, is_concerned, endpoint_word_of};
 ghost use Rattle.jh_ivshmem.specs.Registers.{register_of};
 ghost use Rattle.jh_ivshmem.specs.Changes.{changed};
 ghost use Rattle.jh_ivshmem.specs.Private.Changes.{is_meant, after};
 ghost use Rattle.jh_ivshmem.specs.declared.change.Whom.TheVariants.{Device};
 ghost use Rattle.jh_ivshmem.specs.Keys.{AreKept, IsWholeEndpoint};
 ghost use Rattle.jh_ivshmem.specs.Private.Keys.{AreInOrder, is_key_apart, is_key_before, is_key_meant, pending_by};
-ghost use Rattle.jh_ivshmem.specs.Links.{endpoint_at, ForEndpoint, besides, joined, told_of, rung, state_written, written, slot_written, reset_of, left_by, pending_of, taken_of, earlier};
+ghost use Rattle.jh_ivshmem.specs.Links.{endpoint_at, ForEndpoint, besides, joined, told_of, rung, state_written, written, endpoint_word_written, reset_of, left_by, pending_of, taken_of, earlier};
 
 use crate::change::{EndpointChange, Whom};
 use crate::endpoint::Endpoint;
 use crate::key::Key;
 use crate::registers::{DOORBELL, STATE};
-use crate::spec::{EndpointSpec, Slot};
+use crate::spec::{EndpointSpec, EndpointWord};
 use jh_num::{NoMemory, make_room};
 use jh_vpci::ConfigSpace;
 use std::alloc::Global;
@@ -135,22 +135,23 @@ fn put<T: Drop>(list: &mut Vec<T>, index: usize, element: T)
     }
 }
 
-/// Drops the endpoint of the device.
-fn drop_endpoint(endpoints: &mut Vec<Endpoint>, cell: u32, device: u32)
+/// Drops the endpoint of the device and its key.
+fn drop_endpoint(endpoints: &mut Vec<Endpoint>, keys: &mut Vec<Key>, cell: u32, device: u32)
+    requires kept { AreKept endpoints.old.items keys.old.items }
     ensures list { endpoints.new.items ≡ filter (λ (e : Endpoint). not (is_device cell device e.spec)) endpoints.old.items }
+    ensures kept { AreKept endpoints.new.items keys.new.items }
     ensures len { vec_len endpoints.new ≤ vec_len endpoints.old }
+    ensures key_len { vec_len keys.new ≤ vec_len keys.old }
     ensures capacity { vec_capacity endpoints.new ≡ vec_capacity endpoints.old }
+    ensures key_capacity { vec_capacity keys.new ≡ vec_capacity keys.old }
 {
-    endpoints.retain(|e| !(e.spec.cell == cell && e.spec.device == device));
-}
-
-/// Drops the keys whose endpoints are meant.
-fn drop_key(keys: &mut Vec<Key>, whom: Whom)
-    ensures list { keys.new.items ≡ filter (λ (key : Key). not (is_key_meant whom key)) keys.old.items }
-    ensures len { vec_len keys.new ≤ vec_len keys.old }
-    ensures capacity { vec_capacity keys.new ≡ vec_capacity keys.old }
-{
-    keys.retain(|key| !key.is_meant(whom));
+    match key_index(keys, cell, device) {
+        Some(i) => {
+            let _ = endpoints.remove(i);
+            let _ = keys.remove(i);
+        }
+        None => {}
+    }
 }
 
 /// Whether the register is the doorbell of BAR 0.
@@ -254,17 +255,17 @@ impl Endpoints {
 
     /// An endpoint joins its link, as after a reset, and its word of the state table becomes 0. With a
     /// positive spare it needs no memory.
-    pub fn join(&mut self, s: EndpointSpec) -> Result<Slot, NoMemory>
+    pub fn join(&mut self, s: EndpointSpec) -> Result<EndpointWord, NoMemory>
         requires within { IsInItsLimits s }
         requires new { All (λ e. AreEndpointsApart e.spec s) self.old.list }
         ensures ok { OnOk result (self.new.list ≡ joined s self.old.list) }
-        ensures slot { IfOk result (λ slot. slot ≡ slot_of s 0) }
+        ensures word { IfOk result (λ word. word ≡ endpoint_word_of s 0) }
         ensures err { OnErr result (self.new.list ≡ self.old.list) }
         ensures others { besides (is_device s.cell s.device) self.new.list ≡ besides (is_device s.cell s.device) self.old.list }
         ensures succeeds { 0 < self.old.spare → IsOk result }
         ensures spare { 0 < self.old.spare → self.new.spare + 1 ≡ self.old.spare }
     {
-        let slot = s.slot(0);
+        let word = s.word(0);
         let endpoint = Endpoint::new(s);
         let key = Key::of(&endpoint);
         make_room(&mut self.endpoints)?;
@@ -272,30 +273,29 @@ impl Endpoints {
         let index = insertion_index(&self.keys, s.cell, s.device);
         put(&mut self.endpoints, index, endpoint);
         put(&mut self.keys, index, key);
-        Ok(slot)
+        Ok(word)
     }
 
     /// The endpoint leaves its link. The others learn of it where its state wasn't 0, and its word of the
     /// state table becomes 0 in any case.
-    pub fn leave(&mut self, cell: u32, device: u32) -> Slot
+    pub fn leave(&mut self, cell: u32, device: u32) -> EndpointWord
         requires there { IsSome (endpoint_at cell device self.old.list) }
         ensures list { ForEndpoint cell device self.old.list (λ e. self.new.list ≡ left_by e self.old.list) }
         ensures others { ForEndpoint cell device self.old.list (λ e. besides (is_concerned e.spec) self.new.list ≡ besides (is_concerned e.spec) self.old.list) }
-        ensures slot { ForEndpoint cell device self.old.list (λ e. result ≡ slot_of e.spec 0) }
+        ensures word { ForEndpoint cell device self.old.list (λ e. result ≡ endpoint_word_of e.spec 0) }
         ensures spare { self.old.spare ≤ self.new.spare }
     {
-        let slot = self.tell(cell, device, 0);
-        drop_endpoint(&mut self.endpoints, cell, device);
-        drop_key(&mut self.keys, Whom::Device { cell, device });
-        slot
+        let word = self.tell(cell, device, 0);
+        drop_endpoint(&mut self.endpoints, &mut self.keys, cell, device);
+        word
     }
 
     /// The others of the endpoint's link learn that its state becomes the value, where it was another, by their vector
     /// 0. The answer is the write of the value to its word of the state table.
-    fn tell(&mut self, cell: u32, device: u32, value: u32) -> Slot
+    fn tell(&mut self, cell: u32, device: u32, value: u32) -> EndpointWord
         requires there { IsSome (endpoint_at cell device self.old.list) }
         ensures list { ForEndpoint cell device self.old.list (λ e. self.new.list ≡ told_of e value self.old.list) }
-        ensures slot { ForEndpoint cell device self.old.list (λ e. result ≡ slot_of e.spec value) }
+        ensures word { ForEndpoint cell device self.old.list (λ e. result ≡ endpoint_word_of e.spec value) }
         ensures spare { self.new.spare ≡ self.old.spare }
     {
         let named = self.named(cell, device);
@@ -307,22 +307,22 @@ impl Endpoints {
             };
             self.change(whom, EndpointChange::Raise(0));
         }
-        spec.slot(value)
+        spec.word(value)
     }
 
     /// The endpoint's registers are put as after a reset, its pending vectors are dropped, and its state
     /// becomes 0: the others learn of it where it wasn't, and its word of the state table becomes 0 in
     /// any case.
-    pub fn reset(&mut self, cell: u32, device: u32) -> Slot
+    pub fn reset(&mut self, cell: u32, device: u32) -> EndpointWord
         requires there { IsSome (endpoint_at cell device self.old.list) }
         ensures list { ForEndpoint cell device self.old.list (λ e. self.new.list ≡ reset_of e self.old.list) }
         ensures others { ForEndpoint cell device self.old.list (λ e. besides (is_concerned e.spec) self.new.list ≡ besides (is_concerned e.spec) self.old.list) }
-        ensures slot { ForEndpoint cell device self.old.list (λ e. result ≡ slot_of e.spec 0) }
+        ensures word { ForEndpoint cell device self.old.list (λ e. result ≡ endpoint_word_of e.spec 0) }
         ensures spare { self.new.spare ≡ self.old.spare }
     {
-        let slot = self.tell(cell, device, 0);
+        let word = self.tell(cell, device, 0);
         self.change(Whom::Device { cell, device }, EndpointChange::Reset);
-        slot
+        word
     }
 
     /// The configuration space of the endpoint.
@@ -358,14 +358,21 @@ impl Endpoints {
 
     /// Writes a register of the endpoint. The write to the state table that comes with it is told exactly
     /// where the state register gets another value.
-    pub fn write(&mut self, cell: u32, device: u32, bar: u8, at: u32, value: u32) -> Option<Slot>
+    pub fn write(
+        &mut self,
+        cell: u32,
+        device: u32,
+        bar: u8,
+        at: u32,
+        value: u32,
+    ) -> Option<EndpointWord>
         requires there { IsSome (endpoint_at cell device self.old.list) }
         requires bar { bar < 2 }
         requires aligned { at % 4 ≡ 0 }
         requires within { at < window_size bar }
         ensures list { ForEndpoint cell device self.old.list (λ e. self.new.list ≡ written e bar at value self.old.list) }
         ensures others { ForEndpoint cell device self.old.list (λ e. besides (is_concerned e.spec) self.new.list ≡ besides (is_concerned e.spec) self.old.list) }
-        ensures slot { ForEndpoint cell device self.old.list (λ e. result ≡ slot_written e bar at value) }
+        ensures word { ForEndpoint cell device self.old.list (λ e. result ≡ endpoint_word_written e bar at value) }
         ensures spare { self.new.spare ≡ self.old.spare }
     {
         if is_doorbell(bar, at) {
@@ -398,16 +405,16 @@ impl Endpoints {
     }
 
     /// Writes the state register of the endpoint, and tells the write to the state table where the value is another.
-    fn set_state(&mut self, cell: u32, device: u32, value: u32) -> Option<Slot>
+    fn set_state(&mut self, cell: u32, device: u32, value: u32) -> Option<EndpointWord>
         requires there { IsSome (endpoint_at cell device self.old.list) }
         ensures list { ForEndpoint cell device self.old.list (λ e. self.new.list ≡ state_written e value self.old.list) }
-        ensures slot { ForEndpoint cell device self.old.list (λ e. result ≡ (if e.state == value then None else Some (slot_of e.spec value))) }
+        ensures word { ForEndpoint cell device self.old.list (λ e. result ≡ (if e.state == value then None else Some (endpoint_word_of e.spec value))) }
         ensures spare { self.new.spare ≡ self.old.spare }
     {
         let had = self.named(cell, device).state;
-        let slot = self.tell(cell, device, value);
+        let word = self.tell(cell, device, value);
         self.change(Whom::Device { cell, device }, EndpointChange::State(value));
-        if had == value { None } else { Some(slot) }
+        if had == value { None } else { Some(word) }
     }
 
     /// The cell's pending vector of the lowest device, then of the lowest number: the device and the vector. `None`

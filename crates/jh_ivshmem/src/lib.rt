@@ -19,5 +19,5 @@ pub use laws::{
     a_raise_of_an_open_vector_is_pending, links_never_see_each_other,
     the_same_state_changes_nothing,
 };
-pub use spec::{EndpointSpec, Slot};
+pub use spec::{EndpointSpec, EndpointWord};
 pub use vector::Vector;

@@ -1,4 +1,4 @@
-//! What is fixed of an endpoint, and the writes to the state table.
+//! What is fixed of an endpoint, and its word of the state table.
 ghost use Rattle.std.specs.Prelude.{◌≡◌, ◌+◌, ◌^◌, ◌<◌, ◌≤◌};
 
 use jh_vpci::FunctionSpec;
@@ -16,15 +16,15 @@ pub struct EndpointSpec {
     pub function: FunctionSpec,
 }
 
-/// A write of a word of 32 bits to the state table, at its physical place.
+/// An endpoint's word of 32 bits in the state table of its link: the physical place, and the value written there.
 #[derive(Clone, Copy, PartialEq, Eq, Debug)]
-pub struct Slot {
+pub struct EndpointWord {
     pub place: u64,
     pub value: u32,
 }
 
 impl EndpointSpec {
-    ghost use Rattle.jh_ivshmem.specs.Specs.{vector_count, slot_of};
+    ghost use Rattle.jh_ivshmem.specs.Specs.{vector_count, endpoint_word_of};
 
     /// How many vectors the endpoint has: those of MSI-X, or a single one without.
     pub fn vector_count(&self) -> u8
@@ -37,13 +37,13 @@ impl EndpointSpec {
         }
     }
 
-    /// The write of the value to the endpoint's word of the state table, at `table + 4 * id`.
-    pub(crate) fn slot(&self, value: u32) -> Slot
+    /// The endpoint's word of the state table, at `table + 4 * id`, with the value.
+    pub(crate) fn word(&self, value: u32) -> EndpointWord
         requires table { self.now.table + 64 ≤ 2 ^ 39 }
         requires id { self.now.id < 16 }
-        ensures { result ≡ slot_of self.now value }
+        ensures { result ≡ endpoint_word_of self.now value }
     {
-        Slot {
+        EndpointWord {
             place: self.table + 4 * u64::from(self.id),
             value,
         }

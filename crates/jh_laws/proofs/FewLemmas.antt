@@ -13,8 +13,8 @@ use Rattle.jh_cellcfg.specs.declared.config.CellConfig.{CellConfig}
 use Rattle.jh_cellcfg.specs.Reading.{config_of, config_of_body}
 use Rattle.jh_comm.specs.Page.{with_state, sent, fresh_page, signature}
 use Rattle.jh_ivshmem.specs.declared.spec.EndpointSpec.{EndpointSpec}
-use Rattle.jh_ivshmem.specs.declared.spec.Slot.{Slot}
-use Rattle.jh_ivshmem.specs.Specs.{slot_of}
+use Rattle.jh_ivshmem.specs.declared.spec.EndpointWord.{EndpointWord}
+use Rattle.jh_ivshmem.specs.Specs.{endpoint_word_of}
 use Rattle.jh_script.specs.declared.image.Image.{Image}
 use Rattle.jh_script.specs.declared.image.Preload.{Preload}
 use Rattle.jh_history.specs.declared.place.Place.{Place}
@@ -24,7 +24,7 @@ use Rattle.jh_history.specs.declared.access.Reach.TheVariants.{Memory, Subpage, 
 use Rattle.jh_history.specs.declared.comm.PageChange.{PageChange}
 use Rattle.jh_history.specs.declared.comm.PageChange.TheVariants.{State as NewState, Message, Fresh}
 use Rattle.jh_history.specs.declared.comm.PageWrite.{PageWrite}
-use Rattle.jh_history.specs.Access.{write_of, with_slot, with_slot_if, slot_put}
+use Rattle.jh_history.specs.Access.{write_of, with_endpoint_word, with_endpoint_word_if, endpoint_word_put}
 use Rattle.jh_history.specs.Devices.{Devices, specs_of}
 use Rattle.jh_history.specs.Endpoints.{with_words}
 use Rattle.jh_history.specs.Places.{is_same, places_in_row, with_byte, written}
@@ -122,20 +122,20 @@ written_small byte (place ∷ places) value q small =
     written_small (with_byte byte place (value % 256)) places (value / 256) q
     (λ p. cond_both (is_same p place) (value % 256) (byte p) P (λ _. mod-lt value (omega arith)) (λ _. small p))
 
-slot_small : (o : Option Slot) (byte : Place → ℕ) (q : Place) → ((p : Place) → byte p < 256) → with_slot_if o byte q < 256
-slot_small None byte q small = small q
-slot_small (Some slot) byte q small = written_small byte (places_in_row (Physical slot.place) 4) slot.value q small
+endpoint_word_small : (o : Option EndpointWord) (byte : Place → ℕ) (q : Place) → ((p : Place) → byte p < 256) → with_endpoint_word_if o byte q < 256
+endpoint_word_small None byte q small = small q
+endpoint_word_small (Some word) byte q small = written_small byte (places_in_row (Physical word.place) 4) word.value q small
 
 pub write_small : (byte : Place → ℕ) (devices : Devices) (reach : Reach) (value : ℕ) (q : Place) → ((p : Place) → byte p < 256) → write_of byte devices reach value q < 256
 write_small byte devices (Memory places) value q small = written_small byte places value q small
 write_small byte devices (Subpage places) value q small = written_small byte places value q small
 write_small byte devices (Config bytes) value q small = small q
-write_small byte devices (Window register) value q small = slot_small (slot_put devices register value) byte q small
+write_small byte devices (Window register) value q small = endpoint_word_small (endpoint_word_put devices register value) byte q small
 write_small byte devices Nothing value q small = small q
 
 pub words_small : (specs : List EndpointSpec) (byte : Place → ℕ) (q : Place) → ((p : Place) → byte p < 256) → with_words specs byte q < 256
 words_small [] byte q small = small q
-words_small (s ∷ specs) byte q small = words_small specs (with_slot (slot_of s 0) byte) q (λ p. slot_small (Some (slot_of s 0)) byte p small)
+words_small (s ∷ specs) byte q small = words_small specs (with_endpoint_word (endpoint_word_of s 0) byte) q (λ p. endpoint_word_small (Some (endpoint_word_of s 0)) byte p small)
 
 -- ---- opening
 

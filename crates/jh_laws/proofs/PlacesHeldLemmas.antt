@@ -21,9 +21,9 @@ use Rattle.jh_call.specs.declared.call.Call.{Call}
 use Rattle.jh_call.specs.declared.call.Call.TheVariants.{Create, Start, Loadable, Destroy, Info, State, CpuInfo, Unknown}
 use Rattle.jh_ivshmem.specs.declared.endpoint.Endpoint.{Endpoint}
 use Rattle.jh_ivshmem.specs.declared.spec.EndpointSpec.{EndpointSpec}
-use Rattle.jh_ivshmem.specs.declared.spec.Slot.{Slot}
-use Rattle.jh_ivshmem.specs.Links.{slot_written}
-use Rattle.jh_ivshmem.specs.Specs.{slot_of}
+use Rattle.jh_ivshmem.specs.declared.spec.EndpointWord.{EndpointWord}
+use Rattle.jh_ivshmem.specs.Links.{endpoint_word_written}
+use Rattle.jh_ivshmem.specs.Specs.{endpoint_word_of}
 use Rattle.jh_script.specs.declared.image.Image.{Image}
 use Rattle.jh_history.specs.declared.place.Place.{Place}
 use Rattle.jh_history.specs.declared.place.Place.TheVariants.{Physical, Page}
@@ -35,7 +35,7 @@ use Rattle.jh_history.specs.declared.entry.Act.TheVariants.{Read, Write, Fetch, 
 use Rattle.jh_history.specs.declared.call.OpenCall.{OpenCall}
 use Rattle.jh_history.specs.declared.call.Phase.{Phase}
 use Rattle.jh_history.specs.declared.call.Phase.TheVariants.{ToDecide, ToSettle, ToCreate, ToCommit, ToNote, ToNoted, ToFinish}
-use Rattle.jh_history.specs.Access.{with_slot_if}
+use Rattle.jh_history.specs.Access.{with_endpoint_word_if}
 use Rattle.jh_history.specs.Commits.{cells_by, is_commit}
 use Rattle.jh_history.specs.Devices.{place_of_section, specs_of}
 use Rattle.jh_history.specs.Endpoints.{changing, changing_by, specs_changing, with_words}
@@ -57,7 +57,7 @@ use Rattle.jh_laws.specs.Ends.{AreItsPlaces, IsAnsweredByRegister}
 use Rattle.jh_laws.proofs.WindowLemmas.{spec_is}
 use Rattle.jh_laws.proofs.DevicesLemmas.{endpoint_held}
 use Rattle.jh_laws.proofs.EndsLemmas.{IsSmallAct, small_at}
-use Rattle.jh_laws.proofs.WordLemmas.{IsByteAt, IsApart, slot_cases, slot_other, value_fits, state_put, IsInWords, AreApart, words_kept, words_or, words_page, specs_none, is_physical}
+use Rattle.jh_laws.proofs.WordLemmas.{IsByteAt, IsApart, endpoint_word_cases, endpoint_word_other, value_fits, state_put, IsInWords, AreApart, words_kept, words_or, words_page, specs_none, is_physical}
 use Rattle.jh_laws.proofs.HeldLemmas.{at_same}
 use Rattle.jh_laws.proofs.StoredLemmas.{IsGivenTo, listed_at, byte_put, IsStored, IsWord, placed, places_given}
 use Rattle.jh_laws.proofs.FactsLemmas.{byte_after_holds}
@@ -100,21 +100,21 @@ pub record PutsWordAt (image : Image) (f : Facts) (id : ℕ) (act : Act) (q : Pl
   pub puts : PutsRegister image f id act 0x10 value endpoint
   pub other : value ≢ endpoint.state
   pub index : ℕ
-  pub there : IsByteAt (slot_of endpoint.spec value) q index
+  pub there : IsByteAt (endpoint_word_of endpoint.spec value) q index
 
 -- what the act of the cell writes itself it writes at a place that a region of the cell gives it, or as such a word
 abbrev pub MayWriteBy : Image → Facts → ℕ → Act → Place → Type 0
 MayWriteBy image f id act q = MayWrite image f id q ⊎ PutsWordAt image f id act q
 
-word_at : (image : Image) (f : Facts) (id at width value : ℕ) (q : Place) (h : IsWord image f id at width) (o : Option Slot) → slot_written h.endpoint h.bar h.offset value ≡ o → with_slot_if o f.byte q ≢ f.byte q → PutsWordAt image f id (Write width at value true) q
+word_at : (image : Image) (f : Facts) (id at width value : ℕ) (q : Place) (h : IsWord image f id at width) (o : Option EndpointWord) → endpoint_word_written h.endpoint h.bar h.offset value ≡ o → with_endpoint_word_if o f.byte q ≢ f.byte q → PutsWordAt image f id (Write width at value true) q
 word_at image f id at width value q h None is changed = absurd (changed refl)
-word_at image f id at width value q h (Some slot) is changed =
-    let put = state_put h.endpoint h.bar h.offset value slot is in
+word_at image f id at width value q h (Some word) is changed =
+    let put = state_put h.endpoint h.bar h.offset value word is in
     let R : ℕ → ℕ → Type 0 = λ b o. IsAnsweredByRegister image f id ToWrite at width h.number b o h.endpoint in
     let B : ℕ → Type 0 = λ b. R b h.offset in
     ⊎_elim
-    (λ (there : (k : ℕ) × IsByteAt slot q k).
-    let S : Slot → Type 0 = λ s. IsByteAt s q there.0 in
+    (λ (there : (k : ℕ) × IsByteAt word q k).
+    let S : EndpointWord → Type 0 = λ s. IsByteAt s q there.0 in
     record {
       value = value;
       endpoint = h.endpoint;
@@ -123,8 +123,8 @@ word_at image f id at width value q h (Some slot) is changed =
       index = there.0;
       there = subst S put.is there.1;
     })
-    (λ (apart : IsApart slot q). absurd (changed (slot_other slot f.byte q apart)))
-    (slot_cases slot q)
+    (λ (apart : IsApart word q). absurd (changed (endpoint_word_other word f.byte q apart)))
+    (endpoint_word_cases word q)
 
 write_of_reach : (image : Image) (f : Facts) (id at width value : ℕ) (q : Place) → IsSound image f → value < 256 ^ width → byte_put image f id at width value q ≢ f.byte q → MayWriteBy image f id (Write width at value true) q
 write_of_reach image f id at width value q sound small changed =
@@ -133,9 +133,9 @@ write_of_reach image f id at width value q sound small changed =
     (λ more. ⊎_elim
     (λ (h : IsWord image f id at width).
     let same : value % 2 ^ 32 ≡ value = value_fits width value h.by.wide small in
-    let stored : byte_put image f id at width value q ≡ with_slot_if (slot_written h.endpoint h.bar h.offset value) f.byte q =
-    ap (λ (b : Place → ℕ). b q) (h.stored value) ∙ ap (λ (v : ℕ). with_slot_if (slot_written h.endpoint h.bar h.offset v) f.byte q) same in
-    inr (word_at image f id at width value q h (slot_written h.endpoint h.bar h.offset value) refl (λ e. changed (stored ∙ e))))
+    let stored : byte_put image f id at width value q ≡ with_endpoint_word_if (endpoint_word_written h.endpoint h.bar h.offset value) f.byte q =
+    ap (λ (b : Place → ℕ). b q) (h.stored value) ∙ ap (λ (v : ℕ). with_endpoint_word_if (endpoint_word_written h.endpoint h.bar h.offset v) f.byte q) same in
+    inr (word_at image f id at width value q h (endpoint_word_written h.endpoint h.bar h.offset value) refl (λ e. changed (stored ∙ e))))
     (λ (nowhere : (v : ℕ) → byte_put image f id at width v ≡ f.byte). absurd (changed (ap (λ (b : Place → ℕ). b q) (nowhere value))))
     more)
     (placed image f id at width sound)
@@ -288,7 +288,7 @@ held_writes image f live number region place id at sound held h =
 
 -- the state table of a device has the words of all its peers
 table_has : (image : Image) (configs : List CellConfig) (config : CellConfig) (spec : EndpointSpec) (value k place : ℕ) → IsClean image.system configs → (held : Contains (image.system.root ∷ configs) config) → Contains (specs_of config) spec
-    → IsByteAt (slot_of spec value) (Physical place) k → HasPlace config place
+    → IsByteAt (endpoint_word_of spec value) (Physical place) k → HasPlace config place
 table_has image configs config spec value k place clean held own there =
     let s = spec_is config spec own in
     let device : PciDevice = s.device in
@@ -403,7 +403,7 @@ coming_owner image f entry live number region place config held clean behind h =
     (two_cells image all live.config config number region place clean own there held.item held.alone held.has h)
 
 changing_owner : (image : Image) (f : Facts) (entry : Entry) (live : Live) (number : ℕ) (region : Region) (place : ℕ) (spec : EndpointSpec) (value k : ℕ) → IsSound image f → IsHeld f.cells live number region place → IsChanging image f entry spec
-    → IsByteAt (slot_of spec value) (Physical place) k → IsOwnerOf image f entry live.config number spec.cell
+    → IsByteAt (endpoint_word_of spec value) (Physical place) k → IsOwnerOf image f entry live.config number spec.cell
 changing_owner image f entry live number region place spec value k sound held h there =
     let P : ℕ → Type 0 = IsOwnerOf image f entry live.config number in
     let all : List CellConfig = configs_of f.cells ++ h.config ∷ [] in
@@ -418,7 +418,7 @@ changing_owner image f entry live number region place spec value k sound held h 
     h.lives)
 
 endpoint_owner : (image : Image) (f : Facts) (entry : Entry) (live : Live) (number : ℕ) (region : Region) (place : ℕ) (e : Endpoint) (value k : ℕ) → IsSound image f → IsHeld f.cells live number region place → Contains f.endpoints e
-    → IsByteAt (slot_of e.spec value) (Physical place) k → IsOwnerOf image f entry live.config number e.spec.cell
+    → IsByteAt (endpoint_word_of e.spec value) (Physical place) k → IsOwnerOf image f entry live.config number e.spec.cell
 endpoint_owner image f entry live number region place e value k sound held there_e there =
     let own = All-contains (λ (o : Endpoint). IsOfDevice image (configs_of f.cells) o.spec) f.endpoints e sound.endpoints.own there_e in
     let config : CellConfig = own.0 in

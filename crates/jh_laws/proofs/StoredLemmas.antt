@@ -7,8 +7,8 @@ use Rattle.jh_cellcfg.specs.declared.config.CellConfig.{CellConfig}
 use Rattle.jh_cellcfg.specs.declared.live.Live.{Live}
 use Rattle.jh_cellcfg.specs.declared.region.Region.{Region}
 use Rattle.jh_ivshmem.specs.declared.endpoint.Endpoint.{Endpoint}
-use Rattle.jh_ivshmem.specs.declared.spec.Slot.{Slot}
-use Rattle.jh_ivshmem.specs.Links.{endpoint_at, slot_written}
+use Rattle.jh_ivshmem.specs.declared.spec.EndpointWord.{EndpointWord}
+use Rattle.jh_ivshmem.specs.Links.{endpoint_at, endpoint_word_written}
 use Rattle.jh_script.specs.declared.image.Image.{Image}
 use Rattle.jh_history.specs.declared.place.Place.{Place}
 use Rattle.jh_history.specs.declared.access.Access.{Access}
@@ -16,7 +16,7 @@ use Rattle.jh_history.specs.declared.access.Access.TheVariants.{Write as ToWrite
 use Rattle.jh_history.specs.declared.access.Reach.{Reach}
 use Rattle.jh_history.specs.declared.access.Reach.TheVariants.{Window}
 use Rattle.jh_history.specs.Places.{written}
-use Rattle.jh_history.specs.Access.{place_in_cell, write_of, or_behind, with_slot_if, slot_put}
+use Rattle.jh_history.specs.Access.{place_in_cell, write_of, or_behind, with_endpoint_word_if, endpoint_word_put}
 use Rattle.jh_history.specs.Facts.{Facts}
 use Rattle.jh_history.specs.Grants.{granted, behind_of, behind_in, reach, devices_of}
 use Rattle.jh_history.proofs.Public.{reach_by_within, reach_by_beyond, answer_beyond}
@@ -75,8 +75,8 @@ pub write_stored : (image : Image) (f : Facts) (id at width : ℕ) (place : ℕ 
 write_stored image f id at width place value sound some are = stored_on image f id at width place value sound.cells some (way image f id ToWrite at width sound some) are
 
 -- the word that a register gets by it
-pub word_of_register : (image : Image) (f : Facts) (id n bar offset value : ℕ) (e : Endpoint) → endpoint_at id n f.endpoints ≡ Some e → slot_put (devices_of image f id) (record { device = n; bar = bar; at = offset }) value ≡ slot_written e bar offset (value % 2 ^ 32)
-word_of_register image f id n bar offset value e there = ap (option_and_then (λ (o : Endpoint). slot_written o bar offset (value % 2 ^ 32))) there
+pub word_of_register : (image : Image) (f : Facts) (id n bar offset value : ℕ) (e : Endpoint) → endpoint_at id n f.endpoints ≡ Some e → endpoint_word_put (devices_of image f id) (record { device = n; bar = bar; at = offset }) value ≡ endpoint_word_written e bar offset (value % 2 ^ 32)
+word_of_register image f id n bar offset value e there = ap (option_and_then (λ (o : Endpoint). endpoint_word_written o bar offset (value % 2 ^ 32))) there
 
 -- a write of a register reaches it
 pub register_reached : (image : Image) (f : Facts) (id : ℕ) (access : Access) (at width n bar offset : ℕ) (e : Endpoint) → Way image f id access at width → IsAnsweredByRegister image f id access at width n bar offset e
@@ -90,10 +90,10 @@ register_reached image f id access at width n bar offset e (OnNothing none is) b
 
 -- and puts that word
 pub register_stored : (image : Image) (f : Facts) (id at width n bar offset value : ℕ) (e : Endpoint) → IsSound image f → 0 < width → IsAnsweredByRegister image f id ToWrite at width n bar offset e
-    → byte_put image f id at width value ≡ with_slot_if (slot_written e bar offset (value % 2 ^ 32)) f.byte
+    → byte_put image f id at width value ≡ with_endpoint_word_if (endpoint_word_written e bar offset (value % 2 ^ 32)) f.byte
 register_stored image f id at width n bar offset value e sound some by =
     ap (λ (r : Reach). write_of f.byte (devices_of image f id) r value) (register_reached image f id ToWrite at width n bar offset e (way image f id ToWrite at width sound some) by)
-    ∙ ap (λ (o : Option Slot). with_slot_if o f.byte) (word_of_register image f id n bar offset value e by.within.is.there)
+    ∙ ap (λ (o : Option EndpointWord). with_endpoint_word_if o f.byte) (word_of_register image f id n bar offset value e by.within.is.there)
 
 -- the access has places, at which the value is stored
 pub record IsStored (image : Image) (f : Facts) (id at width : ℕ) : Type 0 where
@@ -108,7 +108,7 @@ pub record IsWord (image : Image) (f : Facts) (id at width : ℕ) : Type 0 where
   pub offset : ℕ
   pub endpoint : Endpoint
   pub by : IsAnsweredByRegister image f id ToWrite at width number bar offset endpoint
-  pub stored : (value : ℕ) → byte_put image f id at width value ≡ with_slot_if (slot_written endpoint bar offset (value % 2 ^ 32)) f.byte
+  pub stored : (value : ℕ) → byte_put image f id at width value ≡ with_endpoint_word_if (endpoint_word_written endpoint bar offset (value % 2 ^ 32)) f.byte
 
 abbrev pub Placed : Image → Facts → ℕ → ℕ → ℕ → Type 0
 Placed image f id at width = IsStored image f id at width ⊎ IsWord image f id at width ⊎ ((value : ℕ) → byte_put image f id at width value ≡ f.byte)

@@ -11,9 +11,9 @@ use Rattle.jh_cellcfg.specs.Regions.{has_place, phys_end, is_comm}
 use Rattle.jh_check.specs.Laws.{IsNumbered, IsItem}
 use Rattle.jh_ivshmem.specs.declared.endpoint.Endpoint.{Endpoint}
 use Rattle.jh_ivshmem.specs.declared.spec.EndpointSpec.{EndpointSpec}
-use Rattle.jh_ivshmem.specs.declared.spec.Slot.{Slot}
-use Rattle.jh_ivshmem.specs.Links.{slot_written}
-use Rattle.jh_ivshmem.specs.Specs.{slot_of}
+use Rattle.jh_ivshmem.specs.declared.spec.EndpointWord.{EndpointWord}
+use Rattle.jh_ivshmem.specs.Links.{endpoint_word_written}
+use Rattle.jh_ivshmem.specs.Specs.{endpoint_word_of}
 use Rattle.jh_script.specs.declared.image.Image.{Image}
 use Rattle.jh_history.specs.declared.place.Place.{Place}
 use Rattle.jh_history.specs.declared.place.Place.TheVariants.{Physical, Page}
@@ -23,7 +23,7 @@ use Rattle.jh_history.specs.declared.comm.PageWrite.{PageWrite}
 use Rattle.jh_history.specs.declared.entry.Entry.{Entry}
 use Rattle.jh_history.specs.declared.entry.Act.{Act}
 use Rattle.jh_history.specs.declared.entry.Act.TheVariants.{Read, Write, Fetch, Await, Irq, Hvc, Begin, Stop, Decide, Settle, Commit, Note, Noted, Finish}
-use Rattle.jh_history.specs.Access.{place_in_cell, with_slot_if}
+use Rattle.jh_history.specs.Access.{place_in_cell, with_endpoint_word_if}
 use Rattle.jh_history.specs.Endpoints.{specs_changing, with_words}
 use Rattle.jh_history.specs.Facts.{Facts}
 use Rattle.jh_history.specs.Places.{further, number_of}
@@ -45,7 +45,7 @@ use Rattle.jh_laws.specs.Ends.{AreItsPlaces, GivesPlaces, IsAnsweredByRegister}
 use Rattle.jh_laws.proofs.HeldLemmas.{live_cell, number_of_holds}
 use Rattle.jh_laws.proofs.EndsLemmas.{IsSmallAct, small_at}
 use Rattle.jh_laws.proofs.StoredLemmas.{byte_put, write_stored, register_stored, IsStored, IsWord, placed}
-use Rattle.jh_laws.proofs.WordLemmas.{IsByteAt, IsApart, state_word, value_fits, state_put, slot_at, slot_other, zero_byte, words_put, words_kept, words_page, specs_none, is_physical}
+use Rattle.jh_laws.proofs.WordLemmas.{IsByteAt, IsApart, state_word, value_fits, state_put, endpoint_word_at, endpoint_word_other, zero_byte, words_put, words_kept, words_page, specs_none, is_physical}
 use Rattle.jh_laws.proofs.PlacesHeldLemmas.{physical_kept, byte_behind}
 use Rattle.jh_history.specs.Commits.{is_commit}
 
@@ -154,14 +154,14 @@ write_puts image f id at width value place byte sound h =
     ∙ sym h.is
 
 pub word_puts : (image : Image) (f : Facts) (id at width value n : ℕ) (place : Place) (e : Endpoint) (k : ℕ) → IsSound image f → value < 256 ^ width → IsAnsweredByRegister image f id ToWrite at width n 0 0x10 e → value ≢ e.state
-    → IsByteAt (slot_of e.spec value) place k → byte_put image f id at width value place ≡ value / 256 ^ k % 256
+    → IsByteAt (endpoint_word_of e.spec value) place k → byte_put image f id at width value place ≡ value / 256 ^ k % 256
 word_puts image f id at width value n place e k sound small by other there =
     let four : width ≡ 4 = by.wide in
     let same : value % 2 ^ 32 ≡ value = value_fits width value four small in
     ap (λ (b : Place → ℕ). b place) (register_stored image f id at width n 0 0x10 value e sound (omega arith) by)
-    ∙ ap (λ (v : ℕ). with_slot_if (slot_written e 0 0x10 v) f.byte place) same
-    ∙ ap (λ (o : Option Slot). with_slot_if o f.byte place) (state_word e value other)
-    ∙ slot_at (slot_of e.spec value) f.byte place k there
+    ∙ ap (λ (v : ℕ). with_endpoint_word_if (endpoint_word_written e 0 0x10 v) f.byte place) same
+    ∙ ap (λ (o : Option EndpointWord). with_endpoint_word_if o f.byte place) (state_word e value other)
+    ∙ endpoint_word_at (endpoint_word_of e.spec value) f.byte place k there
 
 -- ---- the entry
 
@@ -234,22 +234,22 @@ register_write image f id (Noted who how) offset put e puts = absurd puts
 register_write image f id (Finish answer) offset put e puts = absurd puts
 
 put_word : (image : Image) (f : Facts) (entry : Entry) (spec : EndpointSpec) (value k : ℕ) (place : Place) (e : Endpoint) → IsSound image f → IsSmallAct entry.act → e.spec ≡ spec → PutsRegister image f entry.cell entry.act 0x10 value e → value ≢ e.state
-    → IsByteAt (slot_of spec value) place k → byte_after image f entry place ≡ value / 256 ^ k % 256
+    → IsByteAt (endpoint_word_of spec value) place k → byte_after image f entry place ≡ value / 256 ^ k % 256
 put_word image f entry spec value k place e sound small is puts other there =
     let h = register_write image f entry.cell entry.act 0x10 value e puts in
     let w : IsWrite entry.act = h.write in
     let quiet = write_quiet image f entry entry.act w in
     let P : ℕ → Type 0 = λ v. v ≢ e.state in
-    let Q : ℕ → EndpointSpec → Type 0 = λ v s. IsByteAt (slot_of s v) place k in
-    let R : EndpointSpec → Type 0 = λ s. IsByteAt (slot_of s w.value) place k in
-    let V : ℕ → Type 0 = λ v. IsByteAt (slot_of spec v) place k in
+    let Q : ℕ → EndpointSpec → Type 0 = λ v s. IsByteAt (endpoint_word_of s v) place k in
+    let R : EndpointSpec → Type 0 = λ s. IsByteAt (endpoint_word_of s w.value) place k in
+    let V : ℕ → Type 0 = λ v. IsByteAt (endpoint_word_of spec v) place k in
     own_byte image f entry place quiet.0 quiet.1
     ∙ ap (λ (act : Act). byte_written image f entry.cell act place) w.is
     ∙ word_puts image f entry.cell w.at w.width w.value h.number place e k sound (subst IsSmallAct w.is small).1 h.by (subst P h.value other) (subst R (sym is) (subst V h.value there))
     ∙ ap (λ (v : ℕ). v / 256 ^ k % 256) (sym h.value)
 
 -- a word that becomes 0
-cleared_word : (image : Image) (f : Facts) (entry : Entry) (spec : EndpointSpec) (k p : ℕ) → Contains (specs_changing f entry.act) spec → IsByteAt (slot_of spec 0) (Physical p) k → byte_after image f entry (Physical p) ≡ 0
+cleared_word : (image : Image) (f : Facts) (entry : Entry) (spec : EndpointSpec) (k p : ℕ) → Contains (specs_changing f entry.act) spec → IsByteAt (endpoint_word_of spec 0) (Physical p) k → byte_after image f entry (Physical p) ≡ 0
 cleared_word image f entry spec k p held there =
     physical_kept (page_write_by image f entry entry.act) (with_words (specs_changing f entry.act) (byte_written image f entry.cell entry.act)) p
     ∙ words_put (specs_changing f entry.act) (byte_written image f entry.cell entry.act) spec (Physical p) k held there
@@ -318,16 +318,16 @@ entry_writes image before rest entry place byte admitted legal h =
 
 -- ---- a place that it doesn't write
 
-slot_kept : (byte : Place → ℕ) (place : Place) (o : Option Slot) → ((slot : Slot) → o ≡ Some slot → IsApart slot place) → with_slot_if o byte place ≡ byte place
-slot_kept byte place None apart = refl
-slot_kept byte place (Some slot) apart = slot_other slot byte place (apart slot refl)
+endpoint_word_kept : (byte : Place → ℕ) (place : Place) (o : Option EndpointWord) → ((word : EndpointWord) → o ≡ Some word → IsApart word place) → with_endpoint_word_if o byte place ≡ byte place
+endpoint_word_kept byte place None apart = refl
+endpoint_word_kept byte place (Some word) apart = endpoint_word_other word byte place (apart word refl)
 
 -- no byte of the value is put there, and no byte of a word
 abbrev NoByte : Image → Facts → ℕ → ℕ → ℕ → ℕ → Place → Type 0
 NoByte image f id at width value place = (byte : ℕ) → IsByteBy image f.cells id at width value place byte → ⊥
 
 abbrev NoWord : Image → Facts → ℕ → ℕ → ℕ → ℕ → Place → Type 0
-NoWord image f id at width value place = (n : ℕ) (e : Endpoint) → IsAnsweredByRegister image f id ToWrite at width n 0 0x10 e → value ≢ e.state → IsApart (slot_of e.spec value) place
+NoWord image f id at width value place = (n : ℕ) (e : Endpoint) → IsAnsweredByRegister image f id ToWrite at width n 0 0x10 e → value ≢ e.state → IsApart (endpoint_word_of e.spec value) place
 
 pub write_kept : (image : Image) (f : Facts) (id at width value : ℕ) (place : Place) → IsSound image f → value < 256 ^ width → NoByte image f id at width value place → NoWord image f id at width value place
     → byte_put image f id at width value place ≡ f.byte place
@@ -344,11 +344,11 @@ write_kept image f id at width value place sound small none apart =
     let R : ℕ → ℕ → Type 0 = λ b o. IsAnsweredByRegister image f id ToWrite at width h.number b o h.endpoint in
     let B : ℕ → Type 0 = λ b. R b h.offset in
     ap (λ (b : Place → ℕ). b place) (h.stored value)
-    ∙ ap (λ (v : ℕ). with_slot_if (slot_written h.endpoint h.bar h.offset v) f.byte place) same
-    ∙ slot_kept f.byte place (slot_written h.endpoint h.bar h.offset value)
-    (λ slot is.
-    let put = state_put h.endpoint h.bar h.offset value slot is in
-    let S : Slot → Type 0 = λ s. IsApart s place in
+    ∙ ap (λ (v : ℕ). with_endpoint_word_if (endpoint_word_written h.endpoint h.bar h.offset v) f.byte place) same
+    ∙ endpoint_word_kept f.byte place (endpoint_word_written h.endpoint h.bar h.offset value)
+    (λ word is.
+    let put = state_put h.endpoint h.bar h.offset value word is in
+    let S : EndpointWord → Type 0 = λ s. IsApart s place in
     subst S (sym put.is) (apart h.number h.endpoint (subst (R 0) put.offset_is (subst B put.bar_is h.by)) put.other)))
     (λ (nowhere : (v : ℕ) → byte_put image f id at width v ≡ f.byte). ap (λ (b : Place → ℕ). b place) (nowhere value))
     more)
@@ -356,7 +356,7 @@ write_kept image f id at width value place sound small none apart =
 
 -- no act of the entry puts a byte there, as its own or as one of a word
 abbrev NoRegisterWord : Image → Facts → ℕ → Act → Place → Type 0
-NoRegisterWord image f id act place = (value : ℕ) (e : Endpoint) → PutsRegister image f id act 0x10 value e → value ≢ e.state → IsApart (slot_of e.spec value) place
+NoRegisterWord image f id act place = (value : ℕ) (e : Endpoint) → PutsRegister image f id act 0x10 value e → value ≢ e.state → IsApart (endpoint_word_of e.spec value) place
 
 kept_act : (image : Image) (f : Facts) (id : ℕ) (act : Act) (place : Place) → IsSound image f → IsSmallAct act → ((byte : ℕ) → Puts image f.cells id act place byte → ⊥) → NoRegisterWord image f id act place → byte_written image f id act place ≡ f.byte place
 kept_act image f id (Write width at value true) place sound small none apart =
@@ -386,7 +386,7 @@ page_keeps byte (Some write) (Page cell offset) none =
     ap (λ (b : Bool). cond b (page_after write.change (λ k. byte (Page cell k)) offset) (byte (Page cell offset))) fails
 
 -- a byte of a word, by its place
-word_there : (image : Image) (f : Facts) (entry : Entry) (place : Place) (spec : EndpointSpec) (value k : ℕ) → WritesWord image f entry spec value → IsByteAt (slot_of spec value) place k → IsByteOfWord image f entry place (value / 256 ^ k % 256)
+word_there : (image : Image) (f : Facts) (entry : Entry) (place : Place) (spec : EndpointSpec) (value k : ℕ) → WritesWord image f entry spec value → IsByteAt (endpoint_word_of spec value) place k → IsByteOfWord image f entry place (value / 256 ^ k % 256)
 word_there image f entry place spec value k writes there = record { spec = spec; value = value; writes = writes; index = k; within = there.0; there = there.1; is = refl }
 
 pub entry_keeps : (image : Image) (before rest : List Entry) (entry : Entry) (place : Place) → IsAdmitted image → IsLegal image (before ++ entry ∷ rest) → ((byte : ℕ) → WritesByte image (facts image before) entry place byte → ⊥)

@@ -3,7 +3,7 @@
 ghost use Rattle.std.specs.Prelude.{◌≡◌, ◌%◌, ◌<◌};
 ghost use Rattle.jh_ivshmem.specs.Specs.{IsInItsLimits};
 
-use jh_ivshmem::{EndpointSpec, Endpoints, Slot};
+use jh_ivshmem::{EndpointSpec, EndpointWord, Endpoints};
 use jh_num::NoMemory;
 use jh_vpci::FunctionSpec;
 use std::process::Abort;
@@ -35,7 +35,7 @@ fn endpoint(cell: u32, id: u8) -> EndpointSpec
 }
 
 /// Device 0 of the cell joins.
-fn join(rt: &impl Abort, links: &mut Endpoints, cell: u32, id: u8) -> Result<Slot, NoMemory>
+fn join(rt: &impl Abort, links: &mut Endpoints, cell: u32, id: u8) -> Result<EndpointWord, NoMemory>
     requires { id < 16 }
 {
     let s = endpoint(cell, id);
@@ -44,7 +44,13 @@ fn join(rt: &impl Abort, links: &mut Endpoints, cell: u32, id: u8) -> Result<Slo
 }
 
 /// Writes a register of BAR 0.
-fn write(rt: &impl Abort, links: &mut Endpoints, cell: u32, at: u32, value: u32) -> Option<Slot>
+fn write(
+    rt: &impl Abort,
+    links: &mut Endpoints,
+    cell: u32,
+    at: u32,
+    value: u32,
+) -> Option<EndpointWord>
     requires aligned { at % 4 ≡ 0 }
     requires within { at < 4096 }
 {
@@ -59,7 +65,7 @@ fn sixteen_peers_learn_of_a_state(rt: HostRuntime) -> Result<(), Fail> {
         join(&rt, &mut links, u32::from(id), id)?;
         write(&rt, &mut links, u32::from(id), 0x08, 1);
     }
-    let told = Slot {
+    let told = EndpointWord {
         place: TABLE + 12,
         value: 9,
     };

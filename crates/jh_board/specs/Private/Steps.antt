@@ -9,7 +9,7 @@ use Rattle.jh_check.specs.Refusals.{is_known}
 use Rattle.jh_call.specs.declared.call.Call.{Call}
 use Rattle.jh_call.specs.declared.call.Call.TheVariants.{Create, Start, Loadable, Destroy}
 use Rattle.jh_ivshmem.specs.declared.endpoint.Endpoint.{Endpoint}
-use Rattle.jh_ivshmem.specs.declared.spec.Slot.{Slot}
+use Rattle.jh_ivshmem.specs.declared.spec.EndpointWord.{EndpointWord}
 use Rattle.jh_ivshmem.specs.Links.{pending_of, taken_of}
 use Rattle.jh_script.specs.declared.image.Image.{Image}
 use Rattle.jh_history.specs.declared.access.Reach.{Reach}
@@ -21,7 +21,7 @@ use Rattle.jh_history.specs.declared.entry.Act.TheVariants.{Write, Irq, Decide, 
 use Rattle.jh_history.specs.declared.device_change.DeviceChange.TheVariants.{Join}
 use Rattle.jh_history.specs.declared.place.Place.{Place}
 use Rattle.jh_history.specs.Admitted.{IsAdmitted}
-use Rattle.jh_history.specs.Access.{slot_of_reach}
+use Rattle.jh_history.specs.Access.{endpoint_word_of_reach}
 use Rattle.jh_history.specs.Devices.{Devices, devices_in, specs_of}
 use Rattle.jh_history.specs.Endpoints.{endpoints_put, change_by, changing_by, MayChange}
 use Rattle.jh_history.specs.Places.{written}
@@ -38,8 +38,8 @@ use Rattle.jh_board.specs.declared.steps.CellsChange.TheVariants.{Keep, Mark, Re
 use Rattle.jh_board.specs.declared.held.Held.{Held}
 use Rattle.jh_board.specs.Private.Closed.{AreInRange}
 use Rattle.jh_board.specs.Private.LiveView.{LiveView}
-use Rattle.jh_board.specs.Means.{Means, HoldsWords, IsReadyToGoOn, IsReadyFor}
-use Rattle.jh_board.specs.Pages.{MemoryView, HoldsPlace, HoldsSlot}
+use Rattle.jh_board.specs.Means.{Means, HoldsWordsOf, IsReadyToGoOn, IsReadyFor}
+use Rattle.jh_board.specs.Pages.{MemoryView, HoldsPlace, HoldsEndpointWord}
 use Rattle.jh_board.specs.Private.Pages.{MayHold}
 
 -- the act is a Decide that goes on
@@ -101,9 +101,9 @@ memory_after byte (Write width at value true) found = memory_written byte found 
 memory_after byte act found = byte
 
 -- the word of a state table that the act writes
-abbrev pub slot_after : Devices → Act → Reach → Option Slot
-slot_after devices (Write width at value true) found = slot_of_reach devices found value
-slot_after devices act found = None
+abbrev pub endpoint_word_after : Devices → Act → Reach → Option EndpointWord
+endpoint_word_after devices (Write width at value true) found = endpoint_word_of_reach devices found value
+endpoint_word_after devices act found = None
 
 -- the endpoints after what the act of the cell does to them itself
 abbrev pub endpoints_acted_by : Devices → Act → Reach → List Endpoint
@@ -112,18 +112,18 @@ endpoints_acted_by devices (Irq device vector) found = taken_of devices.cell (pe
 endpoints_acted_by devices act found = devices.endpoints
 
 -- the word of a state table, if there is one to write, ends below 2^64, and its pages are held
-abbrev pub MayPut : MemoryView → Option Slot → Type 0
-MayPut memory slot = IfSome slot (λ (s : Slot). (s.place + 4 < 2 ^ 64) × HoldsSlot memory s)
+abbrev pub MayPut : MemoryView → Option EndpointWord → Type 0
+MayPut memory word = IfSome word (λ (s : EndpointWord). (s.place + 4 < 2 ^ 64) × HoldsEndpointWord memory s)
 
 -- the word of a state table that the cell's act writes, if it writes one, ends below 2^64, and its pages are held
-abbrev pub MayWriteSlot : Image → Held → ℕ → Act → Reach → Type 0
-MayWriteSlot image held id act found = MayPut held.memory (slot_after (devices_held image held id) act found)
+abbrev pub MayWriteEndpointWord : Image → Held → ℕ → Act → Reach → Type 0
+MayWriteEndpointWord image held id act found = MayPut held.memory (endpoint_word_after (devices_held image held id) act found)
 
 -- what is held has all that a Commit needs for the devices of its cell
 pub record MayCommitDevices (held : Held) (config : CellConfig) : Type 0 where
   pub may : MayChange (change_by held.call) held.endpoints.list config
   pub room : change_by held.call ≡ Join → length (specs_of config) ≤ held.endpoints.spare
-  pub words : HoldsWords held config
+  pub words : HoldsWordsOf held config
 
 -- what is held has all that the act needs for the devices that it changes, where it is a Commit that changes some
 abbrev pub MayCommit : Held → Act → Type 0

@@ -6,7 +6,7 @@ use Rattle.jh_cellcfg.specs.declared.config.CellConfig.{CellConfig}
 use Rattle.jh_cellcfg.specs.declared.live.Live.{Live}
 use Rattle.jh_cpu.specs.declared.cpu.Cpu.{Cpu}
 use Rattle.jh_ivshmem.specs.declared.endpoint.Endpoint.{Endpoint}
-use Rattle.jh_ivshmem.specs.declared.spec.Slot.{Slot}
+use Rattle.jh_ivshmem.specs.declared.spec.EndpointWord.{EndpointWord}
 use Rattle.jh_script.specs.declared.image.Image.{Image}
 use Rattle.jh_history.specs.declared.access.Reach.{Reach}
 use Rattle.jh_history.specs.declared.call.OpenCall.{OpenCall}
@@ -17,7 +17,7 @@ use Rattle.jh_history.specs.declared.place.Place.TheVariants.{Physical, Page}
 use Rattle.jh_history.specs.declared.written.WrittenByte.{WrittenByte}
 use Rattle.jh_history.specs.Places.{is_same, overlaid}
 use Rattle.jh_history.specs.declared.access.Access.TheVariants.{Read}
-use Rattle.jh_history.specs.Access.{reach_by, memory_read, slot_of_reach}
+use Rattle.jh_history.specs.Access.{reach_by, memory_read, endpoint_word_of_reach}
 use Rattle.jh_history.specs.Grants.{granted_in}
 use Rattle.jh_history.specs.Devices.{devices_in}
 use Rattle.jh_history.specs.Calls.{call_by}
@@ -108,7 +108,7 @@ pub record IsDueBeside (image : Image) (lives : List Live) (open_call : Option O
 
 -- each word of a state table that a write of a cell writes ends below 2^64
 abbrev pub HasWords : PlainView → Type 0
-HasWords plain = (id value : ℕ) (found : Reach) → IfSome (slot_of_reach (devices_in plain.image plain.cells plain.endpoints id) found value) (λ (slot : Slot). slot.place + 4 < 2 ^ 64)
+HasWords plain = (id value : ℕ) (found : Reach) → IfSome (endpoint_word_of_reach (devices_in plain.image plain.cells plain.endpoints id) found value) (λ (word : EndpointWord). word.place + 4 < 2 ^ 64)
 
 -- the devices of the cell that a Commit is about may be changed
 abbrev pub MayCommit : PlainView → Act → Type 0

@@ -9,7 +9,7 @@ use Rattle.jh_history.specs.declared.device_change.DeviceChange.{DeviceChange}
 use Rattle.jh_history.specs.declared.device_change.DeviceChange.TheVariants.{Join}
 use Rattle.jh_history.specs.Devices.{specs_at}
 use Rattle.jh_history.specs.Endpoints.{endpoints_changed, with_words, MayJoinThem, MayChange}
-use Rattle.jh_board.specs.Pages.{byte_of, HoldsWord}
+use Rattle.jh_board.specs.Pages.{byte_of, HoldsWordOf}
 use Rattle.jh_board.proofs.DevicesLemmas.{specs_before, specs_more, specs_all, specs_count, all_at, may_join_next, changed_more, words_more}
 use Rattle.jh_board.proofs.KeptLemmas.{words_kept}
 use Rattle.jh_board.proofs.devices.change_devices.Goals as goal
@@ -44,7 +44,7 @@ change_device-requires-clause-held c =
     let n = c.loop-number.number in
     let lt : n < length config.pci_devices = omega arith in
     let old = c.args.memory.now in
-    words_kept old c.loop-number.memory (specs_at config n) c.loop-number.invariant.held (all_at (HoldsWord old) config n lt c.requires.held)
+    words_kept old c.loop-number.memory (specs_at config n) c.loop-number.invariant.held (all_at (HoldsWordOf old) config n lt c.requires.held)
 
 pub loop-number-preserved : goal.loop-number-preserved
 loop-number-preserved c =

@@ -5,7 +5,7 @@ use Rattle.std.proofs.lemmas.List.Elements.{All-append}
 use Rattle.jh_ivshmem.specs.declared.spec.EndpointSpec.{EndpointSpec}
 use Rattle.jh_ivshmem.specs.Specs.{IsInItsLimits}
 use Rattle.jh_history.specs.Devices.{specs_at}
-use Rattle.jh_board.specs.Pages.{HoldsWord}
+use Rattle.jh_board.specs.Pages.{HoldsWordOf}
 use Rattle.jh_board.proofs.DevicesLemmas.{specs_before, specs_more, specs_all, specs_few, all_at}
 use Rattle.jh_board.proofs.KeptLemmas.{words_kept}
 use Rattle.jh_board.proofs.devices.prepare_devices.Goals as goal
@@ -21,11 +21,11 @@ loop-number-preserved c =
     let lt : n < length config.pci_devices = omega arith in
     let mid = c.loop-number.memory in
     let new = c.hold_device.new.memory in
-    let P : List EndpointSpec → Type 0 = All (HoldsWord new) in
+    let P : List EndpointSpec → Type 0 = All (HoldsWordOf new) in
     let known = c.loop-number.invariant in record {
       bytes = λ q. c.hold_device.ensures.bytes q ∙ known.bytes q;
       held = subst P (sym (specs_more config n lt))
-          (All-append (HoldsWord new) (specs_before config n) (specs_at config n) (words_kept mid new (specs_before config n) c.hold_device.ensures.others known.held) c.in_ok-hold_device.ensures.held);
+          (All-append (HoldsWordOf new) (specs_before config n) (specs_at config n) (words_kept mid new (specs_before config n) c.hold_device.ensures.others known.held) c.in_ok-hold_device.ensures.held);
       others = λ q h. c.hold_device.ensures.others q (known.others q h);
     }
 
@@ -37,6 +37,6 @@ returns-clause-room c =
 pub returns-clause-held : goal.returns-clause-held
 returns-clause-held c =
     let config = c.args.config.now in
-    let P : List EndpointSpec → Type 0 = All (HoldsWord c.loop-number.memory) in
+    let P : List EndpointSpec → Type 0 = All (HoldsWordOf c.loop-number.memory) in
     let all : length config.pci_devices ≤ c.loop-number.number = omega arith in
     subst P (specs_all config c.loop-number.number all) c.loop-number.invariant.held

@@ -23,7 +23,7 @@ use Rattle.jh_board.specs.Pages.{byte_of, HoldsComm}
 use Rattle.jh_board.specs.Private.Steps.{MayJoinCells, devices_held, endpoints_acted_by}
 use Rattle.jh_board.proofs.ActedLemmas.{entry_bytes, entry_devices}
 use Rattle.jh_board.proofs.AfterLemmas.{if_some, on_err, may_write, page_held, created_is, may_join, join_kept, Means_made}
-use Rattle.jh_board.proofs.CommitLemmas.{same_devices, may_write_slot, may_commit}
+use Rattle.jh_board.proofs.CommitLemmas.{same_devices, may_write_endpoint_word, may_commit}
 use Rattle.jh_board.proofs.KeptLemmas.{comms_kept, ready_kept, Means_kept}
 use Rattle.jh_board.proofs.steps.make.Goals as goal
 
@@ -55,7 +55,7 @@ make_devices-requires c =
     let held : Held = c.prepare.new.held in
     let means = c.prepare.ensures.means f c.requires.next.means in
     let mid : Held = record { memory = c.make_bytes.new.memory; cpus = held.cpus; cells = held.cells; programs = held.programs; endpoints = held.endpoints; call = held.call; index = held.index; alloc = held.alloc } in
-    may_write_slot image held mid f entry.cell entry.act c.args.reach.now means sound refl refl c.make_bytes.ensures.held
+    may_write_endpoint_word image held mid f entry.cell entry.act c.args.reach.now means sound refl refl c.make_bytes.ensures.held
     (λ value. c.devices_may_change.ensures.word image f entry.cell value c.args.reach.now sound)
 
 pub make_commit-requires : goal.make_commit-requires

@@ -1,29 +1,20 @@
+<<<<<<< HEAD
 -- Endpoints and keys are dropped by one test, after the others of the link are told.
 use Rattle.std.proofs.Common.{◌≡◌, filter, not, refl, sym, ◌∙◌, ap, subst}
 use Rattle.jh_ivshmem.specs.declared.change.Whom.TheVariants.{Device}
+=======
+use Rattle.std.proofs.Common.{◌≡◌, filter, not, ◌∙◌, ap}
+>>>>>>> 6ac0b6288cd540a03496dd0aa7a17c1c028f34fb
 use Rattle.jh_ivshmem.specs.declared.endpoint.Endpoint.{Endpoint}
-use Rattle.jh_ivshmem.specs.declared.spec.EndpointSpec.{EndpointSpec}
-use Rattle.jh_ivshmem.specs.declared.key.Key.{Key}
 use Rattle.jh_ivshmem.specs.Specs.{is_device, is_concerned}
 use Rattle.jh_ivshmem.specs.EndpointsView.{EndpointsView}
-use Rattle.jh_ivshmem.specs.Keys.{AreKept}
-use Rattle.jh_ivshmem.specs.Private.Keys.{is_key_meant}
 use Rattle.jh_ivshmem.specs.Links.{told_of, besides}
 use Rattle.jh_ivshmem.proofs.BesidesLemmas.{besides_left}
-use Rattle.jh_ivshmem.proofs.KeyLemmas.{kept_filter}
 use Rattle.jh_ivshmem.proofs.NamedLemmas.{by_own_name}
 use Rattle.jh_ivshmem.proofs.endpoints.Endpoints.leave.Goals as goal
 
 pub invariant_of-self : goal.invariant_of-self
-invariant_of-self c =
-    subst (λ list. AreKept list c.drop_key.new.keys.items) (sym c.drop_endpoint.ensures.list)
-    (subst (AreKept (filter (λ (e : Endpoint). not (is_device c.args.cell c.args.device e.spec)) c.self.inside.endpoints.items))
-    (sym c.drop_key.ensures.list)
-    (kept_filter c.self.inside.endpoints.items c.self.inside.keys.items
-    (λ (e : Endpoint). not (is_device c.args.cell c.args.device e.spec))
-    (λ (key : Key). not (is_key_meant (Device c.args.cell c.args.device) key))
-    (λ (spec : EndpointSpec). not (is_device c.args.cell c.args.device spec))
-    (λ e. refl) (λ e. refl) c.self.invariant))
+invariant_of-self c = c.drop_endpoint.ensures.kept
 
 pub returns-clause-list : goal.returns-clause-list
 returns-clause-list c = λ e named.
@@ -32,7 +23,7 @@ returns-clause-list c = λ e named.
     c.args.cell c.args.device c.args.self.now.list e named
     (c.drop_endpoint.ensures.list
     ∙ ap (filter (λ (o : Endpoint). not (is_device c.args.cell c.args.device o.spec)))
-    (ap (λ (seen : EndpointsView). seen.list) c.self.view_is ∙ c.tell-slot.ensures.list e named))
+    (ap (λ (seen : EndpointsView). seen.list) c.self.view_is ∙ c.tell-word.ensures.list e named))
 
 pub returns-clause-others : goal.returns-clause-others
 returns-clause-others c = λ e named. ap (besides (is_concerned e.spec)) (returns-clause-list c e named) ∙ besides_left e c.args.self.now.list

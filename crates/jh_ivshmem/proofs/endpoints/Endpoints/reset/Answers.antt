@@ -12,7 +12,7 @@ pub returns-clause-list : goal.returns-clause-list
 returns-clause-list c = λ e named.
     by_own_name (λ cell device. c.change.new.self.list ≡ changed (is_device cell device) cleared (told_of e 0 c.args.self.now.list))
     c.args.cell c.args.device c.args.self.now.list e named
-    (c.change.ensures.list ∙ ap (changed (is_device c.args.cell c.args.device) cleared) (c.tell-slot.ensures.list e named))
+    (c.change.ensures.list ∙ ap (changed (is_device c.args.cell c.args.device) cleared) (c.tell-word.ensures.list e named))
 
 pub returns-clause-others : goal.returns-clause-others
 returns-clause-others c = λ e named. ap (besides (is_concerned e.spec)) (returns-clause-list c e named) ∙ besides_reset e c.args.self.now.list

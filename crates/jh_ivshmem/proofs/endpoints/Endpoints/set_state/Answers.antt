@@ -13,7 +13,7 @@ returns-then-had-value-clause-list c = λ e named.
     ≡ changed (is_device cell device) (λ (o : Endpoint). record o { state = c.args.value }) (told_of e c.args.value c.args.self.now.list))
     c.args.cell c.args.device c.args.self.now.list e named
     (c.change.ensures.list ∙ ap (changed (is_device c.args.cell c.args.device) (λ (o : Endpoint). record o { state = c.args.value }))
-    (c.tell-slot.ensures.list e named))
+    (c.tell-word.ensures.list e named))
 
 pub returns-else-had-value-clause-list : goal.returns-else-had-value-clause-list
 returns-else-had-value-clause-list c = λ e named.
@@ -21,4 +21,4 @@ returns-else-had-value-clause-list c = λ e named.
     ≡ changed (is_device cell device) (λ (o : Endpoint). record o { state = c.args.value }) (told_of e c.args.value c.args.self.now.list))
     c.args.cell c.args.device c.args.self.now.list e named
     (c.change.ensures.list ∙ ap (changed (is_device c.args.cell c.args.device) (λ (o : Endpoint). record o { state = c.args.value }))
-    (c.tell-slot.ensures.list e named))
+    (c.tell-word.ensures.list e named))

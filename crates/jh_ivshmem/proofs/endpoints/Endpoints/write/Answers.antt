@@ -3,11 +3,11 @@ use Rattle.std.proofs.Common.{◌≡◌, ◌/◌, ◌%◌, ◌^◌, ◌&&◌, �
 use Rattle.std.proofs.lemmas.Bool.{cases_eq, ne_eqb}
 use Rattle.std.proofs.Math.Bool.{and-false}
 use Rattle.jh_ivshmem.specs.declared.endpoint.Endpoint.{Endpoint}
-use Rattle.jh_ivshmem.specs.declared.spec.Slot.{Slot}
-use Rattle.jh_ivshmem.specs.Specs.{is_device, is_concerned, slot_of}
+use Rattle.jh_ivshmem.specs.declared.spec.EndpointWord.{EndpointWord}
+use Rattle.jh_ivshmem.specs.Specs.{is_device, is_concerned, endpoint_word_of}
 use Rattle.jh_ivshmem.specs.Registers.{register_written}
 use Rattle.jh_ivshmem.specs.Changes.{changed}
-use Rattle.jh_ivshmem.specs.Links.{written, slot_written, rung, state_written, besides}
+use Rattle.jh_ivshmem.specs.Links.{written, endpoint_word_written, rung, state_written, besides}
 use Rattle.jh_ivshmem.proofs.BesidesLemmas.{besides_written}
 use Rattle.jh_ivshmem.proofs.NamedLemmas.{by_own_name}
 use Rattle.jh_ivshmem.proofs.endpoints.Endpoints.write.Goals as goal
@@ -29,18 +29,18 @@ at_another : (e : Endpoint) (bar at value : ℕ) (list : List Endpoint) → ((ba
 unfolding written
 at_another e bar at value list other none = rw (other, none) refl
 
-no_slot : (e : Endpoint) (bar at value : ℕ) → ((bar == 0) && (at == 0x10)) ≡ false → slot_written e bar at value ≡ None
-unfolding slot_written
-no_slot e bar at value none = rw none refl
+by_other_register : (e : Endpoint) (bar at value : ℕ) → ((bar == 0) && (at == 0x10)) ≡ false → endpoint_word_written e bar at value ≡ None
+unfolding endpoint_word_written
+by_other_register e bar at value none = rw none refl
 
-either : (b : Bool) (slot : Slot) → (if not b then Some slot else None) ≡ (if b then None else Some slot)
-either true slot = refl
-either false slot = refl
+either : (b : Bool) (word : EndpointWord) → (if not b then Some word else None) ≡ (if b then None else Some word)
+either true word = refl
+either false word = refl
 
-state_slot : (e : Endpoint) (bar at value : ℕ) → ((bar == 0) && (at == 0x10)) ≡ true
-    → slot_written e bar at value ≡ (if e.state == value then None else Some (slot_of e.spec value))
-unfolding slot_written
-state_slot e bar at value is = rw is (either (e.state == value) (slot_of e.spec value))
+by_state_register : (e : Endpoint) (bar at value : ℕ) → ((bar == 0) && (at == 0x10)) ≡ true
+    → endpoint_word_written e bar at value ≡ (if e.state == value then None else Some (endpoint_word_of e.spec value))
+unfolding endpoint_word_written
+by_state_register e bar at value is = rw is (either (e.state == value) (endpoint_word_of e.spec value))
 
 never : (b : Bool) → (b && false) ≡ true → ⊥
 never true h = cc
@@ -58,9 +58,9 @@ returns-then-is_doorbell-clause-list c = λ e named.
     c.ring.ensures.list e named
     ∙ sym (at_doorbell e c.args.bar c.args.at c.args.value c.args.self.now.list (sym c.is_doorbell.ensures ∙ c.if-is_doorbell.true))
 
-pub returns-then-is_doorbell-clause-slot : goal.returns-then-is_doorbell-clause-slot
-returns-then-is_doorbell-clause-slot c = λ e named.
-    sym (no_slot e c.args.bar c.args.at c.args.value
+pub returns-then-is_doorbell-clause-word : goal.returns-then-is_doorbell-clause-word
+returns-then-is_doorbell-clause-word c = λ e named.
+    sym (by_other_register e c.args.bar c.args.at c.args.value
     (doorbell_is_no_state c.args.bar c.args.at (sym c.is_doorbell.ensures ∙ c.if-is_doorbell.true)))
 
 pub returns-then-is_state-clause-list : goal.returns-then-is_state-clause-list
@@ -69,10 +69,10 @@ returns-then-is_state-clause-list c = λ e named.
     ∙ sym (at_state e c.args.bar c.args.at c.args.value c.args.self.now.list (sym c.is_doorbell.ensures ∙ c.if-is_doorbell.false)
     (sym c.is_state.ensures ∙ c.if-is_state.true))
 
-pub returns-then-is_state-clause-slot : goal.returns-then-is_state-clause-slot
-returns-then-is_state-clause-slot c = λ e named.
-    c.set_state.ensures.slot e named
-    ∙ sym (state_slot e c.args.bar c.args.at c.args.value (sym c.is_state.ensures ∙ c.if-is_state.true))
+pub returns-then-is_state-clause-word : goal.returns-then-is_state-clause-word
+returns-then-is_state-clause-word c = λ e named.
+    c.set_state.ensures.word e named
+    ∙ sym (by_state_register e c.args.bar c.args.at c.args.value (sym c.is_state.ensures ∙ c.if-is_state.true))
 
 pub returns-else-is_state-clause-list : goal.returns-else-is_state-clause-list
 returns-else-is_state-clause-list c = λ e named.
@@ -82,9 +82,9 @@ returns-else-is_state-clause-list c = λ e named.
     ∙ sym (at_another e c.args.bar c.args.at c.args.value c.args.self.now.list
     (sym c.is_doorbell.ensures ∙ c.if-is_doorbell.false) (sym c.is_state.ensures ∙ c.if-is_state.false))
 
-pub returns-else-is_state-clause-slot : goal.returns-else-is_state-clause-slot
-returns-else-is_state-clause-slot c = λ e named.
-    sym (no_slot e c.args.bar c.args.at c.args.value (sym c.is_state.ensures ∙ c.if-is_state.false))
+pub returns-else-is_state-clause-word : goal.returns-else-is_state-clause-word
+returns-else-is_state-clause-word c = λ e named.
+    sym (by_other_register e c.args.bar c.args.at c.args.value (sym c.is_state.ensures ∙ c.if-is_state.false))
 
 pub returns-then-is_doorbell-clause-others : goal.returns-then-is_doorbell-clause-others
 returns-then-is_doorbell-clause-others c = λ e named.

@@ -1,7 +1,0 @@
--- What keeps a key in the list is the contract's test, key by key.
-use Rattle.std.proofs.Common.{rules}
-use Rattle.std.proofs.lemmas.Fn.{filter_same}
-use Rattle.jh_ivshmem.proofs.endpoints.drop_key.Goals as goal
-
-pub returns-clause-list : goal.returns-clause-list
-returns-clause-list c = filter_same _ _ _ (λ x b f' k. search rules) _ _ c.retain.ensures.filtered
