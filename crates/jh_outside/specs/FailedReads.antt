@@ -1,7 +1,7 @@
 -- What files of the system keep of the reads that failed.
 use Rattle.std.specs.Prelude.{◌≡◌, ℕ, List}
 use Rattle.jh_num.specs.Numbers.{counted_up}
-use Rattle.jh_outside.specs.Trail.{Ask, ReadAnswer, Handed, Faulted, LackedMemory}
+use Rattle.jh_outside.specs.Ask.{Ask, ReadAnswer, Handed, Faulted, LackedMemory}
 
 -- the count of faults, and the name of the read that failed last
 pub record FailedReads : Type 0 where

@@ -7,7 +7,7 @@ use Rattle.std.specs.FinMap as map
 use Rattle.std.specs.FinSet as set
 use Rattle.jh_num.specs.Numbers.{counted_up}
 use Rattle.jh_outside.specs.Reads.{KnownFile}
-use Rattle.jh_outside.specs.Trail.{Ask, ReadAnswer, Handed, Faulted, LackedMemory}
+use Rattle.jh_outside.specs.Ask.{Ask, ReadAnswer, Handed, Faulted, LackedMemory}
 
 -- the bytes under each name, the numbers of the reads that fail and of the next one, the count of faults, and the name
 -- that failed last

@@ -4,7 +4,7 @@ ghost use Rattle.std.specs.IoError.{error_kind};
 ghost use Rattle.jh_outside.specs.Count.{Rose};
 ghost use Rattle.jh_outside.specs.Reads.{HandsOut, OnFault, failed_after};
 ghost use Rattle.jh_outside.specs.FailedReads.{AsksSystem};
-ghost use Rattle.jh_outside.specs.Trail.{ask_of};
+ghost use Rattle.jh_outside.specs.Ask.{ask_of};
 
 use crate::files::{FileFault, Files};
 use jh_num::Seq;
