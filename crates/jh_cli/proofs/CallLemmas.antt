@@ -1,7 +1,8 @@
 -- What a call is, by what was told and what was sent.
-use Rattle.std.proofs.Common.{◌≡◌, ◌≢◌, ℕ, List, Option, Result, Ok, Err, inl, inr, refl, sym, ◌∙◌, ap, arith}
+use Rattle.std.proofs.Common.{◌≡◌, ◌≢◌, Option, Result, Ok, Err, inl, inr, refl, sym, ◌∙◌, ap, arith}
 use Rattle.jh_outside.specs.Count.{Rose}
-use Rattle.jh_outside.specs.Trail.{Ask}
+use Rattle.jh_outside.specs.declared.files.Files as files_told
+use Rattle.jh_outside.specs.declared.sink.Sink as sink_told
 use Rattle.jh_cli.specs.declared.status.Status.{Status}
 use Rattle.jh_cli.specs.declared.status.Status.TheVariants.{ReadFault, WriteFault, NoMemory}
 use Rattle.jh_cli.specs.declared.ending.Ending.{Ending}
@@ -28,24 +29,24 @@ GoodAreAnswered = (contents : Contents) (request : Option Request) (reply : Repl
 differ : (status one other : Status) → status ≡ one → status ≡ other → exit_number one ≢ exit_number other → ⊥
 differ status one other is also apart = apart (ap exit_number (sym is ∙ also))
 
-module _ {S K : Type 0} (contents : S → Contents) (failed : S → List ℕ) (faults : S → ℕ) (one : S → Ask → S → Type 0) (written : K → Option (List ℕ)) (sink_faults : K → ℕ) where
+module _ {S K : Type 0} (files : files_told.Ghosts S) (sink : sink_told.Ghosts K) where
   -- what was told was sent, or a proper front of it
-  told_call : GoodAreAnswered → (request : Option Request) (s t : S) (k l : K) (reply : Reply) (status : Status) → IsReplyTo contents failed faults one written sink_faults request s t reply
-      → Sent (written k) (written l) reply status → (status ≡ WriteFault → reply.status ≢ WriteFault → Rose (sink_faults k) (sink_faults l))
-      → IsCall contents failed faults one written sink_faults request s t k l status
+  told_call : GoodAreAnswered → (request : Option Request) (s t : S) (k l : K) (reply : Reply) (status : Status) → IsReplyTo files request s t reply
+      → Sent (sink.written k) (sink.written l) reply status → (status ≡ WriteFault → reply.status ≢ WriteFault → Rose (sink.faults k) (sink.faults l))
+      → IsCall files sink request s t k l status
   told_call answered request s t k l reply status says sent fault =
-      let rose : status ≡ WriteFault → Rose (sink_faults k) (sink_faults l) = λ is. fault is (outcome_other (contents s) request reply says.outcome) in
+      let rose : status ≡ WriteFault → Rose (sink.faults k) (sink.faults l) = λ is. fault is (outcome_other (files.contents s) request reply says.outcome) in
       record {
         ends = inr (reply, says, sent);
-        read_fault = unread (faults s) (faults t) (failed t) (written k) (written l) reply status says.counted sent;
+        read_fault = unread (files.faults s) (files.faults t) (files.failed t) (sink.written k) (sink.written l) reply status says.counted sent;
         write_fault = rose;
-        unfailed = λ read wrote wanted. call_keeps one failed (contents s) request s t reply says.read (reply_read (written k) (written l) reply status sent read wrote);
-        complete = λ good. answered_or_rose (MayEndWith (contents s) request good) (faults s) (faults t) (sink_faults k) (sink_faults l) (failed t) (written k) (written l) reply status
-            (answered (contents s) request reply good says.outcome) says.counted sent rose;
+        unfailed = λ read wrote wanted. call_keeps files (files.contents s) request s t reply says.read (reply_read (sink.written k) (sink.written l) reply status sent read wrote);
+        complete = λ good. answered_or_rose (MayEndWith (files.contents s) request good) (files.faults s) (files.faults t) (sink.faults k) (sink.faults l) (files.failed t) (sink.written k) (sink.written l) reply status
+            (answered (files.contents s) request reply good says.outcome) says.counted sent rose;
       }
 
   -- memory was wanted, and nothing is written
-  no_call : (request : Option Request) (s t : S) (k l : K) (status : Status) → status ≡ NoMemory → written l ≡ written k → IsCall contents failed faults one written sink_faults request s t k l status
+  no_call : (request : Option Request) (s t : S) (k l : K) (status : Status) → status ≡ NoMemory → sink.written l ≡ sink.written k → IsCall files sink request s t k l status
   no_call request s t k l status is same = record {
     ends = inl (is, same);
     read_fault = λ also. absurd (differ status NoMemory ReadFault is also (omega arith));
@@ -56,10 +57,10 @@ module _ {S K : Type 0} (contents : S → Contents) (failed : S → List ℕ) (f
 
   -- what a command told, or where it ended, was sent
   pub finished_call : GoodAreAnswered → (request : Option Request) (s t : S) (k l : K) (r : Result Ending CallFault) (status : Status)
-      → OnEnding r (Outcome (contents s) request) → OnEnding r (IsCountedFault (faults s) (faults t) (failed t)) → OnEnding r (AsksFor one failed s t (contents s) request)
-      → OnEnding r (λ reply. Sent (written k) (written l) reply status) → OnEnding r (λ reply. status ≡ WriteFault → reply.status ≢ WriteFault → Rose (sink_faults k) (sink_faults l))
-      → (r ≡ Err stop.NoMemory → (status ≡ NoMemory) × (written l ≡ written k))
-      → IsCall contents failed faults one written sink_faults request s t k l status
+      → OnEnding r (Outcome (files.contents s) request) → OnEnding r (IsCountedFault (files.faults s) (files.faults t) (files.failed t)) → OnEnding r (AsksFor files s t (files.contents s) request)
+      → OnEnding r (λ reply. Sent (sink.written k) (sink.written l) reply status) → OnEnding r (λ reply. status ≡ WriteFault → reply.status ≢ WriteFault → Rose (sink.faults k) (sink.faults l))
+      → (r ≡ Err stop.NoMemory → (status ≡ NoMemory) × (sink.written l ≡ sink.written k))
+      → IsCall files sink request s t k l status
   finished_call answered request s t k l (Ok ending) status outcome counted read sent fault memory =
       told_call answered request s t k l (reply_of ending) status (record { outcome = outcome; read = read; counted = counted }) sent fault
   finished_call answered request s t k l (Err (stop.Ended ending)) status outcome counted read sent fault memory =

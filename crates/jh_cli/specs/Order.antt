@@ -1,6 +1,8 @@
 -- The files that a call reads: in the order of its command, each once and no other, up to the one where the call ends.
 use Rattle.std.specs.Prelude.{ℕ, ◌⊎◌, List, [], ◌∷◌, ◌++◌, ⊤, Option, Some, None}
-use Rattle.jh_outside.specs.Trail.{Ask, Asks, handed, faulted, AsksAll, AsksUntil}
+use Rattle.jh_outside.specs.declared.files.Files.{Ghosts}
+use Rattle.jh_outside.specs.Ask.{Ask, handed, faulted}
+use Rattle.jh_outside.specs.Trail.{Asks, AsksAll, AsksUntil}
 use Rattle.jh_image.specs.declared.board.Listing.{Listing}
 use Rattle.jh_image.specs.Files.{Contents, Lists}
 use Rattle.jh_image.specs.Order.{board_files}
@@ -20,20 +22,19 @@ abbrev pub last_ask : Status → List ℕ → Ask
 last_ask ReadFault name = faulted name
 last_ask _ name = handed name
 
--- the call takes the files from `s` to `t`; `one` says what each of its reads does, and `failed` is the name of the read
--- that failed last
-module _ {S : Type 0} (one : S → Ask → S → Type 0) (failed : S → List ℕ) (s t : S) where
+-- the call takes the files from `s` to `t`; `files` says what each of its reads does, and which name they keep
+module _ {S : Type 0} (files : Ghosts S) (s t : S) where
   -- no file is read
   abbrev pub AsksNone : Reply → Type 0
-  AsksNone reply = Asks one failed s [] t
+  AsksNone reply = Asks files s [] t
 
   -- the first ones of these files are read, and the call ends at the last of them
   abbrev pub AsksUntilEnd : List (List ℕ) → Reply → Type 0
-  AsksUntilEnd names reply = IsFileStatus reply.status × AsksUntil one failed names (last_ask reply.status) s t
+  AsksUntilEnd names reply = IsFileStatus reply.status × AsksUntil files names (last_ask reply.status) s t
 
   -- these files are read: all of them, or the first ones up to the one where the call ends
   abbrev pub AsksIn : List (List ℕ) → Reply → Type 0
-  AsksIn names reply = AsksAll one failed names s t ⊎ AsksUntilEnd names reply
+  AsksIn names reply = AsksAll files names s t ⊎ AsksUntilEnd names reply
 
   -- a board is read, what it lists, and then these; or the call ends at the board's own file, whatever it lists
   abbrev pub AsksBoardAnd : Contents → List ℕ → List (List ℕ) → Reply → Type 0

@@ -46,8 +46,8 @@ fn judge<F: Files>(
     ensures ok { IfOk result (JudgesFile (F.contents files.old) name.now image) }
     ensures err { IfErr result (λ stop. OnEnded stop (EndsAt most_of_a_journal (F.contents files.old) name.now JournalRefusal)) }
     ensures counted { IfErr result (λ stop. OnEnded stop (IsCountedFault (F.faults files.old) (F.faults files.new) (F.failed files.new))) }
-    ensures asked { OnOk result (AsksAll F.asks F.failed (name.now ∷ []) files.old files.new) }
-    ensures asked_until { IfErr result (λ stop. OnEnded stop (AsksUntilEnd F.asks F.failed files.old files.new (name.now ∷ []))) }
+    ensures asked { OnOk result (AsksAll F.Files (name.now ∷ []) files.old files.new) }
+    ensures asked_until { IfErr result (λ stop. OnEnded stop (AsksUntilEnd F.Files files.old files.new (name.now ∷ []))) }
 {
     let bytes = read_below(alloc, files, name, MAX_JOURNAL_READ)?;
     match audit_journal(alloc, image, bytes.as_slice()) {
@@ -121,7 +121,7 @@ fn audit_by<F: Files>(
     requires admitted { IsAdmitted image }
     ensures ends { OnEnding result (AuditsBy (F.contents files.old) name.now image) }
     ensures counted { OnEnding result (IsCountedFault (F.faults files.old) (F.faults files.new) (F.failed files.new)) }
-    ensures asked { OnEnding result (AsksIn F.asks F.failed files.old files.new (name.now ∷ [])) }
+    ensures asked { OnEnding result (AsksIn F.Files files.old files.new (name.now ∷ [])) }
 {
     let verdict = judge(alloc, files, image, name)?;
     Ok(tell_verdict(alloc, &verdict)?)
@@ -136,7 +136,7 @@ pub fn audit<F: Files>(
 ) -> Result<Ending, CallFault>
     ensures ends { OnEnding result (Audits (F.contents files.old) board.now name.now) }
     ensures counted { OnEnding result (IsCountedFault (F.faults files.old) (F.faults files.new) (F.failed files.new)) }
-    ensures asked { OnEnding result (AsksBoardAnd F.asks F.failed files.old files.new (F.contents files.old) board.now (name.now ∷ [])) }
+    ensures asked { OnEnding result (AsksBoardAnd F.Files files.old files.new (F.contents files.old) board.now (name.now ∷ [])) }
 {
     let image = open(alloc, files, board)?;
     audit_by(alloc, files, image, name)

@@ -49,8 +49,8 @@ pub fn open<F: Files>(alloc: Global, files: &mut F, board: &str) -> Result<Image
     ensures counted { IfErr result (λ stop. OnEnded stop (IsCountedFault (F.faults files.old) (F.faults files.new) (F.failed files.new))) }
     ensures never_falls { F.faults files.old ≤ F.faults files.new }
     ensures kept { F.contents files.new ≡ F.contents files.old }
-    ensures asked { OnOk result (AsksBoard F.asks F.failed (F.contents files.old) board.now files.old files.new) }
-    ensures asked_until { IfErr result (λ stop. (more : List (List ℕ)) → OnEnded stop (AsksBoardAnd F.asks F.failed files.old files.new (F.contents files.old) board.now more)) }
+    ensures asked { OnOk result (AsksBoard F.Files (F.contents files.old) board.now files.old files.new) }
+    ensures asked_until { IfErr result (λ stop. (more : List (List ℕ)) → OnEnded stop (AsksBoardAnd F.Files files.old files.new (F.contents files.old) board.now more)) }
 {
     match read_image(alloc, files, board) {
         Ok(image) => Ok(image),

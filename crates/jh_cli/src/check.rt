@@ -26,8 +26,8 @@ fn cell<F: Files>(alloc: Global, files: &mut F, name: &str) -> Result<CellConfig
     ensures counted { IfErr result (λ stop. OnEnded stop (IsCountedFault (F.faults files.old) (F.faults files.new) (F.failed files.new))) }
     ensures never_falls { F.faults files.old ≤ F.faults files.new }
     ensures kept { F.contents files.new ≡ F.contents files.old }
-    ensures asked { OnOk result (AsksAll F.asks F.failed (name.now ∷ []) files.old files.new) }
-    ensures asked_until { IfErr result (λ stop. OnEnded stop (AsksUntilEnd F.asks F.failed files.old files.new (name.now ∷ []))) }
+    ensures asked { OnOk result (AsksAll F.Files (name.now ∷ []) files.old files.new) }
+    ensures asked_until { IfErr result (λ stop. OnEnded stop (AsksUntilEnd F.Files files.old files.new (name.now ∷ []))) }
 {
     let bytes = read_below(alloc, files, name, MAX_READ)?;
     match read_cell(alloc, bytes.as_slice()) {
@@ -44,8 +44,8 @@ fn system<F: Files>(alloc: Global, files: &mut F, name: &str) -> Result<SystemCo
     ensures counted { IfErr result (λ stop. OnEnded stop (IsCountedFault (F.faults files.old) (F.faults files.new) (F.failed files.new))) }
     ensures never_falls { F.faults files.old ≤ F.faults files.new }
     ensures kept { F.contents files.new ≡ F.contents files.old }
-    ensures asked { OnOk result (AsksAll F.asks F.failed (name.now ∷ []) files.old files.new) }
-    ensures asked_until { IfErr result (λ stop. OnEnded stop (AsksUntilEnd F.asks F.failed files.old files.new (name.now ∷ []))) }
+    ensures asked { OnOk result (AsksAll F.Files (name.now ∷ []) files.old files.new) }
+    ensures asked_until { IfErr result (λ stop. OnEnded stop (AsksUntilEnd F.Files files.old files.new (name.now ∷ []))) }
 {
     let bytes = read_below(alloc, files, name, MAX_READ)?;
     match read_system(alloc, bytes.as_slice()) {
@@ -66,8 +66,8 @@ fn cells<F: Files>(
     ensures err { IfErr result (λ stop. OnEnded stop (EndsAmong (F.contents files.old) (map string_bytes names.now))) }
     ensures counted { IfErr result (λ stop. OnEnded stop (IsCountedFault (F.faults files.old) (F.faults files.new) (F.failed files.new))) }
     ensures never_falls { F.faults files.old ≤ F.faults files.new }
-    ensures asked { OnOk result (AsksAll F.asks F.failed (map string_bytes names.now) files.old files.new) }
-    ensures asked_until { IfErr result (λ stop. OnEnded stop (AsksUntilEnd F.asks F.failed files.old files.new (map string_bytes names.now))) }
+    ensures asked { OnOk result (AsksAll F.Files (map string_bytes names.now) files.old files.new) }
+    ensures asked_until { IfErr result (λ stop. OnEnded stop (AsksUntilEnd F.Files files.old files.new (map string_bytes names.now))) }
 {
     let mut cells = Seq::new(alloc);
     for name in names {
@@ -120,7 +120,7 @@ fn check_cells<F: Files>(
     requires { length names.now ≤ 15 }
     ensures ends { OnEnding result (ChecksCells (F.contents files.old) (map string_bytes names.now) system.now) }
     ensures counted { OnEnding result (IsCountedFault (F.faults files.old) (F.faults files.new) (F.failed files.new)) }
-    ensures asked { OnEnding result (AsksIn F.asks F.failed files.old files.new (map string_bytes names.now)) }
+    ensures asked { OnEnding result (AsksIn F.Files files.old files.new (map string_bytes names.now)) }
 {
     let cells = cells(alloc, files, names)?;
     Ok(tell_findings(alloc, system, cells.as_slice())?)
@@ -136,7 +136,7 @@ pub fn check<F: Files>(
     requires { length names.now ≤ 15 }
     ensures ends { OnEnding result (Checks (F.contents files.old) system_name.now (map string_bytes names.now)) }
     ensures counted { OnEnding result (IsCountedFault (F.faults files.old) (F.faults files.new) (F.failed files.new)) }
-    ensures asked { OnEnding result (AsksIn F.asks F.failed files.old files.new (system_name.now ∷ map string_bytes names.now)) }
+    ensures asked { OnEnding result (AsksIn F.Files files.old files.new (system_name.now ∷ map string_bytes names.now)) }
 {
     let system = system(alloc, files, system_name)?;
     check_cells(alloc, files, &system, names)

@@ -34,8 +34,8 @@ fn spec<F: Files>(alloc: Global, files: &mut F, name: &str) -> Result<Spec, Call
     ensures err { IfErr result (λ stop. OnEnded stop (EndsAtFile (F.contents files.old) name.now SpecRefusal)) }
     ensures counted { IfErr result (λ stop. OnEnded stop (IsCountedFault (F.faults files.old) (F.faults files.new) (F.failed files.new))) }
     ensures never_falls { F.faults files.old ≤ F.faults files.new }
-    ensures asked { OnOk result (AsksAll F.asks F.failed (name.now ∷ []) files.old files.new) }
-    ensures asked_until { IfErr result (λ stop. OnEnded stop (AsksUntilEnd F.asks F.failed files.old files.new (name.now ∷ []))) }
+    ensures asked { OnOk result (AsksAll F.Files (name.now ∷ []) files.old files.new) }
+    ensures asked_until { IfErr result (λ stop. OnEnded stop (AsksUntilEnd F.Files files.old files.new (name.now ∷ []))) }
 {
     let bytes = read_below(alloc, files, name, MAX_READ)?;
     match read_spec(alloc, bytes.as_slice()) {
@@ -64,7 +64,7 @@ fn written(alloc: Global, spec: &Spec) -> Result<Vec<u8>, NoMemory>
 pub fn pack<F: Files>(alloc: Global, files: &mut F, name: &str) -> Result<Ending, CallFault>
     ensures ends { OnEnding result (Packs (F.contents files.old) name.now) }
     ensures counted { OnEnding result (IsCountedFault (F.faults files.old) (F.faults files.new) (F.failed files.new)) }
-    ensures asked { OnEnding result (AsksIn F.asks F.failed files.old files.new (name.now ∷ [])) }
+    ensures asked { OnEnding result (AsksIn F.Files files.old files.new (name.now ∷ [])) }
 {
     let spec = spec(alloc, files, name)?;
     Ok(Ending {

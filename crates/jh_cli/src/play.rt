@@ -53,7 +53,7 @@ fn play_by<F: Files>(
     requires admitted { IsAdmitted image }
     ensures ends { OnEnding result (PlaysBy (F.contents files.old) items.now image) }
     ensures counted { OnEnding result (IsCountedFault (F.faults files.old) (F.faults files.new) (F.failed files.new)) }
-    ensures asked { OnEnding result (AsksIn F.asks F.failed files.old files.new (items.now ∷ [])) }
+    ensures asked { OnEnding result (AsksIn F.Files files.old files.new (items.now ∷ [])) }
 {
     let cpus = schedule(alloc, files, items, &image)?;
     Ok(render(alloc, image, cpus.as_slice())?)
@@ -68,7 +68,7 @@ pub fn play<F: Files>(
 ) -> Result<Ending, CallFault>
     ensures ends { OnEnding result (Plays (F.contents files.old) board.now items.now) }
     ensures counted { OnEnding result (IsCountedFault (F.faults files.old) (F.faults files.new) (F.failed files.new)) }
-    ensures asked { OnEnding result (AsksBoardAnd F.asks F.failed files.old files.new (F.contents files.old) board.now (items.now ∷ [])) }
+    ensures asked { OnEnding result (AsksBoardAnd F.Files files.old files.new (F.contents files.old) board.now (items.now ∷ [])) }
 {
     let image = open(alloc, files, board)?;
     play_by(alloc, files, image, items)

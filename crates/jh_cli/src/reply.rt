@@ -28,7 +28,7 @@ fn run_command<F: Files>(
     requires serial { IsSerial (Some (request_by command)) }
     ensures ends { OnEnding result (Outcome (F.contents files.old) (Some (request_by command.entry))) }
     ensures counted { OnEnding result (IsCountedFault (F.faults files.old) (F.faults files.new) (F.failed files.new)) }
-    ensures asked { OnEnding result (AsksFor F.asks F.failed files.old files.new (F.contents files.old) (Some (request_by command.entry))) }
+    ensures asked { OnEnding result (AsksFor F.Files files.old files.new (F.contents files.old) (Some (request_by command.entry))) }
 {
     match command {
         Command::Check { system, cells } => check(alloc, files, system, cells),
@@ -50,7 +50,7 @@ pub fn reply_to<F: Files>(
     requires { IsSerial (command_of (map string_bytes words.now)) }
     ensures outcome { OnEnding result (Outcome (F.contents files.old) (command_of (map string_bytes words.now))) }
     ensures counted { OnEnding result (IsCountedFault (F.faults files.old) (F.faults files.new) (F.failed files.new)) }
-    ensures asked { OnEnding result (AsksFor F.asks F.failed files.old files.new (F.contents files.old) (command_of (map string_bytes words.now))) }
+    ensures asked { OnEnding result (AsksFor F.Files files.old files.new (F.contents files.old) (command_of (map string_bytes words.now))) }
 {
     match command_of(words) {
         Some(command) => run_command(alloc, command, files),

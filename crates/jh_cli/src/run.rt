@@ -46,7 +46,7 @@ pub fn run<R: Threads + Wait + Sync, F: Files, G: Gate + Sync>(
 ) -> Result<Ending, CallFault>
     ensures ends { OnEnding result (Runs (F.contents files.old) board.now) }
     ensures counted { OnEnding result (IsCountedFault (F.faults files.old) (F.faults files.new) (F.failed files.new)) }
-    ensures asked { OnEnding result (AsksBoardAnd F.asks F.failed files.old files.new (F.contents files.old) board.now []) }
+    ensures asked { OnEnding result (AsksBoardAnd F.Files files.old files.new (F.contents files.old) board.now []) }
 {
     let image = open(alloc, files, board)?;
     Ok(render(rt, alloc, image, gate)?)

@@ -26,7 +26,7 @@ pub fn serial<F: Files, K: Sink>(
 ) -> Status
     requires { IsSerial (command_of (map string_bytes words.now)) }
     // the status and the text are those of the words' request, and each failure comes only where its count rose
-    ensures { IsCall F.contents F.failed F.faults F.asks K.written K.faults (command_of (map string_bytes words.now)) files.old files.new out.old out.new result }
+    ensures { IsCall F.Files K.Sink (command_of (map string_bytes words.now)) files.old files.new out.old out.new result }
 {
     good_inputs_are_answered();
     let ending = reply_to(alloc, words, files);
@@ -44,7 +44,7 @@ pub fn jailhouse<R: Threads + Wait + Sync, F: Files, K: Sink, G: Gate + Sync>(
     out: &mut K,
     gate: &G,
 ) -> Status
-    ensures { IsCall F.contents F.failed F.faults F.asks K.written K.faults (command_of (map string_bytes words.now)) files.old files.new out.old out.new result }
+    ensures { IsCall F.Files K.Sink (command_of (map string_bytes words.now)) files.old files.new out.old out.new result }
 {
     good_inputs_are_answered();
     match command_of(words) {

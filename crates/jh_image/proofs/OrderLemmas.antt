@@ -1,6 +1,8 @@
 -- The files of a board, read one after another.
 use Rattle.std.proofs.Common.{ℕ, List, [], ◌∷◌, ◌++◌, map, sym, subst}
-use Rattle.jh_outside.specs.Trail.{Ask, Asks, handed, AsksAll, AsksUntil}
+use Rattle.jh_outside.specs.declared.files.Files.{Ghosts}
+use Rattle.jh_outside.specs.Ask.{Ask, handed}
+use Rattle.jh_outside.specs.Trail.{Asks, AsksAll, AsksUntil}
 use Rattle.jh_outside.proofs.Public.{all_both, until_first, until_behind, until_more}
 use Rattle.jh_image.specs.declared.board.Listing.{Listing}
 use Rattle.jh_spec.specs.declared.fault.JsonFault.{JsonFault}
@@ -16,36 +18,36 @@ board_asked A name board boards.Json a file cause h = subst (λ k. A (ask_for k 
 board_asked A name board (boards.Member member) a file cause h = subst (λ k. A (ask_for k name)) (sym h.1) a
 board_asked A name board boards.NoMemory a file cause h = absurd h
 
-module _ {S : Type 0} (one : S → Ask → S → Type 0) (failed : S → List ℕ) (contents : Contents) (board : List ℕ) where
-  pub at_the_board : (s t : S) (cause : ImageCause) → Asks one failed s (ask_for cause board ∷ []) t → AsksBoardUntil one failed contents board cause s t
-  at_the_board s t cause asked = until_the_board (until_first one failed s t board [] (ask_for cause) asked)
+module _ {S : Type 0} (files : Ghosts S) (contents : Contents) (board : List ℕ) where
+  pub at_the_board : (s t : S) (cause : ImageCause) → Asks files s (ask_for cause board ∷ []) t → AsksBoardUntil files contents board cause s t
+  at_the_board s t cause asked = until_the_board (until_first files s t board [] (ask_for cause) asked)
 
   module _ (listing : Listing) (lists : Lists contents board listing) where
-    pub at_the_system : (s t u : S) (cause : ImageCause) → Asks one failed s (handed board ∷ []) t → Asks one failed t (ask_for cause listing.system ∷ []) u → AsksBoardUntil one failed contents board cause s u
+    pub at_the_system : (s t u : S) (cause : ImageCause) → Asks files s (handed board ∷ []) t → Asks files t (ask_for cause listing.system ∷ []) u → AsksBoardUntil files contents board cause s u
     at_the_system s t u cause first asked =
         let rest = map preload_name listing.preloads ++ map program_name listing.programs in
         until_a_file listing lists
-        (until_behind one failed s t u (board ∷ []) (listing.system ∷ rest) (ask_for cause) first (until_first one failed t u listing.system rest (ask_for cause) asked))
+        (until_behind files s t u (board ∷ []) (listing.system ∷ rest) (ask_for cause) first (until_first files t u listing.system rest (ask_for cause) asked))
 
     -- the board and its system were read
-    pub to_the_system : (s t u : S) → Asks one failed s (handed board ∷ []) t → Asks one failed t (handed listing.system ∷ []) u → AsksAll one failed (board ∷ listing.system ∷ []) s u
-    to_the_system s t u first asked = all_both one failed s t u (board ∷ []) (listing.system ∷ []) first asked
+    pub to_the_system : (s t u : S) → Asks files s (handed board ∷ []) t → Asks files t (handed listing.system ∷ []) u → AsksAll files (board ∷ listing.system ∷ []) s u
+    to_the_system s t u first asked = all_both files s t u (board ∷ []) (listing.system ∷ []) first asked
 
-    pub at_a_preload : (s t u : S) (cause : ImageCause) → AsksAll one failed (board ∷ listing.system ∷ []) s t → AsksUntil one failed (map preload_name listing.preloads) (ask_for cause) t u → AsksBoardUntil one failed contents board cause s u
+    pub at_a_preload : (s t u : S) (cause : ImageCause) → AsksAll files (board ∷ listing.system ∷ []) s t → AsksUntil files (map preload_name listing.preloads) (ask_for cause) t u → AsksBoardUntil files contents board cause s u
     at_a_preload s t u cause first until =
         let preloads = map preload_name listing.preloads in
         let programs = map program_name listing.programs in
         until_a_file listing lists
-        (until_behind one failed s t u (board ∷ listing.system ∷ []) (preloads ++ programs) (ask_for cause) first (until_more one failed t u preloads programs (ask_for cause) until))
+        (until_behind files s t u (board ∷ listing.system ∷ []) (preloads ++ programs) (ask_for cause) first (until_more files t u preloads programs (ask_for cause) until))
 
-    pub to_the_preloads : (s t u : S) → AsksAll one failed (board ∷ listing.system ∷ []) s t → AsksAll one failed (map preload_name listing.preloads) t u → AsksAll one failed (board ∷ listing.system ∷ map preload_name listing.preloads) s u
-    to_the_preloads s t u first asked = all_both one failed s t u (board ∷ listing.system ∷ []) (map preload_name listing.preloads) first asked
+    pub to_the_preloads : (s t u : S) → AsksAll files (board ∷ listing.system ∷ []) s t → AsksAll files (map preload_name listing.preloads) t u → AsksAll files (board ∷ listing.system ∷ map preload_name listing.preloads) s u
+    to_the_preloads s t u first asked = all_both files s t u (board ∷ listing.system ∷ []) (map preload_name listing.preloads) first asked
 
-    pub at_a_program : (s t u : S) (cause : ImageCause) → AsksAll one failed (board ∷ listing.system ∷ map preload_name listing.preloads) s t → AsksUntil one failed (map program_name listing.programs) (ask_for cause) t u
-        → AsksBoardUntil one failed contents board cause s u
+    pub at_a_program : (s t u : S) (cause : ImageCause) → AsksAll files (board ∷ listing.system ∷ map preload_name listing.preloads) s t → AsksUntil files (map program_name listing.programs) (ask_for cause) t u
+        → AsksBoardUntil files contents board cause s u
     at_a_program s t u cause first until =
         until_a_file listing lists
-        (until_behind one failed s t u (board ∷ listing.system ∷ map preload_name listing.preloads) (map program_name listing.programs) (ask_for cause) first until)
+        (until_behind files s t u (board ∷ listing.system ∷ map preload_name listing.preloads) (map program_name listing.programs) (ask_for cause) first until)
 
-    pub to_the_programs : (s t u : S) → AsksAll one failed (board ∷ listing.system ∷ map preload_name listing.preloads) s t → AsksAll one failed (map program_name listing.programs) t u → AsksAll one failed (board_files board listing) s u
-    to_the_programs s t u first asked = all_both one failed s t u (board ∷ listing.system ∷ map preload_name listing.preloads) (map program_name listing.programs) first asked
+    pub to_the_programs : (s t u : S) → AsksAll files (board ∷ listing.system ∷ map preload_name listing.preloads) s t → AsksAll files (map program_name listing.programs) t u → AsksAll files (board_files board listing) s u
+    to_the_programs s t u first asked = all_both files s t u (board ∷ listing.system ∷ map preload_name listing.preloads) (map program_name listing.programs) first asked

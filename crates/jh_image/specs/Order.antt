@@ -1,6 +1,8 @@
 -- The order in which a board's files are read, each once, and how far a call comes in it.
 use Rattle.std.specs.Prelude.{ℕ, List, [], ◌∷◌, ◌++◌, map}
-use Rattle.jh_outside.specs.Trail.{Ask, handed, faulted, AsksAll, AsksUntil}
+use Rattle.jh_outside.specs.declared.files.Files.{Ghosts}
+use Rattle.jh_outside.specs.Ask.{Ask, handed, faulted}
+use Rattle.jh_outside.specs.Trail.{AsksAll, AsksUntil}
 use Rattle.jh_image.specs.declared.board.Listing.{Listing}
 use Rattle.jh_image.specs.declared.board.PreloadFile.{PreloadFile}
 use Rattle.jh_image.specs.declared.board.ProgramFile.{ProgramFile}
@@ -25,14 +27,15 @@ abbrev pub ask_for : ImageCause → List ℕ → Ask
 ask_for ReadFault name = faulted name
 ask_for _ name = handed name
 
-module _ {S : Type 0} where
-  -- the files of a board were read
-  pub record AsksBoard (one : S → Ask → S → Type 0) (failed : S → List ℕ) (contents : Contents) (board : List ℕ) (s t : S) : Type 0 where
+-- `files` says what each read does to the files, and which name they keep
+module _ {S : Type 0} (files : Ghosts S) (contents : Contents) (board : List ℕ) where
+  -- the files of the board were read
+  pub record AsksBoard (s t : S) : Type 0 where
     pub listing : Listing
     pub lists : Lists contents board listing
-    pub all : AsksAll one failed (board_files board listing) s t
+    pub all : AsksAll files (board_files board listing) s t
 
-  -- the files of a board were read up to the one where the cause is found: the board alone, or what it lists
-  pub data AsksBoardUntil (one : S → Ask → S → Type 0) (failed : S → List ℕ) (contents : Contents) (board : List ℕ) (cause : ImageCause) (s t : S) : Type 0 where
-    until_the_board : AsksUntil one failed (board ∷ []) (ask_for cause) s t → AsksBoardUntil one failed contents board cause s t
-    until_a_file : (listing : Listing) → Lists contents board listing → AsksUntil one failed (board_files board listing) (ask_for cause) s t → AsksBoardUntil one failed contents board cause s t
+  -- the files of the board were read up to the one where the cause is found: the board alone, or what it lists
+  pub data AsksBoardUntil (cause : ImageCause) (s t : S) : Type 0 where
+    until_the_board : AsksUntil files (board ∷ []) (ask_for cause) s t → AsksBoardUntil cause s t
+    until_a_file : (listing : Listing) → Lists contents board listing → AsksUntil files (board_files board listing) (ask_for cause) s t → AsksBoardUntil cause s t

@@ -5,7 +5,8 @@ ghost use Rattle.jh_history.specs.Admitted.{IsSoundPreload, IsOtherPreload, IsSo
 ghost use Rattle.jh_image.specs.Boards.{are_distinct, seat_of};
 ghost use Rattle.jh_image.specs.Preloads.{IsFaultless};
 ghost use Rattle.jh_image.specs.Files.{IsPreloadOf};
-ghost use Rattle.jh_outside.specs.Trail.{Asks, AsksAll, AsksUntil, handed};
+ghost use Rattle.jh_outside.specs.Ask.{handed};
+ghost use Rattle.jh_outside.specs.Trail.{Asks, AsksAll, AsksUntil};
 ghost use Rattle.jh_image.specs.Order.{ask_for, preload_name, program_name, AsksBoard, AsksBoardUntil};
 ghost use Rattle.jh_image.specs.Images.{with_listing, with_system, so_far_of, IsNextPreload, IsComplete, ReadsTo};
 ghost use Rattle.jh_image.specs.Causes.{IsCauseOf, OnRefused, IsImageAnswer, IsCounted};
@@ -36,8 +37,8 @@ fn read_ready<F: Files>(
     ensures counted { IfErr result (IsCounted (F.faults files.old) (F.faults files.new) (F.failed files.new)) }
     ensures never_falls { F.faults files.old ≤ F.faults files.new }
     ensures kept { F.contents files.new ≡ F.contents files.old }
-    ensures asked { OnOk result (Asks F.asks F.failed files.old (handed listing.now.system ∷ []) files.new) }
-    ensures asked_until { IfErr result (OnRefused (λ _ cause. Asks F.asks F.failed files.old (ask_for cause listing.now.system ∷ []) files.new)) }
+    ensures asked { OnOk result (Asks F.Files files.old (handed listing.now.system ∷ []) files.new) }
+    ensures asked_until { IfErr result (OnRefused (λ _ cause. Asks F.Files files.old (ask_for cause listing.now.system ∷ []) files.new)) }
 {
     let system = read_system_file(alloc, files, board, listing)?;
     check_system(alloc, board, listing.system.as_str(), &system)?;
@@ -61,8 +62,8 @@ fn next_preload<F: Files>(
     ensures counted { IfErr result (IsCounted (F.faults files.old) (F.faults files.new) (F.failed files.new)) }
     ensures never_falls { F.faults files.old ≤ F.faults files.new }
     ensures kept { F.contents files.new ≡ F.contents files.old }
-    ensures asked { OnOk result (Asks F.asks F.failed files.old (handed file.now.file ∷ []) files.new) }
-    ensures asked_until { IfErr result (OnRefused (λ _ cause. Asks F.asks F.failed files.old (ask_for cause file.now.file ∷ []) files.new)) }
+    ensures asked { OnOk result (Asks F.Files files.old (handed file.now.file ∷ []) files.new) }
+    ensures asked_until { IfErr result (OnRefused (λ _ cause. Asks F.Files files.old (ask_for cause file.now.file ∷ []) files.new)) }
 {
     let preload = read_preload(alloc, files, file)?;
     let number = preloads.len() as u32;
@@ -90,8 +91,8 @@ fn read_preloads<F: Files>(
     ensures counted { IfErr result (IsCounted (F.faults files.old) (F.faults files.new) (F.failed files.new)) }
     ensures never_falls { F.faults files.old ≤ F.faults files.new }
     ensures kept { F.contents files.new ≡ F.contents files.old }
-    ensures asked { OnOk result (AsksAll F.asks F.failed (map preload_name listing.now.preloads) files.old files.new) }
-    ensures asked_until { IfErr result (OnRefused (λ _ cause. AsksUntil F.asks F.failed (map preload_name listing.now.preloads) (ask_for cause) files.old files.new)) }
+    ensures asked { OnOk result (AsksAll F.Files (map preload_name listing.now.preloads) files.old files.new) }
+    ensures asked_until { IfErr result (OnRefused (λ _ cause. AsksUntil F.Files (map preload_name listing.now.preloads) (ask_for cause) files.old files.new)) }
 {
     let mut preloads = Seq::new(alloc);
     let entries = listing.preloads.as_slice();
@@ -122,8 +123,8 @@ fn read_programs<F: Files>(
     ensures counted { IfErr result (IsCounted (F.faults files.old) (F.faults files.new) (F.failed files.new)) }
     ensures never_falls { F.faults files.old ≤ F.faults files.new }
     ensures kept { F.contents files.new ≡ F.contents files.old }
-    ensures asked { OnOk result (AsksAll F.asks F.failed (map program_name listing.now.programs) files.old files.new) }
-    ensures asked_until { IfErr result (OnRefused (λ _ cause. AsksUntil F.asks F.failed (map program_name listing.now.programs) (ask_for cause) files.old files.new)) }
+    ensures asked { OnOk result (AsksAll F.Files (map program_name listing.now.programs) files.old files.new) }
+    ensures asked_until { IfErr result (OnRefused (λ _ cause. AsksUntil F.Files (map program_name listing.now.programs) (ask_for cause) files.old files.new)) }
 {
     let mut programs = Seq::new(alloc);
     let entries = listing.programs.as_slice();
@@ -143,8 +144,8 @@ pub fn read_image<F: Files>(alloc: Global, files: &mut F, name: &str) -> Result<
     ensures never_falls { F.faults files.old ≤ F.faults files.new }
     ensures kept { F.contents files.new ≡ F.contents files.old }
     // each file is read once, in their order, and none but the last that is read can have failed
-    ensures asked { OnOk result (AsksBoard F.asks F.failed (F.contents files.old) name.now files.old files.new) }
-    ensures asked_until { IfErr result (OnRefused (λ _ cause. AsksBoardUntil F.asks F.failed (F.contents files.old) name.now cause files.old files.new)) }
+    ensures asked { OnOk result (AsksBoard F.Files (F.contents files.old) name.now files.old files.new) }
+    ensures asked_until { IfErr result (OnRefused (λ _ cause. AsksBoardUntil F.Files (F.contents files.old) name.now cause files.old files.new)) }
 {
     let listing = read_listing(alloc, files, name)?;
     let system = read_ready(alloc, files, name, &listing)?;

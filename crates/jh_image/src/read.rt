@@ -3,7 +3,8 @@ ghost use Rattle.std.specs.Prelude.{◌≡◌, ◌≤◌, ◌≢◌, ◌∷◌, 
 ghost use Rattle.jh_history.specs.Admitted.{IsSoundProgram};
 ghost use Rattle.jh_image.specs.Boards.{are_distinct, seat_of};
 ghost use Rattle.jh_image.specs.Files.{HasBytes, Lists, SpellsSystem, IsPreloadOf, IsProgramOf};
-ghost use Rattle.jh_outside.specs.Trail.{Asks, handed};
+ghost use Rattle.jh_outside.specs.Ask.{handed};
+ghost use Rattle.jh_outside.specs.Trail.{Asks};
 ghost use Rattle.jh_image.specs.Images.{with_listing, ReadsTo};
 ghost use Rattle.jh_image.specs.Order.{ask_for};
 ghost use Rattle.jh_image.specs.Causes.{OnRefused, IsCounted, IsCauseOf};
@@ -33,8 +34,8 @@ pub(crate) fn read_file<F: Files>(
     ensures counted { IfErr result (IsCounted (F.faults files.old) (F.faults files.new) (F.failed files.new)) }
     ensures never_falls { F.faults files.old ≤ F.faults files.new }
     ensures kept { F.contents files.new ≡ F.contents files.old }
-    ensures asked { OnOk result (Asks F.asks F.failed files.old (handed name.now ∷ []) files.new) }
-    ensures asked_until { IfErr result (OnRefused (λ _ cause. Asks F.asks F.failed files.old (ask_for cause name.now ∷ []) files.new)) }
+    ensures asked { OnOk result (Asks F.Files files.old (handed name.now ∷ []) files.new) }
+    ensures asked_until { IfErr result (OnRefused (λ _ cause. Asks F.Files files.old (ask_for cause name.now ∷ []) files.new)) }
 {
     match files.read(name, MAX_FILE_SIZE + 1) {
         Ok(bytes) => {
@@ -61,8 +62,8 @@ pub(crate) fn read_listing<F: Files>(
     ensures counted { IfErr result (IsCounted (F.faults files.old) (F.faults files.new) (F.failed files.new)) }
     ensures never_falls { F.faults files.old ≤ F.faults files.new }
     ensures kept { F.contents files.new ≡ F.contents files.old }
-    ensures asked { OnOk result (Asks F.asks F.failed files.old (handed board.now ∷ []) files.new) }
-    ensures asked_until { IfErr result (OnRefused (λ _ cause. Asks F.asks F.failed files.old (ask_for cause board.now ∷ []) files.new)) }
+    ensures asked { OnOk result (Asks F.Files files.old (handed board.now ∷ []) files.new) }
+    ensures asked_until { IfErr result (OnRefused (λ _ cause. Asks F.Files files.old (ask_for cause board.now ∷ []) files.new)) }
 {
     let bytes = read_file(alloc, files, board)?;
     match read_board(alloc, bytes.as_slice()) {
@@ -84,8 +85,8 @@ pub(crate) fn read_system_file<F: Files>(
     ensures counted { IfErr result (IsCounted (F.faults files.old) (F.faults files.new) (F.failed files.new)) }
     ensures never_falls { F.faults files.old ≤ F.faults files.new }
     ensures kept { F.contents files.new ≡ F.contents files.old }
-    ensures asked { OnOk result (Asks F.asks F.failed files.old (handed listing.now.system ∷ []) files.new) }
-    ensures asked_until { IfErr result (OnRefused (λ _ cause. Asks F.asks F.failed files.old (ask_for cause listing.now.system ∷ []) files.new)) }
+    ensures asked { OnOk result (Asks F.Files files.old (handed listing.now.system ∷ []) files.new) }
+    ensures asked_until { IfErr result (OnRefused (λ _ cause. Asks F.Files files.old (ask_for cause listing.now.system ∷ []) files.new)) }
 {
     let name = listing.system.as_str();
     let bytes = read_file(alloc, files, name)?;
@@ -107,8 +108,8 @@ pub(crate) fn read_preload<F: Files>(
     ensures counted { IfErr result (IsCounted (F.faults files.old) (F.faults files.new) (F.failed files.new)) }
     ensures never_falls { F.faults files.old ≤ F.faults files.new }
     ensures kept { F.contents files.new ≡ F.contents files.old }
-    ensures asked { OnOk result (Asks F.asks F.failed files.old (handed file.now.file ∷ []) files.new) }
-    ensures asked_until { IfErr result (OnRefused (λ _ cause. Asks F.asks F.failed files.old (ask_for cause file.now.file ∷ []) files.new)) }
+    ensures asked { OnOk result (Asks F.Files files.old (handed file.now.file ∷ []) files.new) }
+    ensures asked_until { IfErr result (OnRefused (λ _ cause. Asks F.Files files.old (ask_for cause file.now.file ∷ []) files.new)) }
 {
     let bytes = read_file(alloc, files, file.file.as_str())?;
     Ok(Preload { at: file.at, bytes })
@@ -126,8 +127,8 @@ pub(crate) fn read_program_file<F: Files>(
     ensures counted { IfErr result (IsCounted (F.faults files.old) (F.faults files.new) (F.failed files.new)) }
     ensures never_falls { F.faults files.old ≤ F.faults files.new }
     ensures kept { F.contents files.new ≡ F.contents files.old }
-    ensures asked { OnOk result (Asks F.asks F.failed files.old (handed file.now.file ∷ []) files.new) }
-    ensures asked_until { IfErr result (OnRefused (λ _ cause. Asks F.asks F.failed files.old (ask_for cause file.now.file ∷ []) files.new)) }
+    ensures asked { OnOk result (Asks F.Files files.old (handed file.now.file ∷ []) files.new) }
+    ensures asked_until { IfErr result (OnRefused (λ _ cause. Asks F.Files files.old (ask_for cause file.now.file ∷ []) files.new)) }
 {
     let name = file.file.as_str();
     let bytes = read_file(alloc, files, name)?;

@@ -1,27 +1,29 @@
 -- What follows of reads, for whoever reads files one after another.
 use Rattle.std.proofs.Common.{◌≡◌, ℕ, zero, suc, ◌+◌, ◌<◌, List, [], ◌∷◌, ◌++◌, length, get_or, take, map, refl, sym, ap, subst, ◌∙◌, append_assoc, arith}
 use Rattle.std.proofs.lemmas.List.{take_more, map_push}
-use Rattle.jh_outside.specs.Trail.{Ask, Asks, no_ask, one_more_ask, kept_name, handed, AsksAll, AsksUntil}
+use Rattle.jh_outside.specs.declared.files.Files.{Ghosts}
+use Rattle.jh_outside.specs.Ask.{Ask, kept_name, handed}
+use Rattle.jh_outside.specs.Trail.{Asks, no_ask, one_more_ask, AsksAll, AsksUntil}
 
 map_both : (xs ys : List (List ℕ)) → map handed (xs ++ ys) ≡ map handed xs ++ map handed ys
 map_both [] ys = refl
 map_both (x ∷ xs) ys = ap (λ zs. handed x ∷ zs) (map_both xs ys)
 
-module _ {S : Type 0} (one : S → Ask → S → Type 0) (failed : S → List ℕ) where
-  pub asks_alone : (s t : S) (ask : Ask) → one s ask t → failed t ≡ kept_name (failed s) ask.name ask.answer → Asks one failed s (ask ∷ []) t
+module _ {S : Type 0} (files : Ghosts S) where
+  pub asks_alone : (s t : S) (ask : Ask) → files.asks s ask t → files.failed t ≡ kept_name (files.failed s) ask.name ask.answer → Asks files s (ask ∷ []) t
   asks_alone s t ask is name = one_more_ask s t t ask [] is name (no_ask t)
 
-  pub asks_both : (s t u : S) (xs ys : List Ask) → Asks one failed s xs t → Asks one failed t ys u → Asks one failed s (xs ++ ys) u
+  pub asks_both : (s t u : S) (xs ys : List Ask) → Asks files s xs t → Asks files t ys u → Asks files s (xs ++ ys) u
   asks_both s t u xs ys (no_ask v) next = next
   asks_both s t u xs ys (one_more_ask v w x ask asks is name rest) next = one_more_ask v w u ask (asks ++ ys) is name (asks_both w x u asks ys rest next)
 
-  pub all_both : (s t u : S) (xs ys : List (List ℕ)) → AsksAll one failed xs s t → AsksAll one failed ys t u → AsksAll one failed (xs ++ ys) s u
-  all_both s t u xs ys first next = subst (λ asks. Asks one failed s asks u) (sym (map_both xs ys)) (asks_both s t u (map handed xs) (map handed ys) first next)
+  pub all_both : (s t u : S) (xs ys : List (List ℕ)) → AsksAll files xs s t → AsksAll files ys t u → AsksAll files (xs ++ ys) s u
+  all_both s t u xs ys first next = subst (λ asks. Asks files s asks u) (sym (map_both xs ys)) (asks_both s t u (map handed xs) (map handed ys) first next)
 
-  pub until_first : (s t : S) (name : List ℕ) (rest : List (List ℕ)) (last : List ℕ → Ask) → Asks one failed s (last name ∷ []) t → AsksUntil one failed (name ∷ rest) last s t
+  pub until_first : (s t : S) (name : List ℕ) (rest : List (List ℕ)) (last : List ℕ → Ask) → Asks files s (last name ∷ []) t → AsksUntil files (name ∷ rest) last s t
   until_first s t name rest last asked = record { before = []; name = name; rest = rest; split = refl; asked = asked }
 
-  pub until_behind : (s t u : S) (xs ys : List (List ℕ)) (last : List ℕ → Ask) → AsksAll one failed xs s t → AsksUntil one failed ys last t u → AsksUntil one failed (xs ++ ys) last s u
+  pub until_behind : (s t u : S) (xs ys : List (List ℕ)) (last : List ℕ → Ask) → AsksAll files xs s t → AsksUntil files ys last t u → AsksUntil files (xs ++ ys) last s u
   until_behind s t u xs ys last first next =
       let closing = last next.name ∷ [] in
       record {
@@ -29,11 +31,11 @@ module _ {S : Type 0} (one : S → Ask → S → Type 0) (failed : S → List �
         name = next.name;
         rest = next.rest;
         split = ap (λ zs. xs ++ zs) next.split ∙ sym (append_assoc xs next.before (next.name ∷ next.rest));
-        asked = subst (λ asks. Asks one failed s asks u) (sym (ap (λ zs. zs ++ closing) (map_both xs next.before) ∙ append_assoc (map handed xs) (map handed next.before) closing))
+        asked = subst (λ asks. Asks files s asks u) (sym (ap (λ zs. zs ++ closing) (map_both xs next.before) ∙ append_assoc (map handed xs) (map handed next.before) closing))
             (asks_both s t u (map handed xs) (map handed next.before ++ closing) first next.asked);
       }
 
-  pub until_more : (s t : S) (xs ys : List (List ℕ)) (last : List ℕ → Ask) → AsksUntil one failed xs last s t → AsksUntil one failed (xs ++ ys) last s t
+  pub until_more : (s t : S) (xs ys : List (List ℕ)) (last : List ℕ → Ask) → AsksUntil files xs last s t → AsksUntil files (xs ++ ys) last s t
   until_more s t xs ys last h = record {
     before = h.before;
     name = h.name;
@@ -56,15 +58,15 @@ module _ {X : Type 0} (name_of : X → List ℕ) where
       let rest = names_split ys i x (omega arith) is in
       (rest.0, ap (λ zs. name_of y ∷ zs) rest.1)
 
-  module _ {S : Type 0} (one : S → Ask → S → Type 0) (failed : S → List ℕ) where
-    pub loop_more : (s t u : S) (xs : List X) (i : ℕ) (x : X) → i < length xs → x ≡ get_or xs i x → AsksAll one failed (map name_of (take i xs)) s t
-        → Asks one failed t (handed (name_of x) ∷ []) u → AsksAll one failed (map name_of (take (i + 1) xs)) s u
+  module _ {S : Type 0} (files : Ghosts S) where
+    pub loop_more : (s t u : S) (xs : List X) (i : ℕ) (x : X) → i < length xs → x ≡ get_or xs i x → AsksAll files (map name_of (take i xs)) s t
+        → Asks files t (handed (name_of x) ∷ []) u → AsksAll files (map name_of (take (i + 1) xs)) s u
     loop_more s t u xs i x lt is before asked =
-        subst (λ names. AsksAll one failed names s u) (names_more xs i x lt is) (all_both one failed s t u (map name_of (take i xs)) (name_of x ∷ []) before asked)
+        subst (λ names. AsksAll files names s u) (names_more xs i x lt is) (all_both files s t u (map name_of (take i xs)) (name_of x ∷ []) before asked)
 
-    pub loop_until : (s t u : S) (xs : List X) (i : ℕ) (x : X) (last : List ℕ → Ask) → i < length xs → x ≡ get_or xs i x → AsksAll one failed (map name_of (take i xs)) s t
-        → Asks one failed t (last (name_of x) ∷ []) u → AsksUntil one failed (map name_of xs) last s u
+    pub loop_until : (s t u : S) (xs : List X) (i : ℕ) (x : X) (last : List ℕ → Ask) → i < length xs → x ≡ get_or xs i x → AsksAll files (map name_of (take i xs)) s t
+        → Asks files t (last (name_of x) ∷ []) u → AsksUntil files (map name_of xs) last s u
     loop_until s t u xs i x last lt is before asked =
         let split = names_split xs i x lt is in
-        subst (λ names. AsksUntil one failed names last s u) (sym split.1)
-        (until_behind one failed s t u (map name_of (take i xs)) (name_of x ∷ split.0) last before (until_first one failed t u (name_of x) split.0 last asked))
+        subst (λ names. AsksUntil files names last s u) (sym split.1)
+        (until_behind files s t u (map name_of (take i xs)) (name_of x ∷ split.0) last before (until_first files t u (name_of x) split.0 last asked))

@@ -1,7 +1,7 @@
 -- What files of the system keep of the reads that failed.
 use Rattle.std.specs.Prelude.{◌≡◌, ℕ, List}
 use Rattle.jh_num.specs.Numbers.{counted_up}
-use Rattle.jh_outside.specs.Trail.{Ask, ReadAnswer, Handed, Failed, LackedMemory}
+use Rattle.jh_outside.specs.Ask.{Ask, ReadAnswer, Handed, Faulted, LackedMemory}
 
 -- the count of faults, and the name of the read that failed last
 pub record FailedReads : Type 0 where
@@ -12,7 +12,7 @@ pub record FailedReads : Type 0 where
 -- what files of the system keep after a read of the name with this answer: each `Err` is counted
 abbrev pub failed_reads_after : FailedReads → List ℕ → ReadAnswer → FailedReads
 failed_reads_after old name Handed = old
-failed_reads_after old name Failed = record { faults = counted_up old.faults; failed = name }
+failed_reads_after old name Faulted = record { faults = counted_up old.faults; failed = name }
 failed_reads_after old name LackedMemory = record old { faults = counted_up old.faults }
 
 -- what a read of files of the system does to what they keep

@@ -1,4 +1,5 @@
 pub mod Count
+pub mod Ask
 pub mod Trail
 pub mod Reads
 pub mod FailedReads

@@ -2,7 +2,7 @@
 use Rattle.std.specs.Prelude.{◌≡◌, ℕ, List, take, ⊤, Option, None, Some, Result, Ok, Err}
 use Rattle.jh_outside.specs.declared.files.FileFault.{FileFault}
 use Rattle.jh_outside.specs.declared.files.FileFault.TheVariants.{Fault, NoMemory}
-use Rattle.jh_outside.specs.Trail.{ask_of, kept_name}
+use Rattle.jh_outside.specs.Ask.{ask_of, kept_name}
 
 -- what files tell of a name: nothing, that it is missing, or all the bytes that it holds
 abbrev pub KnownFile : Type 0

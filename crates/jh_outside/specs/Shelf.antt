@@ -7,7 +7,7 @@ use Rattle.std.specs.FinMap as map
 use Rattle.std.specs.FinSet as set
 use Rattle.jh_num.specs.Numbers.{counted_up}
 use Rattle.jh_outside.specs.Reads.{KnownFile}
-use Rattle.jh_outside.specs.Trail.{Ask, ReadAnswer, Handed, Failed, LackedMemory}
+use Rattle.jh_outside.specs.Ask.{Ask, ReadAnswer, Handed, Faulted, LackedMemory}
 
 -- the bytes under each name, the numbers of the reads that fail and of the next one, the count of faults, and the name
 -- that failed last
@@ -42,7 +42,7 @@ next_read_finds shelf name = if set.contains shelf.failing shelf.reads then None
 -- the files after a read of the name with this answer
 abbrev pub shelf_after : Shelf → List ℕ → ReadAnswer → Shelf
 shelf_after shelf name Handed = record shelf { reads = counted_up shelf.reads }
-shelf_after shelf name Failed = record shelf { reads = counted_up shelf.reads; faults = counted_up shelf.faults; failed = name }
+shelf_after shelf name Faulted = record shelf { reads = counted_up shelf.reads; faults = counted_up shelf.faults; failed = name }
 shelf_after shelf name LackedMemory = record shelf { reads = counted_up shelf.reads }
 
 -- what a read of files in memory does to them

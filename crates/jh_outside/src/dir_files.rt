@@ -4,7 +4,7 @@ ghost use Rattle.std.specs.IoError.{error_kind};
 ghost use Rattle.jh_outside.specs.Count.{Rose};
 ghost use Rattle.jh_outside.specs.Reads.{HandsOut, OnFault, failed_after};
 ghost use Rattle.jh_outside.specs.FailedReads.{AsksSystem};
-ghost use Rattle.jh_outside.specs.Trail.{ask_of};
+ghost use Rattle.jh_outside.specs.Ask.{ask_of};
 
 use crate::files::{FileFault, Files};
 use jh_num::Seq;
@@ -12,6 +12,9 @@ use std::alloc::Global;
 use std::io::{Error, ErrorKind, Read};
 use std::marker::Model;
 use std::{fs, rt};
+
+/// The most bytes that one read asks the system for.
+const PIECE: usize = 4096;
 
 /// The files of the system, opened by the names as given: relative ones from the current directory.
 /// What they hold isn't told.
@@ -119,10 +122,10 @@ pub(crate) fn read_front<T: Read>(
     ensures within { IfOk result (λ bytes. length bytes.items ≤ most) }
     ensures front { IfOk result (λ bytes. IfSome (T.remaining file.old) (λ held. bytes.items ≡ take most held)) }
 {
-    let mut buffer = [0u8; 4096];
+    let mut buffer = [0u8; PIECE];
     let mut bytes = Vec::new(alloc);
     for _ in 0..u64::MAX {
-        let room = (most - bytes.len()).min(4096);
+        let room = (most - bytes.len()).min(PIECE);
         if room == 0 {
             return Ok(bytes);
         }

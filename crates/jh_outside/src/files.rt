@@ -2,7 +2,7 @@
 ghost use Rattle.std.specs.Prelude.{◌≡◌, ℕ, ◌≤◌, List, Option, length, IfOk};
 ghost use Rattle.jh_outside.specs.Count.{Rose};
 ghost use Rattle.jh_outside.specs.Reads.{HandsOut, OnFault, failed_after};
-ghost use Rattle.jh_outside.specs.Trail.{Ask, ask_of};
+ghost use Rattle.jh_outside.specs.Ask.{Ask, ask_of};
 ghost use Rattle.jh_outside.specs.declared.files.FileFault.TheVariants.{NoMemory as no_memory};
 
 use jh_num::{NoMemory, Seq};

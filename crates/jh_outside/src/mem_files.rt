@@ -6,7 +6,7 @@ ghost use Rattle.std.specs.FinSet as set;
 ghost use Rattle.jh_outside.specs.Count.{Rose};
 ghost use Rattle.jh_outside.specs.Reads.{HandsOut, OnFault, failed_after};
 ghost use Rattle.jh_outside.specs.Shelf.{told_by, next_read_finds, AsksShelf};
-ghost use Rattle.jh_outside.specs.Trail.{ask_of};
+ghost use Rattle.jh_outside.specs.Ask.{ask_of};
 
 use crate::files::{FileFault, Files};
 use indexmap::{IndexMap, IndexSet};

@@ -5,7 +5,7 @@ ghost use Rattle.jh_history.specs.declared.entry.Entry.{Entry as TheEntry};
 ghost use Rattle.jh_board.specs.declared.turn.Turn.{Turn as TheTurn};
 ghost use Rattle.jh_board.specs.declared.turn.TurnFault.{TurnFault as TheFault};
 ghost use Rattle.jh_turn.specs.Histories.{IsTurn};
-ghost use Rattle.jh_turn.specs.Ports.{IsPortOf, opened_value, port_caller, seen_by};
+ghost use Rattle.jh_turn.specs.Ports.{IsPortOf, opened_value, port_caller, turn_at};
 ghost use Rattle.jh_turn.specs.declared.shared.Shared.{Shared as TheShared};
 ghost use Rattle.jh_run.specs.Running.{whose_entry, origin_of, IsTurnAnswer};
 ghost use Rattle.jh_run.specs.declared.running.Running.{Running as TheRunning};
@@ -69,7 +69,7 @@ impl<H: Home> Post<H> {
     ) -> Result<Turn, TurnFault>
         requires home { H.shared ≡ Some shared.now }
         ensures caller { port_caller self.new.port ≡ port_caller self.old.port }
-        ensures turn { IsTurn whose_entry (IsTurnAnswer (origin_of (opened_value shared.now)) (port_caller self.old.port)) (port_caller self.old.port) (seen_by self.old.port) result (seen_by self.new.port) }
+        ensures turn { IsTurn whose_entry (IsTurnAnswer (origin_of (opened_value shared.now))) (turn_at self.old.port result self.new.port) }
     {
         gate.pass(self.port.caller(), self.turns);
         self.turns = self.turns.saturating_add(1);

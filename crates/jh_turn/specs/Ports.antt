@@ -4,6 +4,7 @@ use Rattle.jh_turn.specs.declared.turner.Turner.{Ghosts}
 use Rattle.jh_turn.specs.declared.shared.Shared.{Shared}
 use Rattle.jh_turn.specs.declared.shared.Port.{Port}
 use Rattle.jh_turn.specs.Hands.{seen_of}
+use Rattle.jh_turn.specs.Histories.{PortTurn}
 
 module _ {T E A : Type 0} where
   -- the value that was opened
@@ -22,6 +23,10 @@ module _ {T E A : Type 0} {G : Ghosts T E A} where
   -- the history that the port has seen
   abbrev pub seen_by : Port T E A G → List E
   seen_by port = seen_of port.seat.me.0.hands
+
+  -- the turn that had this answer, by the port before it and after it
+  abbrev pub turn_at : Port T E A G → A → Port T E A G → PortTurn E A
+  turn_at before answer after = record { caller = port_caller before; seen = seen_by before; answer = answer; now = seen_by after }
 
   -- the port is of this object
   abbrev pub IsPortOf : Shared T E A → Port T E A G → Type 0

@@ -11,7 +11,7 @@ use std::sync::Wait;
 use std::thread;
 
 impl<T: Turner> Shared<T> {
-    ghost use Rattle.jh_turn.specs.Ports.{opened_value, port_caller, seen_by, IsPortOf};
+    ghost use Rattle.jh_turn.specs.Ports.{opened_value, port_caller, seen_by, turn_at, IsPortOf};
     ghost use Rattle.jh_turn.specs.Private.Rule.{Claimed};
     ghost use Rattle.jh_turn.specs.Private.Stages.{IsSameSeat, IsWaiting, IsAtWork, HasDone, MayReturn};
 
@@ -20,7 +20,7 @@ impl<T: Turner> Shared<T> {
         requires { IsPortOf self.now port.old }
         ensures port { IsPortOf self.now port.new × (port_caller port.new ≡ port_caller port.old) }
         ensures seen { IsPrefix (seen_by port.old) (seen_by port.new) }
-        ensures turn { IsTurn T.whose (T.answers (T.origin (opened_value self.now)) (port_caller port.old)) (port_caller port.old) (seen_by port.old) result (seen_by port.new) }
+        ensures turn { IsTurn T.whose (T.answers (T.origin (opened_value self.now))) (turn_at port.old result port.new) }
     {
         let caller = port.caller;
         self.claim(rt, &mut port.seat, caller);

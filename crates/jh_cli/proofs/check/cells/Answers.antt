@@ -15,7 +15,7 @@ returns-in-Err-clause-err g c =
 
 pub returns-in-Err-clause-asked_until : goal.returns-in-Err-clause-asked_until
 returns-in-Err-clause-asked_until g c =
-    next_stops g.F.Files.asks g.F.Files.failed string_bytes c.args.names.now c.loop-name.name-index c.name-item.result c.args.files.now c.loop-name.files c.cell.new.files c.loop-name-test.true c.name-item.is c.loop-name.invariant.asked
+    next_stops g.F.Files string_bytes c.args.names.now c.loop-name.name-index c.name-item.result c.args.files.now c.loop-name.files c.cell.new.files c.loop-name-test.true c.name-item.is c.loop-name.invariant.asked
     c.in-Err.stop (rw c.as_str.ensures.value at c.in-Err.ensures.asked_until)
 
 pub loop-name-preserved : goal.loop-name-preserved
@@ -28,7 +28,7 @@ loop-name-preserved g c =
       spelled = rw c.in_ok-push-in-Ok.ensures.ok (spell_next string_bytes contents c.args.names.now c.loop-name.name-index _ c.loop-name.cells c.in-Ok.cell c.loop-name-test.true c.loop-name.invariant.spelled one);
       few = ap length c.in_ok-push-in-Ok.ensures.ok ∙ length-append c.loop-name.cells (c.in-Ok.cell ∷ []) ∙ ap (λ n. n + 1) c.loop-name.invariant.few;
       kept = c.cell.ensures.kept ∙ c.loop-name.invariant.kept;
-      asked = loop_more string_bytes g.F.Files.asks g.F.Files.failed c.args.files.now c.loop-name.files c.cell.new.files c.args.names.now c.loop-name.name-index c.name-item.result c.loop-name-test.true c.name-item.is c.loop-name.invariant.asked (rw c.as_str.ensures.value at c.in-Ok.ensures.asked);
+      asked = loop_more string_bytes g.F.Files c.args.files.now c.loop-name.files c.cell.new.files c.args.names.now c.loop-name.name-index c.name-item.result c.loop-name-test.true c.name-item.is c.loop-name.invariant.asked (rw c.as_str.ensures.value at c.in-Ok.ensures.asked);
       counted = omega arith;
     }
 

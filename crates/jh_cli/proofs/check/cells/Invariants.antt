@@ -10,6 +10,6 @@ invariant-loop-name g l = record {
   spelled : SpellCells (g.F.Files.contents l.fn.files) (map string_bytes (take l.name-index l.fn.names)) l.cells;
   few : length l.cells ≡ l.name-index;
   kept : g.F.Files.contents l.files ≡ g.F.Files.contents l.fn.files;
-  asked : AsksAll g.F.Files.asks g.F.Files.failed (map string_bytes (take l.name-index l.fn.names)) l.fn.files l.files;
+  asked : AsksAll g.F.Files (map string_bytes (take l.name-index l.fn.names)) l.fn.files l.files;
   counted : g.F.Files.faults l.fn.files ≤ g.F.Files.faults l.files;
 }

@@ -19,10 +19,10 @@ returns-clause-counted g c =
 
 pub returns-clause-asked : goal.returns-clause-asked
 returns-clause-asked g c =
-    file_behind g.F.Files.asks g.F.Files.failed c.args.system_name.now (map string_bytes c.args.names.now) c.args.files.now c.system.new.files c.check_cells.new.files c.in_ok-system.ensures.asked c.check_cells.result c.check_cells.ensures.asked
+    file_behind g.F.Files c.args.system_name.now (map string_bytes c.args.names.now) c.args.files.now c.system.new.files c.check_cells.new.files c.in_ok-system.ensures.asked c.check_cells.result c.check_cells.ensures.asked
 
 pub returns-in_err-system-clause-asked : goal.returns-in_err-system-clause-asked
 returns-in_err-system-clause-asked g c =
     let names = map string_bytes c.args.names.now in
-    told_up (AsksIn g.F.Files.asks g.F.Files.failed c.args.files.now c.system.new.files (c.args.system_name.now ∷ names)) c.from_residual.result c.in_err-system.field-0.0 c.from_residual.ensures.1
-    (first_stops g.F.Files.asks g.F.Files.failed c.args.system_name.now names c.args.files.now c.system.new.files c.in_err-system.field-0.0 c.in_err-system.ensures.asked_until)
+    told_up (AsksIn g.F.Files c.args.files.now c.system.new.files (c.args.system_name.now ∷ names)) c.from_residual.result c.in_err-system.field-0.0 c.from_residual.ensures.1
+    (first_stops g.F.Files c.args.system_name.now names c.args.files.now c.system.new.files c.in_err-system.field-0.0 c.in_err-system.ensures.asked_until)

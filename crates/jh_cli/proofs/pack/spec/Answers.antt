@@ -18,8 +18,8 @@ returns-in-Err-Json-clause-err g c =
 
 pub returns-in-Err-Json-clause-asked_until : goal.returns-in-Err-Json-clause-asked_until
 returns-in-Err-Json-clause-asked_until g c =
-    refuses_one g.F.Files.asks g.F.Files.failed c.args.name.now _ c.args.files.now c.read_below.new.files c.refused.result c.in_ok-bytes.ensures.asked c.refused.ensures
+    refuses_one g.F.Files c.args.name.now _ c.args.files.now c.read_below.new.files c.refused.result c.in_ok-bytes.ensures.asked c.refused.ensures
 
 pub returns-in-Err-Member-clause-asked_until : goal.returns-in-Err-Member-clause-asked_until
 returns-in-Err-Member-clause-asked_until g c =
-    refuses_one g.F.Files.asks g.F.Files.failed c.args.name.now _ c.args.files.now c.read_below.new.files c.refused-in-Err-Member.result c.in_ok-bytes.ensures.asked c.refused-in-Err-Member.ensures
+    refuses_one g.F.Files c.args.name.now _ c.args.files.now c.read_below.new.files c.refused-in-Err-Member.result c.in_ok-bytes.ensures.asked c.refused-in-Err-Member.ensures

@@ -18,4 +18,4 @@ returns-clause-counted g c =
 
 pub returns-clause-asked : goal.returns-clause-asked
 returns-clause-asked g c =
-    board_behind g.F.Files.asks g.F.Files.failed (g.F.Files.contents c.args.files.now) c.args.board.now (c.args.items.now ∷ []) c.args.files.now c.open.new.files c.play_by.new.files c.in_ok-image.ensures.asked c.play_by.result c.play_by.ensures.asked
+    board_behind g.F.Files (g.F.Files.contents c.args.files.now) c.args.board.now (c.args.items.now ∷ []) c.args.files.now c.open.new.files c.play_by.new.files c.in_ok-image.ensures.asked c.play_by.result c.play_by.ensures.asked

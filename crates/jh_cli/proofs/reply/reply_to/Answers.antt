@@ -14,4 +14,4 @@ pub returns-in_ok-usage_line-in-None-clause-asked : goal.returns-in_ok-usage_lin
 returns-in_ok-usage_line-in-None-clause-asked g c =
     let files = c.args.files.now in
     let reply = reply_of (record { status = Usage; text = c.in_ok-usage_line-in-None.field-0 }) in
-    subst (λ (request : Option Request). AsksFor g.F.Files.asks g.F.Files.failed files files (g.F.Files.contents files) request reply) c.in-None.ensures.command (no_ask files)
+    subst (λ (request : Option Request). AsksFor g.F.Files files files (g.F.Files.contents files) request reply) c.in-None.ensures.command (no_ask files)

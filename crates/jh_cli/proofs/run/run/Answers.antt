@@ -19,4 +19,4 @@ returns-clause-counted g c =
 pub returns-clause-asked : goal.returns-clause-asked
 returns-clause-asked g c =
     let files = c.open.new.files in
-    board_behind g.F.Files.asks g.F.Files.failed (g.F.Files.contents c.args.files.now) c.args.board.now [] c.args.files.now files files c.in_ok-image.ensures.asked (Ok c.in_ok-render.field-0) (inl (no_ask files))
+    board_behind g.F.Files (g.F.Files.contents c.args.files.now) c.args.board.now [] c.args.files.now files files c.in_ok-image.ensures.asked (Ok c.in_ok-render.field-0) (inl (no_ask files))

@@ -16,9 +16,9 @@ returns-in-Some-Run g c =
     let board = c.in-Some-Run.board.now in
     let is : Some (RunOf board) ≡ command_of (map string_bytes c.args.words.now) = rw c.in-Some-Run.field-0-is at c.in-Some-Run.ensures.command in
     subst
-    (λ (request : Option Request). IsCall g.F.Files.contents g.F.Files.failed g.F.Files.faults g.F.Files.asks g.K.Sink.written g.K.Sink.faults request c.args.files.now c.run-ending.new.files c.args.out.now c.finish.new.out c.finish.result)
+    (λ (request : Option Request). IsCall g.F.Files g.K.Sink request c.args.files.now c.run-ending.new.files c.args.out.now c.finish.new.out c.finish.result)
     is
-    (finished_call g.F.Files.contents g.F.Files.failed g.F.Files.faults g.F.Files.asks g.K.Sink.written g.K.Sink.faults c.good_inputs_are_answered.ensures
+    (finished_call g.F.Files g.K.Sink c.good_inputs_are_answered.ensures
     (Some (RunOf board)) c.args.files.now c.run-ending.new.files c.args.out.now c.finish.new.out c.run-ending.result c.finish.result
     c.run-ending.ensures.ends c.run-ending.ensures.counted c.run-ending.ensures.asked c.finish.ensures.sent c.finish.ensures.fault c.finish.ensures.memory)
 
@@ -32,11 +32,11 @@ returns-in-Some-Soak g c =
     let ending = c.soak-ending.result in
     let end = c.finish-in-Some-Soak in
     subst
-    (λ (request : Option Request). IsCall g.F.Files.contents g.F.Files.failed g.F.Files.faults g.F.Files.asks g.K.Sink.written g.K.Sink.faults request files files c.args.out.now end.new.out end.result)
+    (λ (request : Option Request). IsCall g.F.Files g.K.Sink request files files c.args.out.now end.new.out end.result)
     is
-    (finished_call g.F.Files.contents g.F.Files.failed g.F.Files.faults g.F.Files.asks g.K.Sink.written g.K.Sink.faults c.good_inputs_are_answered.ensures
+    (finished_call g.F.Files g.K.Sink c.good_inputs_are_answered.ensures
     (Some (SoakOf word)) files files c.args.out.now end.new.out ending end.result
     c.soak-ending.ensures
     (on_ending (Soaks word) (IsCountedFault count count failed) ending (soak_counted count count failed word) c.soak-ending.ensures)
-    (on_ending (Soaks word) (λ reply. Asks g.F.Files.asks g.F.Files.failed files [] files) ending (λ reply soaked. no_ask files) c.soak-ending.ensures)
+    (on_ending (Soaks word) (λ reply. Asks g.F.Files files [] files) ending (λ reply soaked. no_ask files) c.soak-ending.ensures)
     end.ensures.sent end.ensures.fault end.ensures.memory)

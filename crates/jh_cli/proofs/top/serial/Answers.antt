@@ -6,6 +6,6 @@ use Rattle.jh_cli.proofs.top.serial.Goals as goal
 
 pub returns : goal.returns
 returns g c =
-    finished_call g.F.Files.contents g.F.Files.failed g.F.Files.faults g.F.Files.asks g.K.Sink.written g.K.Sink.faults c.good_inputs_are_answered.ensures
+    finished_call g.F.Files g.K.Sink c.good_inputs_are_answered.ensures
     (command_of (map string_bytes c.args.words.now)) c.args.files.now c.reply_to-ending.new.files c.args.out.now c.finish.new.out c.reply_to-ending.result c.finish.result
     c.reply_to-ending.ensures.outcome c.reply_to-ending.ensures.counted c.reply_to-ending.ensures.asked c.finish.ensures.sent c.finish.ensures.fault c.finish.ensures.memory

@@ -13,7 +13,7 @@ use Rattle.jh_image.proofs.image.next_preload.Goals as goal
 
 pub returns-then-not-is_fit-clause-asked_until : goal.returns-then-not-is_fit-clause-asked_until
 returns-then-not-is_fit-clause-asked_until g c =
-    on_refusal (λ _ cause. Asks g.F.Files.asks g.F.Files.failed c.args.files.now (ask_for cause c.args.file.now.file ∷ []) c.read_preload.new.files) c.args.board.now (BadPreload _) c.refused.result c.refused.ensures c.in_ok-preload.ensures.asked
+    on_refusal (λ _ cause. Asks g.F.Files c.args.files.now (ask_for cause c.args.file.now.file ∷ []) c.read_preload.new.files) c.args.board.now (BadPreload _) c.refused.result c.refused.ensures c.in_ok-preload.ensures.asked
 
 pub returns-in_err-preload-clause-err : goal.returns-in_err-preload-clause-err
 returns-in_err-preload-clause-err g c =

@@ -18,34 +18,31 @@ read_ready-requires g c =
 
 pub returns-in_err-listing-clause-asked_until : goal.returns-in_err-listing-clause-asked_until
 returns-in_err-listing-clause-asked_until g c =
-    let one = g.F.Files.asks in
-    let failed = g.F.Files.failed in
+    let files = g.F.Files in
     let contents = g.F.Files.contents c.args.files.now in
     let board = c.args.name.now in
     let s = c.args.files.now in
     let t = c.read_listing.new.files in
-    passed_up c.from_residual.result c.in_err-listing.field-0.0 (λ e. OnRefused (λ _ cause. AsksBoardUntil one failed contents board cause s t) e) c.from_residual.ensures.1
-    (on_refused (λ _ cause. Asks one failed s (ask_for cause board ∷ []) t) (λ _ cause. AsksBoardUntil one failed contents board cause s t) c.in_err-listing.field-0.0
-    (λ _ cause asked. at_the_board one failed contents board s t cause asked) c.in_err-listing.ensures.asked_until)
+    passed_up c.from_residual.result c.in_err-listing.field-0.0 (λ e. OnRefused (λ _ cause. AsksBoardUntil files contents board cause s t) e) c.from_residual.ensures.1
+    (on_refused (λ _ cause. Asks files s (ask_for cause board ∷ []) t) (λ _ cause. AsksBoardUntil files contents board cause s t) c.in_err-listing.field-0.0
+    (λ _ cause asked. at_the_board files contents board s t cause asked) c.in_err-listing.ensures.asked_until)
 
 pub returns-in_err-system-clause-asked_until : goal.returns-in_err-system-clause-asked_until
 returns-in_err-system-clause-asked_until g c =
-    let one = g.F.Files.asks in
-    let failed = g.F.Files.failed in
+    let files = g.F.Files in
     let contents = g.F.Files.contents c.args.files.now in
     let board = c.args.name.now in
     let listing = c.in_ok-listing.listing in
     let s = c.args.files.now in
     let t = c.read_listing.new.files in
     let u = c.read_ready.new.files in
-    passed_up c.from_residual-in_err-system.result c.in_err-system.field-0.0 (λ e. OnRefused (λ _ cause. AsksBoardUntil one failed contents board cause s u) e) c.from_residual-in_err-system.ensures.1
-    (on_refused (λ _ cause. Asks one failed t (ask_for cause listing.system ∷ []) u) (λ _ cause. AsksBoardUntil one failed contents board cause s u) c.in_err-system.field-0.0
-    (λ _ cause asked. at_the_system one failed contents board listing c.in_ok-listing.ensures.ok s t u cause c.in_ok-listing.ensures.asked asked) c.in_err-system.ensures.asked_until)
+    passed_up c.from_residual-in_err-system.result c.in_err-system.field-0.0 (λ e. OnRefused (λ _ cause. AsksBoardUntil files contents board cause s u) e) c.from_residual-in_err-system.ensures.1
+    (on_refused (λ _ cause. Asks files t (ask_for cause listing.system ∷ []) u) (λ _ cause. AsksBoardUntil files contents board cause s u) c.in_err-system.field-0.0
+    (λ _ cause asked. at_the_system files contents board listing c.in_ok-listing.ensures.ok s t u cause c.in_ok-listing.ensures.asked asked) c.in_err-system.ensures.asked_until)
 
 pub returns-in_err-preloads-clause-asked_until : goal.returns-in_err-preloads-clause-asked_until
 returns-in_err-preloads-clause-asked_until g c =
-    let one = g.F.Files.asks in
-    let failed = g.F.Files.failed in
+    let files = g.F.Files in
     let contents = g.F.Files.contents c.args.files.now in
     let board = c.args.name.now in
     let listing = c.in_ok-listing.listing in
@@ -53,15 +50,14 @@ returns-in_err-preloads-clause-asked_until g c =
     let s = c.args.files.now in
     let t = c.read_ready.new.files in
     let u = c.read_preloads.new.files in
-    let first = to_the_system one failed contents board listing lists s c.read_listing.new.files t c.in_ok-listing.ensures.asked c.in_ok-system.ensures.asked in
-    passed_up c.from_residual-in_err-preloads.result c.in_err-preloads.field-0.0 (λ e. OnRefused (λ _ cause. AsksBoardUntil one failed contents board cause s u) e) c.from_residual-in_err-preloads.ensures.1
-    (on_refused (λ _ cause. AsksUntil one failed (map preload_name listing.preloads) (ask_for cause) t u) (λ _ cause. AsksBoardUntil one failed contents board cause s u) c.in_err-preloads.field-0.0
-    (λ _ cause until. at_a_preload one failed contents board listing lists s t u cause first until) c.in_err-preloads.ensures.asked_until)
+    let first = to_the_system files contents board listing lists s c.read_listing.new.files t c.in_ok-listing.ensures.asked c.in_ok-system.ensures.asked in
+    passed_up c.from_residual-in_err-preloads.result c.in_err-preloads.field-0.0 (λ e. OnRefused (λ _ cause. AsksBoardUntil files contents board cause s u) e) c.from_residual-in_err-preloads.ensures.1
+    (on_refused (λ _ cause. AsksUntil files (map preload_name listing.preloads) (ask_for cause) t u) (λ _ cause. AsksBoardUntil files contents board cause s u) c.in_err-preloads.field-0.0
+    (λ _ cause until. at_a_preload files contents board listing lists s t u cause first until) c.in_err-preloads.ensures.asked_until)
 
 pub returns-in_err-programs-clause-asked_until : goal.returns-in_err-programs-clause-asked_until
 returns-in_err-programs-clause-asked_until g c =
-    let one = g.F.Files.asks in
-    let failed = g.F.Files.failed in
+    let files = g.F.Files in
     let contents = g.F.Files.contents c.args.files.now in
     let board = c.args.name.now in
     let listing = c.in_ok-listing.listing in
@@ -69,22 +65,21 @@ returns-in_err-programs-clause-asked_until g c =
     let s = c.args.files.now in
     let t = c.read_preloads.new.files in
     let u = c.read_programs.new.files in
-    let first = to_the_system one failed contents board listing lists s c.read_listing.new.files c.read_ready.new.files c.in_ok-listing.ensures.asked c.in_ok-system.ensures.asked in
-    let loaded = to_the_preloads one failed contents board listing lists s c.read_ready.new.files t first c.in_ok-preloads.ensures.asked in
-    passed_up c.from_residual-in_err-programs.result c.in_err-programs.field-0.0 (λ e. OnRefused (λ _ cause. AsksBoardUntil one failed contents board cause s u) e) c.from_residual-in_err-programs.ensures.1
-    (on_refused (λ _ cause. AsksUntil one failed (map program_name listing.programs) (ask_for cause) t u) (λ _ cause. AsksBoardUntil one failed contents board cause s u) c.in_err-programs.field-0.0
-    (λ _ cause until. at_a_program one failed contents board listing lists s t u cause loaded until) c.in_err-programs.ensures.asked_until)
+    let first = to_the_system files contents board listing lists s c.read_listing.new.files c.read_ready.new.files c.in_ok-listing.ensures.asked c.in_ok-system.ensures.asked in
+    let loaded = to_the_preloads files contents board listing lists s c.read_ready.new.files t first c.in_ok-preloads.ensures.asked in
+    passed_up c.from_residual-in_err-programs.result c.in_err-programs.field-0.0 (λ e. OnRefused (λ _ cause. AsksBoardUntil files contents board cause s u) e) c.from_residual-in_err-programs.ensures.1
+    (on_refused (λ _ cause. AsksUntil files (map program_name listing.programs) (ask_for cause) t u) (λ _ cause. AsksBoardUntil files contents board cause s u) c.in_err-programs.field-0.0
+    (λ _ cause until. at_a_program files contents board listing lists s t u cause loaded until) c.in_err-programs.ensures.asked_until)
 
 pub returns-clause-asked : goal.returns-clause-asked
 returns-clause-asked g c =
-    let one = g.F.Files.asks in
-    let failed = g.F.Files.failed in
+    let files = g.F.Files in
     let contents = g.F.Files.contents c.args.files.now in
     let board = c.args.name.now in
     let listing = c.in_ok-listing.listing in
     let lists = c.in_ok-listing.ensures.ok in
     let s = c.args.files.now in
     let u = c.read_programs.new.files in
-    let first = to_the_system one failed contents board listing lists s c.read_listing.new.files c.read_ready.new.files c.in_ok-listing.ensures.asked c.in_ok-system.ensures.asked in
-    let loaded = to_the_preloads one failed contents board listing lists s c.read_ready.new.files c.read_preloads.new.files first c.in_ok-preloads.ensures.asked in
-    record { listing = listing; lists = lists; all = to_the_programs one failed contents board listing lists s c.read_preloads.new.files u loaded c.in_ok-programs.ensures.asked }
+    let first = to_the_system files contents board listing lists s c.read_listing.new.files c.read_ready.new.files c.in_ok-listing.ensures.asked c.in_ok-system.ensures.asked in
+    let loaded = to_the_preloads files contents board listing lists s c.read_ready.new.files c.read_preloads.new.files first c.in_ok-preloads.ensures.asked in
+    record { listing = listing; lists = lists; all = to_the_programs files contents board listing lists s c.read_preloads.new.files u loaded c.in_ok-programs.ensures.asked }

@@ -9,6 +9,6 @@ abbrev pub invariant-loop-file : goal.invariant-loop-file
 invariant-loop-file g l = record {
   kept : g.F.Files.contents l.files ≡ g.F.Files.contents l.fn.files;
   rises : g.F.Files.faults l.fn.files ≤ g.F.Files.faults l.files;
-  asked : AsksAll g.F.Files.asks g.F.Files.failed (map preload_name (take l.file-index l.fn.listing.preloads)) l.fn.files l.files;
+  asked : AsksAll g.F.Files (map preload_name (take l.file-index l.fn.listing.preloads)) l.fn.files l.files;
   so_far : LoadedSoFar (g.F.Files.contents l.fn.files) l.fn.board l.fn.listing l.fn.system l.file-index l.preloads;
 }

@@ -52,7 +52,7 @@ loop-file-preserved g c =
     record {
       kept = cc;
       rises = omega arith;
-      asked = loop_more program_name g.F.Files.asks g.F.Files.failed c.args.files.now c.loop-file.files c.read_program_file.new.files listing.programs i file lt is c.loop-file.invariant.asked c.in_ok-program.ensures.asked;
+      asked = loop_more program_name g.F.Files c.args.files.now c.loop-file.files c.read_program_file.new.files listing.programs i file lt is c.loop-file.invariant.asked c.in_ok-program.ensures.asked;
       so_far = subst (λ ps. ScriptsSoFar contents board listing system preloads (i + 1) ps) (sym c.in_ok-push.ensures.ok) (scripts_more contents board listing system preloads i file c.loop-file.programs c.in_ok-program.program c.requires.all lt is of c.in_ok-program.ensures.sound c.loop-file.invariant.so_far);
     }
 
@@ -64,8 +64,6 @@ returns-clause-owned g c =
 
 pub returns-in_err-program-clause-asked_until : goal.returns-in_err-program-clause-asked_until
 returns-in_err-program-clause-asked_until g c =
-    let one = g.F.Files.asks in
-    let failed = g.F.Files.failed in
     let files = c.args.listing.now.programs in
     let i = c.loop-file.file-index in
     let file = c.file-item.result in
@@ -74,15 +72,15 @@ returns-in_err-program-clause-asked_until g c =
     let s = c.args.files.now in
     let t = c.loop-file.files in
     let u = c.read_program_file.new.files in
-    passed_up c.from_residual.result c.in_err-program.field-0.0 (λ e. OnRefused (λ _ cause. AsksUntil one failed (map program_name files) (ask_for cause) s u) e) c.from_residual.ensures.1
-    (on_refused (λ _ cause. Asks one failed t (ask_for cause file.file ∷ []) u) (λ _ cause. AsksUntil one failed (map program_name files) (ask_for cause) s u) c.in_err-program.field-0.0
-    (λ _ cause asked. loop_until program_name one failed s t u files i file (ask_for cause) lt is c.loop-file.invariant.asked asked) c.in_err-program.ensures.asked_until)
+    passed_up c.from_residual.result c.in_err-program.field-0.0 (λ e. OnRefused (λ _ cause. AsksUntil g.F.Files (map program_name files) (ask_for cause) s u) e) c.from_residual.ensures.1
+    (on_refused (λ _ cause. Asks g.F.Files t (ask_for cause file.file ∷ []) u) (λ _ cause. AsksUntil g.F.Files (map program_name files) (ask_for cause) s u) c.in_err-program.field-0.0
+    (λ _ cause asked. loop_until program_name g.F.Files s t u files i file (ask_for cause) lt is c.loop-file.invariant.asked asked) c.in_err-program.ensures.asked_until)
 
 pub returns-clause-asked : goal.returns-clause-asked
 returns-clause-asked g c =
     let files = c.args.listing.now.programs in
     let le : length files ≤ c.loop-file.file-index = rw c.as_slice-entries.ensures.value at c.loop-file-test.false in
-    subst (λ fs. AsksAll g.F.Files.asks g.F.Files.failed (map program_name fs) c.args.files.now c.loop-file.files) (take_all c.loop-file.file-index files le) c.loop-file.invariant.asked
+    subst (λ fs. AsksAll g.F.Files (map program_name fs) c.args.files.now c.loop-file.files) (take_all c.loop-file.file-index files le) c.loop-file.invariant.asked
 
 pub returns-clause-complete : goal.returns-clause-complete
 returns-clause-complete g c =

@@ -1,7 +1,8 @@
 -- The board can't be read, is too large, or has a fault.
 use Rattle.std.proofs.Common.{[], ◌∷◌}
 use Rattle.jh_num.proofs.Public.{passed_up}
-use Rattle.jh_outside.specs.Trail.{Ask, Asks}
+use Rattle.jh_outside.specs.Ask.{Ask}
+use Rattle.jh_outside.specs.Trail.{Asks}
 use Rattle.jh_image.specs.Order.{ask_for}
 use Rattle.jh_image.proofs.OrderLemmas.{board_asked}
 use Rattle.jh_image.specs.Images.{nothing, the_board, nothing_read}
@@ -13,7 +14,7 @@ use Rattle.jh_image.proofs.read.read_listing.Goals as goal
 pub returns-clause-asked_until : goal.returns-clause-asked_until
 returns-clause-asked_until g c =
     let board = c.args.board.now in
-    let A : Ask → Type 0 = λ ask. Asks g.F.Files.asks g.F.Files.failed c.args.files.now (ask ∷ []) c.read_file.new.files in
+    let A : Ask → Type 0 = λ ask. Asks g.F.Files c.args.files.now (ask ∷ []) c.read_file.new.files in
     on_refused (IsBoardRefusal board c.in-Err.fault) (λ _ cause. A (ask_for cause board)) c.refused_board.result (board_asked A board board c.in-Err.fault c.in_ok-bytes.ensures.asked) c.refused_board.ensures
 
 pub returns-in_err-bytes-clause-err : goal.returns-in_err-bytes-clause-err

@@ -15,7 +15,7 @@ pub returns-clause-asked_until : goal.returns-clause-asked_until
 returns-clause-asked_until g c =
     let name = c.args.listing.now.system in
     let asked = rw c.as_str-name.ensures at c.in_ok-bytes.ensures.asked in
-    on_refusal (λ _ cause. Asks g.F.Files.asks g.F.Files.failed c.args.files.now (ask_for cause name ∷ []) c.read_file.new.files) c.as_str-name.result.now (System c.in-Err.fault) c.refused.result c.refused.ensures asked
+    on_refusal (λ _ cause. Asks g.F.Files c.args.files.now (ask_for cause name ∷ []) c.read_file.new.files) c.as_str-name.result.now (System c.in-Err.fault) c.refused.result c.refused.ensures asked
 
 pub returns-in_err-bytes-clause-err : goal.returns-in_err-bytes-clause-err
 returns-in_err-bytes-clause-err g c =
