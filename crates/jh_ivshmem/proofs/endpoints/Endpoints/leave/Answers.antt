@@ -1,10 +1,5 @@
-<<<<<<< HEAD
--- Endpoints and keys are dropped by one test, after the others of the link are told.
-use Rattle.std.proofs.Common.{◌≡◌, filter, not, refl, sym, ◌∙◌, ap, subst}
-use Rattle.jh_ivshmem.specs.declared.change.Whom.TheVariants.{Device}
-=======
+-- The others of the link are told, and then the endpoint and its key are dropped.
 use Rattle.std.proofs.Common.{◌≡◌, filter, not, ◌∙◌, ap}
->>>>>>> 6ac0b6288cd540a03496dd0aa7a17c1c028f34fb
 use Rattle.jh_ivshmem.specs.declared.endpoint.Endpoint.{Endpoint}
 use Rattle.jh_ivshmem.specs.Specs.{is_device, is_concerned}
 use Rattle.jh_ivshmem.specs.EndpointsView.{EndpointsView}
