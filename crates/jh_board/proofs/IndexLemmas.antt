@@ -12,7 +12,7 @@ use Rattle.jh_script.specs.declared.image.Image.{Image}
 use Rattle.jh_script.specs.declared.image.Program.{Program}
 use Rattle.jh_history.specs.declared.access.Access.{Access}
 use Rattle.jh_history.specs.Access.{gives, region_of}
-use Rattle.jh_history.specs.Lives.{program_of, is_program_of, live_in, ops_in}
+use Rattle.jh_history.specs.Lives.{program_ops, is_program_of, live_in, ops_in}
 use Rattle.jh_cellcfg.specs.declared.config.CellConfig.{CellConfig}
 use Rattle.jh_cellcfg.specs.declared.live.Live.{Live}
 use Rattle.jh_script.specs.Operations.{IsWellFormed}
@@ -63,7 +63,7 @@ region_of_none regions access at is = none_by regions access at (region_of regio
 
 -- the operations at a place are those of root's program
 pub root_found : (image : Image) (lives : List Live) (places : List ℕ) (id cpu : ℕ) → AreRootPrograms image places → cpu < 16 → id ≡ image.system.root.id → ops_at image (get_or places cpu 0) ≡ ops_in image lives id cpu
-unfolding program_of
+unfolding program_ops
 root_found image lives places id cpu are lt is =
     let root : eqb id image.system.root.id ≡ true = eq-eqb id image.system.root.id is in
     rw root (ap (λ (o : Option Program). option_map_or (λ (p : Program). p.ops) o []) (sym (are cpu lt)))
@@ -71,7 +71,7 @@ root_found image lives places id cpu are lt is =
 -- those of another cell's program
 pub cell_found : (image : Image) (lives : List Live) (id cpu at : ℕ) (config : CellConfig) → id ≢ image.system.root.id → live_in lives id ≡ Some config → find (is_program_of (name_of config) cpu) image.programs ≡ slice_get image.programs at
     → ops_at image at ≡ ops_in image lives id cpu
-unfolding program_of
+unfolding program_ops
 cell_found image lives id cpu at config other is found =
     let root : eqb id image.system.root.id ≡ false = ne_eqb id image.system.root.id other in
     rw (root, is) (ap (λ (o : Option Program). option_map_or (λ (p : Program). p.ops) o []) (sym found))

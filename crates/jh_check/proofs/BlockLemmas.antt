@@ -9,7 +9,7 @@ use Rattle.jh_check.specs.declared.reach.Reaches.{Reaches}
 use Rattle.jh_check.specs.declared.blocks.Extents.{Extents}
 use Rattle.jh_check.specs.Private.Spans.{span_of}
 use Rattle.jh_check.specs.Findings.{spot, between, between_at}
-use Rattle.jh_check.specs.Private.Reaches.{passes_shared, unshared_of, IsReached, AreOf}
+use Rattle.jh_check.specs.Private.Reaches.{passes_shared, unshared_of, IsInReach, AreOf}
 use Rattle.jh_check.specs.Private.Blocks.{IsInside, AreInside, AreExtents, AreExtentsOf, between_from}
 use Rattle.jh_check.proofs.ListLemmas.{found_none0}
 use Rattle.jh_check.proofs.ReachLemmas.{own_spot, beside_unreached, found_pass}
@@ -28,7 +28,7 @@ inside_both true span one other both within = inside span one.unshared other.uns
 inside_both false span one other both within = inside span one.any other.any within both.any
 
 -- what a span is reached by reaches into what has the span
-wider : (reaches : List Reach) (span extent : Span) → IsInside span extent → IsReached reaches span → IsReached reaches extent
+wider : (reaches : List Reach) (span extent : Span) → IsInside span extent → IsInReach reaches span → IsInReach reaches extent
 wider reaches span extent inside reached =
     let low = inside.starts in
     let high = inside.ends in
@@ -36,18 +36,18 @@ wider reaches span extent inside reached =
     let b = reached.ends in
     record { by = reached.by; is = reached.is; begins = omega arith; ends = omega arith }
 
-beyond_by : (b : Bool) (reaches : Reaches) (span : Span) (extents : Extents) → IsInside span (if b then extents.unshared else extents.any) → (IsReached reaches.any.items extents.any → ⊥) → (IsReached (unshared_of reaches) extents.unshared → ⊥) → IsReached (if b then unshared_of reaches else reaches.any.items) span → ⊥
+beyond_by : (b : Bool) (reaches : Reaches) (span : Span) (extents : Extents) → IsInside span (if b then extents.unshared else extents.any) → (IsInReach reaches.any.items extents.any → ⊥) → (IsInReach (unshared_of reaches) extents.unshared → ⊥) → IsInReach (if b then unshared_of reaches else reaches.any.items) span → ⊥
 beyond_by true reaches span extents inside any unshared reached = unshared (wider (unshared_of reaches) span extents.unshared inside reached)
 beyond_by false reaches span extents inside any unshared reached = any (wider reaches.any.items span extents.any inside reached)
 
 -- a region within extents that aren't reached gives nothing
-pub at_beyond : (rule : Rule) (a : ℕ) (one : CellConfig) (b : ℕ) (other : CellConfig) (reaches : Reaches) (first end : ℕ) (extents : Extents) → AreOf rule b other reaches → (a ≡ b → one ≡ other) → AreExtentsOf rule one.memory_regions first end extents → (IsReached reaches.any.items extents.any → ⊥) → (IsReached (unshared_of reaches) extents.unshared → ⊥) → (r : ℕ) (d : Region) → r < length one.memory_regions → first ≤ r → r < end → between_at rule a one b other r (get_or one.memory_regions r d) ≡ []
+pub at_beyond : (rule : Rule) (a : ℕ) (one : CellConfig) (b : ℕ) (other : CellConfig) (reaches : Reaches) (first end : ℕ) (extents : Extents) → AreOf rule b other reaches → (a ≡ b → one ≡ other) → AreExtentsOf rule one.memory_regions first end extents → (IsInReach reaches.any.items extents.any → ⊥) → (IsInReach (unshared_of reaches) extents.unshared → ⊥) → (r : ℕ) (d : Region) → r < length one.memory_regions → first ≤ r → r < end → between_at rule a one b other r (get_or one.memory_regions r d) ≡ []
 at_beyond rule a one b other reaches first end extents of same wide any unshared r d h low high =
     let x = get_or one.memory_regions r d in
     beside_unreached rule (spot a one r x) b other reaches of (own_spot a one r d b other h same) (λ takes all reached.
     beyond_by (passes_shared rule x) reaches (span_of rule r x) extents (wide r d low high h takes) any unshared reached)
 
-pub between_beyond : (rule : Rule) (a : ℕ) (one : CellConfig) (b : ℕ) (other : CellConfig) (reaches : Reaches) (extents : Extents) → AreOf rule b other reaches → (a ≡ b → one ≡ other) → AreExtents rule one.memory_regions extents → (IsReached reaches.any.items extents.any → ⊥) → (IsReached (unshared_of reaches) extents.unshared → ⊥) → between rule a one b other ≡ []
+pub between_beyond : (rule : Rule) (a : ℕ) (one : CellConfig) (b : ℕ) (other : CellConfig) (reaches : Reaches) (extents : Extents) → AreOf rule b other reaches → (a ≡ b → one ≡ other) → AreExtents rule one.memory_regions extents → (IsInReach reaches.any.items extents.any → ⊥) → (IsInReach (unshared_of reaches) extents.unshared → ⊥) → between rule a one b other ≡ []
 unfolding between
 between_beyond rule a one b other reaches extents of same wide any unshared =
     let none : Region = record { phys_start = 0; virt_start = 0; size = 0; flags = 0 } in
@@ -55,7 +55,7 @@ between_beyond rule a one b other reaches extents of same wide any unshared =
     at_beyond rule a one b other reaches 0 (length one.memory_regions) extents of same wide any unshared r none h (omega arith) h)
 
 -- a block whose regions aren't reached may be passed over
-pub block_beyond : (rule : Rule) (a : ℕ) (one : CellConfig) (b : ℕ) (other : CellConfig) (reaches : Reaches) (first count : ℕ) (extents : Extents) → AreOf rule b other reaches → (a ≡ b → one ≡ other) → AreExtentsOf rule one.memory_regions first (first + count) extents → (IsReached reaches.any.items extents.any → ⊥) → (IsReached (unshared_of reaches) extents.unshared → ⊥) → between_from rule a one b other first ≡ between_from rule a one b other (first + count)
+pub block_beyond : (rule : Rule) (a : ℕ) (one : CellConfig) (b : ℕ) (other : CellConfig) (reaches : Reaches) (first count : ℕ) (extents : Extents) → AreOf rule b other reaches → (a ≡ b → one ≡ other) → AreExtentsOf rule one.memory_regions first (first + count) extents → (IsInReach reaches.any.items extents.any → ⊥) → (IsInReach (unshared_of reaches) extents.unshared → ⊥) → between_from rule a one b other first ≡ between_from rule a one b other (first + count)
 block_beyond rule a one b other reaches first count extents of same wide any unshared =
     let none : Region = record { phys_start = 0; virt_start = 0; size = 0; flags = 0 } in
     found_pass (between_at rule a one b other) one.memory_regions first count none (λ r h low high.

@@ -20,7 +20,7 @@ use Rattle.jh_check.specs.Devices.{are_same_section}
 use Rattle.jh_check.specs.Private.Spans.{joins, takes_part, span_of, is_within}
 use Rattle.jh_check.specs.Lists.{capped, found_from, only_if}
 use Rattle.jh_check.specs.Findings.{spot, beside, beside_at, finding_of}
-use Rattle.jh_check.specs.Private.Reaches.{passes_shared, may_follow, unshared_of, reaches_for, HasOthers, InOrder, IsRising, IsReached, CoversEach, CoversPairs, IsOwn, CoversOthers, AreOf, IsIn, HasHits}
+use Rattle.jh_check.specs.Private.Reaches.{passes_shared, may_follow, unshared_of, reaches_for, HasOthers, InOrder, IsRising, IsInReach, CoversEach, CoversPairs, IsAtItsNumber, CoversOthers, AreOf, IsIn, HasHits}
 use Rattle.jh_check.proofs.ListLemmas.{found_drop, found_end, found_none}
 use Rattle.jh_check.proofs.BreakLemmas.{pair_order, pair_joins, pair_takes_part, pair_second, pair_meets, beside_none, joins_same, two_parts, pages_parts, overlap_second, meet_swap}
 
@@ -100,7 +100,7 @@ place start = record { start = start; end = start + 1; item = 0 }
 pub record ArePairsTo (spans : List Span) (reaches : List Reach) (n far end last : ℕ) : Type 0 where
   pub items : (k : ℕ) (e : Span) → k < n → (get_or spans k e).item ≤ last
   pub single : (k : ℕ) (e : Span) → k < n → (get_or spans k e).end ≤ far
-  pub pairs : (i j : ℕ) (e : Span) → i < j → j < n → (get_or spans j e).start < (get_or spans i e).end → (get_or spans j e).start < (get_or spans j e).end → (reached : IsReached reaches (place (get_or spans j e).start)) × ((get_or spans i e).item ≤ reached.by.item) × ((get_or spans j e).item ≤ reached.by.item)
+  pub pairs : (i j : ℕ) (e : Span) → i < j → j < n → (get_or spans j e).start < (get_or spans i e).end → (get_or spans j e).start < (get_or spans j e).end → (reached : IsInReach reaches (place (get_or spans j e).start)) × ((get_or spans i e).item ≤ reached.by.item) × ((get_or spans j e).item ≤ reached.by.item)
   pub before : (k m : ℕ) (d : Reach) (e : Span) → k < length reaches → n ≤ m → m < length spans → (get_or reaches k d).start ≤ (get_or spans m e).start
   pub below : (k : ℕ) (d : Reach) → k < length reaches → (get_or reaches k d).end ≤ end
   pub rising : IsRising reaches
@@ -150,7 +150,7 @@ pairs_same spans reaches n far end last farther more later x within is grows rea
     }
 
 -- what is reached still is by more
-abbrev reached_more : (reaches more : List Reach) (span : Span) → IsReached reaches span → IsReached (reaches ++ more) span
+abbrev reached_more : (reaches more : List Reach) (span : Span) → IsInReach reaches span → IsInReach (reaches ++ more) span
 reached_more reaches more span reached = record {
   by = reached.by;
   is = Contains-append_left reaches more reached.by reached.is;
@@ -164,7 +164,7 @@ pairs_more spans reaches n far end last farther more later x order within is gro
     let y : Reach = record { start = x.start; end = more; item = later } in
     let same : (e : Span) → x ≡ get_or spans n e = λ e. is ∙ get_or_default spans n x e within in
     let size : length (reaches ++ y ∷ []) ≡ length reaches + 1 = length_push reaches y in
-    let here : IsReached (reaches ++ y ∷ []) (place x.start) = record { by = y; is = Contains-push reaches y; begins = omega arith; ends = some } in
+    let here : IsInReach (reaches ++ y ∷ []) (place x.start) = record { by = y; is = Contains-push reaches y; begins = omega arith; ends = some } in
     record {
       items = single_more (λ (s : Span). s.item) spans n last later x within is counts counts_x before.items;
       single = single_more (λ (s : Span). s.end) spans n far farther x within is grows reaches_x before.single;
@@ -173,7 +173,7 @@ pairs_more spans reaches n far end last farther more later x order within is gro
             let s : x ≡ get_or spans j e = same e ∙ ap (λ j. get_or spans j e) (sym f) in
             let first = before.items i e (omega arith) in
             let low : (get_or spans i e).item ≤ later = omega arith in
-            subst (λ (s : Span). (reached : IsReached (reaches ++ y ∷ []) (place s.start)) × ((get_or spans i e).item ≤ reached.by.item) × (s.item ≤ reached.by.item)) s (here, low, counts_x)
+            subst (λ (s : Span). (reached : IsInReach (reaches ++ y ∷ []) (place s.start)) × ((get_or spans i e).item ≤ reached.by.item) × (s.item ≤ reached.by.item)) s (here, low, counts_x)
         | inr m ↦
             let r = before.pairs i j e h (omega arith) a b in
             (reached_more reaches (y ∷ []) (place (get_or spans j e).start) r.0, r.1, r.2)
@@ -218,7 +218,7 @@ reach_tells spans reaches n end low all = λ x z cx meets.
     (record { by = by; is = (k, here, get_or_default reaches k by none here); begins = omega arith; ends = omega arith }, c)
 
 -- what has a place is reached where that is
-abbrev reached_at : (reaches : List Reach) (span : Span) (start : ℕ) → span.start ≤ start → start < span.end → IsReached reaches (place start) → IsReached reaches span
+abbrev reached_at : (reaches : List Reach) (span : Span) (start : ℕ) → span.start ≤ start → start < span.end → IsInReach reaches (place start) → IsInReach reaches span
 reached_at reaches span start low high reached =
     let a = reached.begins in
     let b = reached.ends in
@@ -234,7 +234,7 @@ pairs_tell spans reaches n far end last low order all = λ x y cx cy differ some
     let wy = cy.1 in
     let ex : get_or spans p x ≡ x = cx.2 in
     let ey : get_or spans q x ≡ y = get_or_default spans q x y cy.1 ∙ cy.2 in
-    let P : Span → Span → Type 0 = λ s t. t.start < s.end → t.start < t.end → (reached : IsReached reaches (place t.start)) × (s.item ≤ reached.by.item) × (t.item ≤ reached.by.item) in
+    let P : Span → Span → Type 0 = λ s t. t.start < s.end → t.start < t.end → (reached : IsInReach reaches (place t.start)) × (s.item ≤ reached.by.item) × (t.item ≤ reached.by.item) in
     elim (cases_order p q) [
       | inl e ↦ absurd (differ (ap (λ (s : Span). s.item) (sym cx.2 ∙ ap (λ k. get_or spans k x) e ∙ ey)))
       | inr (inl h) ↦
@@ -345,7 +345,7 @@ measured rule b cell reaches rises any unshared_rises unshared = record {
 -- ---- the search
 
 -- a span behind the first n of them and before the others isn't reached
-pub lies_unreached : (reaches : List Reach) (span : Span) (n : ℕ) → IsRising reaches → (0 < n → (d : Reach) → (get_or reaches (n - 1) d).end ≤ span.start) → (n < length reaches → (d : Reach) → span.end ≤ (get_or reaches n d).start) → n ≤ length reaches → IsReached reaches span → ⊥
+pub lies_unreached : (reaches : List Reach) (span : Span) (n : ℕ) → IsRising reaches → (0 < n → (d : Reach) → (get_or reaches (n - 1) d).end ≤ span.start) → (n < length reaches → (d : Reach) → span.end ≤ (get_or reaches n d).start) → n ≤ length reaches → IsInReach reaches span → ⊥
 lies_unreached reaches span n rising behind before bound reached =
     let x = reached.by in
     let k = reached.is.0 in
@@ -389,10 +389,10 @@ last_reaches reaches span n x d rising bound behind before cx begins ends =
     ]
 
 -- a region that breaks the rule with one of the cell is reached by all, and by those by which it is looked for
-reached_any : (rule : Rule) (b : ℕ) (other : CellConfig) (reaches : Reaches) (one : Spot) (s : ℕ) (d : Region) → AreOf rule b other reaches → IsOwn one b other → s < length other.memory_regions → pair_breaks rule one (spot b other s (get_or other.memory_regions s d)) ≡ true → IsReached reaches.any.items (span_of rule one.item one.region)
+reached_any : (rule : Rule) (b : ℕ) (other : CellConfig) (reaches : Reaches) (one : Spot) (s : ℕ) (d : Region) → AreOf rule b other reaches → IsAtItsNumber one b other → s < length other.memory_regions → pair_breaks rule one (spot b other s (get_or other.memory_regions s d)) ≡ true → IsInReach reaches.any.items (span_of rule one.item one.region)
 reached_any rule b other reaches one s d of own within breaks = (of.any one s d own (λ e. absurd (false≢true e)) within breaks).0
 
-reached_for : (rule : Rule) (b : ℕ) (other : CellConfig) (reaches : Reaches) (one : Spot) (s : ℕ) (d : Region) → AreOf rule b other reaches → IsOwn one b other → s < length other.memory_regions → pair_breaks rule one (spot b other s (get_or other.memory_regions s d)) ≡ true → (reached : IsReached (reaches_for rule one.region reaches) (span_of rule one.item one.region)) × (is_within rule ≡ false → reached.by.item ≡ s) × (s ≤ reached.by.item)
+reached_for : (rule : Rule) (b : ℕ) (other : CellConfig) (reaches : Reaches) (one : Spot) (s : ℕ) (d : Region) → AreOf rule b other reaches → IsAtItsNumber one b other → s < length other.memory_regions → pair_breaks rule one (spot b other s (get_or other.memory_regions s d)) ≡ true → (reached : IsInReach (reaches_for rule one.region reaches) (span_of rule one.item one.region)) × (is_within rule ≡ false → reached.by.item ≡ s) × (s ≤ reached.by.item)
 reached_for rule b other reaches one s d of own within breaks =
     elim (cases_Bool (passes_shared rule one.region)) [
       | inl p ↦ rw p (of.unshared one s d own (λ e. p) within breaks)
@@ -400,12 +400,12 @@ reached_for rule b other reaches one s d of own within breaks =
     ]
 
 -- nothing is found of a region that takes no part, or isn't reached by both
-pub beside_unreached : (rule : Rule) (one : Spot) (b : ℕ) (other : CellConfig) (reaches : Reaches) → AreOf rule b other reaches → IsOwn one b other → (takes_part rule one.region ≡ true → IsReached reaches.any.items (span_of rule one.item one.region) → IsReached (reaches_for rule one.region reaches) (span_of rule one.item one.region) → ⊥) → beside rule one b other ≡ []
+pub beside_unreached : (rule : Rule) (one : Spot) (b : ℕ) (other : CellConfig) (reaches : Reaches) → AreOf rule b other reaches → IsAtItsNumber one b other → (takes_part rule one.region ≡ true → IsInReach reaches.any.items (span_of rule one.item one.region) → IsInReach (reaches_for rule one.region reaches) (span_of rule one.item one.region) → ⊥) → beside rule one b other ≡ []
 beside_unreached rule one b other reaches of own unreached =
     beside_none rule one b other (λ s d within breaks. unreached (pair_takes_part rule one (spot b other s (get_or other.memory_regions s d)) breaks) (reached_any rule b other reaches one s d of own within breaks) (reached_for rule b other reaches one s d of own within breaks).0)
 
 -- a window in which those are that reach it has the numbers of those that break the rule with it
-pub window_hits : (rule : Rule) (one : Spot) (b : ℕ) (other : CellConfig) (reaches : Reaches) (window : Window) → AreOf rule b other reaches → IsOwn one b other → (is_within rule ≡ true → (x : Reach) (s : ℕ) → Contains (reaches_for rule one.region reaches) x → x.start < (span_of rule one.item one.region).end → (span_of rule one.item one.region).start < x.end → one.item < s → s ≤ x.item → IsIn window s) → (is_within rule ≡ false → (x : Reach) → Contains (reaches_for rule one.region reaches) x → x.start < (span_of rule one.item one.region).end → (span_of rule one.item one.region).start < x.end → IsIn window x.item) → HasHits rule one b other window
+pub window_hits : (rule : Rule) (one : Spot) (b : ℕ) (other : CellConfig) (reaches : Reaches) (window : Window) → AreOf rule b other reaches → IsAtItsNumber one b other → (is_within rule ≡ true → (x : Reach) (s : ℕ) → Contains (reaches_for rule one.region reaches) x → x.start < (span_of rule one.item one.region).end → (span_of rule one.item one.region).start < x.end → one.item < s → s ≤ x.item → IsIn window s) → (is_within rule ≡ false → (x : Reach) → Contains (reaches_for rule one.region reaches) x → x.start < (span_of rule one.item one.region).end → (span_of rule one.item one.region).start < x.end → IsIn window x.item) → HasHits rule one b other window
 window_hits rule one b other reaches window of own behind told = λ s d within small breaks.
     let r = reached_for rule b other reaches one s d of own within breaks in
     elim (cases_Bool (is_within rule)) [
@@ -476,7 +476,7 @@ capped_none_more found more e = ap capped (sym (append-nil found) ∙ ap (λ xs.
 -- ---- regions that lie all beyond what others reach
 
 -- a region of the one cell is of the other where these are one
-pub own_spot : (a : ℕ) (one : CellConfig) (r : ℕ) (d : Region) (b : ℕ) (other : CellConfig) → r < length one.memory_regions → (a ≡ b → one ≡ other) → IsOwn (spot a one r (get_or one.memory_regions r d)) b other
+pub own_spot : (a : ℕ) (one : CellConfig) (r : ℕ) (d : Region) (b : ℕ) (other : CellConfig) → r < length one.memory_regions → (a ≡ b → one ≡ other) → IsAtItsNumber (spot a one r (get_or one.memory_regions r d)) b other
 own_spot a one r d b other h same = λ e.
     let x = get_or one.memory_regions r d in
     let P : CellConfig → Type 0 = λ c. (r < length c.memory_regions) × (x ≡ get_or c.memory_regions r x) in

@@ -1,7 +1,7 @@
 //! The gaps between how far regions of a cell reach, by which those that meet none of them are told at once.
 ghost use Rattle.std.specs.Prelude.{◌≡◌, true, false};
 ghost use Rattle.jh_check.specs.Private.Spans.{span_of, takes_part, LiesWithin};
-ghost use Rattle.jh_check.specs.Private.Reaches.{unshared_of, reaches_for, IsRising, IsReached, IsGap, AreGaps};
+ghost use Rattle.jh_check.specs.Private.Reaches.{unshared_of, reaches_for, IsRising, IsInReach, IsGap, AreGaps};
 
 use crate::blocks::Extents;
 use crate::reach::{Reach, Reaches, end_before, passes_shared, start_behind, unshared_of};
@@ -66,7 +66,7 @@ fn lies_in(gap: Gap, span: Span) -> bool
 /// Whether the span may be reached, where no gap near it is known.
 fn is_near(reaches: &[Reach], span: Span) -> bool
     requires { IsRising reaches.now }
-    ensures { result ≡ false → IsReached reaches.now span → ⊥ }
+    ensures { result ≡ false → IsInReach reaches.now span → ⊥ }
 {
     let gap = gap_near(reaches, span);
     !lies_in(gap, span)
@@ -76,8 +76,8 @@ fn is_near(reaches: &[Reach], span: Span) -> bool
 pub(crate) fn may_reach_into(reaches: &Reaches, extents: Extents) -> bool
     requires any { IsRising reaches.now.any.items }
     requires unshared { IsRising (unshared_of reaches.now) }
-    ensures any { result ≡ false → IsReached reaches.now.any.items extents.any → ⊥ }
-    ensures unshared { result ≡ false → IsReached (unshared_of reaches.now) extents.unshared → ⊥ }
+    ensures any { result ≡ false → IsInReach reaches.now.any.items extents.any → ⊥ }
+    ensures unshared { result ≡ false → IsInReach (unshared_of reaches.now) extents.unshared → ⊥ }
 {
     let any = is_near(reaches.any.as_slice(), extents.any);
     any || is_near(unshared_of(reaches), extents.unshared)
@@ -107,7 +107,7 @@ fn may_reach_far(reaches: &[Reach], span: Span, gap: &mut Gap, next: Gap) -> boo
     requires gap { IsGap reaches.now gap.old }
     requires next { IsGap reaches.now next }
     ensures gap { IsGap reaches.now gap.new }
-    ensures told { result ≡ false → IsReached reaches.now span → ⊥ }
+    ensures told { result ≡ false → IsInReach reaches.now span → ⊥ }
 {
     if is_last(reaches, *gap, span) {
         return true;
@@ -127,7 +127,7 @@ fn may_reach(reaches: &[Reach], span: Span, gap: &mut Gap) -> bool
     requires rising { IsRising reaches.now }
     requires gap { IsGap reaches.now gap.old }
     ensures gap { IsGap reaches.now gap.new }
-    ensures told { result ≡ false → IsReached reaches.now span → ⊥ }
+    ensures told { result ≡ false → IsInReach reaches.now span → ⊥ }
 {
     let next = gap_behind(reaches, gap.before.saturating_add(1));
     if lies_in(next, span) {
@@ -143,7 +143,7 @@ fn may_reach_unshared(reaches: &Reaches, span: Span, gap: &mut Gap) -> bool
     requires rising { IsRising (unshared_of reaches.now) }
     requires gap { IsGap (unshared_of reaches.now) gap.old }
     ensures gap { IsGap (unshared_of reaches.now) gap.new }
-    ensures told { result ≡ false → IsReached (unshared_of reaches.now) span → ⊥ }
+    ensures told { result ≡ false → IsInReach (unshared_of reaches.now) span → ⊥ }
 {
     if lies_in(*gap, span) {
         return false;
@@ -163,8 +163,8 @@ pub(crate) fn may_meet(
     requires unshared { IsRising (unshared_of reaches.now) }
     requires gaps { AreGaps reaches.now gaps.old }
     ensures gaps { AreGaps reaches.now gaps.new }
-    ensures told { result ≡ false → takes_part rule region.now ≡ true → IsReached reaches.now.any.items (span_of rule item region.now)
-        → IsReached (reaches_for rule region.now reaches.now) (span_of rule item region.now) → ⊥ }
+    ensures told { result ≡ false → takes_part rule region.now ≡ true → IsInReach reaches.now.any.items (span_of rule item region.now)
+        → IsInReach (reaches_for rule region.now reaches.now) (span_of rule item region.now) → ⊥ }
 {
     let span = span_of(rule, item, region);
     if lies_in(gaps.any, span) || !takes_part(rule, region) {

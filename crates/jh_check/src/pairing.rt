@@ -5,7 +5,7 @@ ghost use Rattle.jh_check.specs.Private.Cells.{cells_of};
 ghost use Rattle.jh_check.specs.Lists.{capped};
 ghost use Rattle.jh_check.specs.Private.Spans.{joins, is_within};
 ghost use Rattle.jh_check.specs.Private.Blocks.{AreBlocks, AreExtents, between_from};
-ghost use Rattle.jh_check.specs.Private.Reaches.{IsOwn, AreOf, AreOfEach, AreGaps};
+ghost use Rattle.jh_check.specs.Private.Reaches.{IsAtItsNumber, AreOf, AreOfEach, AreGaps};
 ghost use Rattle.jh_check.specs.Private.Rising.{IsStretch};
 ghost use Rattle.jh_check.specs.Private.Links.{ArePartners};
 ghost use Rattle.jh_check.specs.Findings.{spot, beside, between, between_at, in_pairs, from_cell};
@@ -72,7 +72,7 @@ fn visit(
 ) -> Result<(), NoMemory>
     requires partners { ArePartners pair.now.one.now pair.now.other.now partners.now }
     requires reaches { AreOf pair.now.rule pair.now.b pair.now.other.now pair.now.reaches.now }
-    requires own { IsOwn (spot pair.now.a pair.now.one.now item region.now) pair.now.b pair.now.other.now }
+    requires own { IsAtItsNumber (spot pair.now.a pair.now.one.now item region.now) pair.now.b pair.now.other.now }
     ensures { OnOk result (capped found.new ≡ capped (found.old ++ beside pair.now.rule (spot pair.now.a pair.now.one.now item region.now) pair.now.b pair.now.other.now)) }
 {
     if found.len() >= MAX_FINDINGS {

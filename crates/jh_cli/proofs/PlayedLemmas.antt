@@ -8,7 +8,7 @@ use Rattle.jh_history.specs.Items.{Reached, played}
 use Rattle.jh_text.specs.Faults.{max_entries}
 use Rattle.jh_text.specs.Text.{journal_text}
 use Rattle.jh_board.specs.BoardView.{BoardView}
-use Rattle.jh_run.specs.Plays.{Plays, IsFullAtCpu}
+use Rattle.jh_run.specs.Plays.{IsPlayedBoard, IsFullAtCpu}
 use Rattle.jh_run.specs.Ends.{is_full}
 use Rattle.jh_run.specs.declared.ended.Ended.{Ended}
 use Rattle.jh_run.specs.declared.ended.Ended.TheVariants.{Quiet, Full}
@@ -32,7 +32,7 @@ told_of reached = record { status = played_status reached.full; text = journal_t
 
 -- the board at the played journal, and how it ended, tell the play
 pub IsPlayed_from : (image : Image) (cpus : List ℕ) (board : BoardView) (ended : Ended) (status : Status) (text : List ℕ)
-    → Plays image max_entries cpus board ended → IsLegal image board.entries → ((ended ≡ Quiet) ↔ IsQuiet image board.entries) → ((ended ≡ Full) ↔ IsFullAtCpu image max_entries board.entries)
+    → IsPlayedBoard image max_entries cpus board ended → IsLegal image board.entries → ((ended ≡ Quiet) ↔ IsQuiet image board.entries) → ((ended ≡ Full) ↔ IsFullAtCpu image max_entries board.entries)
     → status ≡ played_status (is_full ended) → text ≡ journal_text board.entries
     → IsPlayed image cpus (record { status = status; text = text })
 IsPlayed_from image cpus board ended status text plays legal quiet full is_status is_text =

@@ -7,14 +7,14 @@ use Rattle.std.proofs.lemmas.List.Sums.{sum_by-cons}
 use Rattle.jh_frames.specs.Memory.{FramesView, is_own, holds, missing, missing_from, pages_in}
 use Rattle.jh_num.specs.Pages.{page_at}
 use Rattle.jh_num.proofs.Public.{count_few}
-use Rattle.jh_frames.specs.Kept.{IsWhole}
+use Rattle.jh_frames.specs.Kept.{IsWholePages}
 use Rattle.jh_frames.proofs.MemoryLemmas.{own_page}
 
 or_same : (a a' b b' : Bool) → a' ≡ a → b' ≡ b → (a' || b') ≡ (a || b)
 or_same a a' b b' p q = cc
 
 -- places of one page are both held, or neither
-pub holds_page : (v : FramesView) (x y : ℕ) → IsWhole v.own → x / 4096 ≡ y / 4096 → holds v x ≡ holds v y
+pub holds_page : (v : FramesView) (x y : ℕ) → IsWholePages v.own → x / 4096 ≡ y / 4096 → holds v x ≡ holds v y
 holds_page v x y whole same =
     or_same (is_own v.own y) (is_own v.own x) (is_some (page_at v.guest.pages (y / 4096))) (is_some (page_at v.guest.pages (x / 4096))) (own_page v.own x y whole same) (ap (λ n. is_some (page_at v.guest.pages n)) same)
 
@@ -100,7 +100,7 @@ on_ok (Ok x) ok is = is
 on_ok (Err e) ok is = absurd (false≢true ok)
 
 -- what the page of a place wants
-pub lacking_at : (v : FramesView) (at : ℕ) → IsWhole v.own → lacking v (at / 4096) ≡ cond (holds v at) 0 1
+pub lacking_at : (v : FramesView) (at : ℕ) → IsWholePages v.own → lacking v (at / 4096) ≡ cond (holds v at) 0 1
 lacking_at v at whole =
     let number : 4096 * (at / 4096) / 4096 ≡ at / 4096 = omega arith in
     ap (λ b. cond (not b) 1 0) (holds_page v (4096 * (at / 4096)) at whole number) ∙ lacking_is (holds v at) 1 0
@@ -136,10 +136,10 @@ split_by_cases v v' at n k some within one border others (inr more) = further_pa
 pub missing_split : (v v' : FramesView) (at n k : ℕ) → 0 < k → k ≤ n → at % 4096 + k ≤ 4096 → ((k ≡ n → ⊥) → at % 4096 + k ≡ 4096) → ((q : ℕ) → (q / 4096 ≡ at / 4096 → ⊥) → holds v' q ≡ holds v q) → missing v at n ≡ lacking v (at / 4096) + missing v' (at + k) (n - k)
 missing_split v v' at n k some within one border others = split_by_cases v v' at n k some within one border others (cases_eq k n)
 
-held_by_cases : (v v' : FramesView) (from q : ℕ) → IsWhole v'.own → ((x : ℕ) → holds v x ≡ true → holds v' x ≡ true) → holds v' from ≡ true → (q < from → holds v q ≡ true) → (from ≤ q → q / 4096 ≡ from / 4096) → (q < from) ⊎ (from ≤ q) → holds v' q ≡ true
+held_by_cases : (v v' : FramesView) (from q : ℕ) → IsWholePages v'.own → ((x : ℕ) → holds v x ≡ true → holds v' x ≡ true) → holds v' from ≡ true → (q < from → holds v q ≡ true) → (from ≤ q → q / 4096 ≡ from / 4096) → (q < from) ⊎ (from ≤ q) → holds v' q ≡ true
 held_by_cases v v' from q whole kept there before same (inl low) = kept q (before low)
 held_by_cases v v' from q whole kept there before same (inr high) = holds_page v' q from whole (same high) ∙ there
 
 -- the places so far are held, and those of one page more
-pub held_more : (v v' : FramesView) (from q : ℕ) → IsWhole v'.own → ((x : ℕ) → holds v x ≡ true → holds v' x ≡ true) → holds v' from ≡ true → (q < from → holds v q ≡ true) → (from ≤ q → q / 4096 ≡ from / 4096) → holds v' q ≡ true
+pub held_more : (v v' : FramesView) (from q : ℕ) → IsWholePages v'.own → ((x : ℕ) → holds v x ≡ true → holds v' x ≡ true) → holds v' from ≡ true → (q < from → holds v q ≡ true) → (from ≤ q → q / 4096 ≡ from / 4096) → holds v' q ≡ true
 held_more v v' from q whole kept there before same = held_by_cases v v' from q whole kept there before same (cases_lt q from)

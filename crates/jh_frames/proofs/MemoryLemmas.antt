@@ -4,9 +4,9 @@ use Rattle.std.specs.List.{range_with_len}
 use Rattle.std.proofs.lemmas.Bool.{and_parts, and_from, le-leb, lt-ltb, leb-true, ltb-true}
 use Rattle.jh_num.specs.Memory.{spelled}
 use Rattle.jh_num.proofs.Public.{range_read, read_over, same_test}
-use Rattle.jh_frames.specs.Memory.{OwnView, FramesView, IsOwn, is_own, own_byte, byte_at}
+use Rattle.jh_frames.specs.Memory.{OwnView, FramesView, AreOwnBytes, is_own, own_byte, byte_at}
 use Rattle.jh_num.specs.Pages.{page_at, byte_of_page, paged_byte}
-use Rattle.jh_frames.specs.Kept.{IsWhole}
+use Rattle.jh_frames.specs.Kept.{IsWholePages}
 use Rattle.jh_frames.proofs.RangeLemmas.{alike_over, zero_over}
 
 -- places of the hypervisor's memory
@@ -29,14 +29,14 @@ pub byte_guest : (v : FramesView) (q : ℕ) → is_own v.own q ≡ false → byt
 byte_guest v q is = rw is refl
 
 -- a place of the hypervisor's, from the first of several
-pub own_all : (own : OwnView) (at n x : ℕ) → IsOwn own at n → at ≤ x → x < at + n → is_own own x ≡ true
+pub own_all : (own : OwnView) (at n x : ℕ) → AreOwnBytes own at n → at ≤ x → x < at + n → is_own own x ≡ true
 own_all own at n x is above below =
     let low : own.base ≤ at = is.above in
     let high : at + n ≤ own.base + length own.bytes = is.below in
     own_there own x (omega arith) (omega arith)
 
 -- the bytes of one page are the hypervisor's where the first is
-pub own_within : (own : OwnView) (at n : ℕ) → IsWhole own → is_own own at ≡ true → at % 4096 + n ≤ 4096 → IsOwn own at n
+pub own_within : (own : OwnView) (at n : ℕ) → IsWholePages own → is_own own at ≡ true → at % 4096 + n ≤ 4096 → AreOwnBytes own at n
 own_within own at n whole is within =
     let above : own.base ≤ at = own_above own at is in
     let below : at < own.base + length own.bytes = own_below own at is in
@@ -44,7 +44,7 @@ own_within own at n whole is within =
     let pages : length own.bytes % 4096 ≡ 0 = whole.whole in
     record { above = omega arith; below = omega arith }
 
-own_page_by : (own : OwnView) (x y : ℕ) → IsWhole own → x / 4096 ≡ y / 4096 → is_own own x ≡ true → is_own own y ≡ true
+own_page_by : (own : OwnView) (x y : ℕ) → IsWholePages own → x / 4096 ≡ y / 4096 → is_own own x ≡ true → is_own own y ≡ true
 own_page_by own x y whole same is =
     let above : own.base ≤ x = own_above own x is in
     let below : x < own.base + length own.bytes = own_below own x is in
@@ -53,11 +53,11 @@ own_page_by own x y whole same is =
     own_there own y (omega arith) (omega arith)
 
 -- places of one page are both the hypervisor's, or neither
-pub own_page : (own : OwnView) (x y : ℕ) → IsWhole own → x / 4096 ≡ y / 4096 → is_own own x ≡ is_own own y
+pub own_page : (own : OwnView) (x y : ℕ) → IsWholePages own → x / 4096 ≡ y / 4096 → is_own own x ≡ is_own own y
 own_page own x y whole same = same_test (is_own own x) (is_own own y) (own_page_by own x y whole same) (own_page_by own y x whole (sym same))
 
 -- the number that bytes of the hypervisor's memory spell
-pub own_value : (v : FramesView) (at n : ℕ) → IsOwn v.own at n → spelled (slice_range v.own.bytes (at - v.own.base) (at - v.own.base + n)) ≡ spelled (map (byte_at v) (range_with_len at n))
+pub own_value : (v : FramesView) (at n : ℕ) → AreOwnBytes v.own at n → spelled (slice_range v.own.bytes (at - v.own.base) (at - v.own.base + n)) ≡ spelled (map (byte_at v) (range_with_len at n))
 own_value v at n is =
     let low : v.own.base ≤ at = is.above in
     let high : at + n ≤ v.own.base + length v.own.bytes = is.below in
@@ -83,7 +83,7 @@ no_value pages at n none within =
     ap (λ k. byte_of_page (page_at pages k) (x % 4096)) number ∙ ap (λ o. byte_of_page o (x % 4096)) none)
 
 -- the value of a page that isn't the hypervisor's is the guests'
-pub guest_all : (v : FramesView) (at n : ℕ) → IsWhole v.own → is_own v.own at ≡ false → at % 4096 + n ≤ 4096 → spelled (map (paged_byte v.guest.pages) (range_with_len at n)) ≡ spelled (map (byte_at v) (range_with_len at n))
+pub guest_all : (v : FramesView) (at n : ℕ) → IsWholePages v.own → is_own v.own at ≡ false → at % 4096 + n ≤ 4096 → spelled (map (paged_byte v.guest.pages) (range_with_len at n)) ≡ spelled (map (byte_at v) (range_with_len at n))
 guest_all v at n whole other within =
     ap spelled (sym (alike_over (byte_at v) (paged_byte v.guest.pages) at at n (λ j x y lt p q.
     let number : x / 4096 ≡ at / 4096 = omega arith in

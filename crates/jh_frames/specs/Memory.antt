@@ -24,7 +24,7 @@ abbrev pub is_own : OwnView → ℕ → Bool
 is_own own place = nat_le own.base place && nat_lt place (own.base + length own.bytes)
 
 -- the bytes from the place on, so many of them, are all the hypervisor's
-pub record IsOwn (own : OwnView) (at size : ℕ) : Type 0 where
+pub record AreOwnBytes (own : OwnView) (at size : ℕ) : Type 0 where
   pub above : own.base ≤ at
   pub below : at + size ≤ own.base + length own.bytes
 

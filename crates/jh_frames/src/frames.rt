@@ -3,9 +3,9 @@ ghost use Rattle.std.specs.Prelude.{◌≡◌, ◌≢◌, ℕ, ◌+◌, ◌-◌,
 ghost use Rattle.std.specs.List.{range_with_len};
 ghost use Rattle.jh_num.specs.declared.address.TheConstants.{ADDRESS_END};
 ghost use Rattle.jh_num.specs.Memory.{spelled, stored};
-ghost use Rattle.jh_frames.specs.Memory.{byte_at, holds, missing, missing_from, pages_in, word_in, IsOwn};
+ghost use Rattle.jh_frames.specs.Memory.{byte_at, holds, missing, missing_from, pages_in, word_in, AreOwnBytes};
 ghost use Rattle.jh_num.specs.Pages.{page_at};
-ghost use Rattle.jh_frames.specs.Kept.{IsWhole};
+ghost use Rattle.jh_frames.specs.Kept.{IsWholePages};
 
 use crate::guest::Guest;
 use crate::own::Own;
@@ -69,7 +69,7 @@ impl Frames {
     /// Whether the page of the place is held.
     pub fn holds(&self, at: u64) -> bool
         ensures value { result ≡ holds self.now at }
-        ensures whole { IsWhole self.now.own }
+        ensures whole { IsWholePages self.now.own }
     {
         let own = self.own.has(at);
         own || self.guest.holds(at)
@@ -165,7 +165,7 @@ impl Frames {
 
     /// Writes the bytes of a word of the hypervisor's memory.
     fn set_bytes(&mut self, at: u64, word: u64)
-        requires { IsOwn self.old.own at 8 }
+        requires { AreOwnBytes self.old.own at 8 }
         ensures base { self.new.own.base ≡ self.old.own.base }
         ensures size { length self.new.own.bytes ≡ length self.old.own.bytes }
         ensures guest { self.new.guest ≡ self.old.guest }
@@ -178,7 +178,7 @@ impl Frames {
 
     /// Writes a word of the hypervisor's memory.
     pub fn set_word(&mut self, at: u64, word: u64)
-        requires { IsOwn self.old.own at 8 }
+        requires { AreOwnBytes self.old.own at 8 }
         ensures base { self.new.own.base ≡ self.old.own.base }
         ensures size { length self.new.own.bytes ≡ length self.old.own.bytes }
         ensures guest { self.new.guest ≡ self.old.guest }
@@ -193,7 +193,7 @@ impl Frames {
 
     /// A page of the hypervisor's memory.
     pub fn page(&self, at: u64) -> &[u8]
-        requires { IsOwn self.now.own at 4096 }
+        requires { AreOwnBytes self.now.own at 4096 }
         ensures len { length result.now ≡ 4096 }
         ensures bytes { (k : ℕ) → k < 4096 → slice_index result.now k ≡ byte_at self.now (at + k) }
     {
@@ -203,7 +203,7 @@ impl Frames {
     /// A page of the hypervisor's memory, to be written. What is last written there is the page from then on,
     /// and no other byte changes.
     pub fn page_mut(&mut self, at: u64) -> &mut [u8]
-        requires { IsOwn self.old.own at 4096 }
+        requires { AreOwnBytes self.old.own at 4096 }
         ensures len { length result.now ≡ 4096 }
         ensures bytes { (k : ℕ) → k < 4096 → slice_index result.now k ≡ byte_at self.old (at + k) }
         ensures* writes_back { sem 𝓛 (LendsPage self.entry at result) }
@@ -225,8 +225,8 @@ impl Frames {
         ensures succeeds { (holds self.old at ≡ false → 0 < self.old.guest.spare) → IsOk result }
         ensures spare { self.old.guest.spare ≤ self.new.guest.spare + (if holds self.old at then 0 else 1) }
         ensures spare_at_err { OnErr result (self.old.guest.spare ≤ self.new.guest.spare) }
-        ensures whole { IsWhole self.old.own }
-        ensures still_whole { IsWhole self.new.own }
+        ensures whole { IsWholePages self.old.own }
+        ensures still_whole { IsWholePages self.new.own }
     {
         if self.own.has(at) {
             self.own.write(at, bytes);

@@ -2,7 +2,7 @@
 ghost use Rattle.std.specs.Prelude.{◌≡◌, ℕ, ◌+◌, ◌/◌, ◌%◌, ◌<◌, ◌≤◌, List, length, map, is_some};
 ghost use Rattle.std.specs.List.{range_with_len};
 ghost use Rattle.jh_num.specs.Memory.{spelled, stored};
-ghost use Rattle.jh_frames.specs.Memory.{byte_at, holds, page_of, word_in, FramesView, IsOwn};
+ghost use Rattle.jh_frames.specs.Memory.{byte_at, holds, page_of, word_in, FramesView, AreOwnBytes};
 ghost use Rattle.jh_num.specs.Pages.{byte_of_page};
 ghost use Rattle.jh_frames.specs.Lending.{with_page};
 
@@ -30,10 +30,10 @@ pub fn equal_bytes_make_equal_words()
 /// Once a page of the hypervisor's memory that was lent is given back, memory has its bytes there, and
 /// all else is as before.
 pub fn a_page_is_written_back()
-    ensures bytes { (memory : FramesView) (at : ℕ) (page : List ℕ) → IsOwn memory.own at 4096 → length page ≡ 4096 → (q : ℕ)
+    ensures bytes { (memory : FramesView) (at : ℕ) (page : List ℕ) → AreOwnBytes memory.own at 4096 → length page ≡ 4096 → (q : ℕ)
         → byte_at (with_page memory at page) q ≡ stored (byte_at memory) at page q }
-    ensures size { (memory : FramesView) (at : ℕ) (page : List ℕ) → IsOwn memory.own at 4096 → length page ≡ 4096 → length (with_page memory at page).own.bytes ≡ length memory.own.bytes }
-    ensures held { (memory : FramesView) (at : ℕ) (page : List ℕ) → IsOwn memory.own at 4096 → length page ≡ 4096 → (q : ℕ) → holds (with_page memory at page) q ≡ holds memory q }
+    ensures size { (memory : FramesView) (at : ℕ) (page : List ℕ) → AreOwnBytes memory.own at 4096 → length page ≡ 4096 → length (with_page memory at page).own.bytes ≡ length memory.own.bytes }
+    ensures held { (memory : FramesView) (at : ℕ) (page : List ℕ) → AreOwnBytes memory.own at 4096 → length page ≡ 4096 → (q : ℕ) → holds (with_page memory at page) q ≡ holds memory q }
 {}
 
 /// Of memory that has bytes stored from a place on, as many bytes from there on spell their number: what is

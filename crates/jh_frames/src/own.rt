@@ -2,8 +2,8 @@
 ghost use Rattle.std.specs.Prelude.{◌≡◌, ◌≢◌, ℕ, ◌+◌, ◌-◌, ◌%◌, ◌^◌, ◌≤◌, ◌<◌, true, MatchBool, length, slice_index, slice_range, IfOk};
 ghost use Rattle.jh_num.specs.declared.address.TheConstants.{ADDRESS_END};
 ghost use Rattle.jh_num.specs.Memory.{spelled, stored};
-ghost use Rattle.jh_frames.specs.Memory.{is_own, own_byte, word_in, IsOwn};
-ghost use Rattle.jh_frames.specs.Kept.{IsWhole};
+ghost use Rattle.jh_frames.specs.Memory.{is_own, own_byte, word_in, AreOwnBytes};
+ghost use Rattle.jh_frames.specs.Kept.{IsWholePages};
 
 use jh_num::{NoMemory, spelled};
 use std::alloc::Global;
@@ -18,13 +18,13 @@ pub struct Own {
 
 impl Model for Own {
     ghost use Rattle.jh_frames.specs.Memory.{OwnView};
-    ghost use Rattle.jh_frames.specs.Kept.{IsWhole};
+    ghost use Rattle.jh_frames.specs.Kept.{IsWholePages};
 
     ghost Value = { OwnView };
 
     ghost view = { λ o. record { base = o.base; bytes = o.bytes.items } };
 
-    ghost invariant = { λ o. IsWhole (record { base = o.base; bytes = o.bytes.items }) };
+    ghost invariant = { λ o. IsWholePages (record { base = o.base; bytes = o.bytes.items }) };
 }
 
 impl Own {
@@ -47,7 +47,7 @@ impl Own {
     /// Whether the place is in the hypervisor's memory.
     pub fn has(&self, at: u64) -> bool
         ensures value { result ≡ is_own self.now at }
-        ensures whole { IsWhole self.now }
+        ensures whole { IsWholePages self.now }
     {
         self.base <= at && at < self.base + self.bytes.len() as u64
     }
@@ -63,14 +63,14 @@ impl Own {
     /// Whether the eight bytes from the place on are in the hypervisor's memory.
     pub fn has_word(&self, at: u64) -> bool
         requires { at < 2 ^ 48 }
-        ensures { MatchBool result (IsOwn self.now at 8) (IsOwn self.now at 8 → ⊥) }
+        ensures { MatchBool result (AreOwnBytes self.now at 8) (AreOwnBytes self.now at 8 → ⊥) }
     {
         self.base <= at && at + 8 <= self.base + self.bytes.len() as u64
     }
 
     /// The number that the eight bytes from the place on spell, the lowest first.
     pub fn word(&self, at: u64) -> u64
-        requires { IsOwn self.now at 8 }
+        requires { AreOwnBytes self.now at 8 }
         ensures { result ≡ word_in (own_byte self.now) at }
     {
         let k = (at - self.base) as usize;
@@ -81,7 +81,7 @@ impl Own {
     /// The number that the bytes from the place on spell, the lowest first.
     pub fn value(&self, at: u64, width: usize) -> u64
         requires width { width ≤ 8 }
-        requires own { IsOwn self.now at width }
+        requires own { AreOwnBytes self.now at width }
         ensures { result ≡ spelled (slice_range self.now.bytes (at - self.now.base) (at - self.now.base + width)) }
     {
         let k = (at - self.base) as usize;
@@ -90,7 +90,7 @@ impl Own {
 
     /// Writes the byte at the place.
     fn set(&mut self, at: u64, byte: u8)
-        requires { IsOwn self.old at 1 }
+        requires { AreOwnBytes self.old at 1 }
         ensures base { self.new.base ≡ self.old.base }
         ensures size { length self.new.bytes ≡ length self.old.bytes }
         ensures at { own_byte self.new at ≡ byte }
@@ -102,7 +102,7 @@ impl Own {
 
     /// As `set_word`, where it is told that the places behind the word have numbers of 64 bits.
     fn set_bytes(&mut self, at: u64, word: u64)
-        requires own { IsOwn self.old at 8 }
+        requires own { AreOwnBytes self.old at 8 }
         requires fits { at + 8 < 2 ^ 64 }
         ensures base { self.new.base ≡ self.old.base }
         ensures size { length self.new.bytes ≡ length self.old.bytes }
@@ -123,7 +123,7 @@ impl Own {
 
     /// Writes the word over the eight bytes from the place on, the lowest byte first.
     pub fn set_word(&mut self, at: u64, word: u64)
-        requires { IsOwn self.old at 8 }
+        requires { AreOwnBytes self.old at 8 }
         ensures base { self.new.base ≡ self.old.base }
         ensures size { length self.new.bytes ≡ length self.old.bytes }
         ensures at { word_in (own_byte self.new) at ≡ word }
@@ -137,7 +137,7 @@ impl Own {
 
     /// Puts the bytes from the place on.
     pub fn write(&mut self, at: u64, bytes: &[u8])
-        requires { IsOwn self.old at (length bytes.now) }
+        requires { AreOwnBytes self.old at (length bytes.now) }
         ensures base { self.new.base ≡ self.old.base }
         ensures size { length self.new.bytes ≡ length self.old.bytes }
         ensures bytes { (q : ℕ) → is_own self.old q ≡ true → own_byte self.new q ≡ stored (own_byte self.old) at bytes.now q }
@@ -148,7 +148,7 @@ impl Own {
 
     /// The 4,096 bytes from the place on.
     pub fn page(&self, at: u64) -> &[u8]
-        requires { IsOwn self.now at 4096 }
+        requires { AreOwnBytes self.now at 4096 }
         ensures { result.now ≡ slice_range self.now.bytes (at - self.now.base) (at - self.now.base + 4096) }
     {
         let k = (at - self.base) as usize;
@@ -157,7 +157,7 @@ impl Own {
 
     /// The 4,096 bytes from the place on, to be written.
     pub fn page_mut(&mut self, at: u64) -> &mut [u8]
-        requires { IsOwn self.old at 4096 }
+        requires { AreOwnBytes self.old at 4096 }
         ensures value { result.now ≡ slice_range self.old.bytes (at - self.old.base) (at - self.old.base + 4096) }
         ensures* writes_back { sem 𝓛 (LendsOwnPage self.entry at result) }
     {

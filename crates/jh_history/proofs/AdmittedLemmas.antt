@@ -10,7 +10,7 @@ use Rattle.jh_script.specs.declared.image.Image.{Image}
 use Rattle.jh_script.specs.declared.image.Program.{Program}
 use Rattle.jh_script.specs.declared.op.Op.{Op}
 use Rattle.jh_script.specs.Operations.{IsWellFormed, is_width}
-use Rattle.jh_history.specs.Lives.{program_of, is_program_of}
+use Rattle.jh_history.specs.Lives.{program_ops, is_program_of}
 use Rattle.jh_check.specs.Clean.{IsSoundRoot}
 use Rattle.jh_check.proofs.Public.{sound_root_holds, clean_from_nothing}
 use Rattle.jh_history.specs.Admitted.{IsAdmitted, IsSoundProgram}
@@ -33,13 +33,13 @@ found P p [] all = tt
 found P p (x ∷ xs) all = found_at P (p x) x (find p xs) all.0 (found P p xs all.1)
 
 -- what holds of all operations of an image holds of each CPU's
-pub program_of_all : (P : Op → Type 0) (image : Image) (name : List ℕ) (cpu : ℕ) → All (λ (p : Program). All P p.ops) image.programs → All P (program_of image name cpu)
-unfolding program_of
-program_of_all P image name cpu all = All-from_recursion P (program_of image name cpu) (found P (is_program_of name cpu) image.programs (recursion_from_All (λ (x : Program). All P x.ops) image.programs all))
+pub program_ops_all : (P : Op → Type 0) (image : Image) (name : List ℕ) (cpu : ℕ) → All (λ (p : Program). All P p.ops) image.programs → All P (program_ops image name cpu)
+unfolding program_ops
+program_ops_all P image name cpu all = All-from_recursion P (program_ops image name cpu) (found P (is_program_of name cpu) image.programs (recursion_from_All (λ (x : Program). All P x.ops) image.programs all))
 
 -- the operations of each CPU are plain
-pub program_of_well_formed : (image : Image) (name : List ℕ) (cpu : ℕ) → IsAdmitted image → All IsWellFormed (program_of image name cpu)
-program_of_well_formed image name cpu admitted = program_of_all IsWellFormed image name cpu (λ i d lt. (admitted.programs i d lt).well_formed)
+pub program_ops_well_formed : (image : Image) (name : List ℕ) (cpu : ℕ) → IsAdmitted image → All IsWellFormed (program_ops image name cpu)
+program_ops_well_formed image name cpu admitted = program_ops_all IsWellFormed image name cpu (λ i d lt. (admitted.programs i d lt).well_formed)
 
 few_at : (b : Bool) (x : Program) (o : Option Program) → IsSoundProgram x → length (option_map_or (λ (p : Program). p.ops) o []) ≤ 4096 → length (option_map_or (λ (p : Program). p.ops) (cond b (Some x) o) []) ≤ 4096
 few_at true x o fine rest = fine.few
@@ -50,8 +50,8 @@ few_found p [] all = omega arith
 few_found p (x ∷ xs) all = few_at (p x) x (find p xs) all.0 (few_found p xs all.1)
 
 -- and they are few
-pub few_operations : (image : Image) (name : List ℕ) (cpu : ℕ) → IsAdmitted image → length (program_of image name cpu) ≤ 4096
-unfolding program_of
+pub few_operations : (image : Image) (name : List ℕ) (cpu : ℕ) → IsAdmitted image → length (program_ops image name cpu) ≤ 4096
+unfolding program_ops
 few_operations image name cpu admitted = few_found (is_program_of name cpu) image.programs (recursion_from_All IsSoundProgram image.programs admitted.programs)
 
 -- a width is that of a register at most

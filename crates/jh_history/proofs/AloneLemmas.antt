@@ -21,7 +21,7 @@ use Rattle.jh_history.specs.declared.entry.Entry.{Entry}
 use Rattle.jh_history.specs.declared.entry.Act.{Act}
 use Rattle.jh_history.specs.declared.entry.Act.TheVariants.{Read, Write, Fetch, Await, Irq, Hvc, Begin, Stop, Decide, Settle, Commit, Note, Noted, Finish}
 use Rattle.jh_history.specs.Facts.{Facts}
-use Rattle.jh_history.specs.Lives.{is_on_board, cell_in, program_of, ops_in, op_at}
+use Rattle.jh_history.specs.Lives.{is_on_board, cell_in, program_ops, ops_in, op_at}
 use Rattle.jh_history.specs.Cpus.{change_of, changed, acted}
 use Rattle.jh_history.specs.Calls.{call_by, is_call}
 use Rattle.jh_history.specs.Commits.{cells_by}
@@ -31,7 +31,7 @@ use Rattle.jh_history.specs.Wants.{pending_op, goes_on}
 use Rattle.jh_history.specs.Admitted.{HasNoCall, IsNoCall}
 use Rattle.jh_history.specs.Due.{due_at, state_act, next_act, act_of, await_of, got_by, entry_by, IsLegal, IsLegalFrom}
 use Rattle.jh_history.specs.Alone.{IsAlone, IsByRoot}
-use Rattle.jh_history.proofs.AdmittedLemmas.{program_of_all}
+use Rattle.jh_history.proofs.AdmittedLemmas.{program_ops_all}
 use Rattle.jh_history.proofs.DueLemmas.{due_at_absent, due_at_present}
 use Rattle.jh_history.proofs.LegalLemmas.{due_split, IsLegal_begin}
 use Rattle.jh_history.proofs.SoundCpusLemmas.{changed_owner}
@@ -75,8 +75,8 @@ no_call_at (op ∷ ops) zero all = all.0
 no_call_at (op ∷ ops) (suc i) all = no_call_at ops i all.1
 
 no_calls_by : (image : Image) (cpu : ℕ) (cell : Option CellConfig) → HasNoCall image
-    → AllByRecursion IsNoCall (option_map_or (λ (c : CellConfig). program_of image (name_of c) cpu) cell [])
-no_calls_by image cpu (Some c) silent = recursion_from_All IsNoCall (program_of image (name_of c) cpu) (program_of_all IsNoCall image (name_of c) cpu silent)
+    → AllByRecursion IsNoCall (option_map_or (λ (c : CellConfig). program_ops image (name_of c) cpu) cell [])
+no_calls_by image cpu (Some c) silent = recursion_from_All IsNoCall (program_ops image (name_of c) cpu) (program_ops_all IsNoCall image (name_of c) cpu silent)
 no_calls_by image cpu None silent = tt
 
 no_call_pending : (image : Image) (f : Facts) (state : Cpu) (cpu : ℕ) (b : Bool) → HasNoCall image → IfSome (cond b (op_at image f state cpu) None) IsNoCall

@@ -5,7 +5,7 @@ pub use Rattle.jh_history.proofs.BehindLemmas.{answer_beyond, answer_no_bytes, a
 pub use Rattle.jh_history.proofs.GrantLemmas.{gives_from, gives_has, place_in_cell_further}
 pub use Rattle.jh_history.proofs.FactsLemmas.{IsLegal_nil, facts_nil, facts_push, same_function}
 pub use Rattle.jh_history.proofs.DueLemmas.{IsLegal_made, by_cpu, due_at_absent, due_at_beyond, due_at_present, is_some_entry}
-pub use Rattle.jh_history.proofs.AdmittedLemmas.{few_operations, program_of_all, program_of_well_formed, sound_root, width_le, within}
+pub use Rattle.jh_history.proofs.AdmittedLemmas.{few_operations, program_ops_all, program_ops_well_formed, sound_root, width_le, within}
 pub use Rattle.jh_history.proofs.ValueLemmas.{row_length}
 unfoldable pub use Rattle.jh_history.proofs.ItemsLemmas.{reached}
 pub use Rattle.jh_history.proofs.LegalLemmas.{IsLegal_begin, due_split}

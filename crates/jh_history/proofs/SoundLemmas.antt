@@ -29,7 +29,7 @@ use Rattle.jh_history.specs.declared.entry.Heard.{Heard}
 use Rattle.jh_history.specs.declared.entry.Act.{Act}
 use Rattle.jh_history.specs.declared.entry.Act.TheVariants.{Read, Write, Fetch, Await, Irq, Hvc, Begin, Stop, Decide, Settle, Commit, Note, Noted, Finish}
 use Rattle.jh_history.specs.Facts.{Facts}
-use Rattle.jh_history.specs.Lives.{is_on_board, program_of, ops_in}
+use Rattle.jh_history.specs.Lives.{is_on_board, program_ops, ops_in}
 use Rattle.jh_history.specs.Admitted.{IsAdmitted}
 use Rattle.jh_history.specs.Bytes.{byte_after}
 use Rattle.jh_history.specs.Calls.{call_by, counted, decided, first_recipient, telling, listed_behind, is_named}
@@ -93,8 +93,8 @@ begin_none : (image : Image) (rest rest' : Rest) (cpu : ℕ → Cpu) (cells : Li
 begin_none image rest rest' cpu cells coming own cell code a b sound on program =
     let root : ℕ = image.system.root.id in
     let is : (cpu own).owner ≡ root = program.comes.1 in
-    let roots : ops_in image cells (cpu own).owner own ≡ program_of image (name_of image.system.root) own = rw (is, same_number root) refl in
-    let at : slice_get (program_of image (name_of image.system.root) own) (cpu own).position ≡ Some (HvcOp code a b) =
+    let roots : ops_in image cells (cpu own).owner own ≡ program_ops image (name_of image.system.root) own = rw (is, same_number root) refl in
+    let at : slice_get (program_ops image (name_of image.system.root) own) (cpu own).position ≡ Some (HvcOp code a b) =
     ap (λ (ops : List Op). slice_get ops (cpu own).position) (sym roots) ∙ program.at ∙ ap Some program.comes.0 in
     record {
       cells = sound.cells;

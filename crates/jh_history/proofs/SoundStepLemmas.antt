@@ -16,7 +16,7 @@ use Rattle.jh_history.specs.declared.call.Phase.{Phase}
 use Rattle.jh_history.specs.declared.call.Phase.TheVariants.{ToDecide, ToFinish}
 use Rattle.jh_history.specs.declared.change.Change.{Change}
 use Rattle.jh_history.specs.declared.change.Change.TheVariants.{Stop as Halt}
-use Rattle.jh_history.specs.Lives.{is_on_board, program_of}
+use Rattle.jh_history.specs.Lives.{is_on_board, program_ops}
 use Rattle.jh_history.specs.Calls.{counted}
 use Rattle.jh_history.specs.Cpus.{changed, is_running, begun, finished, resumed_in}
 use Rattle.jh_history.specs.Wants.{goes_on}
@@ -130,7 +130,7 @@ begun_root image own i cpu false rests on other is calm =
     subst IsHalting (sym same) (inr (record { asked = calm.asked; stopped = calm.stopped ∙ sym rests }))
 
 pub open_begun : (image : Image) (configs : List CellConfig) (cpu : ℕ → Cpu) (own code a b : ℕ) → ((i : ℕ) → IsCalm (cpu i)) → is_on_board image own ≡ true → (cpu own).owner ≡ image.system.root.id → goes_on (cpu own) ≡ true
-    → slice_get (program_of image (name_of image.system.root) own) (cpu own).position ≡ Some (HvcOp code a b) → is_management (decoded code a b) ≡ true
+    → slice_get (program_ops image (name_of image.system.root) own) (cpu own).position ≡ Some (HvcOp code a b) → is_management (decoded code a b) ≡ true
     → IsOpen image configs (λ i. begun image own i (cpu i)) (record { caller = own; call = decoded code a b; phase = ToDecide })
 open_begun image configs cpu own code a b calm on root goes at management =
     let caller : IsCaller image own (decoded code a b) (cpu own) =

@@ -28,19 +28,19 @@ use Rattle.jh_history.specs.Phases.{keeps_decide, keeps_commit, decision, settle
 use Rattle.jh_cpu.specs.declared.cpu.Cpu.{Cpu}
 use Rattle.jh_ivshmem.specs.Links.{pending_of}
 use Rattle.jh_cellcfg.specs.Cells.{name_of}
-use Rattle.jh_history.specs.Lives.{is_on_board, program_of, cell_in, ops_in, op_at}
+use Rattle.jh_history.specs.Lives.{is_on_board, program_ops, cell_in, ops_in, op_at}
 use Rattle.jh_history.specs.Facts.{Facts}
 use Rattle.jh_history.specs.Wants.{pending_op, goes_on}
 use Rattle.jh_history.specs.Due.{due_at, call_of, is_idle_but, caller_act, state_act, next_act, act_of, await_of, got_by, entry_by}
 use Rattle.jh_script.specs.Operations.{IsWellFormed}
 use Rattle.jh_history.specs.Admitted.{IsAdmitted, IsWellFormedAct}
 use Rattle.jh_history.specs.Private.PlainView.{IsWellFormedEntry}
-use Rattle.jh_history.proofs.AdmittedLemmas.{program_of_well_formed, width_le}
+use Rattle.jh_history.proofs.AdmittedLemmas.{program_ops_well_formed, width_le}
 use Rattle.jh_history.proofs.DueLemmas.{due_at_absent, due_at_present}
 
 ops_by : (image : Image) (cpu : ℕ) (cell : Option CellConfig) → IsAdmitted image
-    → AllByRecursion IsWellFormed (option_map_or (λ (c : CellConfig). program_of image (name_of c) cpu) cell [])
-ops_by image cpu (Some c) admitted = recursion_from_All IsWellFormed (program_of image (name_of c) cpu) (program_of_well_formed image (name_of c) cpu admitted)
+    → AllByRecursion IsWellFormed (option_map_or (λ (c : CellConfig). program_ops image (name_of c) cpu) cell [])
+ops_by image cpu (Some c) admitted = recursion_from_All IsWellFormed (program_ops image (name_of c) cpu) (program_ops_well_formed image (name_of c) cpu admitted)
 ops_by image cpu None admitted = tt
 
 pub ops_in_well_formed : (image : Image) (cells : List Live) (id cpu : ℕ) → IsAdmitted image → AllByRecursion IsWellFormed (ops_in image cells id cpu)

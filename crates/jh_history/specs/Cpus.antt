@@ -20,7 +20,7 @@ use Rattle.jh_history.specs.declared.entry.Settled.TheVariants.{Agreed, Denied, 
 use Rattle.jh_history.specs.declared.entry.Act.{Act}
 use Rattle.jh_history.specs.declared.entry.Act.TheVariants.{Read, Write, Fetch, Await, Irq, Hvc, Begin, Stop, Settle, Commit, Finish}
 use Rattle.jh_history.specs.Facts.{Facts}
-use Rattle.jh_history.specs.Lives.{is_on_board, program_of}
+use Rattle.jh_history.specs.Lives.{is_on_board, program_ops}
 use Rattle.jh_history.specs.Calls.{is_named}
 
 -- a CPU in this mode runs
@@ -70,7 +70,7 @@ settled agreed call cpu = if agreed && is_named call cpu.owner && is_running cpu
 
 -- where in root's program a failed CPU goes on: at its end
 abbrev pub end_in_root : Image → ℕ → ℕ
-end_in_root image i = length (program_of image (name_of image.system.root) i)
+end_in_root image i = length (program_ops image (name_of image.system.root) i)
 
 -- at the Commit of a create the new cell is lent its CPUs; by a start the cell's CPUs run from their programs'
 -- beginnings, by a set loadable they are parked, by a destroy root has them again

@@ -26,8 +26,8 @@ abbrev pub is_program_of : List ℕ → ℕ → Program → Bool
 is_program_of name cpu program = pointwise nat_eq program.cell name && (program.cpu == cpu)
 
 -- the operations of the CPU in the cell of that name, none where the image has no program for it
-unfoldable pub program_of : Image → List ℕ → ℕ → List Op
-program_of image name cpu = option_map_or (λ (p : Program). p.ops) (find (is_program_of name cpu) image.programs) []
+unfoldable pub program_ops : Image → List ℕ → ℕ → List Op
+program_ops image name cpu = option_map_or (λ (p : Program). p.ops) (find (is_program_of name cpu) image.programs) []
 
 -- the configuration of the cell with the id among these, which live besides root
 abbrev pub live_in : List Live → ℕ → Option CellConfig
@@ -43,7 +43,7 @@ regions_in image cells id = option_map_or (λ (c : CellConfig). c.memory_regions
 
 -- the operations of the CPU's program in the live cell with the id: of the program of the cell's name
 abbrev pub ops_in : Image → List Live → ℕ → ℕ → List Op
-ops_in image cells id cpu = option_map_or (λ (c : CellConfig). program_of image (name_of c) cpu) (cell_in image cells id) []
+ops_in image cells id cpu = option_map_or (λ (c : CellConfig). program_ops image (name_of c) cpu) (cell_in image cells id) []
 
 -- the configuration of the live cell with the id, where these facts hold
 abbrev pub cell_of : Image → Facts → ℕ → Option CellConfig

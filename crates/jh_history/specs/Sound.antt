@@ -25,7 +25,7 @@ use Rattle.jh_history.specs.declared.call.Phase.{Phase}
 use Rattle.jh_history.specs.declared.call.Phase.TheVariants.{ToDecide, ToSettle, ToCreate, ToCommit, ToNote, ToNoted, ToFinish}
 use Rattle.jh_history.specs.Facts.{Facts}
 use Rattle.jh_history.specs.Devices.{specs_of}
-use Rattle.jh_history.specs.Lives.{is_on_board, program_of}
+use Rattle.jh_history.specs.Lives.{is_on_board, program_ops}
 use Rattle.jh_history.specs.Admitted.{pool_pages}
 use Rattle.jh_history.specs.Calls.{is_named}
 use Rattle.jh_history.specs.Cpus.{is_running}
@@ -91,7 +91,7 @@ pub record IsCaller (image : Image) (caller : ℕ) (call : Call) (cpu : Cpu) : T
   pub code : ℕ
   pub a : ℕ
   pub b : ℕ
-  pub at : slice_get (program_of image (name_of image.system.root) caller) cpu.position ≡ Some (HvcOp code a b)
+  pub at : slice_get (program_ops image (name_of image.system.root) caller) cpu.position ≡ Some (HvcOp code a b)
   pub asks : call ≡ decoded code a b
   pub management : is_management call ≡ true
 

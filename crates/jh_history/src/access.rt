@@ -7,7 +7,7 @@ use crate::place::Places;
 use std::marker::Model;
 
 /// How many bytes of configuration space a function has.
-const FUNCTION: u64 = 4096;
+const FUNCTION_SIZE: u64 = 4096;
 
 /// What an access does with the bytes; each kind needs a right of its own.
 #[derive(Clone, Copy, PartialEq, Eq, Debug)]
@@ -58,7 +58,7 @@ impl ConfigBytes {
     pub(crate) fn function(&self) -> u64
         ensures { result ≡ self.now.at / 4096 }
     {
-        self.at / FUNCTION
+        self.at / FUNCTION_SIZE
     }
 
     /// Where the bytes stand among those of the function.
@@ -67,7 +67,7 @@ impl ConfigBytes {
         ensures within { result < 4096 }
         ensures aligned { result % self.now.width ≡ 0 }
     {
-        (self.at % FUNCTION) as u16
+        (self.at % FUNCTION_SIZE) as u16
     }
 
     /// How many bytes they are: 1, 2 or 4.

@@ -19,7 +19,7 @@ use jh_mmio::{Hitting, Window, hitting_behind_regions, lets_through};
 use jh_num::Range;
 
 /// How many bytes of the ECAM window a bus has.
-const BUS: u64 = 0x10_0000;
+const BUS_SIZE: u64 = 0x10_0000;
 
 /// The ECAM window of the system; an empty range where it has none.
 pub fn ecam_of(system: &SystemConfig) -> Range
@@ -33,7 +33,7 @@ pub fn ecam_of(system: &SystemConfig) -> Range
     let buses = u64::from(system.pci_mmconfig_end_bus) + 1;
     Range {
         start,
-        end: start.saturating_add(buses * BUS),
+        end: start.saturating_add(buses * BUS_SIZE),
     }
 }
 

@@ -15,7 +15,7 @@ ghost use Rattle.jh_shape.specs.Lives.{configs_of};
 ghost use Rattle.jh_history.specs.Places.{places_of_row, IsRow};
 ghost use Rattle.jh_history.specs.Admitted.{IsAdmitted};
 ghost use Rattle.jh_history.specs.Facts.{Facts};
-ghost use Rattle.jh_history.specs.Lives.{is_on_board, is_program_of, program_of, cell_in, regions_in, ops_in, op_at};
+ghost use Rattle.jh_history.specs.Lives.{is_on_board, is_program_of, program_ops, cell_in, regions_in, ops_in, op_at};
 
 use crate::access::{Access, Reach, Wanted};
 use crate::behind::{answer_behind, ecam_of, is_within, places_in};
@@ -46,9 +46,9 @@ pub fn is_program_of(program: &Program, name: &[u8], cpu: u8) -> bool
 }
 
 /// The operations of the CPU in the cell of that name; none where the image has no such program.
-#[tactic(auto, unfolding(crate::specs::Lives::program_of))]
-pub fn program_of<'a>(image: &'a Image, name: &[u8], cpu: u8) -> &'a [Op]
-    ensures { result.now ≡ program_of image.now name.now cpu }
+#[tactic(auto, unfolding(crate::specs::Lives::program_ops))]
+pub fn program_ops<'a>(image: &'a Image, name: &[u8], cpu: u8) -> &'a [Op]
+    ensures { result.now ≡ program_ops image.now name.now cpu }
 {
     for program in image.programs.as_slice() {
         if is_program_of(program, name, cpu) {
@@ -136,7 +136,7 @@ fn ops_in<'a>(image: &'a Image, cells: &[CellConfig], id: u32, cpu: u8) -> &'a [
     ensures well_formed { All IsWellFormed result.now }
 {
     match config_in(image, cells, u64::from(id)) {
-        Some(cell) => program_of(image, cell.name(), cpu),
+        Some(cell) => program_ops(image, cell.name(), cpu),
         None => &[],
     }
 }

@@ -9,7 +9,7 @@ ghost use Rattle.jh_history.specs.Facts.{Facts};
 ghost use Rattle.jh_history.specs.Cpus.{change_if, change_of, changed, begun, is_agreed, settled, end_in_root, committed, finished, acted, cpu_after, is_running};
 
 use crate::call::{OpenCall, Phase};
-use crate::cells::{is_on_board, program_of};
+use crate::cells::{is_on_board, program_ops};
 use crate::entry::{Act, Entry, Settled};
 use crate::phases::is_named;
 use jh_call::Call;
@@ -116,7 +116,7 @@ fn end_in_root(image: &Image, i: u8) -> u32
     requires { IsAdmitted image.now }
     ensures { result ≡ end_in_root image.now i }
 {
-    program_of(image, image.system.root.name(), i).len() as u32
+    program_ops(image, image.system.root.name(), i).len() as u32
 }
 
 /// The CPU is lent to the new cell, where that has it.

@@ -30,7 +30,7 @@ use Rattle.jh_history.specs.declared.entry.Act.TheVariants.{Read, Write, Fetch, 
 use Rattle.jh_history.specs.Access.{place_in_cell, config_value, register_value, read_of, is_reached}
 use Rattle.jh_history.specs.Devices.{function_at}
 use Rattle.jh_history.specs.Facts.{Facts}
-use Rattle.jh_history.specs.Lives.{cell_in, ops_in, program_of}
+use Rattle.jh_history.specs.Lives.{cell_in, ops_in, program_ops}
 use Rattle.jh_history.specs.Grants.{granted, reach, devices_of}
 use Rattle.jh_history.specs.Hypercalls.{seen_of}
 use Rattle.jh_shape.specs.Lives.{configs_of}
@@ -228,7 +228,7 @@ ends_by image f id act None h is = absurd (none-some act is)
 ends_by image f id act (Some other) h is = let P : Act → Type 0 = EndsAsGranted image f id in subst P (same_Some other act is) h
 
 -- the operations of a cell are plain
-pub ops_well_formed : (image : Image) (cpu : ℕ) (o : Option CellConfig) (i : ℕ) (op : Op) → IsAdmitted image → slice_get (option_map_or (λ (c : CellConfig). program_of image (name_of c) cpu) o []) i ≡ Some op → IsWellFormed op
+pub ops_well_formed : (image : Image) (cpu : ℕ) (o : Option CellConfig) (i : ℕ) (op : Op) → IsAdmitted image → slice_get (option_map_or (λ (c : CellConfig). program_ops image (name_of c) cpu) o []) i ≡ Some op → IsWellFormed op
 ops_well_formed image cpu None i op admitted h = absurd (none-some op h)
 ops_well_formed image cpu (Some c) i op admitted h = op_well_formed image (name_of c) cpu i op admitted h
 

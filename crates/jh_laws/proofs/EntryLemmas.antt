@@ -18,7 +18,7 @@ use Rattle.jh_history.specs.declared.entry.Entry.{Entry}
 use Rattle.jh_history.specs.declared.entry.Act.{Act}
 use Rattle.jh_history.specs.declared.entry.Act.TheVariants.{Read, Write, Fetch, Await, Irq, Hvc, Begin, Stop, Decide, Settle, Commit, Note, Noted, Finish}
 use Rattle.jh_history.specs.Facts.{Facts}
-use Rattle.jh_history.specs.Lives.{is_on_board, program_of, cell_in}
+use Rattle.jh_history.specs.Lives.{is_on_board, program_ops, cell_in}
 use Rattle.jh_history.specs.Hypercalls.{seen_of}
 use Rattle.jh_history.specs.History.{facts}
 use Rattle.jh_history.specs.Due.{due_at, act_of, await_of, got_by, IsLegal}
@@ -77,9 +77,9 @@ phase_none Stop h = absurd (false≢true h)
 -- the operation of a live cell's program
 abbrev pub IsOperationOf : Image → Facts → ℕ → ℕ → Op → Type 0
 IsOperationOf image f id cpu op =
-    (cell : CellConfig) × IsRootOrLive image f.cells cell × (cell.id ≡ id) × (slice_get (program_of image (name_of cell) cpu) (f.cpu cpu).position ≡ Some op)
+    (cell : CellConfig) × IsRootOrLive image f.cells cell × (cell.id ≡ id) × (slice_get (program_ops image (name_of cell) cpu) (f.cpu cpu).position ≡ Some op)
 
-cell_of_op : (image : Image) (f : Facts) (id cpu : ℕ) (op : Op) (o : Option CellConfig) → cell_in image f.cells id ≡ o → slice_get (option_map_or (λ (c : CellConfig). program_of image (name_of c) cpu) o []) (f.cpu cpu).position ≡ Some op → IsOperationOf image f id cpu op
+cell_of_op : (image : Image) (f : Facts) (id cpu : ℕ) (op : Op) (o : Option CellConfig) → cell_in image f.cells id ≡ o → slice_get (option_map_or (λ (c : CellConfig). program_ops image (name_of c) cpu) o []) (f.cpu cpu).position ≡ Some op → IsOperationOf image f id cpu op
 cell_of_op image f id cpu op None is h = absurd (none-some op h)
 cell_of_op image f id cpu op (Some cell) is h = let live = cell_live image f.cells id cell is in (cell, live.0, live.1, h)
 

@@ -35,7 +35,7 @@ use Rattle.jh_history.specs.Access.{is_reached}
 use Rattle.jh_history.specs.Devices.{is_endpoint, spec_of, specs_from, specs_of, list_in, devices_in, number_at}
 use Rattle.jh_history.specs.Endpoints.{function_put, endpoints_put, endpoints_changed, endpoints_acted, changing_by, change_by}
 use Rattle.jh_history.specs.Facts.{Facts}
-use Rattle.jh_history.specs.Lives.{is_on_board, op_at, program_of}
+use Rattle.jh_history.specs.Lives.{is_on_board, op_at, program_ops}
 use Rattle.jh_history.specs.Grants.{reach}
 use Rattle.jh_history.specs.Cpus.{change_of, changed, is_running}
 use Rattle.jh_history.specs.Alone.{IsAlone, IsByRoot}
@@ -43,7 +43,7 @@ use Rattle.jh_history.specs.History.{start, after, facts}
 use Rattle.jh_history.specs.Due.{due_at, act_of, await_of, irq_of, got_by, entry_by, IsLegal, IsLegalFrom}
 use Rattle.jh_history.specs.Admitted.{IsAdmitted, IsNoCall, HasNoCall}
 use Rattle.jh_history.specs.Calls.{is_call}
-use Rattle.jh_history.proofs.Public.{due_at_absent, due_at_present, acted_own, alone_start, alone_after, due_split, IsLegal_begin, program_of_all, few_operations}
+use Rattle.jh_history.proofs.Public.{due_at_absent, due_at_present, acted_own, alone_start, alone_after, due_split, IsLegal_begin, program_ops_all, few_operations}
 use Rattle.std.specs.List.{AllByRecursion}
 use Rattle.std.proofs.lemmas.List.Elements.{recursion_from_All}
 use Rattle.jh_laws.specs.RootAlone.{HasNoDevice}
@@ -65,8 +65,8 @@ no_call_at [] i op all e = absurd (none-some op e)
 no_call_at (first ∷ ops) zero op all e = let P : Op → Type 0 = IsNoCall in subst P (same_Some first op e) all.0
 no_call_at (first ∷ ops) (suc i) op all e = no_call_at ops i op all.1 e
 
-pub op_silent : (image : Image) (name : List ℕ) (cpu i : ℕ) (op : Op) → IsSilent image → slice_get (program_of image name cpu) i ≡ Some op → IsNoCall op
-op_silent image name cpu i op admitted e = no_call_at (program_of image name cpu) i op (recursion_from_All IsNoCall (program_of image name cpu) (program_of_all IsNoCall image name cpu admitted.silent)) e
+pub op_silent : (image : Image) (name : List ℕ) (cpu i : ℕ) (op : Op) → IsSilent image → slice_get (program_ops image name cpu) i ≡ Some op → IsNoCall op
+op_silent image name cpu i op admitted e = no_call_at (program_ops image name cpu) i op (recursion_from_All IsNoCall (program_ops image name cpu) (program_ops_all IsNoCall image name cpu admitted.silent)) e
 
 -- the CPU is root's, and is neither asked to stop nor stopped
 pub record IsRoots (image : Image) (state : Cpu) : Type 0 where

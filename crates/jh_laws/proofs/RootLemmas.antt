@@ -17,8 +17,8 @@ use Rattle.jh_script.specs.declared.image.Program.{Program}
 use Rattle.jh_script.specs.declared.op.Op.{Op}
 use Rattle.jh_script.specs.Operations.{IsWellFormed}
 use Rattle.jh_history.specs.Admitted.{IsAdmitted}
-use Rattle.jh_history.specs.Lives.{is_program_of, program_of, is_on_board}
-use Rattle.jh_history.proofs.Public.{sound_root, program_of_well_formed}
+use Rattle.jh_history.specs.Lives.{is_program_of, program_ops, is_on_board}
+use Rattle.jh_history.proofs.Public.{sound_root, program_ops_well_formed}
 use Rattle.jh_laws.proofs.FindLemmas.{IsOnly, find_only}
 
 abbrev pub regions : Image → List Region
@@ -56,8 +56,8 @@ at_op ops i op all e =
     let P : Op → Type 0 = IsWellFormed in
     subst P (get_or_from_slice_get ops i op op e) (all i op within)
 
-pub op_well_formed : (image : Image) (name : List ℕ) (cpu i : ℕ) (op : Op) → IsAdmitted image → slice_get (program_of image name cpu) i ≡ Some op → IsWellFormed op
-op_well_formed image name cpu i op admitted e = at_op (program_of image name cpu) i op (program_of_well_formed image name cpu admitted) e
+pub op_well_formed : (image : Image) (name : List ℕ) (cpu i : ℕ) (op : Op) → IsAdmitted image → slice_get (program_ops image name cpu) i ≡ Some op → IsWellFormed op
+op_well_formed image name cpu i op admitted e = at_op (program_ops image name cpu) i op (program_ops_well_formed image name cpu admitted) e
 
 -- the program is that of the name and CPU which it has
 named : (name : List ℕ) (cpu : ℕ) (p : Program) → is_program_of name cpu p ≡ true → (p.cell ≡ name) × (p.cpu ≡ cpu)
@@ -76,17 +76,17 @@ only_program image name cpu admitted j k d lt within at_j at_k =
     let by_name : is_program_of one.cell cpu other ≡ true = ap (λ (n : List ℕ). is_program_of n cpu other) is.0 ∙ at_k in
     admitted.owned j k d lt within (ap (λ (c : ℕ). is_program_of one.cell c other) is.1 ∙ by_name)
 
-pub program_of_found : (image : Image) (p : Program) → IsAdmitted image → Contains image.programs p → program_of image p.cell p.cpu ≡ p.ops
-unfolding program_of
-program_of_found image p admitted held =
+pub program_ops_found : (image : Image) (p : Program) → IsAdmitted image → Contains image.programs p → program_ops image p.cell p.cpu ≡ p.ops
+unfolding program_ops
+program_ops_found image p admitted held =
     let same : get_or image.programs held.0 p ≡ p = held.2 in
     let passes : is_program_of p.cell p.cpu (get_or image.programs held.0 p) ≡ true = ap (is_program_of p.cell p.cpu) same ∙ own_name p in
     let found : find (is_program_of p.cell p.cpu) image.programs ≡ Some p = find_only (is_program_of p.cell p.cpu) image.programs held.0 p held.1 passes (only_program image p.cell p.cpu admitted) ∙ ap Some same in
     ap (λ (o : Option Program). option_map_or (λ (q : Program). q.ops) o []) found
 
-pub program_of_none : (image : Image) (name : List ℕ) (cpu : ℕ) → ((p : Program) → Contains image.programs p → p.cell ≡ name → p.cpu ≡ cpu → ⊥) → program_of image name cpu ≡ []
-unfolding program_of
-program_of_none image name cpu none =
+pub program_ops_none : (image : Image) (name : List ℕ) (cpu : ℕ) → ((p : Program) → Contains image.programs p → p.cell ≡ name → p.cpu ≡ cpu → ⊥) → program_ops image name cpu ≡ []
+unfolding program_ops
+program_ops_none image name cpu none =
     let found : find (is_program_of name cpu) image.programs ≡ None = find_nothing (is_program_of name cpu) image.programs
     (λ p held. false_from_ne_true (is_program_of name cpu p) (λ yes. let is = named name cpu p yes in none p held is.0 is.1)) in
     ap (λ (o : Option Program). option_map_or (λ (q : Program). q.ops) o []) found

@@ -27,7 +27,7 @@ use Rattle.jh_history.specs.declared.entry.Settled.TheVariants.{Agreed, Denied, 
 use Rattle.jh_history.specs.declared.entry.Act.{Act}
 use Rattle.jh_history.specs.declared.entry.Act.TheVariants.{Read, Write, Fetch, Await, Irq, Hvc, Begin, Stop, Decide, Settle, Commit, Note, Noted, Finish}
 use Rattle.jh_history.specs.Facts.{Facts}
-use Rattle.jh_history.specs.Lives.{is_on_board, program_of, cell_in}
+use Rattle.jh_history.specs.Lives.{is_on_board, program_ops, cell_in}
 use Rattle.jh_history.specs.Admitted.{IsAdmitted}
 use Rattle.jh_history.specs.Calls.{is_named, is_call}
 use Rattle.jh_history.specs.Commits.{cells_by, committed_cells, is_commit}
@@ -51,11 +51,11 @@ behind_cpu image before entry i = ap (λ (f : Facts). f.cpu i) (facts_push image
 -- ---- a CPU's own entry
 
 -- a position in a program is below the end of its type
-within_ops : (image : Image) (cpu : ℕ) (o : Option CellConfig) (i : ℕ) (op : Op) → IsAdmitted image → slice_get (option_map_or (λ (c : CellConfig). program_of image (name_of c) cpu) o []) i ≡ Some op → i < 4096
+within_ops : (image : Image) (cpu : ℕ) (o : Option CellConfig) (i : ℕ) (op : Op) → IsAdmitted image → slice_get (option_map_or (λ (c : CellConfig). program_ops image (name_of c) cpu) o []) i ≡ Some op → i < 4096
 within_ops image cpu None i op admitted h = absurd (none-some op h)
 within_ops image cpu (Some c) i op admitted h =
-    let few : length (program_of image (name_of c) cpu) ≤ 4096 = few_operations image (name_of c) cpu admitted in
-    let within : i < length (program_of image (name_of c) cpu) = slice_get_within (program_of image (name_of c) cpu) i op h in
+    let few : length (program_ops image (name_of c) cpu) ≤ 4096 = few_operations image (name_of c) cpu admitted in
+    let within : i < length (program_ops image (name_of c) cpu) = slice_get_within (program_ops image (name_of c) cpu) i op h in
     omega (arith, few, within)
 
 moved_stepped : (cpu : Cpu) → cpu.position < 4096 → moved cpu ≡ stepped cpu
@@ -238,8 +238,8 @@ finish_cpus image before rest entry answer i admitted legal act =
     let of = phase_of_due image f entry sound (due_split image before rest entry legal) (ap is_phase act) in
     let Q : ℕ → Type 0 = λ k. IsCaller image k of.o.call (f.cpu k) in
     let made : IsCaller image entry.cpu of.o.call (f.cpu entry.cpu) = subst Q of.caller (call_open image f of.o sound of.opens).caller in
-    let few : length (program_of image (name_of image.system.root) entry.cpu) ≤ 4096 = few_operations image (name_of image.system.root) entry.cpu admitted in
-    let within = slice_get_within (program_of image (name_of image.system.root) entry.cpu) (f.cpu entry.cpu).position (HvcOp made.code made.a made.b) made.at in
+    let few : length (program_ops image (name_of image.system.root) entry.cpu) ≤ 4096 = few_operations image (name_of image.system.root) entry.cpu admitted in
+    let within = slice_get_within (program_ops image (name_of image.system.root) entry.cpu) (f.cpu entry.cpu).position (HvcOp made.code made.a made.b) made.at in
     let R : ℕ → Type 0 = λ k. ((f.cpu k).position < 4096) × ((f.cpu k).stopped ≡ false) × ((f.cpu k).owner ≡ image.system.root.id) in
     let own : R entry.cpu = (omega (arith, few, within), made.calm.stopped, made.owner) in
     let P : Cpu → Type 0 = HasFinished image entry.cpu i (f.cpu i) in
@@ -354,7 +354,7 @@ commit_by : (image : Image) (cells made : List Live) (cpu : ℕ → Cpu) (caller
 commit_by image cells made cpu caller i (Create at) phase manages e h is = created_cpus image cells made cpu caller at i phase e h is
 commit_by image cells made cpu caller i (Start id) phase manages e h is = owner_changed restarted id (cpu i)
 commit_by image cells made cpu caller i (Loadable id) phase manages e h is = owner_changed parked id (cpu i)
-commit_by image cells made cpu caller i (Destroy id) phase manages e h is = owner_changed (returned image.system.root.id (length (program_of image (name_of image.system.root) i))) id (cpu i)
+commit_by image cells made cpu caller i (Destroy id) phase manages e h is = owner_changed (returned image.system.root.id (length (program_ops image (name_of image.system.root) i))) id (cpu i)
 commit_by image cells made cpu caller i (Info kind) phase manages e h is = both_ways false refl manages
 commit_by image cells made cpu caller i (State id) phase manages e h is = both_ways false refl manages
 commit_by image cells made cpu caller i (CpuInfo n kind) phase manages e h is = both_ways false refl manages

@@ -12,7 +12,7 @@ use Rattle.jh_history.specs.declared.entry.Entry.{Entry}
 use Rattle.jh_history.specs.declared.entry.Act.{Act}
 use Rattle.jh_history.specs.declared.entry.Act.TheVariants.{Read, Write, Fetch, Await, Irq, Hvc, Begin}
 use Rattle.jh_history.specs.History.{facts}
-use Rattle.jh_history.specs.Lives.{program_of}
+use Rattle.jh_history.specs.Lives.{program_ops}
 use Rattle.jh_laws.specs.RootAlone.{cpu_at}
 use Rattle.jh_laws.specs.Ends.{IsAnswered, IsReadBy}
 use Rattle.jh_laws.specs.Outcomes.{HasItsOutcome}
@@ -38,7 +38,7 @@ operations_by cpu entries = filter_map (op_by cpu) entries
 
 -- the operations of the CPU's program in the cell
 abbrev pub program_in : Image → CellConfig → ℕ → List Op
-program_in image cell cpu = program_of image (name_of cell) cpu
+program_in image cell cpu = program_ops image (name_of cell) cpu
 
 -- the cell's operation is due after the entries: a read, write or fetch always is, and an await where it reads the value
 -- that it waits for, if anything answers it. These are the operations of images whose root has no device, and which have no

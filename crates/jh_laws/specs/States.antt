@@ -10,7 +10,7 @@ use Rattle.jh_call.specs.declared.call.Call.TheVariants.{Create, Start, Loadable
 use Rattle.jh_script.specs.declared.image.Image.{Image}
 use Rattle.jh_history.specs.declared.entry.Act.{Act}
 use Rattle.jh_history.specs.declared.entry.Act.TheVariants.{Begin, Settle, Commit, Finish, Stop}
-use Rattle.jh_history.specs.Lives.{is_on_board, program_of}
+use Rattle.jh_history.specs.Lives.{is_on_board, program_ops}
 use Rattle.jh_history.specs.Calls.{is_named}
 use Rattle.jh_laws.specs.Moves.{stepped}
 
@@ -50,7 +50,7 @@ HasCommitted image old new (Create at) i before behind =
 HasCommitted image old new (Start id) i before behind = (before.owner ≡ id → behind ≡ restarted before) × (before.owner ≢ id → behind ≡ before)
 HasCommitted image old new (Loadable id) i before behind = (before.owner ≡ id → behind ≡ parked before) × (before.owner ≢ id → behind ≡ before)
 HasCommitted image old new (Destroy id) i before behind =
-    (before.owner ≡ id → behind ≡ returned image.system.root.id (length (program_of image (name_of image.system.root) i)) before) × (before.owner ≢ id → behind ≡ before)
+    (before.owner ≡ id → behind ≡ returned image.system.root.id (length (program_ops image (name_of image.system.root) i)) before) × (before.owner ≢ id → behind ≡ before)
 HasCommitted image old new call i before behind = ⊥
 
 -- at the end root's CPUs go on, the caller has done its operation, and every other CPU stays as it is

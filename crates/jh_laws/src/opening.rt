@@ -6,7 +6,7 @@ ghost use Rattle.jh_script.specs.declared.image.Preload.{Preload as ThePreload};
 ghost use Rattle.jh_script.specs.declared.image.Program.{Program as TheProgram};
 ghost use Rattle.jh_history.specs.declared.place.Place.TheVariants.{Physical, Page};
 ghost use Rattle.jh_history.specs.Admitted.{IsAdmitted};
-ghost use Rattle.jh_history.specs.Lives.{program_of};
+ghost use Rattle.jh_history.specs.Lives.{program_ops};
 ghost use Rattle.jh_laws.specs.RootAlone.{HasNoDevice, byte_at, cpu_at};
 
 /// Where root has no ivshmem device, a byte of physical memory is at opening the preload's where one puts one there, and
@@ -36,9 +36,9 @@ pub fn cpus_open_at_their_beginning()
 /// image has none.
 pub fn programs_are_found_by_cell_and_cpu()
     ensures found { (image : TheImage) (program : TheProgram) → IsAdmitted image →
-        Contains image.programs program → program_of image program.cell program.cpu ≡ program.ops }
+        Contains image.programs program → program_ops image program.cell program.cpu ≡ program.ops }
     ensures none { (image : TheImage) (name : List ℕ) (cpu : ℕ) →
         ((program : TheProgram) → Contains image.programs program →
         program.cell ≡ name → program.cpu ≡ cpu → ⊥) →
-        program_of image name cpu ≡ [] }
+        program_ops image name cpu ≡ [] }
 {}

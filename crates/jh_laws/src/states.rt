@@ -5,7 +5,7 @@ ghost use Rattle.jh_cellcfg.specs.Cells.{name_of};
 ghost use Rattle.jh_cpu.specs.declared.cpu.Mode.TheVariants.{Running as Runs};
 ghost use Rattle.jh_cpu.specs.Changes.{stopped_of};
 ghost use Rattle.jh_script.specs.declared.op.Op.{Op as TheOp};
-ghost use Rattle.jh_history.specs.Lives.{is_on_board, program_of};
+ghost use Rattle.jh_history.specs.Lives.{is_on_board, program_ops};
 ghost use Rattle.jh_history.specs.declared.entry.Entry.{Entry as TheEntry};
 ghost use Rattle.jh_history.specs.declared.entry.Act.TheVariants.{Begin, Stop, Commit, Finish};
 ghost use Rattle.jh_laws.specs.Moments.{AdmittedJournal, AdmittedMoment, AdmittedSpan, facts_of, facts_before, facts_behind, state_before, state_behind, cells_before, cells_behind};
@@ -60,7 +60,7 @@ pub fn entries_are_their_cpus_own()
         IsCalm (state_before m m.entry.cpu) × ((state_before m m.entry.cpu).mode ≡ Runs) }
     ensures operation { (m : AdmittedMoment) (op : TheOp) → op_of m.entry.act ≡ Some op →
         (cell : TheConfig) × IsRootOrLive m.image (facts_before m).cells cell × (cell.id ≡ m.entry.cell) ×
-        (slice_get (program_of m.image (name_of cell) m.entry.cpu) (state_before m m.entry.cpu).position ≡ Some op) }
+        (slice_get (program_ops m.image (name_of cell) m.entry.cpu) (state_before m m.entry.cpu).position ≡ Some op) }
 {}
 
 /// An entry is due to a CPU of the board exactly where it is asked to stop, or the next phase of its call is due, or

@@ -1,7 +1,7 @@
 //! Borders of pages and of the hypervisor's range, the last place, words, and pages that are spare.
 ghost use Rattle.std.specs.Prelude.{◌≡◌, ◌+◌, ◌≤◌, ◌<◌, length};
 ghost use Rattle.jh_num.specs.declared.address.TheConstants.{ADDRESS_END};
-ghost use Rattle.jh_frames.specs.Memory.{IsOwn};
+ghost use Rattle.jh_frames.specs.Memory.{AreOwnBytes};
 
 use jh_frames::Frames;
 use jh_num::NoMemory;
@@ -87,7 +87,7 @@ fn a_range_of_64_mib_is_taken(rt: HostRuntime) -> Result<(), Fail> {
 
 /// Sets the word there, and tells it with the bytes behind it.
 fn set_and_read(memory: &mut Frames, at: u64, word: u64) -> [u64; 3]
-    requires own { IsOwn memory.old.own at 4096 }
+    requires own { AreOwnBytes memory.old.own at 4096 }
     requires place { at + 4096 ≤ ADDRESS_END }
 {
     memory.set_word(at + 8, word);
@@ -114,7 +114,7 @@ fn a_page_is_lent(rt: HostRuntime) -> Result<(), Fail> {
 
 /// Writes the byte at the index of the page, and tells the bytes of memory there and on both sides.
 fn write_lent(memory: &mut Frames, at: u64, index: usize, byte: u8) -> [u8; 3]
-    requires own { IsOwn memory.old.own at 4096 }
+    requires own { AreOwnBytes memory.old.own at 4096 }
     requires place { at + 4096 ≤ ADDRESS_END }
     requires above { 0 < at }
     requires index { index < 4096 }

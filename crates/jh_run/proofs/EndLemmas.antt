@@ -13,7 +13,7 @@ use Rattle.jh_run.specs.declared.ended.Ended.{Ended}
 use Rattle.jh_run.specs.declared.ended.Ended.TheVariants.{Quiet, Full}
 use Rattle.jh_run.specs.Ends.{is_full}
 use Rattle.jh_run.specs.Private.Ran.{Ran}
-use Rattle.jh_run.specs.Plays.{IsBoardOf, Follows, Plays, IsFullAtItem, IsFullAtCpu}
+use Rattle.jh_run.specs.Plays.{IsBoardOf, Follows, IsPlayedBoard, IsFullAtItem, IsFullAtCpu}
 use Rattle.jh_laws.proofs.Public.{some_none}
 
 -- the laws on items, as they are stated
@@ -60,7 +60,7 @@ full_at_item cut image limit schedule board ended follows within =
 
 -- what is played
 pub Plays_from : LeadLaw → CutLaw → (image : Image) (limit : ℕ) (old new : BoardView) (schedule cpus : List ℕ) (full : Bool) (ended : Ended) → old ≡ opened image limit → is_full ended ≡ full → cpus ≡ cpus_of image
-    → Ran old (schedule ++ rounds (limit + 1) cpus) full new → Plays image limit schedule new ended
+    → Ran old (schedule ++ rounds (limit + 1) cpus) full new → IsPlayedBoard image limit schedule new ended
 unfolding played
 Plays_from lead cut image limit old new schedule cpus full ended is how all h =
     let P : List ℕ → Type 0 = λ zs. Ran old (schedule ++ rounds (limit + 1) zs) full new in
@@ -76,12 +76,12 @@ DueLaw image limit schedule = (played image limit schedule).full ≡ true → (c
 abbrev pub LimitLaw : Image → ℕ → List ℕ → Type 0
 LimitLaw image limit schedule = (played image limit schedule).full ≡ true → length (played image limit schedule).entries ≡ limit
 
-quiet_from : (image : Image) (limit : ℕ) (schedule : List ℕ) (board : BoardView) (ended : Ended) → Plays image limit schedule board ended → QuietLaw image limit schedule → ended ≡ Quiet → IsQuiet image board.entries
+quiet_from : (image : Image) (limit : ℕ) (schedule : List ℕ) (board : BoardView) (ended : Ended) → IsPlayedBoard image limit schedule board ended → QuietLaw image limit schedule → ended ≡ Quiet → IsQuiet image board.entries
 quiet_from image limit schedule board ended plays quiet is =
     let P : Reached → Type 0 = λ r. r.full ≡ false → IsQuiet image r.entries in
     subst P plays.0 quiet (ap is_full is)
 
-full_from : (image : Image) (limit : ℕ) (schedule : List ℕ) (board : BoardView) (ended : Ended) → Plays image limit schedule board ended → DueLaw image limit schedule → LimitLaw image limit schedule → ended ≡ Full → IsFullAtCpu image limit board.entries
+full_from : (image : Image) (limit : ℕ) (schedule : List ℕ) (board : BoardView) (ended : Ended) → IsPlayedBoard image limit schedule board ended → DueLaw image limit schedule → LimitLaw image limit schedule → ended ≡ Full → IsFullAtCpu image limit board.entries
 full_from image limit schedule board ended plays some most is =
     let P : Reached → Type 0 = λ r. r.full ≡ true → (cpu : ℕ) × IsSome (due image r.entries cpu) in
     let Q : Reached → Type 0 = λ r. r.full ≡ true → length r.entries ≡ limit in
@@ -90,7 +90,7 @@ full_from image limit schedule board ended plays some most is =
 never_both : (image : Image) (limit : ℕ) (entries : List Entry) → IsQuiet image entries → IsFullAtCpu image limit entries → ⊥
 never_both image limit entries quiet at = some_none (due image entries at.1.0) (quiet at.1.0) at.1.1
 
-pub quiet_exactly : (image : Image) (limit : ℕ) (schedule : List ℕ) (board : BoardView) (ended : Ended) → Plays image limit schedule board ended → QuietLaw image limit schedule → DueLaw image limit schedule → LimitLaw image limit schedule
+pub quiet_exactly : (image : Image) (limit : ℕ) (schedule : List ℕ) (board : BoardView) (ended : Ended) → IsPlayedBoard image limit schedule board ended → QuietLaw image limit schedule → DueLaw image limit schedule → LimitLaw image limit schedule
     → (ended ≡ Quiet) ↔ IsQuiet image board.entries
 quiet_exactly image limit schedule board ended plays quiet some most = (
   quiet_from image limit schedule board ended plays quiet,
@@ -101,7 +101,7 @@ by_end : (image : Image) (limit : ℕ) (schedule : List ℕ) (board : BoardView)
 by_end image limit schedule board Quiet quiet at = absurd (never_both image limit board.entries (quiet refl) at)
 by_end image limit schedule board Full quiet at = refl
 
-pub full_exactly : (image : Image) (limit : ℕ) (schedule : List ℕ) (board : BoardView) (ended : Ended) → Plays image limit schedule board ended → QuietLaw image limit schedule → DueLaw image limit schedule → LimitLaw image limit schedule
+pub full_exactly : (image : Image) (limit : ℕ) (schedule : List ℕ) (board : BoardView) (ended : Ended) → IsPlayedBoard image limit schedule board ended → QuietLaw image limit schedule → DueLaw image limit schedule → LimitLaw image limit schedule
     → (ended ≡ Full) ↔ IsFullAtCpu image limit board.entries
 full_exactly image limit schedule board ended plays quiet some most = (
   full_from image limit schedule board ended plays some most,

@@ -15,7 +15,7 @@ use Rattle.jh_history.specs.declared.entry.Act.{Act}
 use Rattle.jh_history.specs.declared.entry.Act.TheVariants.{Read, Write, Fetch, Await, Irq, Hvc, Begin, Stop, Decide, Settle, Commit, Note, Noted, Finish}
 use Rattle.jh_history.specs.Admitted.{IsAdmitted}
 use Rattle.jh_history.specs.Due.{IsLegal}
-use Rattle.jh_history.specs.Lives.{program_of}
+use Rattle.jh_history.specs.Lives.{program_ops}
 use Rattle.jh_laws.specs.Held.{IsRootOrLive}
 use Rattle.jh_laws.specs.Moments.{AdmittedMoment, facts_before, state_before}
 use Rattle.jh_laws.specs.Operations.{op_of}
@@ -26,7 +26,7 @@ use Rattle.jh_text.specs.Faults.{IsFault, IsFirstBadLine, IsJournalText, IsTooLo
 use Rattle.jh_text.specs.Ranges.{IsReadable, IsReadableAct}
 use Rattle.jh_text.specs.Text.{journal_text}
 use Rattle.jh_run.specs.Private.Typed.{IsTypedOp, HasTypedNumbers}
-use Rattle.jh_history.proofs.Public.{program_of_all}
+use Rattle.jh_history.proofs.Public.{program_ops_all}
 
 -- the laws of journals that this stands on
 pub record JournalLaws : Type 0 where
@@ -34,7 +34,7 @@ pub record JournalLaws : Type 0 where
   pub cell : (m : AdmittedMoment) → IsTypedImage m.image → m.entry.cell < 2 ^ 32
   pub told : (m : AdmittedMoment) → IsTypedImage m.image → HasTypedAct m.entry.act
   pub operation : (m : AdmittedMoment) (op : Op) → op_of m.entry.act ≡ Some op
-      → (cell : CellConfig) × IsRootOrLive m.image (facts_before m).cells cell × (cell.id ≡ m.entry.cell) × (slice_get (program_of m.image (name_of cell) m.entry.cpu) (state_before m m.entry.cpu).position ≡ Some op)
+      → (cell : CellConfig) × IsRootOrLive m.image (facts_before m).cells cell × (cell.id ≡ m.entry.cell) × (slice_get (program_ops m.image (name_of cell) m.entry.cpu) (state_before m m.entry.cpu).position ≡ Some op)
 
 -- ---- the operations of programs
 
@@ -49,12 +49,12 @@ record IsFitOp (op : Op) : Type 0 where
 fit_op : (laws : JournalLaws) (m : AdmittedMoment) (op : Op) → HasTypedNumbers m.image → op_of m.entry.act ≡ Some op → IsFitOp op
 fit_op laws m op numbers is =
     let own = laws.operation m op is in
-    let ops = program_of m.image (name_of own.0) m.entry.cpu in
+    let ops = program_ops m.image (name_of own.0) m.entry.cpu in
     let position = (state_before m m.entry.cpu).position in
     let plain : All (λ (p : Program). All IsWellFormed p.ops) m.image.programs = λ k d lt. (m.admitted.programs k d lt).well_formed in
     record {
-      well_formed = got_all IsWellFormed ops position op (program_of_all IsWellFormed m.image (name_of own.0) m.entry.cpu plain) own.3;
-      typed = got_all IsTypedOp ops position op (program_of_all IsTypedOp m.image (name_of own.0) m.entry.cpu numbers.ops) own.3;
+      well_formed = got_all IsWellFormed ops position op (program_ops_all IsWellFormed m.image (name_of own.0) m.entry.cpu plain) own.3;
+      typed = got_all IsTypedOp ops position op (program_ops_all IsTypedOp m.image (name_of own.0) m.entry.cpu numbers.ops) own.3;
     }
 
 -- ---- entries

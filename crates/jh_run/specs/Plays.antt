@@ -18,8 +18,8 @@ abbrev pub Follows : Image → ℕ → List ℕ → BoardView → Ended → Type
 Follows image limit schedule board ended = (items image limit schedule [] ≡ record { entries = board.entries; full = is_full ended }) × IsBoardOf image limit board
 
 -- the board is one of the image at the journal that is played, and it ended so
-abbrev pub Plays : Image → ℕ → List ℕ → BoardView → Ended → Type 0
-Plays image limit schedule board ended = (played image limit schedule ≡ record { entries = board.entries; full = is_full ended }) × IsBoardOf image limit board
+abbrev pub IsPlayedBoard : Image → ℕ → List ℕ → BoardView → Ended → Type 0
+IsPlayedBoard image limit schedule board ended = (played image limit schedule ≡ record { entries = board.entries; full = is_full ended }) × IsBoardOf image limit board
 
 -- the journal has `limit` entries, which the first items of the schedule make, and the next item has an entry due
 abbrev pub IsFullAtItem : Image → ℕ → List ℕ → List Entry → Type 0

@@ -4,7 +4,7 @@ ghost use Rattle.jh_history.specs.Due.{IsLegal, IsQuiet};
 ghost use Rattle.jh_history.specs.Items.{rounds, cpus_of};
 ghost use Rattle.jh_history.specs.Lives.{is_on_board};
 ghost use Rattle.jh_history.specs.Admitted.{IsAdmitted};
-ghost use Rattle.jh_run.specs.Plays.{Follows, Plays, IsFullAtItem, IsFullAtCpu};
+ghost use Rattle.jh_run.specs.Plays.{Follows, IsPlayedBoard, IsFullAtItem, IsFullAtCpu};
 ghost use Rattle.jh_run.specs.Private.Ran.{Ran};
 
 use crate::ended::{Ended, how_ended};
@@ -128,7 +128,7 @@ pub fn play(
 ) -> Result<(Board, Ended), NoMemory>
     requires admitted { IsAdmitted image }
     requires schedule { All (λ cpu. IsTrue (is_on_board image cpu)) schedule.now }
-    ensures played { IfOk result (λ r. Plays image limit schedule.now r.0 r.1) }
+    ensures played { IfOk result (λ r. IsPlayedBoard image limit schedule.now r.0 r.1) }
     ensures legal { IfOk result (λ r. IsLegal image r.0.entries) }
     ensures quiet { IfOk result (λ r. (r.1 ≡ Ended.Quiet) ↔ IsQuiet image r.0.entries) }
     ensures full { IfOk result (λ r. (r.1 ≡ Ended.Full) ↔ IsFullAtCpu image limit r.0.entries) }

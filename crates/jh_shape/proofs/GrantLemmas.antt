@@ -16,7 +16,7 @@ use Rattle.jh_shape.specs.Claims.{Claims, Holder}
 use Rattle.jh_shape.specs.Intervals.{touches, spans}
 use Rattle.jh_shape.specs.Shapes.{is_mapped, meets_in_part, are_cut, takes, is_closed, fits_blocks, may_be_block, is_leaf_by, leaf_region, is_met, is_met_by, is_kept_from, leaf_of, out_of}
 use Rattle.jh_num.specs.Levels.{slot_size}
-use Rattle.jh_shape.specs.Suits.{IsFit, IsWhole, AreSoundClaims, IsSlot}
+use Rattle.jh_shape.specs.Suits.{IsFit, IsUncut, AreSoundClaims, IsSlot}
 use Rattle.jh_num.specs.declared.rights.Rights.{Rights}
 use Rattle.jh_shape.specs.Grants.{place_at, IsGranted, DescribesGrants}
 use Rattle.jh_shape.proofs.WantLemmas.{LeafBy, found, leaf_parts, is_none_find}
@@ -96,7 +96,7 @@ page_alike claims region page k sound held mapped begins has l =
     (λ root. ⊎_elim
     (λ comm. ap (λ v. claims.root && (not v && later)) comm ∙ sym (ap (λ v. claims.root && (not v && here)) comm))
     (λ plain.
-    let whole : IsWhole claims region = All-contains (IsWhole claims) claims.regions region (sound.whole root) held in
+    let whole : IsUncut claims region = All-contains (IsUncut claims) claims.regions region (sound.whole root) held in
     ap (λ v. claims.root && (not (is_comm region) && v))
     (ap (λ p. is_closed claims.holders p) (place_later region page k low)
     ∙ closed_alike claims.holders (place_in region page) 4096 k l (whole mapped plain page begins has)))
@@ -119,7 +119,7 @@ block_uncut claims level start region e root =
     let none : (claims.root && cut) ≡ false = not-true (claims.root && cut) parts.1 in
     sym (ap (λ v. v && cut) root) ∙ none
 
-uncut : (claims : Claims) (level start : ℕ) (region : Region) → IsSlot level start → is_leaf_by claims level start region ≡ true → LeafBy claims level start region → (IsTrue claims.root → IsWhole claims region) → claims.root ≡ true → is_comm region ≡ false → are_cut claims.holders (place_in region start) (slot_size level) ≡ false
+uncut : (claims : Claims) (level start : ℕ) (region : Region) → IsSlot level start → is_leaf_by claims level start region ≡ true → LeafBy claims level start region → (IsTrue claims.root → IsUncut claims region) → claims.root ≡ true → is_comm region ≡ false → are_cut claims.holders (place_in region start) (slot_size level) ≡ false
 uncut claims level start region slot e h whole root plain =
     let a = and_parts (is_mapped region) (spans region.virt_start (virt_end region) start (slot_size level) && ((level == 3) || may_be_block claims level start region)) e in
     let b = and_parts (spans region.virt_start (virt_end region) start (slot_size level)) ((level == 3) || may_be_block claims level start region) a.1 in
@@ -136,7 +136,7 @@ uncut claims level start region slot e h whole root plain =
     (or_cases (level == 3) (may_be_block claims level start region) b.1)
 
 -- the whole slot is kept from the cell, or nothing of it
-kept_alike : (claims : Claims) (level start k : ℕ) (region : Region) → IsSlot level start → is_leaf_by claims level start region ≡ true → LeafBy claims level start region → (IsTrue claims.root → IsWhole claims region) → k < slot_size level → is_kept_from claims region (start + k) ≡ is_kept_from claims region start
+kept_alike : (claims : Claims) (level start k : ℕ) (region : Region) → IsSlot level start → is_leaf_by claims level start region ≡ true → LeafBy claims level start region → (IsTrue claims.root → IsUncut claims region) → k < slot_size level → is_kept_from claims region (start + k) ≡ is_kept_from claims region start
 kept_alike claims level start k region slot e h whole l =
     let here = is_closed claims.holders (place_in region start) in
     let later = is_closed claims.holders (place_in region (start + k)) in
@@ -185,7 +185,7 @@ leaf_tells claims level start region sound slot e =
     let fit = found p IsFit claims.regions region e sound.fit in
     let listed = found p (λ (r : Region). Contains claims.regions r) claims.regions region e (All-contains_itself claims.regions) in
     let h = leaf_parts claims level start region fit.0 in
-    let whole : IsTrue claims.root → IsWhole claims region = λ root. (found p (IsWhole claims) claims.regions region e (sound.whole root)).1 in
+    let whole : IsTrue claims.root → IsUncut claims region = λ root. (found p (IsUncut claims) claims.regions region e (sound.whole root)).1 in
     let W : Want → Type 0 = λ w. DescribesGrants claims level start w in
     let kept = is_kept_from claims region start in
     let leaf = Leaf (out_of claims region start) (rights_of region) (is_device region) in

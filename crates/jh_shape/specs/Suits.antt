@@ -19,8 +19,8 @@ pub record IsFit (region : Region) : Type 0 where
 
 -- no other cell's unshared region has some of the places of a page of the region and not all, where tables map the
 -- region and it has places
-abbrev pub IsWhole : Claims → Region → Type 0
-IsWhole claims region =
+abbrev pub IsUncut : Claims → Region → Type 0
+IsUncut claims region =
     is_mapped region ≡ true → is_comm region ≡ false → (at : ℕ) → at % PAGE_SIZE ≡ 0 → IsTrue (has_address region at) → are_cut claims.holders (place_in region at) PAGE_SIZE ≡ false
 
 -- the claims are sound: what must hold of a cell's regions where a descriptor is asked for
@@ -29,7 +29,7 @@ pub record AreSoundClaims (claims : Claims) : Type 0 where
   pub comm_bound : claims.comm < ADDRESS_END
   pub disjoint : AllPairs SharesNoAddress claims.regions
   pub fit : All IsFit claims.regions
-  pub whole : IsTrue claims.root → All (IsWhole claims) claims.regions
+  pub whole : IsTrue claims.root → All (IsUncut claims) claims.regions
 
 -- a slot of the level begins at the address: the level is one of the tables', and the address a multiple of the slot's
 -- size below the end of addresses

@@ -44,7 +44,7 @@ pub record IsRising (reaches : List Reach) : Type 0 where
   pub ends : IsNonDecreasingBy (λ (reach : Reach). reach.end) reaches
 
 -- one of the reaches begins before the span ends, and ends behind its start
-pub record IsReached (reaches : List Reach) (span : Span) : Type 0 where
+pub record IsInReach (reaches : List Reach) (span : Span) : Type 0 where
   pub by : Reach
   pub is : Contains reaches by
   pub begins : by.start < span.end
@@ -52,26 +52,26 @@ pub record IsReached (reaches : List Reach) (span : Span) : Type 0 where
 
 -- what meets one of the spans is reached by that of its number
 abbrev pub CoversEach : List Span → List Reach → Type 0
-CoversEach spans reaches = (x z : Span) → Contains spans x → spans_meet x z ≡ true → (reached : IsReached reaches z) × (reached.by.item ≡ x.item)
+CoversEach spans reaches = (x z : Span) → Contains spans x → spans_meet x z ≡ true → (reached : IsInReach reaches z) × (reached.by.item ≡ x.item)
 
 -- one of the spans that meets another of them is reached, by a number that isn't below the other's, where neither is
 -- empty
 abbrev pub CoversPairs : List Span → List Reach → Type 0
 CoversPairs spans reaches =
     (x y : Span) → Contains spans x → Contains spans y → x.item ≢ y.item → x.start < x.end → y.start < y.end → spans_meet x y ≡ true
-    → (reached : IsReached reaches x) × (y.item ≤ reached.by.item)
+    → (reached : IsInReach reaches x) × (y.item ≤ reached.by.item)
 
 -- if the region is of the cell of that number, it is the one of its own number there
-abbrev pub IsOwn : Spot → ℕ → CellConfig → Type 0
-IsOwn one b other = one.cell ≡ b → (one.item < length other.memory_regions) × (one.region ≡ slice_index_or other.memory_regions one.item one.region)
+abbrev pub IsAtItsNumber : Spot → ℕ → CellConfig → Type 0
+IsAtItsNumber one b other = one.cell ≡ b → (one.item < length other.memory_regions) × (one.region ≡ slice_index_or other.memory_regions one.item one.region)
 
 -- a region that breaks the rule with one of the cell is reached, by that one's number, or, where the rule is about one
 -- cell, by a number that isn't below it; where `pass` holds, each region that may meet shared ones
 abbrev pub CoversOthers : Rule → Bool → ℕ → CellConfig → List Reach → Type 0
 CoversOthers rule pass b other reaches =
-    (one : Spot) (s : ℕ) (d : Region) → IsOwn one b other → (pass ≡ true → passes_shared rule one.region ≡ true) → s < length other.memory_regions
+    (one : Spot) (s : ℕ) (d : Region) → IsAtItsNumber one b other → (pass ≡ true → passes_shared rule one.region ≡ true) → s < length other.memory_regions
     → pair_breaks rule one (spot b other s (slice_index_or other.memory_regions s d)) ≡ true
-    → (reached : IsReached reaches (span_of rule one.item one.region)) × (is_within rule ≡ false → reached.by.item ≡ s) × (s ≤ reached.by.item)
+    → (reached : IsInReach reaches (span_of rule one.item one.region)) × (is_within rule ≡ false → reached.by.item ≡ s) × (s ≤ reached.by.item)
 
 -- the reaches by which a region is looked for that may meet shared ones: all, where no others are known
 abbrev pub unshared_of : Reaches → List Reach
@@ -83,7 +83,7 @@ reaches_for rule region reaches = if passes_shared rule region then unshared_of 
 
 -- no span that lies in the gap is reached
 abbrev pub IsGap : List Reach → Gap → Type 0
-IsGap reaches gap = (span : Span) → LiesWithin span gap.start gap.end → IsReached reaches span → ⊥
+IsGap reaches gap = (span : Span) → LiesWithin span gap.start gap.end → IsInReach reaches span → ⊥
 
 -- the gaps are those of the reaches: of all, and of those by which a region is looked for that may meet shared ones
 pub record AreGaps (reaches : Reaches) (gaps : Gaps) : Type 0 where
