@@ -2,7 +2,7 @@ mod ListLemmas
 mod BreakLemmas
 mod SectionLemmas
 mod SpanLemmas
-mod ReachLemmas
+mod EnvelopeLemmas
 mod BlockLemmas
 mod RisingLemmas
 mod SoundLemmas

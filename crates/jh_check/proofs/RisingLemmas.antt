@@ -5,13 +5,13 @@ use Rattle.std.proofs.lemmas.List.{get_or_default, append-nil}
 use Rattle.jh_cellcfg.specs.declared.region.Region.{Region}
 use Rattle.jh_cellcfg.specs.declared.config.CellConfig.{CellConfig}
 use Rattle.jh_check.specs.declared.rule.Rule.{Rule}
-use Rattle.jh_check.specs.declared.reach.Window.{Window}
+use Rattle.jh_check.specs.declared.envelope.Window.{Window}
 use Rattle.jh_check.specs.declared.rising.Row.{Row}
 use Rattle.jh_check.specs.Private.Spans.{takes_part, span_of, is_within, joins}
 use Rattle.jh_check.specs.declared.finding.Finding.{Finding}
 use Rattle.jh_check.specs.Lists.{found_from}
 use Rattle.jh_check.specs.Findings.{spot, beside, between, from_cell}
-use Rattle.jh_check.specs.Private.Reaches.{HasHits}
+use Rattle.jh_check.specs.Private.Envelopes.{HasHits}
 use Rattle.jh_check.specs.Private.Rising.{TakesPart, start_at, end_at, IsRisingTo, IsStretch, IsRowTo, IsJoined, IsRowMore, EndsBefore}
 use Rattle.jh_check.proofs.SpanLemmas.{span_ordered}
 use Rattle.jh_check.proofs.BreakLemmas.{pair_order, pair_second, pair_takes_part, pair_meets, met_before, beside_none, between_apart, joins_same}

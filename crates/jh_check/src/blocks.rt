@@ -6,7 +6,7 @@ ghost use Rattle.jh_check.specs.declared.rule.Rule.{Rule as TheRule};
 ghost use Rattle.jh_check.specs.Private.Spans.{span_of, takes_part};
 ghost use Rattle.jh_check.specs.Private.Blocks.{extent_for, IsInside, AreInside, AreExtents, AreExtentsOf, AreBlocks};
 
-use crate::reach::passes_shared;
+use crate::envelope::passes_shared;
 use crate::rule::Rule;
 use crate::spans::{Span, span_of, takes_part};
 use jh_cellcfg::Region;

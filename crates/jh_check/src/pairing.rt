@@ -5,18 +5,18 @@ ghost use Rattle.jh_check.specs.Private.Cells.{cells_of};
 ghost use Rattle.jh_check.specs.Lists.{capped};
 ghost use Rattle.jh_check.specs.Private.Spans.{joins, is_within};
 ghost use Rattle.jh_check.specs.Private.Blocks.{AreBlocks, AreExtents, between_from};
-ghost use Rattle.jh_check.specs.Private.Reaches.{IsAtItsNumber, AreOf, AreOfEach, AreGaps};
+ghost use Rattle.jh_check.specs.Private.Envelopes.{IsAtItsNumber, AreOf, AreOfEach, AreGaps};
 ghost use Rattle.jh_check.specs.Private.Rising.{IsStretch};
 ghost use Rattle.jh_check.specs.Private.Links.{ArePartners};
 ghost use Rattle.jh_check.specs.Findings.{spot, beside, between, between_at, in_pairs, from_cell};
 
 use crate::blocks::{BLOCK, Extents, blocks_of, extents_of};
 use crate::checking::MAX_FINDINGS;
+use crate::envelope::{Envelopes, Window, find_window, is_within, measure};
 use crate::finding::Finding;
-use crate::gaps::{Gaps, before_gap, first_gaps, lie_in, may_meet, may_reach_into};
+use crate::gaps::{Gaps, before_gap, first_gaps, lie_in, may_be_met_within, may_meet};
 use crate::links::{find_partners, holders_of, partner_of};
 use crate::pairs::Site;
-use crate::reach::{Reaches, Window, find_window, is_within, measure};
 use crate::rising::{last_before, stretch_of};
 use crate::rule::Rule;
 use crate::search::beside;
@@ -39,7 +39,7 @@ fn joins(rule: Rule, a: u32, b: u32) -> bool
     }
 }
 
-/// Two cells by their numbers, the rule by which they are compared, and how far the other's regions reach.
+/// Two cells by their numbers, the rule by which they are compared, and the envelopes of the other's regions.
 #[derive(Clone, Copy)]
 struct Pair<'a> {
     rule: Rule,
@@ -47,7 +47,7 @@ struct Pair<'a> {
     one: &'a CellConfig,
     b: u32,
     other: &'a CellConfig,
-    reaches: &'a Reaches,
+    envelopes: &'a Envelopes,
 }
 
 /// What is told once of a cell that is compared with many: its devices by their bdfs, what has all regions of each block,
@@ -60,7 +60,7 @@ struct Outline<'a> {
 }
 
 /// A region of the one cell with each of the other's, if there is room for a finding. `near` is how many of the
-/// reaches may lie before its end.
+/// envelopes may lie before its end.
 #[tactic(auto, using(crate::proofs::ListLemmas::append_nil, crate::proofs::ListLemmas::capped_full))]
 fn visit(
     found: &mut Seq<Finding>,
@@ -71,7 +71,7 @@ fn visit(
     region: &Region,
 ) -> Result<(), NoMemory>
     requires partners { ArePartners pair.now.one.now pair.now.other.now partners.now }
-    requires reaches { AreOf pair.now.rule pair.now.b pair.now.other.now pair.now.reaches.now }
+    requires envelopes { AreOf pair.now.rule pair.now.b pair.now.other.now pair.now.envelopes.now }
     requires own { IsAtItsNumber (spot pair.now.a pair.now.one.now item region.now) pair.now.b pair.now.other.now }
     ensures { OnOk result (capped found.new ≡ capped (found.old ++ beside pair.now.rule (spot pair.now.a pair.now.one.now item region.now) pair.now.b pair.now.other.now)) }
 {
@@ -85,7 +85,7 @@ fn visit(
         region,
     };
     let partner = partner_of(partners, item);
-    let window = find_window(pair.reaches, pair.rule, item, region, near);
+    let window = find_window(pair.envelopes, pair.rule, item, region, near);
     beside(
         found, pair.rule, &first, partner, window, pair.b, pair.other,
     )
@@ -101,17 +101,17 @@ fn among(
     gaps: &mut Gaps,
 ) -> Result<(), NoMemory>
     requires partners { ArePartners pair.now.one.now pair.now.other.now partners.now }
-    requires reaches { AreOf pair.now.rule pair.now.b pair.now.other.now pair.now.reaches.now }
+    requires envelopes { AreOf pair.now.rule pair.now.b pair.now.other.now pair.now.envelopes.now }
     requires same { pair.now.a ≡ pair.now.b → pair.now.one.now ≡ pair.now.other.now }
-    requires gaps { AreGaps pair.now.reaches.now gaps.old }
-    ensures gaps { OnOk result (AreGaps pair.now.reaches.now gaps.new) }
+    requires gaps { AreGaps pair.now.envelopes.now gaps.old }
+    ensures gaps { OnOk result (AreGaps pair.now.envelopes.now gaps.new) }
     ensures found { OnOk result (capped (found.new ++ between_from pair.now.rule pair.now.a pair.now.one.now pair.now.b pair.now.other.now (first + BLOCK))
         ≡ capped (found.old ++ between_from pair.now.rule pair.now.a pair.now.one.now pair.now.b pair.now.other.now first)) }
 {
     let regions = pair.one.memory_regions.as_slice();
     for r in first..regions.len().min(first.saturating_add(BLOCK)) {
         let region = &regions[r];
-        if !may_meet(pair.reaches, pair.rule, r, region, gaps) {
+        if !may_meet(pair.envelopes, pair.rule, r, region, gaps) {
             continue;
         }
         let near = before_gap(gaps, pair.rule, region);
@@ -128,12 +128,12 @@ fn between(
     blocks: &[Extents],
 ) -> Result<(), NoMemory>
     requires partners { ArePartners pair.now.one.now pair.now.other.now partners.now }
-    requires reaches { AreOf pair.now.rule pair.now.b pair.now.other.now pair.now.reaches.now }
+    requires envelopes { AreOf pair.now.rule pair.now.b pair.now.other.now pair.now.envelopes.now }
     requires same { pair.now.a ≡ pair.now.b → pair.now.one.now ≡ pair.now.other.now }
     requires blocks { AreBlocks pair.now.rule pair.now.one.now.memory_regions blocks.now }
     ensures { OnOk result (capped found.new ≡ capped (found.old ++ between pair.now.rule pair.now.a pair.now.one.now pair.now.b pair.now.other.now)) }
 {
-    let mut gaps = first_gaps(pair.reaches);
+    let mut gaps = first_gaps(pair.envelopes);
     for k in 0..blocks.len() {
         if lie_in(&gaps, blocks[k]) {
             continue;
@@ -143,7 +143,7 @@ fn between(
     Ok(())
 }
 
-/// Each region of a cell with each of another, unless the one cell's regions lie all beyond what the other's reach.
+/// Each region of a cell with each of another, unless the one cell's regions lie all beside the other's envelopes.
 /// The outline is that of the one cell.
 fn compare(
     alloc: Global,
@@ -151,13 +151,13 @@ fn compare(
     pair: &Pair,
     outline: &Outline,
 ) -> Result<(), NoMemory>
-    requires reaches { AreOf pair.now.rule pair.now.b pair.now.other.now pair.now.reaches.now }
+    requires envelopes { AreOf pair.now.rule pair.now.b pair.now.other.now pair.now.envelopes.now }
     requires same { pair.now.a ≡ pair.now.b → pair.now.one.now ≡ pair.now.other.now }
     requires blocks { AreBlocks pair.now.rule pair.now.one.now.memory_regions outline.now.blocks.now }
     requires extents { AreExtents pair.now.rule pair.now.one.now.memory_regions outline.now.extents }
     ensures { OnOk result (capped found.new ≡ capped (found.old ++ between pair.now.rule pair.now.a pair.now.one.now pair.now.b pair.now.other.now)) }
 {
-    if !may_reach_into(pair.reaches, outline.extents) {
+    if !may_be_met_within(pair.envelopes, outline.extents) {
         return Ok(());
     }
     let partners = find_partners(alloc, outline.holders, pair.one, pair.other)?;
@@ -173,7 +173,7 @@ fn join(
     pair: &Pair,
     outline: &Outline,
 ) -> Result<(), NoMemory>
-    requires reaches { AreOf pair.now.rule pair.now.b pair.now.other.now pair.now.reaches.now }
+    requires envelopes { AreOf pair.now.rule pair.now.b pair.now.other.now pair.now.envelopes.now }
     requires same { pair.now.a ≡ pair.now.b → pair.now.one.now ≡ pair.now.other.now }
     requires blocks { AreBlocks pair.now.rule pair.now.one.now.memory_regions outline.now.blocks.now }
     requires extents { AreExtents pair.now.rule pair.now.one.now.memory_regions outline.now.extents }
@@ -195,7 +195,7 @@ fn from_cell(
     found: &mut Seq<Finding>,
     rule: Rule,
     setup: &Setup,
-    each: &[Reaches],
+    each: &[Envelopes],
     a: u32,
     one: &CellConfig,
 ) -> Result<(), NoMemory>
@@ -220,15 +220,15 @@ fn from_cell(
             one,
             b,
             other: setup.cell(b),
-            reaches: &each[b as usize],
+            envelopes: &each[b as usize],
         };
         join(alloc, found, &pair, &outline)?;
     }
     Ok(())
 }
 
-/// How far the regions of each cell reach.
-fn reaches_of_each(alloc: Global, rule: Rule, setup: &Setup) -> Result<Vec<Reaches>, NoMemory>
+/// The envelopes of each cell's regions.
+fn envelopes_of_each(alloc: Global, rule: Rule, setup: &Setup) -> Result<Vec<Envelopes>, NoMemory>
     requires { length setup.now.cells.now ≤ 15 }
     ensures known { IfOk result (λ each. length each.items ≡ length (cells_of setup.now)) }
     ensures each { IfOk result (λ each. AreOfEach rule (cells_of setup.now) each.items) }
@@ -313,7 +313,7 @@ fn across(
 ) -> Result<(), NoMemory>
     ensures { OnOk result (capped found.new ≡ capped (found.old ++ between rule a one.now a one.now)) }
 {
-    let reaches = measure(alloc, rule, a, one)?;
+    let envelopes = measure(alloc, rule, a, one)?;
     let blocks = blocks_of(alloc, rule, one.memory_regions.as_slice())?;
     let pair = Pair {
         rule,
@@ -321,7 +321,7 @@ fn across(
         one,
         b: a,
         other: one,
-        reaches: &reaches,
+        envelopes: &envelopes,
     };
     between(found, &pair, &[], blocks.as_slice())
 }
@@ -360,8 +360,8 @@ fn in_each(
     Ok(())
 }
 
-/// All pairs of regions by the rule, by how far those of each cell reach.
-fn by_reaches(
+/// All pairs of regions by the rule, by the envelopes of those of each cell.
+fn by_envelopes(
     alloc: Global,
     found: &mut Seq<Finding>,
     rule: Rule,
@@ -370,7 +370,7 @@ fn by_reaches(
     requires { length setup.now.cells.now ≤ 15 }
     ensures { OnOk result (capped found.new ≡ capped (found.old ++ in_pairs rule (cells_of setup.now))) }
 {
-    let each = reaches_of_each(alloc, rule, setup)?;
+    let each = envelopes_of_each(alloc, rule, setup)?;
     for a in 0..setup.count() {
         from_cell(alloc, found, rule, setup, each.as_slice(), a, setup.cell(a))?;
     }
@@ -390,6 +390,6 @@ pub(crate) fn in_pairs(
     if is_within(rule) {
         in_each(alloc, found, rule, setup)
     } else {
-        by_reaches(alloc, found, rule, setup)
+        by_envelopes(alloc, found, rule, setup)
     }
 }

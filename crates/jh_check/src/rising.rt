@@ -4,7 +4,7 @@ ghost use Rattle.jh_cellcfg.specs.declared.region.Region.{Region};
 ghost use Rattle.jh_check.specs.Private.Spans.{takes_part, span_of};
 ghost use Rattle.jh_check.specs.Private.Rising.{IsStretch, IsRowMore, EndsBefore};
 
-use crate::reach::Window;
+use crate::envelope::Window;
 use crate::rule::Rule;
 use crate::spans::{span_of, takes_part};
 use jh_cellcfg::Region;
@@ -14,7 +14,7 @@ use jh_cellcfg::Region;
 pub(crate) struct Row {
     /// Where the last of them begins that takes part.
     pub(crate) start: u64,
-    /// How far they reach.
+    /// The last of their ends.
     pub(crate) end: u128,
     /// The number of the last that takes part.
     pub(crate) item: usize,

@@ -10,7 +10,7 @@ use Rattle.jh_check.specs.declared.blocks.TheConstants.{BLOCK}
 use Rattle.jh_check.specs.Private.Spans.{takes_part, span_of}
 use Rattle.jh_check.specs.Findings.{between_at}
 use Rattle.jh_check.specs.Lists.{found_from}
-use Rattle.jh_check.specs.Private.Reaches.{passes_shared}
+use Rattle.jh_check.specs.Private.Envelopes.{passes_shared}
 
 -- the span is within the extent
 pub record IsInside (span extent : Span) : Type 0 where

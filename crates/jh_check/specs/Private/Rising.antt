@@ -2,7 +2,7 @@
 use Rattle.std.specs.Prelude.{◌≡◌, ℕ, ◌<◌, ◌≤◌, ◌⊎◌, true, false, List, length, slice_index_or}
 use Rattle.jh_cellcfg.specs.declared.region.Region.{Region}
 use Rattle.jh_check.specs.declared.rule.Rule.{Rule}
-use Rattle.jh_check.specs.declared.reach.Window.{Window}
+use Rattle.jh_check.specs.declared.envelope.Window.{Window}
 use Rattle.jh_check.specs.declared.rising.Row.{Row}
 use Rattle.jh_check.specs.Private.Spans.{takes_part, span_of}
 

@@ -2,7 +2,7 @@
 use Rattle.std.proofs.Common.{◌+◌, ◌*◌, ◌/◌, ◌<◌, ◌≤◌, length, get_or, arith}
 use Rattle.jh_check.specs.declared.blocks.TheConstants.{BLOCK}
 use Rattle.jh_check.specs.Private.Spans.{span_of}
-use Rattle.jh_check.specs.Private.Reaches.{passes_shared}
+use Rattle.jh_check.specs.Private.Envelopes.{passes_shared}
 use Rattle.jh_check.proofs.BlockLemmas.{inside_both}
 use Rattle.jh_check.proofs.blocks.extents_of.Goals as goal
 

@@ -1,3 +1,4 @@
+-- The seat's device is the other one, where it is of a cell below that number; else nothing is asked.
 use Rattle.std.proofs.Common.{◌≡◌, true, arith}
 use Rattle.jh_cellcfg.specs.declared.config.PciDevice.{PciDevice}
 use Rattle.jh_cellcfg.specs.declared.config.CellConfig.{CellConfig}

@@ -1,3 +1,4 @@
+-- The seat's device is the other one, where the seat is of a device; else nothing is asked.
 use Rattle.std.proofs.Common.{◌≡◌, ◌<◌, true, sym, subst, arith}
 use Rattle.jh_cellcfg.specs.declared.config.PciDevice.{PciDevice}
 use Rattle.jh_cellcfg.specs.declared.config.CellConfig.{CellConfig}

@@ -5,7 +5,7 @@ use Rattle.jh_cellcfg.specs.declared.region.Region.{Region}
 use Rattle.jh_check.specs.Lists.{capped, found_from}
 use Rattle.jh_check.specs.Findings.{between, between_at}
 use Rattle.jh_check.proofs.ListLemmas.{found_step}
-use Rattle.jh_check.proofs.ReachLemmas.{found_skip, found_rest}
+use Rattle.jh_check.proofs.EnvelopeLemmas.{found_skip, found_rest}
 use Rattle.jh_check.proofs.RisingLemmas.{beside_before, beside_behind}
 use Rattle.jh_check.proofs.pairing.along.Goals as goal
 

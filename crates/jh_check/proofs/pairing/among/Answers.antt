@@ -6,7 +6,7 @@ use Rattle.jh_check.specs.declared.blocks.TheConstants.{BLOCK}
 use Rattle.jh_check.specs.Lists.{capped}
 use Rattle.jh_check.specs.Findings.{between_at, spot}
 use Rattle.jh_check.proofs.ListLemmas.{found_step, found_end}
-use Rattle.jh_check.proofs.ReachLemmas.{own_spot, beside_unreached, capped_none_more}
+use Rattle.jh_check.proofs.EnvelopeLemmas.{own_spot, beside_none_met, capped_none_more}
 use Rattle.jh_check.proofs.pairing.among.Goals as goal
 
 pub loop-r-init : goal.loop-r-init
@@ -27,7 +27,7 @@ loop-r-preserved-then-not-may_meet c =
     let own = own_spot pair.a pair.one.now c.loop-r.r none pair.b pair.other.now h c.requires.same in
     let told = c.may_meet.ensures.told c.if-not-may_meet.true in
     let missed = rw v at told in
-    let e : found c.loop-r.r (get_or regions c.loop-r.r none) ≡ [] = beside_unreached pair.rule (spot pair.a pair.one.now c.loop-r.r (get_or regions c.loop-r.r none)) pair.b pair.other.now pair.reaches.now c.requires.reaches own missed in
+    let e : found c.loop-r.r (get_or regions c.loop-r.r none) ≡ [] = beside_none_met pair.rule (spot pair.a pair.one.now c.loop-r.r (get_or regions c.loop-r.r none)) pair.b pair.other.now pair.envelopes.now c.requires.envelopes own missed in
     record {
       gaps = c.may_meet.ensures.gaps;
       within = omega arith;

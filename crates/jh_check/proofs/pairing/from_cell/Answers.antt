@@ -1,8 +1,8 @@
--- The cells come in turn, each with its own reaches; that of the own number is the one itself.
+-- The cells come in turn, each with its own envelopes; that of the own number is the one itself.
 use Rattle.std.proofs.Common.{◌≡◌, ◌<◌, ◌++◌, length, get_or, refl, sym, ap, subst, ◌∙◌, arith}
 use Rattle.std.proofs.lemmas.List.{get_or_default}
 use Rattle.jh_check.specs.Private.Cells.{cells_of}
-use Rattle.jh_check.specs.Private.Reaches.{AreOf}
+use Rattle.jh_check.specs.Private.Envelopes.{AreOf}
 use Rattle.jh_check.specs.Lists.{capped}
 use Rattle.jh_check.specs.Findings.{between, from_cell}
 use Rattle.jh_check.proofs.ListLemmas.{found_step, found_done}
@@ -30,8 +30,8 @@ join-requires-clause-same c =
     let all = cells_of c.args.setup.now in
     λ e. c.requires.one ∙ ap (λ k. get_or all k c.args.one.now) e ∙ get_or_default all c.loop-b.b c.args.one.now c.cell.result.now (omega arith) ∙ sym c.cell.ensures
 
-pub join-requires-clause-reaches : goal.join-requires-clause-reaches
-join-requires-clause-reaches c =
+pub join-requires-clause-envelopes : goal.join-requires-clause-envelopes
+join-requires-clause-envelopes c =
     let all = cells_of c.args.setup.now in
     let b = c.loop-b.b in
     let each = c.args.each.now in

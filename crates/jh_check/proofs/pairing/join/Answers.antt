@@ -3,7 +3,7 @@ use Rattle.std.proofs.Common.{◌≡◌, false}
 use Rattle.jh_check.specs.Private.Spans.{joins}
 use Rattle.jh_check.specs.Findings.{between}
 use Rattle.jh_check.proofs.BreakLemmas.{between_apart}
-use Rattle.jh_check.proofs.ReachLemmas.{capped_none_more}
+use Rattle.jh_check.proofs.EnvelopeLemmas.{capped_none_more}
 use Rattle.jh_check.proofs.pairing.join.Goals as goal
 
 pub returns-else-joins : goal.returns-else-joins

@@ -4,7 +4,7 @@ use Rattle.jh_cellcfg.specs.declared.region.Region.{Region}
 use Rattle.jh_check.specs.Private.Spans.{takes_part}
 use Rattle.jh_check.specs.Findings.{spot, beside}
 use Rattle.jh_check.proofs.BreakLemmas.{beside_idle}
-use Rattle.jh_check.proofs.ReachLemmas.{capped_none_more}
+use Rattle.jh_check.proofs.EnvelopeLemmas.{capped_none_more}
 use Rattle.std.proofs.lemmas.List.{get_or_default}
 use Rattle.jh_check.proofs.RisingLemmas.{row_hits}
 use Rattle.jh_check.proofs.pairing.look_behind.Goals as goal

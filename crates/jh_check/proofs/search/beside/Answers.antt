@@ -6,7 +6,7 @@ use Rattle.jh_check.specs.Private.Sites.{spot_of}
 use Rattle.jh_check.specs.Lists.{capped, found_from}
 use Rattle.jh_check.specs.Findings.{beside, beside_at}
 use Rattle.jh_check.proofs.ListLemmas.{found_step}
-use Rattle.jh_check.proofs.ReachLemmas.{found_skip, found_rest, beside_outside}
+use Rattle.jh_check.proofs.EnvelopeLemmas.{found_skip, found_rest, beside_outside}
 use Rattle.jh_check.proofs.search.beside.Goals as goal
 
 pub loop-s-init : goal.loop-s-init

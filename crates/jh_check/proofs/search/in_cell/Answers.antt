@@ -4,7 +4,7 @@ use Rattle.jh_cellcfg.specs.declared.region.Region.{Region}
 use Rattle.jh_check.specs.Lists.{capped}
 use Rattle.jh_check.specs.Findings.{in_cell, in_cell_at}
 use Rattle.jh_check.proofs.ListLemmas.{found_step, found_done}
-use Rattle.jh_check.proofs.ReachLemmas.{capped_none_more}
+use Rattle.jh_check.proofs.EnvelopeLemmas.{capped_none_more}
 use Rattle.jh_check.proofs.search.in_cell.Goals as goal
 
 pub loop-r-init : goal.loop-r-init
