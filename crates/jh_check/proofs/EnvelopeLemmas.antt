@@ -95,8 +95,8 @@ envelopes_more spans envelopes n end more x within is farther far before =
 abbrev pub place : ℕ → Span
 place start = record { start = start; end = start + 1; item = 0 }
 
--- the first of the spans: one of them ends by `far` and two by `end`, and `last` is the greatest of their numbers; where
--- one begins and another before it ends beyond, that place is met, by a number below neither's
+-- the first of the spans: none of them ends behind `far`, no envelope behind `end`, and `last` is at least each of their
+-- numbers; where one begins and another before it ends beyond, that place is met, by a number below neither's
 pub record ArePairsTo (spans : List Span) (envelopes : List Envelope) (n far end last : ℕ) : Type 0 where
   pub items : (k : ℕ) (e : Span) → k < n → (get_or spans k e).item ≤ last
   pub single : (k : ℕ) (e : Span) → k < n → (get_or spans k e).end ≤ far

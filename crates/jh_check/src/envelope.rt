@@ -122,7 +122,7 @@ fn of_each(alloc: Global, spans: &[Span]) -> Result<Vec<Envelope>, NoMemory>
     Ok(envelopes)
 }
 
-/// To each span, the envelope of two of those that begin no later, where two of them end behind its start.
+/// To each span, the envelope of pairs of those that begin no later, where two of them end behind its start.
 fn of_pairs(alloc: Global, spans: &[Span]) -> Result<Vec<Envelope>, NoMemory>
     requires { InOrder spans.now }
     ensures rising { IfOk result (λ envelopes. IsRising envelopes.items) }
@@ -147,8 +147,7 @@ fn of_pairs(alloc: Global, spans: &[Span]) -> Result<Vec<Envelope>, NoMemory>
     Ok(envelopes)
 }
 
-/// To each of the cell's regions that may follow, the envelope of two of those that begin no later, where two of them end
-/// behind its start.
+/// The envelopes of pairs of the cell's regions that may follow.
 fn of_own(
     alloc: Global,
     rule: Rule,

@@ -9,8 +9,8 @@ use crate::rule::Rule;
 use crate::spans::{Span, span_of, takes_part};
 use jh_cellcfg::Region;
 
-/// No span is met that begins at `start` or behind it and ends at `end` or before it. `before` of the envelopes lie before
-/// it.
+/// No span is met that begins at `start` or behind it and ends at `end` or before it. `before` of the envelopes lie
+/// before it.
 #[derive(Clone, Copy)]
 pub(crate) struct Gap {
     pub(crate) before: usize,
