@@ -1,6 +1,7 @@
 -- Ports of one object, driven and given back.
-use Rattle.std.proofs.Common.{◌≡◌, ℕ, ◌<◌, List, [], ◌∷◌, length, get_or, set, Contains, Option, Some, None, subst, arith, length-set}
+use Rattle.std.proofs.Common.{◌≡◌, ℕ, ◌<◌, List, [], ◌∷◌, length, get_or, set, Contains, Option, ControlFlow, Continue, Break, subst, arith, length-set}
 use Rattle.std.specs.Prelude.{IfSome}
+use Rattle.std.specs.ControlFlow.{break_value}
 use Rattle.std.proofs.lemmas.List.{get_or-set_same}
 use Rattle.std.proofs.lemmas.List.Elements.{Contains-get_or, Contains-append_left}
 use mathlib.Core.List.{IsPrefix}
@@ -21,9 +22,9 @@ begins_contains {X} first all x b h = let P : List X → Type 0 = λ xs. Contain
 
 module _ {T A : Type 0} {G : Ghosts T Entry A} where
   -- what a port has seen after its turn tells why, if anything does
-  pub some_shows_at : (origin : Origin) (end : Option (Option TurnFault)) (now : List (Port T Entry A G)) (i : ℕ) (q : Port T Entry A G) → i < length now → IfSome end (λ s. Shows origin s q) → IfSome end (λ s. SomeShows origin s (set now i q))
-  some_shows_at origin None now i q lt h = tt
-  some_shows_at origin (Some s) now i q lt h = record { port = q; one = Contains_put now i q lt; shows = h }
+  pub some_shows_at : (origin : Origin) (end : ControlFlow (Option TurnFault) (Unit {0})) (now : List (Port T Entry A G)) (i : ℕ) (q : Port T Entry A G) → i < length now → IfSome (break_value end) (λ s. Shows origin s q) → IfSome (break_value end) (λ s. SomeShows origin s (set now i q))
+  some_shows_at origin (Continue go) now i q lt h = tt
+  some_shows_at origin (Break s) now i q lt h = record { port = q; one = Contains_put now i q lt; shows = h }
 
   -- what one of the first ports has seen tells why, and that port is one of all
   pub some_shows_kept : (origin : Origin) (refused : Option TurnFault) (first all : List (Port T Entry A G)) → IsPrefix first all → SomeShows origin refused first → SomeShows origin refused all

@@ -1,6 +1,7 @@
 -- What a turn of a running board tells.
 use Rattle.std.proofs.Common.{◌≡◌, ℕ, List, Bool, true, false, Option, Some, None, sym, ap, subst, inl, inr}
 use Rattle.std.specs.Prelude.{IfSome, IfOk, IfErr, if◌then◌else◌, Result, Ok, Err}
+use Rattle.std.specs.ControlFlow.{break_value}
 use Rattle.std.proofs.lemmas.Option.{none-some}
 use Rattle.jh_history.specs.declared.entry.Entry.{Entry}
 use Rattle.jh_script.specs.declared.image.Image.{Image}
@@ -59,7 +60,7 @@ refused_tells origin cpu before after Full h =
     subst P (sym h.1) h.0
 refused_tells origin cpu before after NoMemory h = tt
 
-pub turn_tells : (origin : Origin) (cpu : ℕ) (before after : List Entry) (answer : Result Turn TurnFault) → IsTurnAnswer origin cpu before after answer → IfSome (end_after answer) (λ refused. ExplainsEnd origin refused after)
+pub turn_tells : (origin : Origin) (cpu : ℕ) (before after : List Entry) (answer : Result Turn TurnFault) → IsTurnAnswer origin cpu before after answer → IfSome (break_value (end_after answer)) (λ refused. ExplainsEnd origin refused after)
 turn_tells origin cpu before after (Ok (Made entry)) h = tt
 turn_tells origin cpu before after (Ok (Edited left)) h = tt
 turn_tells origin cpu before after (Ok (NotNow other)) h = tt

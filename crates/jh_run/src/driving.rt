@@ -1,5 +1,6 @@
 //! Turns at several ports, round by round.
 ghost use Rattle.std.specs.Prelude.{◌≡◌, ◌<◌, All, IfSome, length, None, Some};
+ghost use Rattle.std.specs.ControlFlow.{break_value};
 ghost use Rattle.jh_turn.specs.Ports.{IsPortOf, port_caller, opened_value};
 ghost use Rattle.jh_turn.specs.PortSets.{IsSameSet};
 ghost use Rattle.jh_run.specs.Drives.{Shows, SomeShows};
@@ -10,17 +11,18 @@ use crate::running::Running;
 use jh_board::{Turn, TurnFault};
 use jh_outside::Gate;
 use jh_turn::{Port, Shared};
+use std::ops::ControlFlow;
 use std::sync::Wait;
 use std::thread;
 
-/// Whether no turn follows the one that answers this, and then for what it was refused, if it was.
-fn end_after(answer: Result<Turn, TurnFault>) -> Option<Option<TurnFault>>
+/// Whether a turn follows the one that answers this; where none does, for what this one was refused, if it was.
+fn end_after(answer: Result<Turn, TurnFault>) -> ControlFlow<Option<TurnFault>>
     ensures { result ≡ end_after answer }
 {
     match answer {
-        Ok(Turn::Made(_) | Turn::Edited { .. } | Turn::NotNow { .. }) => None,
-        Ok(Turn::Done) => Some(None),
-        Err(fault) => Some(Some(fault)),
+        Ok(Turn::Made(_) | Turn::Edited { .. } | Turn::NotNow { .. }) => ControlFlow::Continue(()),
+        Ok(Turn::Done) => ControlFlow::Break(None),
+        Err(fault) => ControlFlow::Break(Some(fault)),
     }
 }
 
@@ -29,7 +31,7 @@ fn has_made(answer: &Result<Turn, TurnFault>) -> bool {
     matches!(answer, Ok(Turn::Made(_)))
 }
 
-/// A turn of the port behind the gate; whether none follows it, and then for what it was refused, if it was. `round` is the
+/// A turn of the port behind the gate; whether one follows it, and else for what it was refused, if it was. `round` is the
 /// number of turns of this port before; `idle` becomes false where the turn makes an entry.
 fn drive_port<R: Wait, G: Gate>(
     rt: &R,
@@ -38,11 +40,11 @@ fn drive_port<R: Wait, G: Gate>(
     gate: &G,
     round: u64,
     idle: &mut bool,
-) -> Option<Option<TurnFault>>
+) -> ControlFlow<Option<TurnFault>>
     requires { IsPortOf shared.now port.old }
     ensures port { IsPortOf shared.now port.new }
     ensures caller { port_caller port.new ≡ port_caller port.old }
-    ensures shows { IfSome result (λ refused. Shows (origin_of (opened_value shared.now)) refused port.new) }
+    ensures shows { IfSome (break_value result) (λ refused. Shows (origin_of (opened_value shared.now)) refused port.new) }
 {
     gate.pass(port.caller(), round);
     let answer = shared.turn(rt, port);
@@ -50,7 +52,7 @@ fn drive_port<R: Wait, G: Gate>(
     end_after(answer)
 }
 
-/// A turn of each port in their order, until none follows one; whether that is so, and then for what that one was refused, if
+/// A turn of each port in their order, until none follows one; then it breaks off, and tells for what that one was refused, if
 /// it was. Where none made an entry, other threads go first.
 fn drive_round<R: Wait, G: Gate>(
     rt: &R,
@@ -58,22 +60,19 @@ fn drive_round<R: Wait, G: Gate>(
     ports: &mut [Port<Running>],
     gate: &G,
     round: u64,
-) -> Option<Option<TurnFault>>
+) -> ControlFlow<Option<TurnFault>>
     requires { All (IsPortOf shared.now) ports.old }
     ensures same { IsSameSet shared.now ports.old ports.new }
-    ensures shows { IfSome result (λ refused. SomeShows (origin_of (opened_value shared.now)) refused ports.new) }
+    ensures shows { IfSome (break_value result) (λ refused. SomeShows (origin_of (opened_value shared.now)) refused ports.new) }
 {
     let mut idle = true;
     for i in 0..ports.len() {
-        let end = drive_port(rt, shared, &mut ports[i], gate, round, &mut idle);
-        if end.is_some() {
-            return end;
-        }
+        drive_port(rt, shared, &mut ports[i], gate, round, &mut idle)?;
     }
     if idle {
         thread::yield_now();
     }
-    None
+    ControlFlow::Continue(())
 }
 
 /// Takes turns at the ports, round by round, until nothing is due to any CPU (`None`), or a turn is
@@ -92,7 +91,7 @@ pub fn drive<R: Wait, G: Gate>(
 {
     let mut round: u64 = 0;
     for _ in rt.forever() {
-        if let Some(refused) = drive_round(rt, shared, ports, gate, round) {
+        if let ControlFlow::Break(refused) = drive_round(rt, shared, ports, gate, round) {
             return refused;
         }
         round = round.saturating_add(1);
