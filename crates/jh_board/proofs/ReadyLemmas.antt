@@ -17,7 +17,8 @@ use Rattle.jh_script.specs.declared.image.Image.{Image}
 use Rattle.jh_history.specs.declared.call.Creation.{Creation}
 use Rattle.jh_history.specs.declared.call.Creation.TheVariants.{Refused, Accepted}
 use Rattle.jh_history.specs.Facts.{Facts}
-use Rattle.jh_history.specs.Configs.{Reads, read_at, config_read}
+use Rattle.jh_history.specs.declared.reading.ReadCell.TheVariants.{Reads}
+use Rattle.jh_history.specs.Configs.{read_at, config_read}
 use Rattle.jh_history.specs.Phases.{refused_by}
 use Rattle.jh_history.specs.History.{coming_by, coming_of, call_after}
 use Rattle.jh_history.specs.Calls.{telling, first_recipient, decided, after_commit, call_by}

@@ -1,7 +1,7 @@
 //! What comes of a configuration that a create has read.
 ghost use Rattle.std.specs.Prelude.{◌≡◌, ℕ, ◌<◌, ◌==◌, ◌&&◌, Some, false, true, slice_get, IfOk};
 ghost use Rattle.jh_num.specs.Bits.{has_bit};
-ghost use Rattle.jh_history.specs.Configs.{Reads};
+ghost use Rattle.jh_history.specs.declared.reading.ReadCell.TheVariants.{Reads};
 ghost use Rattle.jh_history.specs.Facts.{Facts};
 ghost use Rattle.jh_history.specs.Lives.{is_on_board};
 ghost use Rattle.jh_history.specs.Phases.{creation_by};

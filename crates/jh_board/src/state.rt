@@ -16,7 +16,7 @@ use jh_call::Call;
 use jh_cellcfg::CellConfig;
 use jh_cpu::Cpu;
 use jh_history::{
-    Creation, Entry, Known, OpenCall, Phase, Places, Reach, RootBytes, Wanted, any_due,
+    Creation, Entry, Known, OpenCall, Phase, Places, Reach, ReadCell, RootBytes, Wanted, any_due,
     is_any_locked, is_any_other_locked, is_due, next_of, read_config, rows_are_read_byte_by_byte,
 };
 use jh_ivshmem::Endpoints;
@@ -72,9 +72,10 @@ impl<'a> State<'a> {
         }
         // root's grants are those of an admitted image
         self.image.has_few_cpus();
-        match read_config(self.held.alloc, self, at)? {
-            Creation::Accepted { config } => creation_from(self.image, self.held, caller, config),
-            refused => Ok(refused),
+        let read = read_config(self.held.alloc, self, at)?;
+        match read {
+            ReadCell::Reads { config } => creation_from(self.image, self.held, caller, config),
+            ReadCell::Refuses { number } => Ok(Creation::Refused { number }),
         }
     }
 }

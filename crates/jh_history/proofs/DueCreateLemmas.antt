@@ -18,7 +18,8 @@ use Rattle.jh_history.specs.declared.call.Phase.TheVariants.{ToCreate}
 use Rattle.jh_history.specs.declared.call.Creation.TheVariants.{Accepted}
 use Rattle.jh_history.specs.Facts.{Facts}
 use Rattle.jh_history.specs.Admitted.{pool_pages}
-use Rattle.jh_history.specs.Configs.{Reads, config_read}
+use Rattle.jh_history.specs.declared.reading.ReadCell.TheVariants.{Reads}
+use Rattle.jh_history.specs.Configs.{config_read}
 use Rattle.jh_history.specs.Phases.{may_give, creation_of, refused_by}
 use Rattle.jh_shape.specs.Lives.{configs_of}
 use Rattle.jh_history.specs.Sound.{MayBeCreated, IsSoundCall, IsInPhase, IsOpen, IsSound}

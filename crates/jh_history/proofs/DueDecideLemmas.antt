@@ -18,7 +18,9 @@ use Rattle.jh_history.specs.declared.entry.Entry.{Entry}
 use Rattle.jh_history.specs.declared.entry.Act.{Act}
 use Rattle.jh_history.specs.declared.entry.Act.TheVariants.{Decide, Settle, Commit, Note, Noted, Finish}
 use Rattle.jh_history.specs.Facts.{Facts}
-use Rattle.jh_history.specs.Configs.{ReadCell, Reads, Refuses, read_at}
+use Rattle.jh_history.specs.declared.reading.ReadCell.{ReadCell}
+use Rattle.jh_history.specs.declared.reading.ReadCell.TheVariants.{Reads, Refuses}
+use Rattle.jh_history.specs.Configs.{read_at}
 use Rattle.jh_history.specs.Admitted.{pool_pages}
 use Rattle.jh_history.specs.Phases.{may_give, is_locked, unless_refused, creation_by, creation_of, refused_by, decision}
 use Rattle.jh_shape.specs.Lives.{configs_of}

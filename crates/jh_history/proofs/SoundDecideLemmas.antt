@@ -29,7 +29,9 @@ use Rattle.jh_history.specs.Facts.{Facts}
 use Rattle.jh_history.specs.Lives.{is_on_board, live_in, cell_in}
 use Rattle.jh_history.specs.Admitted.{pool_pages}
 use Rattle.jh_history.specs.Calls.{is_named, decided, after_settle}
-use Rattle.jh_history.specs.Configs.{ReadCell, Reads, Refuses, read_at, config_read}
+use Rattle.jh_history.specs.declared.reading.ReadCell.{ReadCell}
+use Rattle.jh_history.specs.declared.reading.ReadCell.TheVariants.{Reads, Refuses}
+use Rattle.jh_history.specs.Configs.{read_at, config_read}
 use Rattle.jh_history.specs.Cpus.{is_running, settled, is_agreed}
 use Rattle.jh_history.specs.History.{coming_by}
 use Rattle.jh_history.specs.Phases.{keeps_decide, may_give, is_locked, is_other_locked, unless_refused, creation_by, creation_of, refused_by, id_refusal, first_refusal, decision}

@@ -9,14 +9,11 @@ use Rattle.jh_cellcfg.specs.Faults.{header_fault, header_size}
 use Rattle.jh_cellcfg.specs.Reading.{config_of}
 use Rattle.jh_script.specs.declared.image.Image.{Image}
 use Rattle.jh_history.specs.declared.access.Access.TheVariants.{Read}
+use Rattle.jh_history.specs.declared.reading.ReadCell.{ReadCell}
+use Rattle.jh_history.specs.declared.reading.ReadCell.TheVariants.{Reads, Refuses}
 use Rattle.jh_history.specs.Access.{places_from}
 use Rattle.jh_history.specs.Facts.{Facts}
 use Rattle.jh_history.specs.Grants.{granted}
-
--- a configuration, or the number that a create is refused with for want of one
-pub data ReadCell : Type 0 where
-  Reads : CellConfig → ReadCell
-  Refuses : ℤ → ReadCell
 
 -- the bytes at the address, so many of them, where root may read all of them through its page-mapped regions
 abbrev pub bytes_at : Image → Facts → ℕ → ℕ → Option (List ℕ)

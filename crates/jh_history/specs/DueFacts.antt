@@ -23,7 +23,8 @@ use Rattle.jh_history.specs.declared.entry.Entry.{Entry}
 use Rattle.jh_history.specs.declared.entry.Act.{Act}
 use Rattle.jh_history.specs.declared.entry.Act.TheVariants.{Write, Commit}
 use Rattle.jh_history.specs.Facts.{Facts}
-use Rattle.jh_history.specs.Configs.{Reads, read_at}
+use Rattle.jh_history.specs.declared.reading.ReadCell.TheVariants.{Reads}
+use Rattle.jh_history.specs.Configs.{read_at}
 use Rattle.jh_history.specs.Phases.{creation_of}
 use Rattle.jh_history.specs.Due.{due_at}
 use Rattle.jh_history.specs.Sound.{IsSound}

@@ -31,7 +31,9 @@ use Rattle.jh_history.specs.ReadView.{gives_by, refusal_by}
 use Rattle.jh_history.specs.Cpus.{is_running}
 use Rattle.jh_history.specs.Calls.{is_named}
 use Rattle.jh_history.specs.Pages.{named_cell}
-use Rattle.jh_history.specs.Configs.{ReadCell, Reads, Refuses, read_at}
+use Rattle.jh_history.specs.declared.reading.ReadCell.{ReadCell}
+use Rattle.jh_history.specs.declared.reading.ReadCell.TheVariants.{Reads, Refuses}
+use Rattle.jh_history.specs.Configs.{read_at}
 
 -- the state word of the cell with the id, in its communication page
 abbrev pub state_word : Facts → ℕ → ℕ

@@ -7,9 +7,8 @@ use Rattle.jh_cpu.specs.declared.cpu.Cpu.{Cpu}
 use Rattle.jh_script.specs.declared.image.Image.{Image}
 use Rattle.jh_history.specs.Admitted.{pool_pages}
 use Rattle.jh_history.specs.Lives.{is_on_board}
-use Rattle.jh_history.specs.declared.call.Creation.{Creation}
-use Rattle.jh_history.specs.declared.call.Creation.TheVariants.{Refused, Accepted}
-use Rattle.jh_history.specs.Configs.{ReadCell, Reads, Refuses, read_cell}
+use Rattle.jh_history.specs.declared.reading.ReadCell.{ReadCell}
+use Rattle.jh_history.specs.Configs.{read_cell}
 
 -- the bytes from the address on, so many of them, where each may be read
 abbrev pub bytes_by : (ℕ → Option ℕ) → ℕ → ℕ → Option (List ℕ)
@@ -19,11 +18,6 @@ bytes_by byte at (suc count) = option_and_then (λ (b : ℕ). option_map (λ (bs
 -- what is read of a configuration at the address
 abbrev pub read_by : (ℕ → Option ℕ) → ℕ → ReadCell
 read_by byte at = read_cell (bytes_by byte at)
-
--- what was read, by what comes of a create: a configuration, or the number that the create is refused with
-abbrev pub as_read : Creation → ReadCell
-as_read (Refused number) = Refuses number
-as_read (Accepted config) = Reads config
 
 -- the caller may give the CPU away, which is in this state
 abbrev pub gives_by : Image → ℕ → ℕ → Cpu → Bool

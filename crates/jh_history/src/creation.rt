@@ -6,7 +6,7 @@ ghost use Rattle.jh_history.specs.Admitted.{pool_pages, IsAdmitted};
 ghost use Rattle.jh_history.specs.Facts.{Facts};
 ghost use Rattle.jh_history.specs.Phases.{may_give, unless_refused, creation_by};
 ghost use Rattle.jh_shape.specs.Lives.{configs_of};
-ghost use Rattle.jh_history.specs.ReadView.{as_read, gives_by, refusal_by};
+ghost use Rattle.jh_history.specs.ReadView.{gives_by, refusal_by};
 
 use crate::admission::pool_pages;
 use crate::boxed::BoxedCell;
@@ -14,6 +14,7 @@ use crate::call::Creation;
 use crate::cells::is_on_board;
 use crate::counting::sum_of_pages;
 use crate::laws::admitted_roots_are_sound;
+use crate::reading::ReadCell;
 use jh_cellcfg::{CellConfig, MAX_CPUS};
 use jh_check::{MAX_CELLS, refusal_of, refusal_without_cpus, with_bit};
 use jh_cpu::Cpu;
@@ -102,17 +103,17 @@ pub(crate) fn creation_by(
     cells: &[CellConfig],
     cpus: &[Cpu],
     caller: u8,
-    read: Creation,
+    read: ReadCell,
 ) -> Result<Option<Creation>, NoMemory>
     requires admitted { IsAdmitted image.now }
     requires few { length cells.now ≤ 15 }
     requires cpus { length cpus.now ≡ 16 }
     ensures told { (f : Facts) → configs_of f.cells ≡ cells.now → ((i : ℕ) → i < 16 → slice_get cpus.now i ≡ Some (f.cpu i))
-        → IfOk result (λ told. IfSome told (λ creation. creation ≡ creation_by image.now f caller (as_read read))) }
+        → IfOk result (λ told. IfSome told (λ creation. creation ≡ creation_by image.now f caller read)) }
     ensures untold { IfOk result (λ told. IfNone told (length cells.now ≡ 15)) }
 {
     match read {
-        Creation::Accepted { config } => {
+        ReadCell::Reads { config } => {
             let may = given(image, cpus, caller);
             if cells.len() == MAX_CELLS && may != 0 {
                 return Ok(None);
@@ -120,6 +121,6 @@ pub(crate) fn creation_by(
             let refusal = refusal_by(alloc, image, cells, may, &config)?;
             Ok(Some(unless_refused(config, refusal)))
         }
-        Creation::Refused { number } => Ok(Some(Creation::Refused { number })),
+        ReadCell::Refuses { number } => Ok(Some(Creation::Refused { number })),
     }
 }

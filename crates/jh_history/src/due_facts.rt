@@ -15,7 +15,8 @@ ghost use Rattle.jh_history.specs.declared.comm.PageWrite.{PageWrite as ThePageW
 ghost use Rattle.jh_history.specs.declared.entry.Entry.{Entry as TheEntry};
 ghost use Rattle.jh_history.specs.declared.entry.Act.TheVariants.{Decide};
 ghost use Rattle.jh_history.specs.Facts.{Facts};
-ghost use Rattle.jh_history.specs.Configs.{Reads, read_at};
+ghost use Rattle.jh_history.specs.declared.reading.ReadCell.TheVariants.{Reads};
+ghost use Rattle.jh_history.specs.Configs.{read_at};
 ghost use Rattle.jh_history.specs.Phases.{creation_of};
 ghost use Rattle.jh_history.specs.Pages.{page_write_by};
 ghost use Rattle.jh_history.specs.declared.device_change.DeviceChange.TheVariants.{Join as Joins};

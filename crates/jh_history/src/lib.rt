@@ -70,5 +70,5 @@ pub use next::{any_due, is_due, next_of};
 pub use pages::page_write;
 pub use place::{Place, Places, Row};
 pub use plain::{due, quiet};
-pub use reading::{RootBytes, read_config};
+pub use reading::{ReadCell, RootBytes, read_config};
 pub use sound::legal_journals_are_sound;

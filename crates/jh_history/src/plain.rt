@@ -5,7 +5,6 @@ ghost use Rattle.jh_check.specs.Clean.{IsSoundBitmap, IsSoundCpuSet};
 ghost use Rattle.jh_history.specs.declared.call.OpenCall.{OpenCall as TheOpenCall};
 ghost use Rattle.jh_history.specs.Calls.{call_by};
 ghost use Rattle.jh_history.specs.Configs.{config_read};
-ghost use Rattle.jh_history.specs.ReadView.{as_read};
 ghost use Rattle.jh_history.specs.Commits.{cells_by, created_by};
 ghost use Rattle.jh_history.specs.Cpus.{cpu_after};
 ghost use Rattle.jh_script.specs.declared.image.Image.{Image as TheImage};
@@ -29,7 +28,7 @@ ghost use Rattle.jh_history.specs.Private.PlainView.{last_byte, Represents, HasB
 
 use crate::access::{Access, Reach, Wanted};
 use crate::boxed::BoxedCell;
-use crate::call::{Creation, OpenCall};
+use crate::call::OpenCall;
 use crate::calling::call_after;
 use crate::cells::{devices_in, reach_in};
 use crate::change::cpus_after;
@@ -43,7 +42,7 @@ use crate::laws::admitted_roots_are_sound;
 use crate::next::{any_due, next_of};
 use crate::pages::page_write;
 use crate::plain_cells::PlainCells;
-use crate::reading::read_config;
+use crate::reading::{ReadCell, read_config};
 use crate::sound::legal_journals_are_sound;
 use crate::written::{
     WrittenByte, write_endpoint_word, write_endpoint_word_if, write_page_if, write_places,
@@ -92,13 +91,13 @@ fn call_in(call: Option<&OpenCall>) -> Option<Call>
     }
 }
 
-/// The configuration that comes.
-fn comes(creation: Creation) -> Option<BoxedCell>
-    ensures { result ≡ config_read (as_read creation) }
+/// The configuration that was read, if one was.
+fn comes(read: ReadCell) -> Option<BoxedCell>
+    ensures { result ≡ config_read read }
 {
-    match creation {
-        Creation::Accepted { config } => Some(config),
-        Creation::Refused { .. } => None,
+    match read {
+        ReadCell::Reads { config } => Some(config),
+        ReadCell::Refuses { .. } => None,
     }
 }
 

@@ -3,15 +3,22 @@ ghost use Rattle.std.specs.Prelude.{◌≡◌, ◌+◌, ◌%◌, ◌<◌, ◌≤
 ghost use Rattle.jh_num.specs.declared.address.TheConstants.{ADDRESS_END};
 ghost use Rattle.jh_cellcfg.specs.Faults.{header_fault, header_size};
 ghost use Rattle.jh_cellcfg.specs.Reading.{config_of};
-ghost use Rattle.jh_history.specs.Configs.{Reads, refused_for, read_whole, read_behind};
-ghost use Rattle.jh_history.specs.ReadView.{bytes_by, read_by, as_read};
+ghost use Rattle.jh_history.specs.Configs.{refused_for, read_whole, read_behind};
+ghost use Rattle.jh_history.specs.declared.reading.ReadCell.TheVariants.{Reads};
+ghost use Rattle.jh_history.specs.ReadView.{bytes_by, read_by};
 
 use crate::boxed::BoxedCell;
-use crate::call::Creation;
 use jh_cellcfg::{ConfigFault, HEADER_SIZE, Part, cell_size, read_cell};
 use jh_num::error::{E2BIG, EINVAL};
 use jh_num::{ADDRESS_END, NoMemory, PAGE_SIZE, Seq};
 use std::alloc::Global;
+
+/// What a create reads: the configuration of a cell, or the number that it is refused with for want of one.
+#[derive(Drop)]
+pub enum ReadCell {
+    Refuses { number: i64 },
+    Reads { config: BoxedCell },
+}
 
 /// Tells what root may read.
 pub trait RootBytes {
@@ -87,13 +94,13 @@ fn refused_for(fault: &ConfigFault) -> i64
 
 /// The configuration that the bytes tell. Their header has no fault and tells their number, so that reading
 /// them wants memory at most.
-fn told(alloc: Global, bytes: &[u8]) -> Result<Creation, NoMemory>
-    ensures { IfOk result (λ read. as_read read ≡ Reads (config_of bytes.now)) }
+fn told(alloc: Global, bytes: &[u8]) -> Result<ReadCell, NoMemory>
+    ensures { IfOk result (λ read. read ≡ Reads (config_of bytes.now)) }
 {
     match read_cell(alloc, bytes) {
         Ok(config) => {
             let config = BoxedCell::new(alloc, config)?;
-            Ok(Creation::Accepted { config })
+            Ok(ReadCell::Reads { config })
         }
         Err(_) => Err(NoMemory),
     }
@@ -105,13 +112,13 @@ fn read_whole<R: RootBytes>(
     root: &R,
     at: u64,
     size: u32,
-) -> Result<Creation, NoMemory>
+) -> Result<ReadCell, NoMemory>
     requires { 1 ≤ size }
-    ensures { IfOk result (λ read. as_read read ≡ read_whole (bytes_by (R.readable root.now) at size)) }
+    ensures { IfOk result (λ read. read ≡ read_whole (bytes_by (R.readable root.now) at size)) }
 {
     match bytes_at(alloc, root, at, size)? {
         Some(bytes) => told(alloc, bytes.as_slice()),
-        None => Ok(Creation::Refused { number: EINVAL }),
+        None => Ok(ReadCell::Refuses { number: EINVAL }),
     }
 }
 
@@ -121,12 +128,12 @@ fn read_behind<R: RootBytes>(
     root: &R,
     at: u64,
     header: &[u8; HEADER_SIZE],
-) -> Result<Creation, NoMemory>
-    ensures { IfOk result (λ read. as_read read ≡ read_behind (bytes_by (R.readable root.now) at) header.now (header_fault header.now)) }
+) -> Result<ReadCell, NoMemory>
+    ensures { IfOk result (λ read. read ≡ read_behind (bytes_by (R.readable root.now) at) header.now (header_fault header.now)) }
 {
     match cell_size(header) {
         Ok(size) => read_whole(alloc, root, at, size),
-        Err(fault) => Ok(Creation::Refused {
+        Err(fault) => Ok(ReadCell::Refuses {
             number: refused_for(&fault),
         }),
     }
@@ -144,11 +151,11 @@ fn header_of(bytes: &[u8]) -> [u8; HEADER_SIZE]
 
 /// The configuration at the address, or the number that a create is refused with for want of one. First the
 /// header is read, and then the whole, as long as the header says.
-pub fn read_config<R: RootBytes>(alloc: Global, root: &R, at: u64) -> Result<Creation, NoMemory>
-    ensures { IfOk result (λ read. as_read read ≡ read_by (R.readable root.now) at) }
+pub fn read_config<R: RootBytes>(alloc: Global, root: &R, at: u64) -> Result<ReadCell, NoMemory>
+    ensures { IfOk result (λ read. read ≡ read_by (R.readable root.now) at) }
 {
     match bytes_at(alloc, root, at, HEADER_SIZE as u32)? {
         Some(header) => read_behind(alloc, root, at, &header_of(header.as_slice())),
-        None => Ok(Creation::Refused { number: EINVAL }),
+        None => Ok(ReadCell::Refuses { number: EINVAL }),
     }
 }

@@ -28,7 +28,8 @@ use Rattle.jh_history.specs.declared.entry.Act.TheVariants.{Read, Write, Fetch, 
 use Rattle.jh_history.specs.Facts.{Facts}
 use Rattle.jh_history.specs.Calls.{is_named, counted, telling, first_recipient, listed_behind, decided, after_settle, after_commit, phase_after, call_by, is_call}
 use Rattle.jh_num.specs.Numbers.{counted_up}
-use Rattle.jh_history.specs.Configs.{ReadCell, config_read}
+use Rattle.jh_history.specs.declared.reading.ReadCell.{ReadCell}
+use Rattle.jh_history.specs.Configs.{config_read}
 use Rattle.jh_history.specs.History.{start, after, facts, coming_of, coming_by}
 use Rattle.jh_history.specs.Phases.{phase_act, settled_of, heard_of, decision, keeps_decide, keeps_commit}
 use Rattle.jh_shape.specs.Lives.{configs_of}

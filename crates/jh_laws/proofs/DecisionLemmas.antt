@@ -30,7 +30,8 @@ use Rattle.jh_history.specs.declared.entry.Act.TheVariants.{Decide, Settle, Comm
 use Rattle.jh_history.specs.Facts.{Facts}
 use Rattle.jh_history.specs.Lives.{cell_in}
 use Rattle.jh_history.specs.Admitted.{IsAdmitted, pool_pages}
-use Rattle.jh_history.specs.Configs.{ReadCell, bytes_at, read_whole, read_behind, read_from, read_at}
+use Rattle.jh_history.specs.declared.reading.ReadCell.{ReadCell}
+use Rattle.jh_history.specs.Configs.{bytes_at, read_whole, read_behind, read_from, read_at}
 use Rattle.jh_history.specs.History.{facts}
 use Rattle.jh_history.specs.Phases.{phase_act, keeps_decide, state_word, may_give, is_locked, is_other_locked, unless_refused, creation_by, creation_of, refused_by, id_refusal, first_refusal, decision}
 use Rattle.jh_shape.specs.Lives.{configs_of}

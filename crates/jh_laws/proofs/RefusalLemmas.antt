@@ -30,7 +30,9 @@ use Rattle.jh_history.specs.declared.entry.Act.TheVariants.{Read, Write, Fetch, 
 use Rattle.jh_history.specs.Facts.{Facts}
 use Rattle.jh_history.specs.Lives.{cell_of}
 use Rattle.jh_history.specs.Admitted.{pool_pages}
-use Rattle.jh_history.specs.Configs.{ReadCell, Reads, Refuses, bytes_at, refused_for, read_whole, read_behind, read_from, read_at}
+use Rattle.jh_history.specs.declared.reading.ReadCell.{ReadCell}
+use Rattle.jh_history.specs.declared.reading.ReadCell.TheVariants.{Reads, Refuses}
+use Rattle.jh_history.specs.Configs.{bytes_at, refused_for, read_whole, read_behind, read_from, read_at}
 use Rattle.jh_history.specs.Phases.{is_locked, is_other_locked, may_give, unless_refused, creation_by, creation_of, refused_by, id_refusal, first_refusal, decision}
 use Rattle.jh_shape.specs.Lives.{configs_of}
 use Rattle.jh_history.specs.Due.{due_at}

@@ -8,14 +8,14 @@ use Rattle.jh_history.specs.ReadView.{refusal_by}
 use Rattle.jh_history.proofs.FactsLemmas.{same_function}
 use Rattle.jh_history.proofs.creation.creation_by.Goals as goal
 
-pub returns-in_ok-refusal-in-Accepted-clause-told : goal.returns-in_ok-refusal-in-Accepted-clause-told
-returns-in_ok-refusal-in-Accepted-clause-told c = λ f e h.
+pub returns-in_ok-refusal-in-Reads-clause-told : goal.returns-in_ok-refusal-in-Reads-clause-told
+returns-in_ok-refusal-in-Reads-clause-told c = λ f e h.
     let image = c.args.image.now in
-    let config = c.in-Accepted.config in
+    let config = c.in-Reads.config in
     let may : ℕ → Bool = has_bit c.given-may.result in
-    rw c.in-Accepted.is
+    rw c.in-Reads.is
     (c.unless_refused.ensures
     ∙ ap (unless_refused config)
-    (c.in_ok-refusal-in-Accepted.ensures
+    (c.in_ok-refusal-in-Reads.ensures
     ∙ ap (λ (cells : List CellConfig). refusal_by image cells may config) (sym e)
     ∙ ap (λ (m : ℕ → Bool). refusal_by image (configs_of f.cells) m config) (same_function may (may_give image f c.args.caller) (c.given-may.ensures f h))))

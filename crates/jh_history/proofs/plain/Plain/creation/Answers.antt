@@ -6,12 +6,11 @@ use Rattle.jh_cellcfg.specs.declared.live.Live.{Live}
 use Rattle.jh_script.specs.declared.image.Image.{Image}
 use Rattle.jh_history.specs.declared.call.Creation.{Creation}
 use Rattle.jh_history.specs.declared.place.Place.{Place}
-use Rattle.jh_history.specs.Configs.{ReadCell}
+use Rattle.jh_history.specs.declared.reading.ReadCell.{ReadCell}
 use Rattle.jh_history.specs.LiveView.{is_locked_by}
 use Rattle.jh_history.specs.Phases.{is_locked, creation_of, creation_by}
 use Rattle.jh_shape.specs.Lives.{configs_of}
 use Rattle.jh_history.specs.Private.PlainView.{PlainView, HasSoundCells, last_byte}
-use Rattle.jh_history.specs.ReadView.{as_read}
 use Rattle.jh_history.proofs.FactsLemmas.{same_function}
 use Rattle.jh_history.proofs.PlainReadLemmas.{read_in, plain_reads}
 use Rattle.jh_history.proofs.ReadLemmas.{read_by_is}
@@ -39,8 +38,8 @@ returns-in-Some c = λ i f h.
     ap (λ (b : Place → ℕ). list_any (λ (live : Live). is_locked_by b live.config) f.cells) (sym byte) ∙ sym (c.is_any_locked.ensures f.cells cells) ∙ c.if-is_any_locked.false in
     let fit : HasSoundCells p.image p.cells = subst (λ (v : PlainView). HasSoundCells v.image v.cells) c.self.view_is c.self.invariant in
     let image : c.self.inside.image.now ≡ i = ap (λ (v : PlainView). v.image) c.self.view_is ∙ sym h.0.same in
-    let P : Option Creation → Type 0 = λ told. IfSome told (λ creation. creation ≡ creation_by c.self.inside.image.now f c.args.caller (as_read c.in_ok-read.read)) in
+    let P : Option Creation → Type 0 = λ told. IfSome told (λ creation. creation ≡ creation_by c.self.inside.image.now f c.args.caller c.in_ok-read.read) in
     rw locked
     (subst P c.in-Some.is (c.in_ok-creation.ensures.told f cells_too (λ n lt. ap (λ (v : PlainView). slice_get v.cpus n) c.self.view_is ∙ h.0.cpus n lt))
-    ∙ ap (λ (x : Image). creation_by x f c.args.caller (as_read c.in_ok-read.read)) image
+    ∙ ap (λ (x : Image). creation_by x f c.args.caller c.in_ok-read.read) image
     ∙ ap (λ (read : ReadCell). creation_by i f c.args.caller read) (c.in_ok-read.ensures ∙ read_by_is i f (read_in p) c.args.at (λ a. plain_reads p i f a fit h.0)))
