@@ -1,11 +1,15 @@
 -- A locked cell, and what was read.
-use Rattle.std.proofs.Common.{◌≡◌, ℕ, true, false, ap, sym, refl, subst, ◌∙◌}
+use Rattle.std.proofs.Common.{◌≡◌, ℕ, true, false, ap, sym, refl, subst, ◌∙◌, rules}
+use mir.Syntax.{w64}
+use mir.Val.{SFits}
+use mir.Facts.{to_z-of_z}
 use Rattle.std.specs.Prelude.{option_map, IfOk}
 use Rattle.std.specs.List.{list_any}
 use Rattle.jh_cellcfg.specs.declared.live.Live.{Live}
 use Rattle.jh_script.specs.declared.image.Image.{Image}
 use Rattle.jh_history.specs.declared.access.Access.TheVariants.{Read}
 use Rattle.jh_history.specs.declared.call.Creation.{Creation}
+use Rattle.jh_history.specs.declared.call.Creation.TheVariants.{Refused}
 use Rattle.jh_history.specs.declared.place.Place.{Place}
 use Rattle.jh_history.specs.Admitted.{IsAdmitted}
 use Rattle.jh_history.specs.declared.reading.ReadCell.{ReadCell}
@@ -73,4 +77,6 @@ returns-in-Refuses c = λ i f h.
     let locked = sym (locked_is i f s.held seen.1) ∙ sym (c.is_any_locked.ensures f.cells cells) ∙ c.if-is_any_locked.false in
     let read = c.in_ok-read.read in
     let reads = subst (λ (x : StateView). read ≡ read_by (read_held x.image x.held) c.args.at) (sym c.self.view_is) c.in_ok-read.ensures in
-    ap (λ (r : ReadCell). creation_by s.image f c.args.caller r) (sym c.in-Refuses.is) ∙ read_is s i f c.args.caller c.args.at read c.has_few_cpus.ensures.admitted seen locked reads
+    let fits : SFits w64 c.in-Refuses.number = search rules in
+    ap Refused (to_z-of_z fits)
+    ∙ ap (λ (r : ReadCell). creation_by s.image f c.args.caller r) (sym c.in-Refuses.is) ∙ read_is s i f c.args.caller c.args.at read c.has_few_cpus.ensures.admitted seen locked reads
