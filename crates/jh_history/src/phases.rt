@@ -19,7 +19,7 @@ use crate::change::is_running;
 use crate::entry::{Act, Heard, Settled};
 use crate::known::Known;
 use crate::next::is_idle_but;
-use crate::place::{Place, Places, Row};
+use crate::place::{Place, Places};
 use jh_call::Call;
 use jh_cellcfg::{CellConfig, MAX_CPUS};
 use jh_comm::{
@@ -45,15 +45,11 @@ fn word_at<K: Known>(known: &K, cell: u32, offset: usize) -> u32
     requires { offset < 4096 }
     ensures { (i : TheImage) (f : Facts) → K.Knows known.now i f → result ≡ word_in (λ k. f.byte (Page cell k)) offset }
 {
-    let row = Row {
-        first: Place::Page {
-            cell,
-            offset: offset as u64,
-        },
-        count: 4,
-    };
-    let none = Row { count: 0, ..row };
-    known.value(&Places::new(row, none)) as u32
+    let places = Places::of_word(Place::Page {
+        cell,
+        offset: offset as u64,
+    });
+    known.value(&places) as u32
 }
 
 /// The state word of the communication page of the live cell.
