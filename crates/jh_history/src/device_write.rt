@@ -8,7 +8,7 @@ ghost use Rattle.jh_history.specs.Endpoints.{config_put, register_put, endpoints
 
 use crate::access::{ConfigBytes, Reach, Register};
 use crate::devices::function_number;
-use crate::place::{Place, Places, Row};
+use crate::place::{Place, Places};
 use jh_cellcfg::PciDevice;
 use jh_ivshmem::{EndpointWord, Endpoints};
 
@@ -17,8 +17,7 @@ pub fn endpoint_word_places(word: &EndpointWord) -> Places
     requires { word.now.place + 4 < 2 ^ 64 }
     ensures { result ≡ places_in_row (Physical word.now.place) 4 }
 {
-    let first = Place::Physical(word.place);
-    Places::new(Row { first, count: 0 }, Row { first, count: 4 })
+    Places::of_word(Place::Physical(word.place))
 }
 
 /// The lowest 32 bits.

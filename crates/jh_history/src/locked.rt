@@ -6,7 +6,7 @@ ghost use Rattle.jh_history.specs.LiveView.{word_by, is_locked_by, is_other_lock
 ghost use Rattle.jh_shape.specs.Lives.{configs_of};
 
 use crate::bytes::{Bytes, value_of};
-use crate::place::{Place, Places, Row};
+use crate::place::{Place, Places};
 use jh_cellcfg::CellConfig;
 use jh_comm::{STATE_AT, STATE_RUNNING_LOCKED};
 
@@ -14,15 +14,11 @@ use jh_comm::{STATE_AT, STATE_RUNNING_LOCKED};
 fn state_word<B: Bytes>(bytes: &B, cell: u32) -> u32
     ensures { result ≡ word_by (B.byte_of bytes.now) cell }
 {
-    let row = Row {
-        first: Place::Page {
-            cell,
-            offset: STATE_AT as u64,
-        },
-        count: 4,
-    };
-    let none = Row { count: 0, ..row };
-    value_of(bytes, &Places::new(row, none)) as u32
+    let places = Places::of_word(Place::Page {
+        cell,
+        offset: STATE_AT as u64,
+    });
+    value_of(bytes, &places) as u32
 }
 
 /// Whether the cell is locked, by these bytes: its state is that of one that runs and may not be reconfigured.

@@ -18,6 +18,7 @@ use crate::call::{OpenCall, Phase};
 use crate::cells::is_on_board;
 use crate::comm::{PageChange, PageWrite};
 use crate::entry::{Act, Entry, Heard, Settled};
+use crate::phases::named_id;
 use jh_call::Call;
 use jh_cellcfg::{CellConfig, MAX_CPUS};
 use jh_comm::{
@@ -53,10 +54,7 @@ pub(crate) fn live_in(cells: &[CellConfig], id: u64) -> Option<&CellConfig>
 fn named_cell<'a>(cells: &'a [CellConfig], call: &Call) -> Option<&'a CellConfig>
     ensures { (lives : List TheLive) → configs_of lives ≡ cells.now → option_copied result ≡ named_cell lives call.now }
 {
-    match *call {
-        Call::Start { id } | Call::Loadable { id } | Call::Destroy { id } => live_in(cells, id),
-        _ => None,
-    }
+    live_in(cells, named_id(call)?)
 }
 
 /// Whether the CPU is the cell's, and hasn't failed.

@@ -1,5 +1,7 @@
 //! What is due to the caller of an open management call.
-ghost use Rattle.std.specs.Prelude.{◌≡◌, ◌<◌, Bool, true, is_some, if◌then◌else◌, None, Some, IfOk, IfSome, option_map, option_copied};
+ghost use Rattle.std.specs.Prelude.{◌≡◌, ◌==◌, ◌<◌, ℕ, Bool, List, true, false, is_some, if◌then◌else◌, None, Some, IfOk, IfSome, IfNone, option_map, option_and_then, option_copied};
+ghost use Rattle.jh_cellcfg.specs.declared.live.Live.{Live as TheLive};
+ghost use Rattle.jh_history.specs.Lives.{live_in};
 ghost use Rattle.jh_script.specs.declared.image.Image.{Image as TheImage};
 ghost use Rattle.jh_check.specs.Refusals.{any_below};
 ghost use Rattle.jh_comm.specs.Page.{word_in};
@@ -19,7 +21,7 @@ use crate::change::is_running;
 use crate::entry::{Act, Heard, Settled};
 use crate::known::Known;
 use crate::next::is_idle_but;
-use crate::place::{Place, Places, Row};
+use crate::place::{Place, Places};
 use jh_call::Call;
 use jh_cellcfg::{CellConfig, MAX_CPUS};
 use jh_comm::{
@@ -28,15 +30,25 @@ use jh_comm::{
 use jh_num::NoMemory;
 use jh_num::error::{EINVAL, ENOENT, EPERM};
 
-/// Whether the call is about the cell with the id: a start, a set loadable or a destroy that names it.
+/// The id that the call names, if it is about a cell that lives already: a start, a set loadable or a destroy.
+pub(crate) fn named_id(call: &Call) -> Option<u64>
+    ensures live { (lives : List TheLive) → named_cell lives call.now ≡ option_and_then (live_in lives) result }
+    ensures named { IfSome result (λ cell. (id : ℕ) → is_named call.now id ≡ (cell == id)) }
+    ensures other { IfNone result ((id : ℕ) → is_named call.now id ≡ false) }
+{
+    match *call {
+        Call::Start { id } | Call::Loadable { id } | Call::Destroy { id } => Some(id),
+        _ => None,
+    }
+}
+
+/// Whether the call is about the cell with the id, which lives already.
 pub(crate) fn is_named(call: &Call, id: u64) -> bool
     ensures { result ≡ is_named call.now id }
 {
-    match *call {
-        Call::Start { id: cell } | Call::Loadable { id: cell } | Call::Destroy { id: cell } => {
-            cell == id
-        }
-        _ => false,
+    match named_id(call) {
+        Some(cell) => cell == id,
+        None => false,
     }
 }
 
@@ -45,15 +57,11 @@ fn word_at<K: Known>(known: &K, cell: u32, offset: usize) -> u32
     requires { offset < 4096 }
     ensures { (i : TheImage) (f : Facts) → K.Knows known.now i f → result ≡ word_in (λ k. f.byte (Page cell k)) offset }
 {
-    let row = Row {
-        first: Place::Page {
-            cell,
-            offset: offset as u64,
-        },
-        count: 4,
-    };
-    let none = Row { count: 0, ..row };
-    known.value(&Places::new(row, none)) as u32
+    let places = Places::of_word(Place::Page {
+        cell,
+        offset: offset as u64,
+    });
+    known.value(&places) as u32
 }
 
 /// The state word of the communication page of the live cell.
@@ -192,10 +200,7 @@ fn first_refusal(refusal: Option<i64>, locked: bool) -> Option<i64>
 fn named_cell<'a, K: Known>(known: &'a K, call: &Call) -> Option<&'a CellConfig>
     ensures { (i : TheImage) (f : Facts) → K.Knows known.now i f → option_copied result ≡ named_cell f.cells call.now }
 {
-    match *call {
-        Call::Start { id } | Call::Loadable { id } | Call::Destroy { id } => known.live(id),
-        _ => None,
-    }
+    known.live(named_id(call)?)
 }
 
 /// How the cell met the request to shut down; nothing yet where it hasn't.

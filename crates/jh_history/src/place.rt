@@ -1,6 +1,6 @@
 //! Where bytes are kept.
 ghost use Rattle.std.specs.Prelude.{◌≡◌, ◌+◌, ◌^◌, ◌<◌, ◌≤◌, ◌++◌};
-ghost use Rattle.jh_history.specs.Places.{is_same, number_of, further, places_of_row, IsRow};
+ghost use Rattle.jh_history.specs.Places.{is_same, number_of, further, places_in_row, places_of_row, IsRow};
 
 use std::marker::Model;
 
@@ -88,6 +88,14 @@ impl Places {
         ensures { result ≡ places_of_row low ++ places_of_row high }
     {
         Places { low, high }
+    }
+
+    /// The places of a word of 32 bits that begins at the place.
+    pub fn of_word(first: Place) -> Self
+        requires { number_of first + 4 < 2 ^ 64 }
+        ensures { result ≡ places_in_row first 4 }
+    {
+        Places::new(Row { first, count: 0 }, Row { first, count: 4 })
     }
 
     /// The two rows that they are.
