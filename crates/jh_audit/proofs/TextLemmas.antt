@@ -10,7 +10,7 @@ use Rattle.jh_text.proofs.Public.{OneJournal, NoBadLine, NotLong, NotBoth, OneLi
 use Rattle.jh_audit.specs.declared.verdict.Verdict.{Verdict}
 use Rattle.jh_audit.specs.Judges.{Judges, JudgesText}
 
--- an answer that is right is the one that is right
+-- of a journal's text, an answer that is right, and isn't want of memory, judges that journal's entries
 pub only_verdict : OneJournal → NoBadLine → NotLong → (image : Image) (text : List ℕ) (r : Result Verdict JournalFault) → IfOk r (JudgesText image text) → IfErr r (IsFault text) → r ≢ Err NoMemory
     → (entries : List Entry) → IsJournalText text entries → IsOkAnd r (Judges image entries)
 only_verdict one no_bad not_long image text (Ok verdict) ok err room entries j = subst (λ (es : List Entry). Judges image es verdict) (one text ok.entries entries ok.spelled j) ok.judged
@@ -18,6 +18,7 @@ only_verdict one no_bad not_long image text (Err (Line number)) ok err room entr
 only_verdict one no_bad not_long image text (Err TooLong) ok err room entries j = absurd (not_long text entries j err)
 only_verdict one no_bad not_long image text (Err NoMemory) ok err room entries j = absurd (room refl)
 
+-- of a text with a first bad line such an answer tells that line
 pub only_line : NoBadLine → NotBoth → OneLine → (image : Image) (text : List ℕ) (r : Result Verdict JournalFault) → IfOk r (JudgesText image text) → IfErr r (IsFault text) → r ≢ Err NoMemory
     → (number : ℕ) → IsFirstBadLine text number → r ≡ Err (Line number)
 only_line no_bad not_both one_line image text (Ok verdict) ok err room number b = absurd (no_bad text ok.entries number ok.spelled b)
@@ -25,6 +26,7 @@ only_line no_bad not_both one_line image text (Err (Line other)) ok err room num
 only_line no_bad not_both one_line image text (Err TooLong) ok err room number b = absurd (not_both text number b err)
 only_line no_bad not_both one_line image text (Err NoMemory) ok err room number b = absurd (room refl)
 
+-- of a text that is too long such an answer tells that it is
 pub only_too_long : NotLong → NotBoth → (image : Image) (text : List ℕ) (r : Result Verdict JournalFault) → IfOk r (JudgesText image text) → IfErr r (IsFault text) → r ≢ Err NoMemory
     → IsTooLong text → r ≡ Err TooLong
 only_too_long not_long not_both image text (Ok verdict) ok err room t = absurd (not_long text ok.entries ok.spelled t)
@@ -32,8 +34,10 @@ only_too_long not_long not_both image text (Err (Line other)) ok err room t = ab
 only_too_long not_long not_both image text (Err TooLong) ok err room t = refl
 only_too_long not_long not_both image text (Err NoMemory) ok err room t = absurd (room refl)
 
+-- a line that is told, where faults are told rightly, is the text's first bad line
 pub line_is : (text : List ℕ) (r : Result Verdict JournalFault) → IfErr r (IsFault text) → (number : ℕ) → r ≡ Err (Line number) → IsFirstBadLine text number
 line_is text r err number e = let P : Result Verdict JournalFault → Type 0 = λ x. IfErr x (IsFault text) in subst P e err
 
+-- a text that is told to be too long, where faults are told rightly, is too long
 pub too_long_is : (text : List ℕ) (r : Result Verdict JournalFault) → IfErr r (IsFault text) → r ≡ Err TooLong → IsTooLong text
 too_long_is text r err e = let P : Result Verdict JournalFault → Type 0 = λ x. IfErr x (IsFault text) in subst P e err

@@ -1,4 +1,5 @@
--- The cells that live, by their ids and their indexes.
+-- The cells that live: by their ids and indexes, with one less or one more, their regions, and the pages that
+-- root and they take.
 use Rattle.std.proofs.Common.{◌≡◌, ℕ, zero, suc, ◌+◌, ◌*◌, ◌^◌, ◌<◌, ◌≤◌, Bool, true, false, cond, not, List, [], ◌∷◌, ◌++◌, length, get_or, map, remove, position, sum_by, Option, Some, None, refl, sym, ap, subst, ◌∙◌, arith}
 use Rattle.std.specs.Prelude.{All, IfSome, filter, slice_get, option_map, nat_lt}
 use Rattle.std.specs.Option.{option_map_or}
@@ -175,7 +176,7 @@ cells_le (c ∷ cs) =
     let sum = sum_by-append (λ (x : CellConfig). tables_of (cell_claims x) + 1) (c ∷ []) cs in
     omega arith
 
--- the pages of root and 15 cells fit half a word
+-- the pages of root and at most 15 cells fit 32 bits
 pub pages_fit : (regions : List Region) (cells : List CellConfig) → length cells ≤ 15 → pages_of regions cells < 2 ^ 32
 pages_fit regions cells few =
     let root : tables_of (root_claims regions cells) ≤ 1048576 = tables_le (root_claims regions cells) in

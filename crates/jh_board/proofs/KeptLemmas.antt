@@ -1,5 +1,6 @@
--- What a board holds still stands for the facts where nothing of it changes but its memory, which keeps its pages, and the
--- room for more endpoints.
+-- What a board holds still stands for the facts where each byte, the CPUs, cells, programs, endpoints and call are
+-- as they were, its pages stay held, and it is ready to go on: its index and its room may change. It stays ready
+-- where its pages, its index, the cells and their room stay, and the room for endpoints doesn't shrink.
 use Rattle.std.proofs.Common.{◌≡◌, ℕ, ◌<◌, ◌≤◌, List, Option, Some, None, ◌∙◌, sym, ap, subst, arith}
 use Rattle.std.specs.Prelude.{slice_get, All}
 use Rattle.std.proofs.lemmas.List.Elements.{All-weaker}
@@ -27,11 +28,11 @@ use Rattle.jh_board.specs.Means.{Means, HoldsPageOf, HoldsWordsOf, IsReadyFor, I
 abbrev pub KeepsPages : MemoryView → MemoryView → Type 0
 KeepsPages old new = (q : Place) → HoldsPlace old q → HoldsPlace new q
 
--- those of communication
+-- a communication page that is held stays so
 pub comms_kept : (old new : MemoryView) (cell : ℕ) → KeepsPages old new → HoldsComm old.comms cell → HoldsComm new.comms cell
 comms_kept old new cell pages h = let first : 0 < 4096 = omega arith in (pages (Page cell 0) (h, first)).0
 
--- and those of the words of devices
+-- the pages of the words of devices that are held stay so
 pub words_kept : (old new : MemoryView) (specs : List EndpointSpec) → KeepsPages old new → All (HoldsWordOf old) specs → All (HoldsWordOf new) specs
 words_kept old new specs pages h =
     All-weaker (HoldsWordOf old) (HoldsWordOf new) (λ spec word. All-weaker (HoldsPlace old) (HoldsPlace new) pages (places_in_row (Physical (endpoint_word_of spec 0).place) 4) word) specs h

@@ -1,4 +1,5 @@
--- What is found once of an image: where programs are.
+-- Where programs are in an image: root's, by the image alone; and each CPU's, for the cell that it was found for,
+-- found again at each Commit.
 use Rattle.std.specs.Prelude.{◌≡◌, ℕ, ◌<◌, List, [], find, slice_get, slice_index, Some}
 use Rattle.std.specs.Option.{option_map_or}
 use Rattle.jh_cellcfg.specs.Cells.{name_of}

@@ -1,4 +1,5 @@
--- Definitions that mirror the code: clauses of private functions alone cite them, and no public clause rests on them.
+-- Definitions that mirror the code: only clauses of private functions, and views and invariants of private types,
+-- cite them, and no public clause rests on them.
 pub mod Closed
 pub mod IsCellRegions
 pub mod IsIndexed

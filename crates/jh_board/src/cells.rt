@@ -77,7 +77,7 @@ fn count_pages(cells: &Cells) -> u32
 }
 
 impl LiveCells {
-    /// Root alone. It takes memory for a copy of the system's configuration.
+    /// Root alone. It takes memory for a copy of the system's configuration, and for one range of places.
     pub fn new(alloc: Global, system: &SystemConfig) -> Result<Self, NoMemory>
         ensures system { IfOk result (λ cells. cells.system ≡ system.now) }
         ensures alone { IfOk result (λ cells. cells.lives ≡ []) }

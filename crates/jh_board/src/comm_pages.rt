@@ -113,7 +113,7 @@ impl CommPages {
         }
     }
 
-    /// Changes words of a page that is held.
+    /// Makes the change to a page that is held.
     pub fn change(&mut self, write: &PageWrite)
         requires { HoldsComm self.old write.now.cell }
         ensures page { (k : ℕ) → k < 4096 → comm_byte self.new write.now.cell k ≡ page_after write.now.change (comm_byte self.old write.now.cell) k }

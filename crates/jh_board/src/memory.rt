@@ -255,7 +255,7 @@ impl Memory {
         self.comms.hold(cell)
     }
 
-    /// Changes words of a communication page that is held.
+    /// Makes the change to a communication page that is held.
     pub fn change_page(&mut self, write: &PageWrite)
         requires { HoldsComm self.old.comms write.now.cell }
         ensures bytes { (q : ThePlace) → byte_of self.new q ≡ with_page write.now (byte_of self.old) q }

@@ -26,7 +26,7 @@ impl Model for Page {
     ghost invariant = { λ p. length p.bytes.items ≡ 4096 };
 }
 
-/// Changes words of a communication page.
+/// Makes the change to the bytes of a communication page.
 fn change_words(page: &mut [u8], change: &PageChange)
     requires { length page.old ≡ 4096 }
     ensures { (k : ℕ) → k < 4096 → slice_index page.new k ≡ page_after change.now (λ j. slice_index page.old j) k }
@@ -106,7 +106,7 @@ impl Page {
         }
     }
 
-    /// Changes words of a communication page.
+    /// Makes the change to the page, a communication page.
     pub fn change(&mut self, change: &PageChange)
         ensures page { (k : ℕ) → k < 4096 → slice_index self.new k ≡ page_after change.now (λ j. slice_index self.old j) k }
         ensures behind { (k : ℕ) → 4096 ≤ k → slice_index self.new k ≡ slice_index self.old k }

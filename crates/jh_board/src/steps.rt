@@ -335,7 +335,7 @@ fn is_commit(act: &Act) -> bool
     matches!(act, Act::Commit)
 }
 
-/// Finds the programs of CPUs again, where the act changes which cells live.
+/// Finds the programs of CPUs again, where the act is a Commit.
 fn renew_programs(
     image: &IndexedImage,
     cells: &LiveCells,

@@ -1,4 +1,5 @@
--- Places, one page's at a time.
+-- The places of addresses that follow one another: by two stretches, in a row, or none; and what an access
+-- reaches by them.
 use Rattle.std.proofs.Common.{◌≡◌, ℕ, zero, suc, ◌+◌, ◌<◌, ◌≤◌, List, [], ◌∷◌, ◌++◌, Option, Some, None, refl, ap, sym, ◌∙◌, arith}
 use Rattle.std.specs.Prelude.{option_map, option_and_then}
 use Rattle.std.proofs.lemmas.Grind.{common_steps}

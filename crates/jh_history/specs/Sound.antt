@@ -1,5 +1,5 @@
--- What holds after every legal journal of an admitted image: of the cells that live, of whose the CPUs are, of the
--- management call that is open, and of the devices.
+-- What holds after every legal journal of an admitted image: of the cells that live, of whose the CPUs are, of
+-- the management call that is open, and of the devices. And what it means that an image is made of bytes.
 use Rattle.std.specs.Prelude.{◌≡◌, ◌≢◌, ◌⊎◌, ◌≤◌, ◌<◌, ℕ, ℤ, pos, true, false, List, [], ◌∷◌, ◌++◌, length, map, All, Contains, AllPairs, Option, Some, None, slice_get}
 use Rattle.jh_cellcfg.specs.declared.config.CellConfig.{CellConfig}
 use Rattle.jh_cellcfg.specs.declared.config.SystemConfig.{SystemConfig}
@@ -100,8 +100,8 @@ abbrev pub HasHalted : Phase → Cpu → Type 0
 HasHalted ToDecide cpu = IsHalting cpu
 HasHalted _ cpu = IsHalted cpu
 
--- a CPU of a cell goes on: it is calm; but before the Commit, once the cell that the call is about has agreed, a CPU of
--- that cell is halting
+-- a CPU of a cell goes on: it is calm; but after a Settle that isn't denied, up to the Commit, a CPU of the cell that
+-- the call is about is halting
 abbrev pub GoesOn : Call → Phase → Cpu → Type 0
 GoesOn call ToCommit cpu = (is_named call cpu.owner ≡ true → IsHalting cpu) × (is_named call cpu.owner ≡ false → IsCalm cpu)
 GoesOn call _ cpu = IsCalm cpu

@@ -1,6 +1,6 @@
 //! What the hypervisor writes into communication pages.
 
-/// A change of a page's words.
+/// A change of a communication page: of words of it, or of the whole page.
 #[derive(Clone, Copy)]
 pub enum PageChange {
     /// The cell is in another state.

@@ -51,8 +51,7 @@ pub fn suspended_cpus_make_no_entry()
         begun s.before ≡ Some opening → is_named (call_begun opening.act) s.last.cell ≡ true → s.last.act ≡ Stop }
 {}
 
-/// While a call is open something is due: to its caller, or to a CPU that it waits for. So a quiet journal has no
-/// open call.
+/// While a call is open something is due to some CPU; so a quiet journal has no open call.
 pub fn quiet_journals_have_no_open_call()
     ensures { (j : AdmittedJournal) → IsQuiet j.image j.entries → call_of j ≡ None }
 {}

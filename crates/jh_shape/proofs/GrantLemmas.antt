@@ -72,7 +72,7 @@ takes_alike loadable place size k l region e =
     (λ no. ap (λ v. v && (free && has_place region (place + k))) no ∙ sym (ap (λ v. v && (free && has_place region place)) no))
     (cases_Bool (is_unshared region))
 
--- where no other cell meets the places in part, all of them are closed or none
+-- where no unshared region of another cell meets the places in part, all of them are closed or none
 closed_alike : (holders : List Holder) (place size k : ℕ) → k < size → are_cut holders place size ≡ false → is_closed holders (place + k) ≡ is_closed holders place
 closed_alike holders place size k l e =
     any_agree

@@ -19,7 +19,7 @@ pub record IsMet (claims : Claims) (level start : ℕ) : Type 0 where
   pub last : at < start + slot_size level
   pub has : IsTrue (has_address region at)
 
--- another cell holds, by a region for itself alone, one of so many places and lacks another of them
+-- a region that another cell holds for itself alone has one of so many places and lacks another of them
 pub record IsCut (holders : List Holder) (place size : ℕ) : Type 0 where
   pub holder : Holder
   pub live : Contains holders holder
@@ -34,8 +34,8 @@ pub record IsCut (holders : List Holder) (place size : ℕ) : Type 0 where
   pub lacks : has_place region (place + other) ≡ false
 
 -- a block of the level may map the slot by the region: there is none at level 0 or of the communication
--- page, the region allows them, its places are aligned like its addresses, and for root no other cell
--- holds the slot's places in part
+-- page, the region allows them, its places are aligned like its addresses, and for root no region that
+-- another cell holds for itself alone has one of the slot's places and lacks another
 pub record IsBlock (claims : Claims) (level start : ℕ) (region : Region) : Type 0 where
   pub below : 0 < level
   pub huge : IsTrue (may_have_blocks region)

@@ -113,8 +113,8 @@ pub(crate) fn fits_blocks(level: u8, region: &Region) -> bool
         && region.phys_start % size == region.virt_start % size
 }
 
-/// Whether an interval that ends there has numbers in slots of the number `limit` and above, of the level's below the
-/// end of addresses, which is that of places too.
+/// Whether the level's slot of the number `limit` begins below the end of addresses, which is that of places too, and
+/// below the number.
 fn is_past(number: u128, level: u8, limit: usize) -> bool
     requires level { level < LAST_LEVEL }
     requires limit { limit ≤ SLOTS }
@@ -124,8 +124,8 @@ fn is_past(number: u128, level: u8, limit: usize) -> bool
     end < ADDRESS_END && u128::from(end) < number
 }
 
-/// Whether one of the regions has addresses in slots of the number `limit` and above, of the level's below the end of
-/// addresses.
+/// Whether the level's slot of the number `limit` begins below the end of addresses, and below the end of those of one
+/// of the regions.
 pub(crate) fn any_beyond(regions: &[Region], level: u8, limit: usize) -> bool
     requires level { level < LAST_LEVEL }
     requires limit { limit ≤ SLOTS }
@@ -136,8 +136,8 @@ pub(crate) fn any_beyond(regions: &[Region], level: u8, limit: usize) -> bool
         .any(|region| is_past(region.virt_end(), level, limit))
 }
 
-/// Whether one of the regions has places in slots of the number `limit` and above, of the level's below the end of
-/// places.
+/// Whether the level's slot of the number `limit` begins below the end of places, and below the end of those of one
+/// of the regions.
 pub(crate) fn any_place_beyond(regions: &[Region], level: u8, limit: usize) -> bool
     requires level { level < LAST_LEVEL }
     requires limit { limit ≤ SLOTS }

@@ -8,9 +8,9 @@ use jh_num::{LAST_LEVEL, has_bit, slot_size};
 
 /// What a cell's tables are made from: its regions, whether it is root, and the other cells.
 ///
-/// The holders, whose unshared regions root lacks, are the cells of `cells` whose bit, by their index,
-/// is set in `held`, and `extra`. A holder of `cells` is loadable where its bit is set in `loadable`,
-/// and `extra` isn't. There are at most 15 cells.
+/// The holders are the cells of `cells` whose bit, by their index, is set in `held`, and `extra`. Root lacks
+/// their unshared regions, but for the loadable ones of a loadable holder. A holder of `cells` is loadable
+/// where its bit is set in `loadable`, and `extra` isn't. There are at most 15 cells.
 #[derive(Clone, Copy)]
 pub struct Target<'a> {
     pub regions: &'a [Region],
@@ -117,7 +117,8 @@ impl<'a> Target<'a> {
         any_met(self.regions, level, start)
     }
 
-    /// What the region's leaf says.
+    /// What is to stand at the address `start` where the region makes the slot a leaf: for root nothing where
+    /// the place is closed.
     fn leaf_of(&self, region: &Region, start: u64) -> Want
         requires cells { length self.now.cells.now ≤ 15 }
         requires fits { is_comm region.now ≡ false → place_in region.now start < 2 ^ 64 }

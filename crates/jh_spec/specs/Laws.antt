@@ -138,7 +138,7 @@ settings_members d =
     ∷ (codes "console", is_none (console_at (codes "console") d))
     ∷ []
 
--- a cell's members in the order of its table, each with whether it is at fault
+-- a cell's members in the order of `cell_names`, each with whether it is at fault
 abbrev pub cell_members : Data → List (List ℕ × Bool)
 cell_members d = identity_members d ++ (lists_members d ++ settings_members d)
 
@@ -158,7 +158,7 @@ platform_members d =
 abbrev pub root_member : Data → List ℕ × Bool
 root_member d = (codes "root", option_map_or (λ root. is_err (cell_told cell_names root)) (get (codes "root") d) true)
 
--- a system's members in the order of its table, each with whether it is at fault
+-- a system's members in the order of `system_names`, each with whether it is at fault
 abbrev pub system_members : Data → List (List ℕ × Bool)
 system_members d = platform_members d ++ root_member d ∷ []
 

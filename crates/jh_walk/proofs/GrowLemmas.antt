@@ -1,4 +1,5 @@
--- Walks over words of which the valid ones stay.
+-- Where each word that reads valid stays: a walk that ends at a leaf ends as it did, and no page is reached less
+-- often.
 use Rattle.std.proofs.Common.{◌≡◌, ℕ, ◌+◌, ◌-◌, ◌*◌, ◌/◌, ◌%◌, ◌<◌, ◌≤◌, ◌⊎◌, inl, inr, ◌∙◌, sym, ap, nat_lt, if◌then◌else◌, None, Some, zero, suc, arith, refl}
 use Rattle.std.proofs.lemmas.Bool.{cases_lt}
 use Rattle.jh_num.specs.declared.address.TheConstants.{ADDRESS_END}

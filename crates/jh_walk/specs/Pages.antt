@@ -20,7 +20,8 @@ by_next f (Table next) = f next
 abbrev pub Weight : Type 0
 Weight = (ℕ → ℕ) → ℕ → ℕ → ℕ
 
--- the sum of the weights of the table, with so many levels left, and of all tables that it reaches
+-- the sum of the weights of the table, with so many levels left, and of all tables that it reaches, each as often as
+-- it is reached
 unfoldable pub count : Weight → (ℕ → ℕ) → ℕ → ℕ → ℕ
 count weight word zero table = 0
 count weight word (suc n) table =

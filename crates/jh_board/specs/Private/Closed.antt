@@ -1,4 +1,4 @@
--- What live cells close to root.
+-- What live cells close to root, their regions and how many these are, and the index of a cell with an id.
 use Rattle.std.specs.Prelude.{◌≡◌, ℕ, ◌<◌, ◌≤◌, Bool, List, [], Option, Some, None, length, map, find, slice_get, All, sum_by}
 use Rattle.std.specs.List.{list_any}
 use Rattle.std.specs.Option.{option_map_or}

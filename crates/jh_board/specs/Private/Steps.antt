@@ -83,7 +83,7 @@ abbrev pub MayWriteOf : MemoryView → Act → Reach → Type 0
 MayWriteOf memory (Write width at value ok) found = MayWrite memory found
 MayWriteOf memory act found = Unit {0}
 
--- ---- devices
+-- ---- the memory and the devices that an act changes
 
 -- the devices of the cell with the id, by what is held
 abbrev pub devices_held : Image → Held → ℕ → Devices
@@ -138,13 +138,14 @@ pub record IsSameButDevices (old new : Held) : Type 0 where
   pub index : new.index ≡ old.index
   pub pages : (q : Place) → HoldsPlace old.memory q → HoldsPlace new.memory q
 
--- ---- cells
+-- ---- the cell that comes
 
 -- the cells with the one that comes, last and not loadable
 abbrev pub joined_cells : List Live → CellConfig → List Live
 joined_cells cells config = cells ++ (record { config = config; loadable = false }) ∷ []
 
--- the cell with the configuration may join those that live, whose index and room are there; as it names a CPU, few live
+-- the cell with the configuration may join those that live, whose index and room are there; where it names a CPU,
+-- fewer than 15 live
 pub record MayJoinCells (live : LiveView) (found : Option (List Region)) (config : CellConfig) : Type 0 where
   pub cpus : IsSoundBitmap config.cpu_set
   pub few : NamesCpu config → length live.lives < 15
@@ -153,6 +154,8 @@ pub record MayJoinCells (live : LiveView) (found : Option (List Region)) (config
   pub index : found ≡ Some config.memory_regions
   pub cells : 0 < live.cells
   pub regions : length config.memory_regions ≤ live.regions
+
+-- ---- an entry, and the call that goes on by it
 
 -- the entry is due where what is held stands for sound facts of an admitted image
 pub record IsNextEntry (image : Image) (held : Held) (entry : Entry) : Type 0 where

@@ -43,10 +43,10 @@ marked_slots words level = count_below (λ n. is_marked words n) (ADDRESS_END / 
 abbrev pub past_slot : ℕ → ℕ → ℕ
 past_slot level number = (min number ADDRESS_END + (slot_size level - 1)) / slot_size level
 
--- the region has addresses in slots of that number and above
+-- the level's slot of that number begins below the end of addresses, and below the end of the region's
 abbrev pub is_beyond : ℕ → ℕ → Region → Bool
 is_beyond limit level region = nat_lt limit (past_slot level (virt_end region))
 
--- the region has places in slots of that number and above
+-- the level's slot of that number begins below the end of places, and below the end of the region's
 abbrev pub is_place_beyond : ℕ → ℕ → Region → Bool
 is_place_beyond limit level region = nat_lt limit (past_slot level (phys_end region))

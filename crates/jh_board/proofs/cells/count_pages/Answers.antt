@@ -1,4 +1,4 @@
--- The pages fit half a word.
+-- The pages fit 32 bits.
 use Rattle.std.proofs.Common.{◌≡◌, ◌<◌, ◌^◌, List, length, ap, ◌∙◌, arith}
 use Rattle.std.proofs.lemmas.List.{append-nil, length-map}
 use Rattle.jh_cellcfg.specs.declared.config.CellConfig.{CellConfig}

@@ -1,4 +1,4 @@
--- In each phase the caller, or one that it waits for, has something due.
+-- In each phase of an open call something is due to some CPU.
 use Rattle.jh_laws.proofs.QuietLemmas.{quiet_closed}
 use Rattle.jh_laws.proofs.calls.quiet_journals_have_no_open_call.Goals as goal
 
