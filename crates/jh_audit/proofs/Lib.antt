@@ -1,4 +1,3 @@
-mod AbsentLemmas
 mod JudgeLemmas
 mod RestLemmas
 mod TextLemmas
