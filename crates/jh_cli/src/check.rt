@@ -1,12 +1,10 @@
 //! Checking a system and its cells.
-ghost use Rattle.std.specs.Prelude.{◌≡◌, ◌≤◌, ◌⊎◌, length, map, string_bytes, IfOk, IfErr, OnOk, ◌++◌, ◌∷◌, []};
+ghost use Rattle.std.specs.Prelude.{◌≡◌, ◌≤◌, length, map, string_bytes, IfOk, IfErr, OnOk, ◌∷◌, []};
 ghost use Rattle.jh_check.specs.Findings.{findings};
-ghost use Rattle.jh_check.specs.Lists.{capped};
-ghost use Rattle.jh_check.specs.Texts.{finding_text};
 ghost use Rattle.jh_outside.specs.Trail.{AsksAll};
 ghost use Rattle.jh_cli.specs.Order.{AsksUntilEnd, AsksIn};
 ghost use Rattle.jh_cli.specs.Reading.{Spells, EndsAtFile, IsCountedFault};
-ghost use Rattle.jh_cli.specs.Check.{IsCellFile, CellRefusal, IsSystemFile, SystemRefusal, SpellCells, EndsAmong, ChecksCells, Checks, checked, checked_status, findings_text};
+ghost use Rattle.jh_cli.specs.Check.{IsCellFile, CellRefusal, IsSystemFile, SystemRefusal, SpellCells, EndsAmong, ChecksCells, Checks, checked, findings_text};
 ghost use Rattle.jh_cli.specs.Private.Endings.{reply_of, OnEnded, OnEnding};
 
 use crate::ending::{CallFault, Ending, read_below, refused_for};

@@ -1,5 +1,5 @@
 //! The maps of a board's cells after a schedule.
-ghost use Rattle.std.specs.Prelude.{◌≡◌, All, IsTrue, IfOk, ◌∷◌, []};
+ghost use Rattle.std.specs.Prelude.{All, IsTrue, IfOk, ◌∷◌, []};
 ghost use Rattle.jh_history.specs.Admitted.{IsAdmitted};
 ghost use Rattle.jh_history.specs.Lives.{is_on_board};
 ghost use Rattle.jh_cli.specs.Order.{AsksIn, AsksBoardAnd};

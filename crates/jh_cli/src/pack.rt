@@ -5,7 +5,7 @@ ghost use Rattle.jh_outside.specs.Trail.{AsksAll};
 ghost use Rattle.jh_cli.specs.Order.{AsksUntilEnd, AsksIn};
 ghost use Rattle.jh_cli.specs.Reading.{Spells, EndsAtFile, IsCountedFault};
 ghost use Rattle.jh_cli.specs.Pack.{IsSpecFile, SpecRefusal, Packs, packed};
-ghost use Rattle.jh_cli.specs.Private.Endings.{reply_of, OnEnded, OnEnding};
+ghost use Rattle.jh_cli.specs.Private.Endings.{OnEnded, OnEnding};
 
 use crate::ending::{CallFault, Ending, read_below, refused};
 use crate::limits::MAX_READ;

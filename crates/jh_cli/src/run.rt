@@ -1,5 +1,5 @@
 //! Running a board, with a worker for each of its CPUs.
-ghost use Rattle.std.specs.Prelude.{◌≡◌, IfOk, []};
+ghost use Rattle.std.specs.Prelude.{IfOk, []};
 ghost use Rattle.jh_history.specs.Admitted.{IsAdmitted};
 ghost use Rattle.jh_cli.specs.Order.{AsksBoardAnd};
 ghost use Rattle.jh_cli.specs.Run.{IsRan, Runs};

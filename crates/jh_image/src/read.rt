@@ -1,5 +1,5 @@
 //! The files that a board is made from, one by one.
-ghost use Rattle.std.specs.Prelude.{◌≡◌, ◌≤◌, ◌≢◌, ◌∷◌, IfOk, IfErr, OnOk, length, map, true, []};
+ghost use Rattle.std.specs.Prelude.{◌≡◌, ◌≤◌, ◌∷◌, IfOk, IfErr, OnOk, length, map, true, []};
 ghost use Rattle.jh_history.specs.Admitted.{IsSoundProgram};
 ghost use Rattle.jh_image.specs.Boards.{are_distinct, seat_of};
 ghost use Rattle.jh_image.specs.Files.{HasBytes, Lists, SpellsSystem, IsPreloadOf, IsProgramOf};

@@ -44,7 +44,7 @@ use Rattle.jh_history.specs.Admitted.{IsAdmitted}
 use Rattle.jh_history.specs.Sound.{AreSoundCells, IsHalted, IsAsked, IsHalting, IsCaller, IsOpen, IsSound, IsCalm}
 use Rattle.jh_laws.specs.Ends.{IsAnswered, IsReadBy, IsGotBy}
 use Rattle.jh_laws.specs.Ready.{IsDueIn, NothingElseIsDue, HasHeard, RootHasStopped, IsPhaseDue, IsReadyCaller, IsReadyProgram, IsReadyAt}
-use Rattle.jh_history.proofs.Public.{goes_calm, goes_running, running_mode, root_unnamed, board_few, halted_to_decide, halted_to_commit, named_board, IsOfProgram, state_parts, call_open, is_some_entry}
+use Rattle.jh_history.proofs.Public.{goes_calm, goes_running, running_mode, root_unnamed, board_few, halted_to_decide, halted_to_commit, named_board, IsOfProgram, state_parts, call_open, due_at_absent, is_some_entry}
 use Rattle.jh_laws.proofs.HeldLemmas.{found_by_id, live_found}
 use Rattle.jh_laws.proofs.PendingLemmas.{next_some_holds, next_is}
 use Rattle.jh_laws.proofs.EndsLemmas.{got_of_cell, one_value, width_some, ops_well_formed}
@@ -94,10 +94,6 @@ unfolding due_at
 due_on image f cpu on =
     let here : cond (is_on_board image cpu) (entry_of image f (f.cpu cpu) cpu) None ≡ entry_of image f (f.cpu cpu) cpu = rw on refl in
     ap (λ (o : Option Entry). is_some o) here ∙ is_some_entry cpu (f.cpu cpu).owner (next_act image f (f.cpu cpu) cpu)
-
-due_off : (image : Image) (f : Facts) (cpu : ℕ) → is_on_board image cpu ≡ false → is_some (due_at image f cpu) ≡ false
-unfolding due_at
-due_off image f cpu off = ap (λ (b : Bool). is_some (cond b (entry_of image f (f.cpu cpu) cpu) None)) off
 
 -- of a CPU without an open call
 next_none : (image : Image) (f : Facts) (cpu : ℕ) → f.call ≡ None → next_act image f (f.cpu cpu) cpu ≡ state_act image f (f.cpu cpu) cpu
@@ -174,7 +170,7 @@ idle_nothing image f o sound is idle cpu other =
     let waits : waits_for image f o.caller cpu ≡ true =
     and_from (is_on_board image cpu && not (eqb cpu o.caller)) (is_some (state_act image f (f.cpu cpu) cpu)) (and_from (is_on_board image cpu) (not (eqb cpu o.caller)) on (not_from_false (eqb cpu o.caller) (ne_eqb cpu o.caller other))) some in
     both_ways (any_below (waits_for image f o.caller) 16) fails (below_at (waits_for image f o.caller) 16 cpu (board_few image (configs_of f.cells) sound.clean cpu on) waits))))
-    (λ (off : is_on_board image cpu ≡ false). none_of (due_at image f cpu) (due_off image f cpu off))
+    (λ (off : is_on_board image cpu ≡ false). due_at_absent image f cpu off)
     (cases_Bool (is_on_board image cpu))
 
 nothing_idle : (image : Image) (f : Facts) (o : OpenCall) → f.call ≡ Some o → NothingElseIsDue image f o.caller → is_idle_but image f o.caller ≡ true
@@ -563,7 +559,7 @@ pub ready_from_due : (image : Image) (f : Facts) (cpu : ℕ) → IsAdmitted imag
 ready_from_due image f cpu admitted sound h =
     ⊎_elim
     (λ (on : is_on_board image cpu ≡ true). record { board = on; what = ready_by image f cpu f.call admitted sound refl (sym (due_on image f cpu on) ∙ h) })
-    (λ (off : is_on_board image cpu ≡ false). absurd (both_ways (is_some (due_at image f cpu)) (due_off image f cpu off) h))
+    (λ (off : is_on_board image cpu ≡ false). absurd (both_ways (is_some (due_at image f cpu)) (ap (λ (o : Option Entry). is_some o) (due_at_absent image f cpu off)) h))
     (cases_Bool (is_on_board image cpu))
 
 -- by the state, where the CPU has no call open

@@ -11,6 +11,7 @@ use Rattle.jh_history.specs.declared.entry.Settled.TheVariants.{Agreed, Denied, 
 use Rattle.jh_history.specs.declared.entry.Heard.{Heard}
 use Rattle.jh_history.specs.declared.entry.Act.{Act}
 use Rattle.jh_history.specs.declared.entry.Act.TheVariants.{Begin, Decide, Settle, Commit, Note, Noted, Finish}
+use Rattle.jh_history.specs.Cpus.{is_agreed}
 
 -- ---- acts
 
@@ -36,8 +37,7 @@ is_finish _ = false
 
 -- the act is a Settle after which the call goes on
 abbrev pub is_agreement : Act → Bool
-is_agreement (Settle Agreed) = true
-is_agreement (Settle Timeout) = true
+is_agreement (Settle how) = is_agreed how
 is_agreement _ = false
 
 -- the call that the act begins
