@@ -2,8 +2,8 @@
 -- What std has of them stands in `std.proofs.lemmas.List.Elements` (`Contains-append_left`,
 -- `All-contains`, `filter_passes` ..) and `.Folds` (`find-append`, `list_any-append`, `list_any_more` ..).
 use Rattle.std.proofs.Common.{◌≡◌, ℕ, ltb, zero, suc, ◌<◌, Bool, true, false, cond, ◌||◌, List, [], ◌∷◌, length, get_or, map, Option, Some, None, refl, sym, ap, subst, ◌∙◌, inl, inr, ◌⊎◌, ⊎_elim, arith}
-use Rattle.std.specs.Prelude.{filter, option_map, position}
-use Rattle.std.specs.List.{find, list_any, list_all, Contains, position_or_len}
+use Rattle.std.specs.Prelude.{filter, option_map, position, replicate}
+use Rattle.std.specs.List.{find, list_any, list_all, Contains, position_or_len, remove}
 use Rattle.std.proofs.lemmas.Bool.{cases_Bool, both_ways, and_from, false_from_ne_true, lt-ltb, le-ltb}
 use Rattle.std.proofs.lemmas.Option.{none-some, same_Some, slice_get-get_or, get_or_from_slice_get}
 use Rattle.std.proofs.lemmas.List.Sums.{position_or_len_is}
@@ -146,6 +146,24 @@ Contains_filter {X} p (y ∷ ys) x h passes =
     let rest : Contains (filter p ys) x = Contains_filter p ys x later passes in
     elim (p y) as (λ b. Contains (cond b (y ∷ filter p ys) (filter p ys)) x) [ true ↦ Contains_tail y (filter p ys) x rest | false ↦ rest ])
     (Contains_cases y ys x h)
+
+-- a filter drops nothing of a list whose elements all pass
+pub filter_all : {X : Type 0} (p : X → Bool) (xs : List X) → ((x : X) → Contains xs x → p x ≡ true) → filter p xs ≡ xs
+filter_all p [] h = refl
+filter_all p (x ∷ xs) h = rw (h x (Contains_head x xs)) (ap (λ l. x ∷ l) (filter_all p xs (λ y k. h y (Contains_tail x xs y k))))
+
+-- an element is taken out before the others are mapped, or behind it
+pub map_remove : {X Y : Type 0} (f : X → Y) (xs : List X) (k : ℕ) → map f (remove xs k) ≡ remove (map f xs) k
+map_remove f [] zero = refl
+map_remove f [] (suc k) = refl
+map_remove f (x ∷ xs) zero = refl
+map_remove {Y = Y} f (x ∷ xs) (suc k) = ap (λ (rest : List Y). f x ∷ rest) (map_remove f xs k)
+
+-- every element of a list of equal ones is that one, where it is also the default
+pub get_or_same : {X : Type 0} (n k : ℕ) (x : X) → get_or (replicate n x) k x ≡ x
+get_or_same zero k x = refl
+get_or_same (suc n) zero x = refl
+get_or_same (suc n) (suc k) x = get_or_same n k x
 
 -- an element read by its own default
 pub read_again : {X : Type 0} (xs : List X) (i : ℕ) (d : X) → i < length xs → get_or xs i d ≡ get_or xs i (get_or xs i d)

@@ -8,6 +8,7 @@ use Rattle.jh_num.specs.declared.range.Range.{Range}
 use Rattle.jh_num.specs.Bytes.{in_range, has_byte, AreApart}
 use Rattle.jh_num.proofs.BytesLemmas.{ends_before, not_empty_at}
 use Rattle.jh_num.proofs.Booleans.{or_comm}
+use Rattle.jh_num.proofs.SearchLemmas.{ends_rise}
 
 -- the first i of one list and the first j of the other are still to be merged, and the rest stands from the place `at` on
 pub record Merges (xs ys items : List Range) (i j at : ℕ) : Type 0 where
@@ -41,14 +42,6 @@ swapped xs ys items i j at h =
       ys_ends = h.xs_ends;
     }
 
--- a later range ends later
-pub ends_rise : (xs : List Range) (i k : ℕ) (d : Range) → AreApart xs → i ≤ k → k < length xs → (get_or xs i d).end ≤ (get_or xs k d).end
-ends_rise xs i k d a h l =
-    ⊎_elim
-    (λ (less : i < k). let e = ends_before 0 xs i k d a less l in let f = not_empty_at 0 xs k d a l in omega arith)
-    (λ (more : k ≤ i). let same : i ≡ k = omega arith in let ends : (get_or xs i d).end ≡ (get_or xs k d).end = ap (λ n. (get_or xs n d).end) same in omega arith)
-    (cases_lt i k)
-
 -- the range that is put, taken out of the test
 moved : (t x y m : Bool) → (((t || x) || y) || m) ≡ ((t || y) || (x || m))
 moved true x y m = refl
@@ -76,7 +69,7 @@ stepped xs ys items new i j at to x a h fx later p =
           ∙ ap (λ v. (has_byte (take i xs) b || has_byte (take j ys) b) || v) (sym (p.bytes b));
       apart = p.apart;
       xs_ends = λ k d e l m.
-          let rise = ends_rise xs k i d a (omega arith) within in
+          let rise = ends_rise xs a k i d (omega arith) within in
           let own : x.end ≡ (get_or xs i d).end = ap (λ (r : Range). r.end) (get_or_read xs i x within fx d) in
           let first = p.first e in
           omega arith;

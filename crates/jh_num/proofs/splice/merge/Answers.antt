@@ -2,7 +2,8 @@
 use Rattle.std.proofs.Common.{◌≡◌, ℕ, ◌+◌, ◌-◌, ◌<◌, ◌≤◌, List, length, get_or, take, ap, subst, ◌∙◌, arith}
 use Rattle.std.specs.Prelude.{vec_len}
 use Rattle.jh_num.specs.declared.range.Range.{Range}
-use Rattle.jh_num.proofs.MergeLemmas.{Merges, Puts, swapped, stepped, ends_rise, own_some, own_end, still_unread, reads}
+use Rattle.jh_num.proofs.SearchLemmas.{ends_rise}
+use Rattle.jh_num.proofs.MergeLemmas.{Merges, Puts, swapped, stepped, own_some, own_end, still_unread, reads}
 use Rattle.jh_num.proofs.splice.merge.Goals as goal
 
 -- the first ranges
@@ -59,7 +60,7 @@ some_left-preserved-then-ends_last c =
     record {
       merges = stepped xs ys items new k j at c.put_before-at.result x c.requires.apart going own
           (λ n d less.
-          let rise : (get_or ys n d).end ≤ (get_or ys (j - 1) d).end = ends_rise ys n (j - 1) d c.requires.others (omega arith) (omega arith) in
+          let rise : (get_or ys n d).end ≤ (get_or ys (j - 1) d).end = ends_rise ys c.requires.others n (j - 1) d (omega arith) (omega arith) in
           let later : (get_or ys (j - 1) d).end ≤ (get_or c.as_slice.result.now k d).end = c.ends_last.ensures.later d c.if-ends_last.true (omega arith) in
           let same : (get_or c.as_slice.result.now k d).end ≡ (get_or items k d).end = ap (λ (rs : List Range). (get_or rs k d).end) c.as_slice.ensures.value in
           let end : x.end ≡ (get_or items k d).end = own_end items k x d (omega arith) c.index-next.ensures in
@@ -103,7 +104,7 @@ some_left-preserved c =
     record {
       merges = swapped ys xs new k i to (stepped ys xs items new k i at to y c.requires.others (swapped xs ys items i (k + 1) at going) c.index-others-j.is
           (λ n d less.
-          let rise : (get_or xs n d).end ≤ (get_or xs (i - 1) d).end = ends_rise xs n (i - 1) d c.requires.apart (omega arith) (omega arith) in
+          let rise : (get_or xs n d).end ≤ (get_or xs (i - 1) d).end = ends_rise xs c.requires.apart n (i - 1) d (omega arith) (omega arith) in
           let own : (get_or items (i - 1) d).end ≡ (get_or xs (i - 1) d).end = ap (λ (r : Range). r.end) (reads xs items i (i - 1) d (omega arith) c.some_left.invariant.unread) in
           let earlier : (get_or c.as_slice.result.now (i - 1) d).end ≤ (get_or ys k d).end = c.ends_last.ensures.earlier d c.if-ends_last.false (omega arith) in
           let same : (get_or c.as_slice.result.now (i - 1) d).end ≡ (get_or items (i - 1) d).end = ap (λ (rs : List Range). (get_or rs (i - 1) d).end) c.as_slice.ensures.value in
