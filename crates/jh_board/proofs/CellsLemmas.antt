@@ -15,14 +15,14 @@ use Rattle.jh_cellcfg.specs.declared.config.CellConfig.{CellConfig}
 use Rattle.jh_cellcfg.specs.declared.region.Region.{Region}
 use Rattle.jh_cellcfg.specs.declared.live.Live.{Live}
 use Rattle.jh_cellcfg.specs.Lives.{has_id}
-use Rattle.jh_cellcfg.specs.Regions.{IsInRange}
+use Rattle.jh_cellcfg.specs.Regions.{IsEmptyOrInRange, AreInRange}
 use Rattle.jh_shape.specs.Pages.{tables_of, pages_of, root_claims, cell_claims}
 use Rattle.jh_shape.proofs.Public.{tables_le}
 use Rattle.jh_life.specs.Lives.{has_config_id, new_live}
 use Rattle.jh_shape.specs.Lives.{configs_of, marked}
 use Rattle.jh_history.specs.Commits.{is_other}
 use Rattle.jh_history.specs.Lives.{live_in}
-use Rattle.jh_board.specs.Private.Closed.{IsIndexOf, live_regions, all_regions, count_regions, AreInRange}
+use Rattle.jh_board.specs.Private.Closed.{IsIndexOf, live_regions, all_regions, count_regions}
 
 -- ---- the index of a cell
 
@@ -67,7 +67,7 @@ regions_some lives id k regions is at =
     ∙ ap Some (sym at))
 
 pub regions_within : (lives : List Live) (id k : ℕ) (regions : List Region) (found : Option Region) → IsIndexOf lives id (Some k) → regions ≡ get_or (all_regions lives) k regions
-    → All AreInRange (all_regions lives) → IfSome found (Contains regions) → IfSome found (λ r. 0 < r.size → IsInRange r)
+    → All AreInRange (all_regions lives) → IfSome found (Contains regions) → IfSome found IsEmptyOrInRange
 regions_within lives id k regions None is at all own = tt
 regions_within lives id k regions (Some r) is at all own =
     let len : length (configs_of lives) ≡ length lives = length-map lives (λ (l : Live). l.config) in
@@ -75,7 +75,7 @@ regions_within lives id k regions (Some r) is at all own =
     let within = is.within in
     let each : AreInRange (get_or (all_regions lives) k regions) = all k regions (omega arith) in
     let here : AreInRange regions = subst AreInRange (sym at) each in
-    All-contains (λ (x : Region). 0 < x.size → IsInRange x) regions r here own
+    All-contains IsEmptyOrInRange regions r here own
 
 -- the cell itself
 pub record IsCell (lives : List Live) (id k : ℕ) (cell : Live) : Type 0 where

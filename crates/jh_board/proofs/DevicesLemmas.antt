@@ -10,6 +10,7 @@ use Rattle.jh_num.specs.declared.address.TheConstants.{ADDRESS_END}
 use Rattle.jh_cellcfg.specs.declared.config.CellConfig.{CellConfig}
 use Rattle.jh_cellcfg.specs.declared.config.PciDevice.{PciDevice}
 use Rattle.jh_cellcfg.specs.declared.region.Region.{Region}
+use Rattle.jh_cellcfg.specs.Regions.{AreInRange}
 use Rattle.jh_check.specs.Clean.{IsShmem, IsGoodDevice}
 use Rattle.jh_ivshmem.specs.declared.endpoint.Endpoint.{Endpoint}
 use Rattle.jh_ivshmem.specs.declared.spec.EndpointSpec.{EndpointSpec}
@@ -22,7 +23,6 @@ use Rattle.jh_history.specs.declared.place.Place.{Place}
 use Rattle.jh_history.specs.Devices.{is_endpoint, section_at, place_of_section, spec_of, specs_from, specs_of, specs_by, specs_at}
 use Rattle.jh_history.specs.Endpoints.{HasGoodDevices, MayJoinThem, MayChange, endpoint_changed, endpoints_changed, with_words}
 use Rattle.jh_history.proofs.Public.{same_function, kind_from, All_from_held}
-use Rattle.jh_board.specs.Private.Closed.{AreInRange}
 
 -- ---- one device after another
 

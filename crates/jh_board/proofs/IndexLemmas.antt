@@ -16,7 +16,7 @@ use Rattle.jh_history.specs.Lives.{program_ops, is_program_of, live_in, ops_in}
 use Rattle.jh_cellcfg.specs.declared.config.CellConfig.{CellConfig}
 use Rattle.jh_cellcfg.specs.declared.live.Live.{Live}
 use Rattle.jh_script.specs.Operations.{IsWellFormed}
-use Rattle.jh_cellcfg.specs.Regions.{has_address, IsInRange}
+use Rattle.jh_cellcfg.specs.Regions.{has_address, IsInRange, IsEmptyOrInRange}
 use Rattle.jh_cellcfg.proofs.Public.{has_some}
 use Rattle.std.proofs.lemmas.List.Elements.{All-contains}
 use Rattle.std.proofs.lemmas.List.{drop_more, drop_all}
@@ -108,16 +108,16 @@ found_in_range : (image : Image) (access : Access) (at : ℕ) (o : Option Region
 found_in_range image access at None admitted e = tt
 found_in_range image access at (Some r) admitted e =
     let found = IsFound_from_find (gives access at) image.system.root.memory_regions r e in
-    All-contains (λ (x : Region). 0 < x.size → IsInRange x) image.system.root.memory_regions r (within image admitted) found.held (has_some r at (gives_has access at r found.passes))
+    All-contains IsEmptyOrInRange image.system.root.memory_regions r (within image admitted) found.held (has_some r at (gives_has access at r found.passes))
 
 pub region_of_in_range : (image : Image) (access : Access) (at : ℕ) (o : Option Region) → IsAdmitted image → o ≡ region_of image.system.root.memory_regions access at → IfSome o IsInRange
 region_of_in_range image access at o admitted e = found_in_range image access at o admitted (sym e)
 
 -- a region that has an address has a size, and so lies in range
-pub sized_in_range : (at : ℕ) (o : Option Region) → IfSome o (λ r. 0 < r.size → IsInRange r) → IfSome o (λ r. IsTrue (has_address r at)) → IfSome o IsInRange
+pub sized_in_range : (at : ℕ) (o : Option Region) → IfSome o IsEmptyOrInRange → IfSome o (λ r. IsTrue (has_address r at)) → IfSome o IsInRange
 sized_in_range at None within has = tt
 sized_in_range at (Some r) within has = within (has_some r at has)
 
-pub held_in_range : (image : Image) (o : Option Region) → IsAdmitted image → IfSome o (Contains image.system.root.memory_regions) → IfSome o (λ r. 0 < r.size → IsInRange r)
+pub held_in_range : (image : Image) (o : Option Region) → IsAdmitted image → IfSome o (Contains image.system.root.memory_regions) → IfSome o IsEmptyOrInRange
 held_in_range image None admitted own = tt
-held_in_range image (Some r) admitted own = All-contains (λ (x : Region). 0 < x.size → IsInRange x) image.system.root.memory_regions r (within image admitted) own
+held_in_range image (Some r) admitted own = All-contains IsEmptyOrInRange image.system.root.memory_regions r (within image admitted) own

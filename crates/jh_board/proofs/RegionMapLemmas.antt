@@ -12,7 +12,7 @@ use Rattle.jh_num.specs.Bytes.{has_byte}
 use Rattle.jh_cellcfg.specs.declared.config.CellConfig.{CellConfig}
 use Rattle.jh_cellcfg.specs.declared.live.Live.{Live}
 use Rattle.jh_cellcfg.specs.declared.region.Region.{Region}
-use Rattle.jh_cellcfg.specs.Regions.{has_address, has_flags, is_comm, is_page_mapped, place_in, byte_in, rights_of, SharesNoAddress}
+use Rattle.jh_cellcfg.specs.Regions.{has_address, has_flags, is_comm, is_page_mapped, place_in, byte_in, rights_of, SharesNoAddress, AreInRange}
 use Rattle.jh_cellcfg.proofs.Public.{same_region}
 use Rattle.jh_check.specs.Clean.{IsClean}
 use Rattle.jh_check.specs.Laws.{IsNumbered}
@@ -29,7 +29,7 @@ use Rattle.jh_history.specs.Grants.{unless, granted_by}
 use Rattle.jh_history.specs.Lives.{cell_in, regions_in}
 use Rattle.jh_shape.specs.Lives.{configs_of}
 use Rattle.jh_history.proofs.Public.{numbered_cell, gives_from}
-use Rattle.jh_board.specs.Private.Closed.{AreInRange, is_closed_by}
+use Rattle.jh_board.specs.Private.Closed.{is_closed_by}
 use Rattle.jh_board.specs.Maps.{is_kept_at, is_right, is_mapped_at, place_of_run, grant_of_map}
 
 -- ---- regions of live cells

@@ -5,7 +5,7 @@ use Rattle.std.proofs.lemmas.Bool.{eq-eqb}
 use Rattle.jh_num.specs.declared.address.TheConstants.{ADDRESS_END}
 use Rattle.jh_cellcfg.specs.declared.live.Live.{Live}
 use Rattle.jh_cellcfg.specs.declared.region.Region.{Region}
-use Rattle.jh_cellcfg.specs.Regions.{IsInRange}
+use Rattle.jh_cellcfg.specs.Regions.{AreInRange}
 use Rattle.jh_script.specs.declared.image.Image.{Image}
 use Rattle.jh_history.specs.declared.place.Place.{Place}
 use Rattle.jh_history.specs.declared.access.Access.TheVariants.{Read}
@@ -19,7 +19,7 @@ use Rattle.jh_board.specs.declared.held.Held.{Held}
 use Rattle.jh_board.specs.Pages.{byte_of}
 use Rattle.jh_board.specs.Means.{Means}
 
-root_within : (image : Image) (lives : List Live) → IsAdmitted image → All (λ (r : Region). 0 < r.size → IsInRange r) (regions_in image lives image.system.root.id)
+root_within : (image : Image) (lives : List Live) → IsAdmitted image → AreInRange (regions_in image lives image.system.root.id)
 root_within image lives admitted = let own : eqb image.system.root.id image.system.root.id ≡ true = eq-eqb image.system.root.id image.system.root.id refl in rw own (within image admitted)
 
 -- root is granted nothing past the addresses

@@ -3,9 +3,9 @@ ghost use Rattle.std.specs.Prelude.{◌≡◌, ℕ, ◌+◌, ◌<◌, ◌≤◌,
 ghost use Rattle.jh_num.specs.Bytes.{has_byte};
 ghost use Rattle.std.specs.List.{list_any};
 ghost use Rattle.jh_cellcfg.specs.declared.region.Region.{Region as TheRegion};
-ghost use Rattle.jh_cellcfg.specs.Regions.{has_place, is_comm, is_unshared, is_loadable, IsInRange, SharesNoAddress};
+ghost use Rattle.jh_cellcfg.specs.Regions.{has_place, is_comm, is_unshared, is_loadable, SharesNoAddress, IsEmptyOrInRange, AreInRange};
 ghost use Rattle.jh_shape.specs.Shapes.{takes};
-ghost use Rattle.jh_board.specs.Private.Closed.{is_taken, AreTaken, AreInRange};
+ghost use Rattle.jh_board.specs.Private.Closed.{is_taken, AreTaken};
 
 use jh_cellcfg::Region;
 use jh_mmio::RegionIndex;
@@ -55,7 +55,7 @@ fn any_lent(regions: &[Region]) -> bool
 
 /// Puts in the region's places, where the cell takes them.
 fn take_region(places: &mut ByteSet, region: &Region, loadable: bool) -> Result<(), NoMemory>
-    ensures bytes { OnOk result ((0 < region.now.size → IsInRange region.now) → (place : ℕ) → has_byte places.new.ranges place ≡ (has_byte places.old.ranges place || takes loadable region.now place)) }
+    ensures bytes { OnOk result (IsEmptyOrInRange region.now → (place : ℕ) → has_byte places.new.ranges place ≡ (has_byte places.old.ranges place || takes loadable region.now place)) }
     ensures few { length places.new.ranges ≤ length places.old.ranges + 1 }
 {
     if region.size == 0 || !takes_places(region, loadable) {

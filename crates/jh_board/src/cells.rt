@@ -3,7 +3,7 @@ ghost use Rattle.std.specs.Prelude.{◌≡◌, ◌↔◌, ℕ, ◌+◌, ◌<◌,
 ghost use Rattle.std.specs.Option.{option_copied};
 ghost use Rattle.jh_num.specs.Bytes.{in_range, has_byte};
 ghost use Rattle.jh_cellcfg.specs.declared.region.Region.{Region as TheRegion};
-ghost use Rattle.jh_cellcfg.specs.Regions.{has_address, IsInRange, SharesNoAddress};
+ghost use Rattle.jh_cellcfg.specs.Regions.{has_address, SharesNoAddress, IsInRange, IsEmptyOrInRange, AreInRange};
 ghost use Rattle.jh_mmio.specs.Dispatch.{takes_all, unless_closed};
 ghost use Rattle.jh_check.specs.Refusals.{is_known};
 ghost use Rattle.jh_shape.specs.Pages.{pages_of};
@@ -12,7 +12,7 @@ ghost use Rattle.jh_life.specs.Lives.{has_config_id, new_live};
 ghost use Rattle.jh_shape.specs.Lives.{configs_of, marked};
 ghost use Rattle.jh_history.specs.Commits.{is_other};
 ghost use Rattle.jh_history.specs.Lives.{live_in};
-ghost use Rattle.jh_board.specs.Private.Closed.{is_closed_by, live_regions, AreInRange, IsIndexOf};
+ghost use Rattle.jh_board.specs.Private.Closed.{is_closed_by, live_regions, IsIndexOf};
 
 use crate::cell_regions::CellRegions;
 use crate::closed::{close_again, close_cell};
@@ -138,7 +138,7 @@ impl LiveCells {
     /// The region of the cell with the id that has the address, or some other or none where none has it.
     pub fn region(&self, id: u64, at: u64) -> Option<Region>
         ensures found { IsRegionAt (live_regions self.now.lives id) at result }
-        ensures within { IfSome result (λ region. 0 < region.size → IsInRange region) }
+        ensures within { IfSome result IsEmptyOrInRange }
     {
         match index_of(&self.cells, id) {
             Some(index) => self.indexes[index].by_address().at(at),

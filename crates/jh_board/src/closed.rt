@@ -2,9 +2,10 @@
 ghost use Rattle.std.specs.Prelude.{◌≡◌, ℕ, ◌+◌, ◌<◌, ◌≤◌, ◌^◌, ◌||◌, List, [], All, length};
 ghost use Rattle.jh_num.specs.Bytes.{has_byte};
 ghost use Rattle.jh_cellcfg.specs.declared.live.Live.{Live};
+ghost use Rattle.jh_cellcfg.specs.Regions.{AreInRange};
 ghost use Rattle.jh_num.specs.Bits.{has_bit};
 ghost use Rattle.jh_life.specs.Lives.{is_loadable_at};
-ghost use Rattle.jh_board.specs.Private.Closed.{is_taken, is_closed_by, all_regions, count_regions, AreInRange};
+ghost use Rattle.jh_board.specs.Private.Closed.{is_taken, is_closed_by, all_regions, count_regions};
 
 use crate::cell_regions::CellRegions;
 use jh_num::{ByteSet, Range, has_bit};

@@ -2,7 +2,7 @@
 ghost use Rattle.std.specs.Prelude.{◌≡◌, ℕ, ◌<◌, ◌≤◌, Bool, List, [], All, IsTrue, find, slice_get, IfSome, IfOk, IfErr};
 ghost use Rattle.jh_cellcfg.specs.Cells.{name_of};
 ghost use Rattle.jh_cellcfg.specs.declared.region.Region.{Region as TheRegion};
-ghost use Rattle.jh_cellcfg.specs.Regions.{has_address, IsInRange};
+ghost use Rattle.jh_cellcfg.specs.Regions.{has_address, IsInRange, IsEmptyOrInRange};
 ghost use Rattle.jh_mmio.specs.Dispatch.{takes_all, unless_closed};
 ghost use Rattle.jh_mmio.specs.Index.{IsRegionAt};
 ghost use Rattle.jh_script.specs.Operations.{IsWellFormed};
@@ -93,7 +93,7 @@ pub fn opening_programs(image: &Image) -> [ProgramIndex; MAX_CPUS]
 /// The region, where it gives the address with the right.
 pub(crate) fn giving(region: Option<Region>, access: Access, at: u64) -> Option<Region>
     ensures found { (regions : List Region) → IsRegionAt regions at region → result ≡ region_of regions access at }
-    ensures within { IfSome region (λ r. 0 < r.size → IsInRange r) → IfSome result IsInRange }
+    ensures within { IfSome region IsEmptyOrInRange → IfSome result IsInRange }
 {
     match region {
         Some(region) => {

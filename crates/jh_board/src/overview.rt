@@ -1,11 +1,10 @@
 //! What a board tells of the cells that live.
 ghost use Rattle.std.specs.Prelude.{◌≡◌, AllPairs, None, IfOk, IfNone, IfSome, IsSome, option_copied, slice_get};
-ghost use Rattle.jh_cellcfg.specs.Regions.{SharesNoAddress};
+ghost use Rattle.jh_cellcfg.specs.Regions.{SharesNoAddress, AreInRange};
 ghost use Rattle.jh_check.specs.Clean.{IsClean};
 ghost use Rattle.jh_map.specs.Maps.{IsMap};
 ghost use Rattle.jh_history.specs.Lives.{cell_in, regions_in};
 ghost use Rattle.jh_shape.specs.Lives.{configs_of};
-ghost use Rattle.jh_board.specs.Private.Closed.{AreInRange};
 ghost use Rattle.jh_board.specs.Maps.{all_cells, is_kept_at, IsMapOrNone};
 
 use crate::cells::LiveCells;

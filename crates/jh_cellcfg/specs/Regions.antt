@@ -1,6 +1,6 @@
 -- What a memory region says of an address: whether it is one of the region's, what place it has, and
 -- what may be done with it.
-use Rattle.std.specs.Prelude.{◌≡◌, ℕ, ◌+◌, ◌-◌, ◌%◌, ◌≤◌, Bool, false, ◌&&◌, not, ◌==◌, nat_lt, nat_le, bit_and, IsTrue, if◌then◌else◌}
+use Rattle.std.specs.Prelude.{◌≡◌, ℕ, ◌+◌, ◌-◌, ◌%◌, ◌<◌, ◌≤◌, Bool, false, ◌&&◌, not, ◌==◌, nat_lt, nat_le, bit_and, IsTrue, List, All, if◌then◌else◌}
 use Rattle.jh_num.specs.declared.address.TheConstants.{ADDRESS_END, PAGE_SIZE}
 use Rattle.jh_num.specs.declared.rights.Rights.{Rights}
 use Rattle.jh_cellcfg.specs.declared.region.Region.{Region}
@@ -101,3 +101,11 @@ pub record IsWithin (region : Region) : Type 0 where
 pub record IsInRange (region : Region) : Type 0 where
   pub virt : virt_end region ≤ ADDRESS_END
   pub phys : is_comm region ≡ false → phys_end region ≤ ADDRESS_END
+
+-- a region that has a size is in range
+abbrev pub IsEmptyOrInRange : Region → Type 0
+IsEmptyOrInRange region = 0 < region.size → IsInRange region
+
+-- each region that has a size is in range
+abbrev pub AreInRange : List Region → Type 0
+AreInRange regions = All IsEmptyOrInRange regions

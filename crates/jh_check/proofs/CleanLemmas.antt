@@ -8,7 +8,7 @@ use Rattle.jh_cellcfg.specs.declared.region.Region.{Region}
 use Rattle.jh_cellcfg.specs.declared.config.PciDevice.{PciDevice}
 use Rattle.jh_cellcfg.specs.declared.config.CellConfig.{CellConfig}
 use Rattle.jh_cellcfg.specs.declared.config.SystemConfig.{SystemConfig}
-use Rattle.jh_cellcfg.specs.Regions.{IsInRange, has_flags, virt_end, phys_end, has_address, has_place, is_page_mapped, is_comm, is_unshared, has_size, virt_meet, phys_meet}
+use Rattle.jh_cellcfg.specs.Regions.{has_flags, virt_end, phys_end, has_address, has_place, is_page_mapped, is_comm, is_unshared, has_size, virt_meet, phys_meet, IsInRange}
 use Rattle.jh_check.specs.declared.rule.Rule.{Rule}
 use Rattle.jh_check.specs.declared.rule.Rule.TheVariants.{VirtOverlap, PhysOverlap, Hypervisor, OutOfRange, RootNotIdentity, CommInRoot, CommShape, ExecuteWithoutRead, SubpageTaken, CellsOverlap, PhysAlign}
 use Rattle.jh_check.specs.Regions.{pair_breaks, region_breaks, breaks_alone, hypervisor_breaks, share_places, takes_pages, both_shared, is_counted_comm, is_misshapen}

@@ -8,7 +8,7 @@ use Rattle.jh_cellcfg.specs.declared.config.PciDevice.{PciDevice}
 use Rattle.jh_cellcfg.specs.declared.config.CellConfig.{CellConfig}
 use Rattle.jh_cellcfg.specs.declared.config.SystemConfig.{SystemConfig}
 use Rattle.jh_cellcfg.specs.Cells.{is_cpu_set}
-use Rattle.jh_cellcfg.specs.Regions.{IsWithin, IsInRange, has_flags, has_address, has_place, virt_end, phys_end, place_in, is_page_mapped, is_comm, is_unshared, is_loadable, SharesNoAddress}
+use Rattle.jh_cellcfg.specs.Regions.{IsWithin, has_flags, has_address, has_place, virt_end, phys_end, place_in, is_page_mapped, is_comm, is_unshared, is_loadable, SharesNoAddress, IsInRange}
 use Rattle.jh_check.specs.Regions.{both_shared}
 use Rattle.jh_check.specs.Devices.{bars_of}
 use Rattle.jh_check.specs.Laws.{IsItem, EachCell, EachTwoCells, EachOtherCell, EachTwoOthers, EachItem, EachTwoItems, MeetOnlyIf, SharesNoPlace, AddressesAreSingle, HypervisorIsAlone}

@@ -5,7 +5,7 @@ use Rattle.std.specs.List.{AllByRecursion}
 use Rattle.std.specs.Option.{option_map_or}
 use Rattle.std.proofs.lemmas.List.Elements.{recursion_from_All, All-from_recursion}
 use Rattle.jh_cellcfg.specs.declared.region.Region.{Region}
-use Rattle.jh_cellcfg.specs.Regions.{IsInRange}
+use Rattle.jh_cellcfg.specs.Regions.{AreInRange}
 use Rattle.jh_script.specs.declared.image.Image.{Image}
 use Rattle.jh_script.specs.declared.image.Program.{Program}
 use Rattle.jh_script.specs.declared.op.Op.{Op}
@@ -20,7 +20,7 @@ pub sound_root : (image : Image) → IsAdmitted image → IsSoundRoot image.syst
 sound_root image admitted = sound_root_holds image.system [] (clean_from_nothing image.system [] admitted.system.clean)
 
 -- its regions lie within the addresses and the places
-pub within : (image : Image) → IsAdmitted image → All (λ (r : Region). 0 < r.size → IsInRange r) image.system.root.memory_regions
+pub within : (image : Image) → IsAdmitted image → AreInRange image.system.root.memory_regions
 within image admitted = λ i d lt some. let h = ((sound_root image admitted).regions i d lt some).within in record { virt = h.virt; phys = λ _. h.phys }
 
 found_at : (P : Op → Type 0) (b : Bool) (x : Program) (o : Option Program) → All P x.ops → AllByRecursion P (option_map_or (λ (p : Program). p.ops) o []) → AllByRecursion P (option_map_or (λ (p : Program). p.ops) (cond b (Some x) o) [])

@@ -9,7 +9,7 @@ use Rattle.jh_num.specs.declared.address.TheConstants.{ADDRESS_END}
 use Rattle.jh_cellcfg.specs.declared.config.CellConfig.{CellConfig}
 use Rattle.jh_cellcfg.specs.declared.live.Live.{Live}
 use Rattle.jh_cellcfg.specs.declared.region.Region.{Region}
-use Rattle.jh_cellcfg.specs.Regions.{IsInRange}
+use Rattle.jh_cellcfg.specs.Regions.{AreInRange}
 use Rattle.jh_check.specs.Laws.{IsNumbered}
 use Rattle.jh_check.specs.Clean.{IsClean}
 use Rattle.jh_script.specs.declared.image.Image.{Image}
@@ -83,12 +83,9 @@ reach_granted id regions kept access at width =
 
 -- ---- regions of what is clean
 
-abbrev InRange : Region → Type 0
-InRange r = 0 < r.size → IsInRange r
-
 -- a configuration that has a number among them
 within_at : (image : Image) (cells : List CellConfig) (o : Option CellConfig) → IsClean image.system cells → ((c : CellConfig) → o ≡ Some c → (a : ℕ) × IsNumbered image.system cells a c)
-    → All InRange (option_map_or (λ (c : CellConfig). c.memory_regions) o [])
+    → AreInRange (option_map_or (λ (c : CellConfig). c.memory_regions) o [])
 within_at image cells None clean numbered = λ i d lt. absurd (omega arith)
 within_at image cells (Some c) clean numbered = λ i d lt some.
     let a = numbered c refl in
@@ -104,7 +101,7 @@ numbered_cell image lives id c true e = (0, e)
 numbered_cell image lives id c false e = numbered_live image lives id c e
 
 -- the regions of a live cell lie within addresses and places
-pub regions_within : (image : Image) (lives : List Live) (id : ℕ) → IsClean image.system (configs_of lives) → All InRange (regions_in image lives id)
+pub regions_within : (image : Image) (lives : List Live) (id : ℕ) → IsClean image.system (configs_of lives) → AreInRange (regions_in image lives id)
 regions_within image lives id clean = within_at image (configs_of lives) (cell_in image lives id) clean (λ c e. numbered_cell image lives id c (eqb id image.system.root.id) e)
 
 -- cells of these configurations

@@ -11,7 +11,7 @@ use Rattle.jh_history.specs.Grants.{unless, granted_by, granted}
 use Rattle.jh_history.specs.Configs.{bytes_at, read_at, read_cell}
 use Rattle.jh_history.specs.ReadView.{bytes_by, read_by}
 use Rattle.jh_cellcfg.specs.declared.region.Region.{Region}
-use Rattle.jh_cellcfg.specs.Regions.{IsInRange}
+use Rattle.jh_cellcfg.specs.Regions.{IsInRange, IsEmptyOrInRange, AreInRange}
 use Rattle.jh_cellcfg.proofs.Public.{has_address_last, has_some}
 use Rattle.std.proofs.lemmas.Bool.{cases_lt, both_ways}
 use Rattle.jh_history.specs.declared.access.Reach.{Reach}
@@ -148,21 +148,19 @@ read_by_is image f byte at each =
 -- ---- a byte that is reached
 
 -- where no region gives the address, none is granted
-abbrev InRange : Region → Type 0
-InRange r = 0 < r.size → IsInRange r
 
-beyond_by : (id : ℕ) (regions : List Region) (kept : Place → Bool) (at : ℕ) (o : Option Region) → region_of regions Read at ≡ o → All InRange regions → ADDRESS_END ≤ at → granted_by id regions kept Read at ≡ None
+beyond_by : (id : ℕ) (regions : List Region) (kept : Place → Bool) (at : ℕ) (o : Option Region) → region_of regions Read at ≡ o → AreInRange regions → ADDRESS_END ≤ at → granted_by id regions kept Read at ≡ None
 unfolding place_of
 beyond_by id regions kept at None e within le = ap (λ (o : Option Region). option_and_then (unless kept) (option_map (λ (r : Region). place_in_cell id r at) o)) e
 beyond_by id regions kept at (Some r) e within le =
     let has = region_of_has regions Read at r e in
     let held = (IsFound_from_find (gives Read at) regions r e).held in
-    let range : IsInRange r = subst InRange held.2 (within held.0 r held.1) (has_some r at has) in
+    let range : IsInRange r = subst IsEmptyOrInRange held.2 (within held.0 r held.1) (has_some r at has) in
     let above = has_address_last r at has in
     let end = range.virt in
     absurd (omega arith)
 
-pub granted_beyond : (id : ℕ) (regions : List Region) (kept : Place → Bool) (at : ℕ) → All InRange regions → ADDRESS_END ≤ at → granted_by id regions kept Read at ≡ None
+pub granted_beyond : (id : ℕ) (regions : List Region) (kept : Place → Bool) (at : ℕ) → AreInRange regions → ADDRESS_END ≤ at → granted_by id regions kept Read at ≡ None
 granted_beyond id regions kept at within le = beyond_by id regions kept at (region_of regions Read at) refl within le
 
 spelled_one : (b : ℕ) → b + 256 * 0 ≡ b

@@ -5,7 +5,7 @@ use Rattle.jh_cellcfg.specs.declared.config.CellConfig.{CellConfig}
 use Rattle.jh_cellcfg.specs.declared.live.Live.{Live}
 use Rattle.jh_cellcfg.specs.declared.region.Region.{Region}
 use Rattle.jh_cellcfg.specs.Cells.{is_cpu_set}
-use Rattle.jh_cellcfg.specs.Regions.{IsInRange, SharesNoAddress}
+use Rattle.jh_cellcfg.specs.Regions.{SharesNoAddress, AreInRange}
 use Rattle.jh_check.specs.Clean.{IsSoundBitmap}
 use Rattle.jh_check.specs.Refusals.{is_known}
 use Rattle.jh_ivshmem.specs.declared.endpoint.Endpoint.{Endpoint}
@@ -51,7 +51,7 @@ NamesCpu config = (cpu : ℕ) × (is_cpu_set config.cpu_set cpu ≡ true)
 pub record MayLive (image : Image) (cells : List Live) (config : CellConfig) : Type 0 where
   pub unknown : is_known (image.system.root ∷ configs_of cells) config ≡ false
   pub apart : AllPairs SharesNoAddress config.memory_regions
-  pub within : All (λ (r : Region). 0 < r.size → IsInRange r) config.memory_regions
+  pub within : AreInRange config.memory_regions
   pub cpus : IsSoundBitmap config.cpu_set
 
 -- the id is that of a cell that lives besides root

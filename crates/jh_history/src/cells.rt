@@ -4,7 +4,7 @@ ghost use Rattle.std.specs.List.{list_any};
 ghost use Rattle.jh_cellcfg.specs.declared.live.Live.{Live as TheLive};
 ghost use Rattle.jh_check.specs.Clean.{IsClean};
 ghost use Rattle.jh_cellcfg.specs.declared.region.Region.{Region as TheRegion};
-ghost use Rattle.jh_cellcfg.specs.Regions.{has_address, IsInRange};
+ghost use Rattle.jh_cellcfg.specs.Regions.{has_address, IsInRange, IsEmptyOrInRange, AreInRange};
 ghost use Rattle.jh_mmio.specs.Dispatch.{takes_all};
 ghost use Rattle.jh_history.specs.declared.place.Place.TheVariants.{Physical};
 ghost use Rattle.jh_script.specs.Operations.{IsWellFormed};
@@ -78,9 +78,9 @@ pub fn gives(region: &Region, access: Access, at: u64) -> bool
 
 /// The region that gives the address with the right.
 fn region_of(regions: &[Region], access: Access, at: u64) -> Option<Region>
-    requires { All (λ (r : Region). 0 < r.size → IsInRange r) regions.now }
+    requires { AreInRange regions.now }
     ensures found { result ≡ region_of regions.now access at }
-    ensures within { IfSome result (λ region. IsInRange region) }
+    ensures within { IfSome result IsInRange }
 {
     for region in regions {
         if gives(region, access, at) {
@@ -110,7 +110,7 @@ pub(crate) fn config_in<'a>(
 fn regions_in<'a>(image: &'a Image, cells: &'a [CellConfig], id: u32) -> &'a [Region]
     requires { IsClean image.now.system cells.now }
     ensures regions { (lives : List TheLive) → configs_of lives ≡ cells.now → result.now ≡ regions_in image.now lives id }
-    ensures within { All (λ (r : Region). 0 < r.size → IsInRange r) result.now }
+    ensures within { AreInRange result.now }
 {
     match config_in(image, cells, u64::from(id)) {
         Some(cell) => cell.memory_regions.as_slice(),
@@ -249,7 +249,7 @@ pub(crate) fn memory_in(
 fn takes_all(image: &Image, cells: &PlainCells, cell: u32, region: &Region, wanted: &Wanted) -> bool
     requires some { 0 < wanted.now.width }
     requires few { wanted.now.width ≤ 8 }
-    requires within { 0 < region.now.size → IsInRange region.now }
+    requires within { IsEmptyOrInRange region.now }
     ensures takes { result ≡ takes_all (λ p. is_kept image.now cells.now cell (Physical p)) wanted.now.at wanted.now.width region.now }
     ensures first { IsTrue result → IsTrue (has_address region.now wanted.now.at) }
 {

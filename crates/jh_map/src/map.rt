@@ -4,7 +4,7 @@ ghost use Rattle.std.specs.List.Sorted.{IsNonDecreasingBy, IsPermutation};
 ghost use Rattle.jh_num.specs.Bytes.{has_byte, AreApart};
 ghost use Rattle.jh_num.specs.declared.range.Range.{Range as TheRange};
 ghost use Rattle.jh_cellcfg.specs.declared.region.Region.{Region as TheRegion};
-ghost use Rattle.jh_cellcfg.specs.Regions.{has_place, is_comm, phys_end, virt_end, IsInRange, SharesNoAddress};
+ghost use Rattle.jh_cellcfg.specs.Regions.{has_place, is_comm, phys_end, virt_end, SharesNoAddress, IsEmptyOrInRange, AreInRange};
 ghost use Rattle.jh_map.specs.Maps.{IsRunOf, IsMap};
 ghost use Rattle.jh_map.specs.Private.Places.{AreFree, run_to};
 
@@ -91,7 +91,7 @@ fn whole_page(region: &Region) -> Run
 
 /// The runs of the region, where these places are free.
 fn runs_of(alloc: Global, region: &Region, free: &ByteSet) -> Result<Vec<Run>, NoMemory>
-    requires within { 0 < region.now.size → IsInRange region.now }
+    requires within { IsEmptyOrInRange region.now }
     ensures { IfOk result (λ runs. (closed : ℕ → Bool) → AreFree closed free.now.ranges → IsMap closed (region.now ∷ []) runs.items) }
 {
     if region.size == 0 {
@@ -116,7 +116,7 @@ fn in_order(alloc: Global, regions: &[Region]) -> Result<Vec<Region>, AllocError
 
 /// The map of a cell with these regions, to which these places are closed.
 pub fn map_of(alloc: Global, regions: &[Region], closed: &ByteSet) -> Result<Seq<Run>, NoMemory>
-    requires within { All (λ (r : TheRegion). 0 < r.size → IsInRange r) regions.now }
+    requires within { AreInRange regions.now }
     requires apart { AllPairs SharesNoAddress regions.now }
     ensures { IfOk result (λ runs. IsMap (has_byte closed.now.ranges) regions.now runs) }
 {

@@ -3,7 +3,7 @@ ghost use Rattle.std.specs.Prelude.{◌≡◌, ℕ, ◌+◌, ◌-◌, ◌<◌, �
 ghost use Rattle.std.specs.Option.{option_map_or};
 ghost use Rattle.jh_num.specs.Bytes.{has_byte};
 ghost use Rattle.jh_cellcfg.specs.declared.region.Region.{Region as TheRegion};
-ghost use Rattle.jh_cellcfg.specs.Regions.{virt_end, has_address, IsInRange};
+ghost use Rattle.jh_cellcfg.specs.Regions.{virt_end, has_address, IsInRange, IsEmptyOrInRange, AreInRange};
 ghost use Rattle.jh_mmio.specs.Dispatch.{lies_between, is_at_closed, takes_all, has_whole, lets_through, by_subpage, by_ecam, by_window, window_has, hitting_behind_regions, hitting};
 
 use crate::hitting::{Hitting, Window};
@@ -53,7 +53,7 @@ pub fn has_whole(region: &Region, at: u64, width: u8) -> bool
 /// Whether the access is the region's: it is a subpage region and has all its bytes, none at a closed place.
 pub(crate) fn takes_all(region: &Region, closed: &ByteSet, at: u64, width: u8) -> bool
     requires some { 0 < width }
-    requires range { 0 < region.now.size → IsInRange region.now }
+    requires range { IsEmptyOrInRange region.now }
     ensures { result ≡ takes_all (has_byte closed.now.ranges) at width region.now }
 {
     region.size > 0
@@ -157,7 +157,7 @@ pub(crate) fn by_first(
 /// The number of the first subpage region that has the access.
 fn first_subpage(regions: &[Region], closed: &ByteSet, at: u64, width: u8) -> Option<usize>
     requires some { 0 < width }
-    requires ranges { All (λ (r : TheRegion). 0 < r.size → IsInRange r) regions.now }
+    requires ranges { AreInRange regions.now }
     ensures { result ≡ position (takes_all (has_byte closed.now.ranges) at width) regions.now }
 {
     for (number, region) in regions.iter().enumerate() {
@@ -181,7 +181,7 @@ pub fn dispatch(
     width: u8,
     write: bool,
 ) -> Hitting
-    requires ranges { All (λ (r : TheRegion). 0 < r.size → IsInRange r) regions.now }
+    requires ranges { AreInRange regions.now }
     ensures { result ≡ hitting regions.now (has_byte closed.now.ranges) ecam windows.now at width write }
 {
     if width == 0 {

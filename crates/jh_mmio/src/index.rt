@@ -2,7 +2,7 @@
 ghost use Rattle.std.specs.Prelude.{◌≡◌, ℕ, ◌<◌, ◌≤◌, Bool, All, AllPairs, Contains, IfOk, IfSome, IsTrue, find, position};
 ghost use Rattle.jh_num.specs.Bytes.{has_byte};
 ghost use Rattle.jh_cellcfg.specs.declared.region.Region.{Region as TheRegion};
-ghost use Rattle.jh_cellcfg.specs.Regions.{has_address, IsInRange, SharesNoAddress};
+ghost use Rattle.jh_cellcfg.specs.Regions.{has_address, SharesNoAddress, AreInRange};
 ghost use Rattle.jh_mmio.specs.Dispatch.{takes_all, unless_closed, hitting};
 ghost use Rattle.jh_mmio.specs.Index.{IsRegionAt, AreNumbers, IsOrder, size_at, start_at};
 ghost use Rattle.jh_mmio.specs.Private.Numbers.{IsNumberAt};
@@ -129,7 +129,7 @@ impl RegionIndex {
     /// The number of the first subpage region that has the access, which is the only one.
     fn subpage_at(&self, closed: &ByteSet, at: u64, width: u8) -> Option<usize>
         requires some { 0 < width }
-        requires ranges { All (λ (r : TheRegion). 0 < r.size → IsInRange r) self.now }
+        requires ranges { AreInRange self.now }
         ensures { result ≡ position (takes_all (has_byte closed.now.ranges) at width) self.now }
     {
         let regions = self.regions.as_slice();
@@ -155,7 +155,7 @@ impl RegionIndex {
         width: u8,
         write: bool,
     ) -> Hitting
-        requires ranges { All (λ (r : TheRegion). 0 < r.size → IsInRange r) self.now }
+        requires ranges { AreInRange self.now }
         ensures { result ≡ hitting self.now (has_byte closed.now.ranges) ecam windows.now at width write }
     {
         if width == 0 {

@@ -8,7 +8,7 @@ use Rattle.jh_cellcfg.specs.declared.config.CellConfig.{CellConfig}
 use Rattle.jh_cellcfg.specs.declared.region.Region.{Region}
 use Rattle.jh_cellcfg.specs.declared.live.Live.{Live}
 use Rattle.jh_cellcfg.specs.Lives.{has_id}
-use Rattle.jh_cellcfg.specs.Regions.{IsInRange}
+use Rattle.jh_cellcfg.specs.Regions.{AreInRange}
 use Rattle.jh_shape.specs.Shapes.{takes, is_closed, holder_of_live}
 use Rattle.jh_shape.specs.Lives.{configs_of}
 use Rattle.jh_history.specs.Lives.{live_in}
@@ -28,10 +28,6 @@ all_regions lives = map (λ (c : CellConfig). c.memory_regions) (configs_of live
 -- how many regions cells with these have together
 abbrev pub count_regions : List (List Region) → ℕ
 count_regions cells = sum_by (λ (regions : List Region). length regions) cells
-
--- each region that isn't empty ends within the addresses, and within the places where it has any
-abbrev pub AreInRange : List Region → Type 0
-AreInRange regions = All (λ (r : Region). 0 < r.size → IsInRange r) regions
 
 -- the ranges have the places that a cell with these regions, loadable or not, takes from root, where the regions are in
 -- range, and aren't more than they

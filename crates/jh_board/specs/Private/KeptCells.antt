@@ -1,9 +1,10 @@
 -- What is true of every board's live cells.
 use Rattle.std.specs.Prelude.{◌≡◌, ℕ, ◌<◌, ◌≤◌, All, length}
+use Rattle.jh_cellcfg.specs.Regions.{AreInRange}
 use Rattle.jh_num.specs.Bytes.{has_byte}
 use Rattle.jh_shape.specs.Pages.{pages_of}
 use Rattle.jh_shape.specs.Lives.{configs_of}
-use Rattle.jh_board.specs.Private.Closed.{is_closed_by, all_regions, count_regions, AreInRange}
+use Rattle.jh_board.specs.Private.Closed.{is_closed_by, all_regions, count_regions}
 use Rattle.jh_board.specs.declared.cells.LiveCells.TheInside.{Inside}
 
 -- what is kept beside the live cells is theirs: their regions, what they close to root, and how many pages all cells

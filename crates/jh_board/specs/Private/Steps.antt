@@ -4,6 +4,7 @@ use Rattle.std.specs.Option.{option_map_or}
 use Rattle.jh_cellcfg.specs.declared.config.CellConfig.{CellConfig}
 use Rattle.jh_cellcfg.specs.declared.live.Live.{Live}
 use Rattle.jh_cellcfg.specs.declared.region.Region.{Region}
+use Rattle.jh_cellcfg.specs.Regions.{AreInRange}
 use Rattle.jh_check.specs.Clean.{IsSoundBitmap}
 use Rattle.jh_check.specs.Refusals.{is_known}
 use Rattle.jh_call.specs.declared.call.Call.{Call}
@@ -36,7 +37,6 @@ use Rattle.jh_history.specs.Sound.{IsSound}
 use Rattle.jh_board.specs.declared.steps.CellsChange.{CellsChange}
 use Rattle.jh_board.specs.declared.steps.CellsChange.TheVariants.{Keep, Mark, Remove}
 use Rattle.jh_board.specs.declared.held.Held.{Held}
-use Rattle.jh_board.specs.Private.Closed.{AreInRange}
 use Rattle.jh_board.specs.Private.LiveView.{LiveView}
 use Rattle.jh_board.specs.Means.{Means, HoldsWordsOf, IsReadyToGoOn, IsReadyFor}
 use Rattle.jh_board.specs.Pages.{MemoryView, HoldsPlace, HoldsEndpointWord}

@@ -1,7 +1,8 @@
 -- The places of the regions so far are in.
 use Rattle.std.proofs.Common.{◌≡◌, ℕ, ◌≤◌, length, take}
+use Rattle.jh_cellcfg.specs.Regions.{AreInRange}
 use Rattle.jh_num.specs.Bytes.{has_byte}
-use Rattle.jh_board.specs.Private.Closed.{is_taken, AreInRange}
+use Rattle.jh_board.specs.Private.Closed.{is_taken}
 use Rattle.jh_board.proofs.cell_regions.taken_places.Given as goal
 
 abbrev pub invariant-loop-region : goal.invariant-loop-region

@@ -2,8 +2,7 @@
 use Rattle.std.proofs.Common.{List, sym, subst}
 use Rattle.std.specs.Prelude.{AllPairs}
 use Rattle.jh_cellcfg.specs.declared.region.Region.{Region}
-use Rattle.jh_cellcfg.specs.Regions.{SharesNoAddress}
-use Rattle.jh_board.specs.Private.Closed.{AreInRange}
+use Rattle.jh_cellcfg.specs.Regions.{SharesNoAddress, AreInRange}
 use Rattle.jh_board.proofs.RegionMapLemmas.{cell_within, cell_apart}
 use Rattle.jh_board.proofs.overview.regions_of.Goals as goal
 

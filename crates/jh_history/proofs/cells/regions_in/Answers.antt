@@ -5,7 +5,7 @@ use Rattle.std.specs.Option.{option_map_or}
 use Rattle.jh_cellcfg.specs.declared.config.CellConfig.{CellConfig}
 use Rattle.jh_cellcfg.specs.declared.live.Live.{Live}
 use Rattle.jh_cellcfg.specs.declared.region.Region.{Region}
-use Rattle.jh_cellcfg.specs.Regions.{IsInRange}
+use Rattle.jh_cellcfg.specs.Regions.{AreInRange}
 use Rattle.jh_check.specs.Clean.{IsClean}
 use Rattle.jh_history.specs.Lives.{cell_in, regions_in}
 use Rattle.jh_shape.specs.Lives.{configs_of}
@@ -20,4 +20,4 @@ returns-in-Some-clause-within c =
     let clean : IsClean image.system (configs_of lives) = subst (λ (cells : List CellConfig). IsClean image.system cells) (sym same) c.requires in
     let is : c.as_slice.result.now ≡ regions_in image lives c.args.id =
     c.as_slice.ensures.value ∙ ap (λ (o : Option CellConfig). option_map_or (λ (cell : CellConfig). cell.memory_regions) o []) (c.in-Some.ensures lives same ∙ ap (λ (n : ℕ). cell_in image lives n) c.from.ensures) in
-    subst (λ (regions : List Region). All (λ (r : Region). 0 < r.size → IsInRange r) regions) (sym is) (regions_within image lives c.args.id clean)
+    subst AreInRange (sym is) (regions_within image lives c.args.id clean)

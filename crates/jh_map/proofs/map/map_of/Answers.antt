@@ -6,7 +6,7 @@ use Rattle.std.proofs.lemmas.List.{take_all}
 use Rattle.std.proofs.lemmas.List.Sorted.{All-permutation}
 use Rattle.jh_num.specs.Bytes.{has_byte}
 use Rattle.jh_cellcfg.specs.declared.region.Region.{Region}
-use Rattle.jh_cellcfg.specs.Regions.{IsInRange}
+use Rattle.jh_cellcfg.specs.Regions.{IsEmptyOrInRange}
 use Rattle.jh_map.specs.declared.run.Run.{Run}
 use Rattle.jh_map.specs.Maps.{IsMap}
 use Rattle.jh_map.proofs.MapLemmas.{more_map, moved_map}
@@ -14,7 +14,7 @@ use Rattle.jh_map.proofs.map.map_of.Goals as goal
 
 pub runs_of-requires : goal.runs_of-requires
 runs_of-requires c =
-    let P : Region → Type 0 = λ r. 0 < r.size → IsInRange r in
+    let P : Region → Type 0 = IsEmptyOrInRange in
     let Q : List Region → Type 0 = λ xs. All P xs in
     let all = subst Q (sym c.as_slice-region-items.ensures.value) (All-permutation P c.args.regions.now c.in_ok-sorted.sorted.items c.in_ok-sorted.ensures.moved c.requires.within) in
     record { within = all c.loop-region.region-index (record { phys_start = 0; virt_start = 0; size = 0; flags = 0 }) c.loop-region-test.true }

@@ -2,8 +2,9 @@
 use Rattle.std.proofs.Common.{◌≡◌, ◌+◌, ◌-◌, List, remove, refl, sym, ap, subst, ◌∙◌, arith}
 use Rattle.std.specs.Prelude.{All}
 use Rattle.jh_cellcfg.specs.declared.region.Region.{Region}
+use Rattle.jh_cellcfg.specs.Regions.{AreInRange}
 use Rattle.jh_life.specs.Changes.{without}
-use Rattle.jh_board.specs.Private.Closed.{all_regions, count_regions, AreInRange}
+use Rattle.jh_board.specs.Private.Closed.{all_regions, count_regions}
 use Rattle.jh_board.proofs.CellsLemmas.{cell_at, removed_none, All_removed, lists_removed, lists_len, regions_left}
 use Rattle.jh_board.proofs.cells.LiveCells.remove.Goals as goal
 
