@@ -10,7 +10,7 @@ use Rattle.jh_script.specs.declared.fault.ScriptFault.{ScriptFault}
 use Rattle.jh_script.specs.declared.fault.ScriptFault.TheVariants as faults
 use Rattle.jh_script.specs.declared.fault.ScheduleFault.{ScheduleFault}
 use Rattle.jh_script.specs.declared.fault.ScheduleFault.TheVariants as refusals
-use Rattle.jh_script.specs.Laws.{IsGood, IsProgram, IsFirstBad, HasTooMany, IsSchedule, IsFirstRefused, HasTooManyItems}
+use Rattle.jh_script.specs.Laws.{IsGood, IsProgram, IsFirstBad, HasTooMany, HasOneMoreBlank, IsSchedule, IsFirstRefused, HasTooManyItems}
 use Rattle.jh_script.specs.Programs.{lines_of, line_number, first_fault, ops_of, unless, program_of}
 use Rattle.jh_script.specs.Schedules.{items_of, first_refusal, cpus_of, schedule_of}
 use Rattle.jh_script.proofs.ProgramLemmas.{op_room, good_item, refused_item, full_of}
@@ -349,20 +349,20 @@ ops_skip (Operation op ∷ before) after = ap (λ ops. op ∷ ops) (ops_skip bef
 ops_skip (Syntax ∷ before) after = ops_skip before after
 ops_skip (Width ∷ before) after = ops_skip before after
 
-pub without_blank : (one other : List ℕ) (before after : List Line) → lines_of one ≡ before ++ Blank ∷ after → lines_of other ≡ before ++ after → (ops : List Op) → program_of one ≡ Ok ops → program_of other ≡ Ok ops
-without_blank one other before after e f ops h =
-    let p = program_to one ops h in
+pub without_blank : (text other : List ℕ) → HasOneMoreBlank text other → (ops : List Op) → program_of text ≡ Ok ops → program_of other ≡ Ok ops
+without_blank text other more ops h =
+    let p = program_to text ops h in
     program_from other ops (record {
-      good = subst (AllByRecursion IsGood) (sym f) (good_skip before after (subst (AllByRecursion IsGood) e p.good));
+      good = subst (AllByRecursion IsGood) (sym more.others) (good_skip more.before more.after (subst (AllByRecursion IsGood) more.lines p.good));
       few = p.few;
-      are = p.are ∙ ap ops_of e ∙ ops_skip before after ∙ ap ops_of (sym f);
+      are = p.are ∙ ap ops_of more.lines ∙ ops_skip more.before more.after ∙ ap ops_of (sym more.others);
     })
 
-pub with_blank : (one other : List ℕ) (before after : List Line) → lines_of one ≡ before ++ Blank ∷ after → lines_of other ≡ before ++ after → (ops : List Op) → program_of other ≡ Ok ops → program_of one ≡ Ok ops
-with_blank one other before after e f ops h =
+pub with_blank : (text other : List ℕ) → HasOneMoreBlank text other → (ops : List Op) → program_of other ≡ Ok ops → program_of text ≡ Ok ops
+with_blank text other more ops h =
     let p = program_to other ops h in
-    program_from one ops (record {
-      good = subst (AllByRecursion IsGood) (sym e) (good_insert before after (subst (AllByRecursion IsGood) f p.good));
+    program_from text ops (record {
+      good = subst (AllByRecursion IsGood) (sym more.lines) (good_insert more.before more.after (subst (AllByRecursion IsGood) more.others p.good));
       few = p.few;
-      are = p.are ∙ ap ops_of f ∙ sym (ops_skip before after) ∙ ap ops_of (sym e);
+      are = p.are ∙ ap ops_of more.others ∙ sym (ops_skip more.before more.after) ∙ ap ops_of (sym more.lines);
     })

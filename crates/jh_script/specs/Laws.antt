@@ -40,6 +40,13 @@ pub record HasTooMany (text : List ℕ) : Type 0 where
   pub good : AllByRecursion IsGood before
   pub full : length (ops_of before) ≡ most_ops
 
+-- the text has the lines of the other, and among them one more, which is blank or a comment
+pub record HasOneMoreBlank (text other : List ℕ) : Type 0 where
+  pub before : List Line
+  pub after : List Line
+  pub lines : lines_of text ≡ before ++ Blank ∷ after
+  pub others : lines_of other ≡ before ++ after
+
 -- each item of the text is a CPU of the board, and these are they, not too many
 pub record IsSchedule (cpus : ℕ) (text : List ℕ) (items : List ℕ) : Type 0 where
   pub are : items_of cpus text ≡ map Some items

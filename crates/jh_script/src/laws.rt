@@ -1,16 +1,15 @@
 //! The definitions of programs and schedules, in the words of the subject. Each function does nothing; its
 //! contract is the law.
-ghost use Rattle.std.specs.Prelude.{◌≡◌, ◌↔◌, ℕ, true, ◌∷◌, ◌++◌, List, Some, Ok, Err};
+ghost use Rattle.std.specs.Prelude.{◌≡◌, ◌↔◌, ℕ, true, List, Some, Ok, Err};
 ghost use Rattle.jh_script.specs.declared.op.Op.{Op as TheOp};
-ghost use Rattle.jh_script.specs.declared.line.Line.{Line as TheLine};
 ghost use Rattle.jh_script.specs.declared.line.Line.TheVariants as lines;
 ghost use Rattle.jh_script.specs.declared.fault.ScriptFault.TheVariants as faults;
 ghost use Rattle.jh_script.specs.declared.fault.ScheduleFault.TheVariants as refusals;
-ghost use Rattle.jh_script.specs.Laws.{IsProgram, IsFirstBad, HasTooMany, IsSchedule, IsFirstRefused, HasTooManyItems};
+ghost use Rattle.jh_script.specs.Laws.{IsProgram, IsFirstBad, HasTooMany, HasOneMoreBlank, IsSchedule, IsFirstRefused, HasTooManyItems};
 ghost use Rattle.jh_script.specs.Grammar.{IsNumber, IsSkipped, IsTooWide, Writes, are_ascii};
 ghost use Rattle.jh_script.specs.Numbers.{number_written};
 ghost use Rattle.jh_script.specs.Operations.{IsWellFormed, line_of};
-ghost use Rattle.jh_script.specs.Programs.{lines_of, program_of};
+ghost use Rattle.jh_script.specs.Programs.{program_of};
 ghost use Rattle.jh_script.specs.Schedules.{schedule_of};
 ghost use Rattle.jh_script.specs.Words.{line_gaps, words};
 
@@ -50,7 +49,5 @@ pub fn numbers_are_decimal_or_hexadecimal()
 
 /// Blank lines and comments change no operation: a text with one more of them is the same program.
 pub fn blank_lines_change_nothing()
-    ensures { (one other : List ℕ) (before after : List TheLine) → lines_of one ≡ before ++ lines.Blank ∷ after
-        → lines_of other ≡ before ++ after
-        → (ops : List TheOp) → (program_of one ≡ Ok ops) ↔ (program_of other ≡ Ok ops) }
+    ensures { (text other : List ℕ) (ops : List TheOp) → HasOneMoreBlank text other → (program_of text ≡ Ok ops) ↔ (program_of other ≡ Ok ops) }
 {}

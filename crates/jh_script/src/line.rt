@@ -19,8 +19,11 @@ const LINE_GAPS: &[u8] = b" \t";
 pub(crate) enum Line {
     /// It has no word, or its first begins with `#`.
     Blank,
+    /// It is that of this operation.
     Operation(Op),
+    /// It is none of these, or has a byte above 0x7f.
     Syntax,
+    /// It has the words of an operation that isn't within its limits.
     Width,
 }
 

@@ -3,4 +3,4 @@ use Rattle.jh_script.proofs.LawLemmas.{without_blank, with_blank}
 use Rattle.jh_script.proofs.laws.blank_lines_change_nothing.Goals as goal
 
 pub returns : goal.returns
-returns c = λ one other before after e f ops. (without_blank one other before after e f ops, with_blank one other before after e f ops)
+returns c = λ text other ops more. (without_blank text other more ops, with_blank text other more ops)
