@@ -53,3 +53,10 @@ pub record IsMap (closed : ℕ → Bool) (regions : List Region) (runs : List Ru
   pub own : All (IsRunIn closed regions) runs
   pub whole : (region : Region) (at : ℕ) → Contains regions region → is_granted closed region at ≡ true → IsInRun closed runs region at
   pub order : AllPairs EndsBefore runs
+
+-- a cell's map, with the cell's regions and the places that are closed to it
+pub record CellMap : Type 0 where
+  pub closed : ℕ → Bool
+  pub regions : List Region
+  pub runs : List Run
+  pub is : IsMap closed regions runs
