@@ -76,17 +76,37 @@ pairs_ordered (x ∷ xs) o =
 
 -- ---- two findings
 
-by_cell : (rule : Rule) (a b r s a' b' r' s' : ℕ) (f g : Finding) → f ≡ finding_of rule a r b s → g ≡ finding_of rule a' r' b' s' → a < a' → Precedes f g
-unfolding finding_of
-by_cell rule a b r s a' b' r' s' f g e e' l =
-    let base : Precedes (finding_of rule a r b s) (finding_of rule a' r' b' s') = inr (refl, inl l) in
-    subst (λ h. Precedes h g) (sym e) (subst (λ h. Precedes (finding_of rule a r b s) h) (sym e') base)
+-- the finding is one by the rule, and that cell is its first
+record IsOfCell (rule : Rule) (a : ℕ) (f : Finding) : Type 0 where
+  by : f.number ≡ rule_number rule
+  cell : f.cell ≡ a
 
-by_other : (rule : Rule) (a b r s b' r' s' : ℕ) (f g : Finding) → f ≡ finding_of rule a r b s → g ≡ finding_of rule a r' b' s' → b < b' → Precedes f g
+-- so, and that cell is its other
+record IsOfCells (rule : Rule) (a b : ℕ) (f : Finding) : Type 0 where
+  one : IsOfCell rule a f
+  other : f.other_cell ≡ b
+
+of_cells : (rule : Rule) (a r b s : ℕ) (f : Finding) → f ≡ finding_of rule a r b s → IsOfCells rule a b f
 unfolding finding_of
-by_other rule a b r s b' r' s' f g e e' l =
-    let base : Precedes (finding_of rule a r b s) (finding_of rule a r' b' s') = inr (refl, inr (refl, inl l)) in
-    subst (λ h. Precedes h g) (sym e) (subst (λ h. Precedes (finding_of rule a r b s) h) (sym e') base)
+of_cells rule a r b s f e = record {
+  one = record { by = ap (λ (g : Finding). g.number) e; cell = ap (λ (g : Finding). g.cell) e };
+  other = ap (λ (g : Finding). g.other_cell) e;
+}
+
+of_cell : (rule : Rule) (a r b s : ℕ) (f : Finding) → f ≡ finding_of rule a r b s → IsOfCell rule a f
+of_cell rule a r b s f e = (of_cells rule a r b s f e).one
+
+by_cell : (rule : Rule) (a c : ℕ) (f g : Finding) → IsOfCell rule a f → IsOfCell rule c g → a < c → Precedes f g
+by_cell rule a c f g p q l =
+    let low = p.cell in
+    let high = q.cell in
+    inr (p.by ∙ sym q.by, inl (omega arith))
+
+by_other : (rule : Rule) (a b c : ℕ) (f g : Finding) → IsOfCells rule a b f → IsOfCells rule a c g → b < c → Precedes f g
+by_other rule a b c f g p q l =
+    let low = p.other in
+    let high = q.other in
+    inr (p.one.by ∙ sym q.one.by, inr (p.one.cell ∙ sym q.one.cell, inl (omega arith)))
 
 less_items : (r r' : ℕ) → r < r' → r' < 2 ^ 32 → item_number r < item_number r'
 less_items r r' l m = omega arith
@@ -111,30 +131,29 @@ beside_told rule one b other f c =
     let p = found_at0 (beside_at rule one b other) other.memory_regions f c in
     (p.0, (only_at (pair_breaks rule one (spot b other p.0 p.1)) (finding_of rule one.cell one.item b p.0) f p.3).1)
 
-between_told : (rule : Rule) (a : ℕ) (one : CellConfig) (b : ℕ) (other : CellConfig) (f : Finding) → Contains (between rule a one b other) f → (r : ℕ) × (s : ℕ) × (f ≡ finding_of rule a r b s)
+between_told : (rule : Rule) (a : ℕ) (one : CellConfig) (b : ℕ) (other : CellConfig) (f : Finding) → Contains (between rule a one b other) f → IsOfCells rule a b f
 unfolding between
 between_told rule a one b other f c =
     let p = found_at0 (between_at rule a one b other) one.memory_regions f c in
     let q = beside_told rule (spot a one p.0 p.1) b other f p.3 in
-    (p.0, q.0, q.1)
+    of_cells rule a p.0 b q.0 f q.1
 
-from_told : (rule : Rule) (all : List CellConfig) (a : ℕ) (one : CellConfig) (f : Finding) → Contains (from_cell rule all a one) f → (b : ℕ) × (r : ℕ) × (s : ℕ) × (f ≡ finding_of rule a r b s)
+from_told : (rule : Rule) (all : List CellConfig) (a : ℕ) (one : CellConfig) (f : Finding) → Contains (from_cell rule all a one) f → IsOfCell rule a f
 unfolding from_cell
 from_told rule all a one f c =
     let p = found_at0 (between rule a one) all f c in
-    let q = between_told rule a one p.0 p.1 f p.3 in
-    (p.0, q.0, q.1, q.2)
+    (between_told rule a one p.0 p.1 f p.3).one
 
--- a place in a list of at most 2^32
-small_place : {X : Type 0} (xs : List X) (i : ℕ) (x : X) → length xs ≤ 2 ^ 32 → slice_get xs i ≡ Some x → i < 2 ^ 32
-small_place xs i x l h = let k = slice_get_within xs i x h in omega arith
+-- an index into a list of at most 2^32
+small_index : {X : Type 0} (xs : List X) (i : ℕ) (x : X) → length xs ≤ 2 ^ 32 → slice_get xs i ≡ Some x → i < 2 ^ 32
+small_index xs i x l h = let k = slice_get_within xs i x h in omega arith
 
 ordered_beside : (rule : Rule) (one : Spot) (b : ℕ) (other : CellConfig) → length other.memory_regions ≤ 2 ^ 32 → Ordered (beside rule one b other)
 unfolding beside
 ordered_beside rule one b other small =
     ordered_from0 (beside_at rule one b other) other.memory_regions (λ s y h.
     ordered_only (pair_breaks rule one (spot b other s y)) (finding_of rule one.cell one.item b s)) (λ s t y z f g l h k c d.
-    by_last rule one.cell b one.item s t f g (only_at (pair_breaks rule one (spot b other s y)) (finding_of rule one.cell one.item b s) f c).1 (only_at (pair_breaks rule one (spot b other t z)) (finding_of rule one.cell one.item b t) g d).1 l (small_place other.memory_regions t z small k))
+    by_last rule one.cell b one.item s t f g (only_at (pair_breaks rule one (spot b other s y)) (finding_of rule one.cell one.item b s) f c).1 (only_at (pair_breaks rule one (spot b other t z)) (finding_of rule one.cell one.item b t) g d).1 l (small_index other.memory_regions t z small k))
 
 ordered_between : (rule : Rule) (a : ℕ) (one : CellConfig) (b : ℕ) (other : CellConfig) → length one.memory_regions ≤ 2 ^ 32 → length other.memory_regions ≤ 2 ^ 32 → Ordered (between rule a one b other)
 unfolding between
@@ -142,45 +161,39 @@ ordered_between rule a one b other small small' =
     ordered_from0 (between_at rule a one b other) one.memory_regions (λ r x h. ordered_beside rule (spot a one r x) b other small') (λ r t x z f g l h k c d.
     let p = beside_told rule (spot a one r x) b other f c in
     let q = beside_told rule (spot a one t z) b other g d in
-    by_item rule a b r p.0 t q.0 f g p.1 q.1 l (small_place one.memory_regions t z small k))
+    by_item rule a b r p.0 t q.0 f g p.1 q.1 l (small_index one.memory_regions t z small k))
 
 ordered_cell : (rule : Rule) (all : List CellConfig) (a : ℕ) (one : CellConfig) → IsCountable all → length one.memory_regions ≤ 2 ^ 32 → Ordered (from_cell rule all a one)
 unfolding from_cell
 ordered_cell rule all a one count small =
     ordered_from0 (between rule a one) all (λ b other h. ordered_between rule a one b other small (count.regions b other h)) (λ b t other third f g l h k c d.
-    let p = between_told rule a one b other f c in
-    let q = between_told rule a one t third g d in
-    by_other rule a b p.0 p.1 t q.0 q.1 f g p.2 q.2 l)
+    by_other rule a b t f g (between_told rule a one b other f c) (between_told rule a one t third g d) l)
 
 ordered_pairs : (rule : Rule) (all : List CellConfig) → IsCountable all → Ordered (in_pairs rule all)
 unfolding in_pairs
 ordered_pairs rule all count =
     ordered_from0 (from_cell rule all) all (λ a one h. ordered_cell rule all a one count (count.regions a one h)) (λ a t one other f g l h k c d.
-    let p = from_told rule all a one f c in
-    let q = from_told rule all t other g d in
-    by_cell rule a p.0 p.1 p.2 t q.0 q.1 q.2 f g p.3 q.3 l)
+    by_cell rule a t f g (from_told rule all a one f c) (from_told rule all t other g d) l)
 
 -- ---- the other rules
 
-cell_told : (rule : Rule) (h : Region) (a : ℕ) (regions : List Region) (f : Finding) → Contains (in_cell rule h a regions) f → (r : ℕ) × (f ≡ finding_of rule a r 0 0)
+cell_told : (rule : Rule) (h : Region) (a : ℕ) (regions : List Region) (f : Finding) → Contains (in_cell rule h a regions) f → IsOfCell rule a f
 unfolding in_cell
 cell_told rule h a regions f c =
     let p = found_at0 (in_cell_at rule h a regions) regions f c in
-    (p.0, (only_at (region_breaks rule h a (take p.0 regions) p.1) (finding_of rule a p.0 0 0) f p.3).1)
+    of_cell rule a p.0 0 0 f (only_at (region_breaks rule h a (take p.0 regions) p.1) (finding_of rule a p.0 0 0) f p.3).1
 
 ordered_regions_of : (rule : Rule) (h : Region) (a : ℕ) (regions : List Region) → length regions ≤ 2 ^ 32 → Ordered (in_cell rule h a regions)
 unfolding in_cell
 ordered_regions_of rule h a regions small =
     ordered_from0 (in_cell_at rule h a regions) regions (λ r x e. ordered_only (region_breaks rule h a (take r regions) x) (finding_of rule a r 0 0)) (λ r t x y f g l i k c d.
-    by_item rule a 0 r 0 t 0 f g (only_at (region_breaks rule h a (take r regions) x) (finding_of rule a r 0 0) f c).1 (only_at (region_breaks rule h a (take t regions) y) (finding_of rule a t 0 0) g d).1 l (small_place regions t y small k))
+    by_item rule a 0 r 0 t 0 f g (only_at (region_breaks rule h a (take r regions) x) (finding_of rule a r 0 0) f c).1 (only_at (region_breaks rule h a (take t regions) y) (finding_of rule a t 0 0) g d).1 l (small_index regions t y small k))
 
 ordered_regions : (rule : Rule) (h : Region) (all : List CellConfig) → IsCountable all → Ordered (in_regions rule h all)
 unfolding in_regions
 ordered_regions rule h all count =
     ordered_from0 (in_regions_at rule h) all (λ a cell e. ordered_regions_of rule h a cell.memory_regions (count.regions a cell e)) (λ a t one other f g l i k c d.
-    let p = cell_told rule h a one.memory_regions f c in
-    let q = cell_told rule h t other.memory_regions g d in
-    by_cell rule a 0 p.0 0 t 0 q.0 0 f g p.1 q.1 l)
+    by_cell rule a t f g (cell_told rule h a one.memory_regions f c) (cell_told rule h t other.memory_regions g d) l)
 
 -- the hypervisor's memory comes behind the regions of at most 16 cells
 ordered_both : (rule : Rule) (h : Region) (all : List CellConfig) → IsCountable all → Ordered (in_regions rule h all ++ in_hypervisor rule h)
@@ -188,36 +201,36 @@ unfolding in_regions in_hypervisor
 ordered_both rule h all count =
     ordered_append (in_regions rule h all) (in_hypervisor rule h) (ordered_regions rule h all count) (ordered_only (hypervisor_breaks rule h) (finding_of rule 16 0 0 0)) (λ f g c d.
     let p = found_at0 (in_regions_at rule h) all f c in
-    let q = cell_told rule h p.0 p.1.memory_regions f p.3 in
+    let last = of_cell rule 16 0 0 0 g (only_at (hypervisor_breaks rule h) (finding_of rule 16 0 0 0) g d).1 in
     let few = count.cells in
     let within = slice_get_within all p.0 p.1 p.2 in
-    by_cell rule p.0 0 q.0 0 16 0 0 0 f g q.1 (only_at (hypervisor_breaks rule h) (finding_of rule 16 0 0 0) g d).1 (omega arith))
+    by_cell rule p.0 16 f g (cell_told rule h p.0 p.1.memory_regions f p.3) last (omega arith))
 
-devices_told : (lower : List CellConfig) (a : ℕ) (cell : CellConfig) (f : Finding) → Contains (in_devices_of lower a cell) f → (n : ℕ) × (f ≡ finding_of Shmem a n 0 0)
+devices_told : (lower : List CellConfig) (a : ℕ) (cell : CellConfig) (f : Finding) → Contains (in_devices_of lower a cell) f → IsOfCell Shmem a f
 unfolding in_devices_of
 devices_told lower a cell f c =
     let p = found_at0 (device_at lower a cell) cell.pci_devices f c in
-    (p.0, (only_at (device_breaks lower cell (take p.0 cell.pci_devices) p.1) (finding_of Shmem a p.0 0 0) f p.3).1)
+    of_cell Shmem a p.0 0 0 f (only_at (device_breaks lower cell (take p.0 cell.pci_devices) p.1) (finding_of Shmem a p.0 0 0) f p.3).1
 
 ordered_devices_of : (lower : List CellConfig) (a : ℕ) (cell : CellConfig) → length cell.pci_devices ≤ 2 ^ 32 → Ordered (in_devices_of lower a cell)
 unfolding in_devices_of
 ordered_devices_of lower a cell small =
     ordered_from0 (device_at lower a cell) cell.pci_devices (λ n d e. ordered_only (device_breaks lower cell (take n cell.pci_devices) d) (finding_of Shmem a n 0 0)) (λ n t d d' f g l i k c c'.
-    by_item Shmem a 0 n 0 t 0 f g (only_at (device_breaks lower cell (take n cell.pci_devices) d) (finding_of Shmem a n 0 0) f c).1 (only_at (device_breaks lower cell (take t cell.pci_devices) d') (finding_of Shmem a t 0 0) g c').1 l (small_place cell.pci_devices t d' small k))
+    by_item Shmem a 0 n 0 t 0 f g (only_at (device_breaks lower cell (take n cell.pci_devices) d) (finding_of Shmem a n 0 0) f c).1 (only_at (device_breaks lower cell (take t cell.pci_devices) d') (finding_of Shmem a t 0 0) g c').1 l (small_index cell.pci_devices t d' small k))
 
 ordered_devices : (all : List CellConfig) → IsCountable all → Ordered (in_devices all)
 unfolding in_devices
 ordered_devices all count =
     ordered_from0 (in_devices_at all) all (λ a cell e. ordered_devices_of (take a all) a cell (count.devices a cell e)) (λ a t one other f g l i k c d.
-    let p = devices_told (take a all) a one f c in
-    let q = devices_told (take t all) t other g d in
-    by_cell Shmem a 0 p.0 0 t 0 q.0 0 f g p.1 q.1 l)
+    by_cell Shmem a t f g (devices_told (take a all) a one f c) (devices_told (take t all) t other g d) l)
 
 ordered_cpus : (all : List CellConfig) → Ordered (in_cpus all)
 unfolding in_cpus
 ordered_cpus all =
     ordered_from0 in_cpus_at all (λ a cell e. ordered_only (cpus_break cell.cpu_set) (finding_of NoCpu a 0 0 0)) (λ a t one other f g l i k c d.
-    by_cell NoCpu a 0 0 0 t 0 0 0 f g (only_at (cpus_break one.cpu_set) (finding_of NoCpu a 0 0 0) f c).1 (only_at (cpus_break other.cpu_set) (finding_of NoCpu t 0 0 0) g d).1 l)
+    let p = of_cell NoCpu a 0 0 0 f (only_at (cpus_break one.cpu_set) (finding_of NoCpu a 0 0 0) f c).1 in
+    let q = of_cell NoCpu t 0 0 0 g (only_at (cpus_break other.cpu_set) (finding_of NoCpu t 0 0 0) g d).1 in
+    by_cell NoCpu a t f g p q l)
 
 -- ---- all findings
 
@@ -238,8 +251,7 @@ ordered_by NoCpu h all count = ordered_cpus all
 ordered_by PhysAlign h all count = ordered_both PhysAlign h all count
 
 numbered : (rule : Rule) (a r b s : ℕ) (f : Finding) → f ≡ finding_of rule a r b s → f.number ≡ rule_number rule
-unfolding finding_of
-numbered rule a r b s f e = ap (λ (g : Finding). g.number) e
+numbered rule a r b s f e = (of_cell rule a r b s f e).by
 
 both_numbered : (rule : Rule) (h : Region) (all : List CellConfig) (f : Finding) → OfRegion rule h all f ⊎ OfMemory rule h f → f.number ≡ rule_number rule
 both_numbered rule h all f (inl p) = numbered rule p.a p.r 0 0 f p.told
@@ -271,7 +283,7 @@ number_at n zero i m h = cc
 number_at n (suc k) zero m h = let e : n ≡ m = cc in omega arith
 number_at n (suc k) (suc i) m h = let e = number_at (n + 1) k i m h in omega arith
 
--- the rule at a place has the next number
+-- the rule at an index has the next number
 rule_at : (i : ℕ) (rule : Rule) → slice_get rules_in_order i ≡ Some rule → rule_number rule ≡ 1 + i
 unfolding numbers
 rule_at i rule h =
