@@ -368,23 +368,26 @@ lies_unmet envelopes span n rising behind before bound met =
     ]
 
 -- where those before one of them end before the span, and those behind it begin behind it, no other meets it
-pub meets_no_other : (envelopes : List Envelope) (span : Span) (n : ℕ) (x d : Envelope) → IsRising envelopes → n < length envelopes → (0 < n → (d : Envelope) → (get_or envelopes (n - 1) d).end ≤ span.start) → (n + 1 < length envelopes → (d : Envelope) → span.end ≤ (get_or envelopes (n + 1) d).start) → Contains envelopes x → x.start < span.end → span.start < x.end → get_or envelopes n d ≡ x
-meets_no_other envelopes span n x d rising bound behind before cx begins ends =
-    let k = cx.0 in
-    let within = cx.1 in
+pub meets_no_other : (envelopes : List Envelope) (span : Span) (n : ℕ) (met : IsMet envelopes span) (d : Envelope) → IsRising envelopes → n < length envelopes → (0 < n → (d : Envelope) → (get_or envelopes (n - 1) d).end ≤ span.start) → (n + 1 < length envelopes → (d : Envelope) → span.end ≤ (get_or envelopes (n + 1) d).start) → get_or envelopes n d ≡ met.by
+meets_no_other envelopes span n met d rising bound behind before =
+    let x = met.by in
+    let k = met.is.0 in
+    let within = met.is.1 in
+    let begins = met.begins in
+    let ends = met.ends in
     elim (cases_order k n) [
-      | inl e ↦ sym (ap (λ j. get_or envelopes j d) e) ∙ get_or_default envelopes k d x within ∙ cx.2
+      | inl e ↦ sym (ap (λ j. get_or envelopes j d) e) ∙ get_or_default envelopes k d x within ∙ met.is.2
       | inr (inl h) ↦
           let a = rising.ends k (n - 1) x (omega arith) (omega arith) in
           let b = behind (omega arith) x in
           let c : (get_or envelopes k x).end ≤ span.start = omega arith in
-          let e : x.end ≤ span.start = subst (λ (s : Envelope). s.end ≤ span.start) cx.2 c in
+          let e : x.end ≤ span.start = subst (λ (s : Envelope). s.end ≤ span.start) met.is.2 c in
           absurd (omega arith)
       | inr (inr h) ↦
           let a = rising.starts (n + 1) k x (omega arith) within in
           let b = before (omega arith) x in
           let c : span.end ≤ (get_or envelopes k x).start = omega arith in
-          let e : span.end ≤ x.start = subst (λ (s : Envelope). span.end ≤ s.start) cx.2 c in
+          let e : span.end ≤ x.start = subst (λ (s : Envelope). span.end ≤ s.start) met.is.2 c in
           absurd (omega arith)
     ]
 
@@ -405,14 +408,14 @@ beside_none_met rule one b other envelopes of own unmet =
     beside_none rule one b other (λ s d within breaks. unmet (pair_takes_part rule one (spot b other s (get_or other.memory_regions s d)) breaks) (met_any rule b other envelopes one s d of own within breaks) (met_for rule b other envelopes one s d of own within breaks).0)
 
 -- a window in which those are that meet it has the numbers of those that break the rule with it
-pub window_hits : (rule : Rule) (one : Spot) (b : ℕ) (other : CellConfig) (envelopes : Envelopes) (window : Window) → AreOf rule b other envelopes → IsAtItsNumber one b other → (is_within rule ≡ true → (x : Envelope) (s : ℕ) → Contains (envelopes_for rule one.region envelopes) x → x.start < (span_of rule one.item one.region).end → (span_of rule one.item one.region).start < x.end → one.item < s → s ≤ x.item → IsIn window s) → (is_within rule ≡ false → (x : Envelope) → Contains (envelopes_for rule one.region envelopes) x → x.start < (span_of rule one.item one.region).end → (span_of rule one.item one.region).start < x.end → IsIn window x.item) → HasHits rule one b other window
+pub window_hits : (rule : Rule) (one : Spot) (b : ℕ) (other : CellConfig) (envelopes : Envelopes) (window : Window) → AreOf rule b other envelopes → IsAtItsNumber one b other → (is_within rule ≡ true → (met : IsMet (envelopes_for rule one.region envelopes) (span_of rule one.item one.region)) (s : ℕ) → one.item < s → s ≤ met.by.item → IsIn window s) → (is_within rule ≡ false → (met : IsMet (envelopes_for rule one.region envelopes) (span_of rule one.item one.region)) → IsIn window met.by.item) → HasHits rule one b other window
 window_hits rule one b other envelopes window of own behind told = λ s d within small breaks.
     let r = met_for rule b other envelopes one s d of own within breaks in
     elim (cases_Bool (is_within rule)) [
       | inl w ↦
           let low = ltb-true one.item s (pair_order rule one (spot b other s (get_or other.memory_regions s d)) w breaks) in
-          behind w r.0.by s r.0.is r.0.begins r.0.ends low r.2
-      | inr w ↦ subst (λ n. IsIn window n) (r.1 w) (told w r.0.by r.0.is r.0.begins r.0.ends)
+          behind w r.0 s low r.2
+      | inr w ↦ subst (λ n. IsIn window n) (r.1 w) (told w r.0)
     ]
 
 -- items that give nothing may be passed over
@@ -449,26 +452,29 @@ beside_outside rule one b other window hits s d within small out =
     ap (λ t. only_if t (finding_of rule one.cell one.item b s)) (false_from_ne_true (pair_breaks rule one (spot b other s (get_or other.memory_regions s d))) (λ breaks. out (hits s d within small breaks)))
 
 -- what is among those between the borders
-pub among_parted : (envelopes : List Envelope) (span : Span) (begin m n : ℕ) → begin ≤ m → begin ≤ n → n ≤ length envelopes → AllWithin (λ (envelope : Envelope). nat_lt envelope.start span.end ≡ false) envelopes n (length envelopes) → AllWithin (λ (envelope : Envelope). leb envelope.end span.start ≡ true) envelopes 0 m → (x : Envelope) → Contains envelopes x → x.start < span.end → span.start < x.end → Contains (take (n - begin) (drop begin envelopes)) x
-among_parted envelopes span begin m n low high bound after before x cx begins ends =
-    let k = cx.0 in
-    let within = cx.1 in
+pub among_parted : (envelopes : List Envelope) (span : Span) (begin m n : ℕ) → begin ≤ m → begin ≤ n → n ≤ length envelopes → AllWithin (λ (envelope : Envelope). nat_lt envelope.start span.end ≡ false) envelopes n (length envelopes) → AllWithin (λ (envelope : Envelope). leb envelope.end span.start ≡ true) envelopes 0 m → (met : IsMet envelopes span) → Contains (take (n - begin) (drop begin envelopes)) met.by
+among_parted envelopes span begin m n low high bound after before met =
+    let x = met.by in
+    let k = met.is.0 in
+    let within = met.is.1 in
+    let begins = met.begins in
+    let ends = met.ends in
     let a : k < n = elim (cases_lt k n) [
       | inl h ↦ h
       | inr h ↦
-          let e = ltb-false x.start span.end (subst (λ (s : Envelope). nat_lt s.start span.end ≡ false) cx.2 (after k x h within)) in
+          let e = ltb-false x.start span.end (subst (λ (s : Envelope). nat_lt s.start span.end ≡ false) met.is.2 (after k x h within)) in
           absurd (omega arith)
     ] in
     let b : m ≤ k = elim (cases_lt k m) [
       | inl h ↦
-          let e = leb-true x.end span.start (subst (λ (s : Envelope). leb s.end span.start ≡ true) cx.2 (before k x (omega arith) h)) in
+          let e = leb-true x.end span.start (subst (λ (s : Envelope). leb s.end span.start ≡ true) met.is.2 (before k x (omega arith) h)) in
           absurd (omega arith)
       | inr h ↦ h
     ] in
     let sum : begin + (k - begin) ≡ k = omega arith in
     let size = length-take (n - begin) (drop begin envelopes) in
     let rest = length-drop begin envelopes in
-    (k - begin, omega arith, get_or-take (n - begin) (drop begin envelopes) (k - begin) x (omega arith) ∙ get_or-drop begin envelopes (k - begin) x ∙ ap (λ i. get_or envelopes i x) sum ∙ cx.2)
+    (k - begin, omega arith, get_or-take (n - begin) (drop begin envelopes) (k - begin) x (omega arith) ∙ get_or-drop begin envelopes (k - begin) x ∙ ap (λ i. get_or envelopes i x) sum ∙ met.is.2)
 
 pub capped_none_more : (found more : List Finding) → more ≡ [] → capped found ≡ capped (found ++ more)
 capped_none_more found more e = ap capped (sym (append-nil found) ∙ ap (λ xs. found ++ xs) (sym e))

@@ -3,6 +3,7 @@ pub mod Blocks
 pub mod Bus
 pub mod Fits
 pub mod Links
+pub mod Pairs
 pub mod Envelopes
 pub mod Rising
 pub mod Seats

@@ -3,7 +3,7 @@ ghost use Rattle.std.specs.Prelude.{◌≡◌, ◌≢◌, ◌<◌, ◌≤◌, �
 ghost use Rattle.jh_check.specs.declared.spans.Span.{Span};
 ghost use Rattle.jh_check.specs.declared.envelope.Envelope.{Envelope};
 ghost use Rattle.jh_check.specs.Private.Spans.{is_within, joins, span_of};
-ghost use Rattle.jh_check.specs.Private.Envelopes.{passes_shared, may_follow, unshared_of, envelopes_for, HasOthers, InOrder, IsRising, CoversEach, CoversPairs, CoversOthers, AreOf, IsIn};
+ghost use Rattle.jh_check.specs.Private.Envelopes.{passes_shared, may_follow, unshared_of, envelopes_for, HasOthers, InOrder, IsRising, IsMet, CoversEach, CoversPairs, CoversOthers, AreOf, IsIn};
 
 use crate::rule::Rule;
 use crate::spans::{Span, span_of};
@@ -11,8 +11,9 @@ use jh_cellcfg::{CellConfig, Region, RegionFlags};
 use jh_num::NoMemory;
 use std::alloc::Global;
 
-/// The region with that number begins at `start`. Of those that begin no later, the one that ends last does at `end`.
-/// Where two of a cell meet, the one that ends next to last does, and the number is the greatest of theirs.
+/// Of the regions that begin at `start` or before it, the one that ends last does so at `end`, and `item` is the number of
+/// one that begins at `start`. Where pairs of a cell's regions are looked for, the one that ends next to last does so at
+/// `end`, and `item` is the greatest of the numbers.
 #[derive(Clone, Copy, PartialEq, Eq, Debug)]
 pub(crate) struct Envelope {
     pub(crate) start: u64,
@@ -30,9 +31,9 @@ pub(crate) struct Window {
 /// The envelopes of those regions of a cell that may break a rule as the other of a pair.
 #[derive(Drop)]
 pub(crate) struct Envelopes {
-    /// With a region that may meet none of them.
+    /// Of all, for a region that may meet none of them.
     pub(crate) any: Vec<Envelope>,
-    /// With a region that may meet those that are shared, if that differs.
+    /// Of those that aren't shared, for a region that may meet those that are; none, if `any` serves for it too.
     pub(crate) unshared: Option<Vec<Envelope>>,
 }
 
@@ -284,7 +285,7 @@ pub(crate) fn start_behind(envelopes: &[Envelope], n: usize) -> u128
 fn is_only(envelopes: &[Envelope], k: usize, span: Span) -> bool
     requires { IsRising envelopes.now }
     ensures within { result ≡ true → k < length envelopes.now }
-    ensures only { result ≡ true → (x d : Envelope) → Contains envelopes.now x → x.start < span.end → span.start < x.end → slice_index_or envelopes.now k d ≡ x }
+    ensures only { result ≡ true → (met : IsMet envelopes.now span) (d : Envelope) → slice_index_or envelopes.now k d ≡ met.by }
 {
     if k >= envelopes.len() {
         return false;
@@ -295,7 +296,7 @@ fn is_only(envelopes: &[Envelope], k: usize, span: Span) -> bool
 /// The numbers of those that meet the span, and maybe of others. `near` is how many may lie before its end.
 fn window_of(envelopes: &[Envelope], span: Span, near: usize) -> Window
     requires { IsRising envelopes.now }
-    ensures { (x : Envelope) → Contains envelopes.now x → x.start < span.end → span.start < x.end → IsIn result x.item }
+    ensures { (met : IsMet envelopes.now span) → IsIn result met.by.item }
 {
     let k = near.saturating_sub(1);
     if is_only(envelopes, k, span) {
@@ -345,10 +346,8 @@ pub(crate) fn find_window(
 ) -> Window
     requires any { IsRising envelopes.now.any.items }
     requires unshared { IsRising (unshared_of envelopes.now) }
-    ensures behind { is_within rule ≡ true → (x : Envelope) (s : ℕ) → Contains (envelopes_for rule region.now envelopes.now) x
-        → x.start < (span_of rule item region.now).end → (span_of rule item region.now).start < x.end → item < s → s ≤ x.item → IsIn result s }
-    ensures told { is_within rule ≡ false → (x : Envelope) → Contains (envelopes_for rule region.now envelopes.now) x
-        → x.start < (span_of rule item region.now).end → (span_of rule item region.now).start < x.end → IsIn result x.item }
+    ensures behind { is_within rule ≡ true → (met : IsMet (envelopes_for rule region.now envelopes.now) (span_of rule item region.now)) (s : ℕ) → item < s → s ≤ met.by.item → IsIn result s }
+    ensures told { is_within rule ≡ false → (met : IsMet (envelopes_for rule region.now envelopes.now) (span_of rule item region.now)) → IsIn result met.by.item }
 {
     let span = span_of(rule, item, region);
     let window = window_of(envelopes_for(envelopes, rule, region), span, near);

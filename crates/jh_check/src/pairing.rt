@@ -1,13 +1,15 @@
 //! The search for pairs of regions, which passes over regions that meet none of another cell.
 ghost use Rattle.std.specs.Prelude.{◌≡◌, ◌+◌, ◌<◌, ◌≤◌, ◌++◌, true, length, slice_index_or, OnOk, IfOk};
 ghost use Rattle.jh_cellcfg.specs.declared.region.Region.{Region};
+ghost use Rattle.jh_cellcfg.specs.declared.config.CellConfig.{CellConfig};
 ghost use Rattle.jh_check.specs.Private.Cells.{cells_of};
 ghost use Rattle.jh_check.specs.Lists.{capped};
 ghost use Rattle.jh_check.specs.Private.Spans.{joins, is_within};
-ghost use Rattle.jh_check.specs.Private.Blocks.{AreBlocks, AreExtents, between_from};
+ghost use Rattle.jh_check.specs.Private.Blocks.{AreBlocks, AreExtents};
 ghost use Rattle.jh_check.specs.Private.Envelopes.{IsAtItsNumber, AreOf, AreOfEach, AreGaps};
 ghost use Rattle.jh_check.specs.Private.Rising.{IsStretch};
 ghost use Rattle.jh_check.specs.Private.Links.{ArePartners};
+ghost use Rattle.jh_check.specs.Private.Pairs.{IsPair, in_pair, in_pair_from};
 ghost use Rattle.jh_check.specs.Findings.{spot, beside, between, between_at, in_pairs, from_cell};
 
 use crate::blocks::{BLOCK, Extents, blocks_of, extents_of};
@@ -92,7 +94,7 @@ fn visit(
 }
 
 /// Each region of a block of a cell, which begins with the number `first`, with each of another; those are passed over that
-/// may meet none of them.
+/// meet none of them.
 fn among(
     found: &mut Seq<Finding>,
     pair: &Pair,
@@ -101,12 +103,10 @@ fn among(
     gaps: &mut Gaps,
 ) -> Result<(), NoMemory>
     requires partners { ArePartners pair.now.one.now pair.now.other.now partners.now }
-    requires envelopes { AreOf pair.now.rule pair.now.b pair.now.other.now pair.now.envelopes.now }
-    requires same { pair.now.a ≡ pair.now.b → pair.now.one.now ≡ pair.now.other.now }
+    requires pair { IsPair pair.now }
     requires gaps { AreGaps pair.now.envelopes.now gaps.old }
     ensures gaps { OnOk result (AreGaps pair.now.envelopes.now gaps.new) }
-    ensures found { OnOk result (capped (found.new ++ between_from pair.now.rule pair.now.a pair.now.one.now pair.now.b pair.now.other.now (first + BLOCK))
-        ≡ capped (found.old ++ between_from pair.now.rule pair.now.a pair.now.one.now pair.now.b pair.now.other.now first)) }
+    ensures found { OnOk result (capped (found.new ++ in_pair_from pair.now (first + BLOCK)) ≡ capped (found.old ++ in_pair_from pair.now first)) }
 {
     let regions = pair.one.memory_regions.as_slice();
     for r in first..regions.len().min(first.saturating_add(BLOCK)) {
@@ -128,10 +128,9 @@ fn between(
     blocks: &[Extents],
 ) -> Result<(), NoMemory>
     requires partners { ArePartners pair.now.one.now pair.now.other.now partners.now }
-    requires envelopes { AreOf pair.now.rule pair.now.b pair.now.other.now pair.now.envelopes.now }
-    requires same { pair.now.a ≡ pair.now.b → pair.now.one.now ≡ pair.now.other.now }
+    requires pair { IsPair pair.now }
     requires blocks { AreBlocks pair.now.rule pair.now.one.now.memory_regions blocks.now }
-    ensures { OnOk result (capped found.new ≡ capped (found.old ++ between pair.now.rule pair.now.a pair.now.one.now pair.now.b pair.now.other.now)) }
+    ensures { OnOk result (capped found.new ≡ capped (found.old ++ in_pair pair.now)) }
 {
     let mut gaps = first_gaps(pair.envelopes);
     for k in 0..blocks.len() {
@@ -151,11 +150,10 @@ fn compare(
     pair: &Pair,
     outline: &Outline,
 ) -> Result<(), NoMemory>
-    requires envelopes { AreOf pair.now.rule pair.now.b pair.now.other.now pair.now.envelopes.now }
-    requires same { pair.now.a ≡ pair.now.b → pair.now.one.now ≡ pair.now.other.now }
+    requires pair { IsPair pair.now }
     requires blocks { AreBlocks pair.now.rule pair.now.one.now.memory_regions outline.now.blocks.now }
     requires extents { AreExtents pair.now.rule pair.now.one.now.memory_regions outline.now.extents }
-    ensures { OnOk result (capped found.new ≡ capped (found.old ++ between pair.now.rule pair.now.a pair.now.one.now pair.now.b pair.now.other.now)) }
+    ensures { OnOk result (capped found.new ≡ capped (found.old ++ in_pair pair.now)) }
 {
     if !may_be_met_within(pair.envelopes, outline.extents) {
         return Ok(());
@@ -173,11 +171,10 @@ fn join(
     pair: &Pair,
     outline: &Outline,
 ) -> Result<(), NoMemory>
-    requires envelopes { AreOf pair.now.rule pair.now.b pair.now.other.now pair.now.envelopes.now }
-    requires same { pair.now.a ≡ pair.now.b → pair.now.one.now ≡ pair.now.other.now }
+    requires pair { IsPair pair.now }
     requires blocks { AreBlocks pair.now.rule pair.now.one.now.memory_regions outline.now.blocks.now }
     requires extents { AreExtents pair.now.rule pair.now.one.now.memory_regions outline.now.extents }
-    ensures { OnOk result (capped found.new ≡ capped (found.old ++ between pair.now.rule pair.now.a pair.now.one.now pair.now.b pair.now.other.now)) }
+    ensures { OnOk result (capped found.new ≡ capped (found.old ++ in_pair pair.now)) }
 {
     if found.len() >= MAX_FINDINGS {
         return Ok(());
@@ -189,7 +186,7 @@ fn join(
     }
 }
 
-/// The regions of a cell with those of each cell, itself too.
+/// The regions of the cell of that number with those of each cell, itself too.
 fn from_cell(
     alloc: Global,
     found: &mut Seq<Finding>,
@@ -197,15 +194,14 @@ fn from_cell(
     setup: &Setup,
     each: &[Envelopes],
     a: u32,
-    one: &CellConfig,
 ) -> Result<(), NoMemory>
     requires count { length setup.now.cells.now ≤ 15 }
     requires known { length each.now ≡ length (cells_of setup.now) }
     requires each { AreOfEach rule (cells_of setup.now) each.now }
     requires among { a < length (cells_of setup.now) }
-    requires one { one.now ≡ slice_index_or (cells_of setup.now) a one.now }
-    ensures { OnOk result (capped found.new ≡ capped (found.old ++ from_cell rule (cells_of setup.now) a one.now)) }
+    ensures { OnOk result ((d : CellConfig) → capped found.new ≡ capped (found.old ++ from_cell rule (cells_of setup.now) a (slice_index_or (cells_of setup.now) a d))) }
 {
+    let one = setup.cell(a);
     let holders = holders_of(alloc, rule, one)?;
     let blocks = blocks_of(alloc, rule, one.memory_regions.as_slice())?;
     let outline = Outline {
@@ -372,7 +368,7 @@ fn by_envelopes(
 {
     let each = envelopes_of_each(alloc, rule, setup)?;
     for a in 0..setup.count() {
-        from_cell(alloc, found, rule, setup, each.as_slice(), a, setup.cell(a))?;
+        from_cell(alloc, found, rule, setup, each.as_slice(), a)?;
     }
     Ok(())
 }

@@ -14,14 +14,14 @@ returns c =
     let m = c.partition_point-begin.result in
     let begins = IsPartitionPoint-from_clause (λ (envelope : Envelope). nat_lt envelope.start span.end) envelopes n c.partition_point-end.ensures.partitioned (IsPartitionedBy-ltb (λ (envelope : Envelope). envelope.start) envelopes span.end c.requires.starts) (λ a r q k. search rules) in
     let ends = IsPartitionPoint-from_clause (λ (envelope : Envelope). leb envelope.end span.start) envelopes m c.partition_point-begin.ensures.partitioned (IsPartitionedBy-leb (λ (envelope : Envelope). envelope.end) envelopes span.start c.requires.ends) (λ a r q k. search rules) in
-    λ x cx b e. c.around.ensures x (among_parted envelopes span c.min.result m n (omega (arith, c.min.ensures)) (omega (arith, c.min.ensures)) c.partition_point-end.ensures.bound begins.1 ends.0 x cx b e)
+    λ met. c.around.ensures met.by (among_parted envelopes span c.min.result m n (omega (arith, c.min.ensures)) (omega (arith, c.min.ensures)) c.partition_point-end.ensures.bound begins.1 ends.0 met)
 
 pub returns-then-is_only : goal.returns-then-is_only
-returns-then-is_only c = λ x cx b e.
+returns-then-is_only c = λ met.
     let envelopes = c.args.envelopes.now in
     let k = c.saturating_sub-k.result in
     let none : Envelope = record { start = 0; item = 0; end = 0 } in
-    let same = get_or_default envelopes k none x (c.is_only.ensures.within c.if-is_only.true) in
-    let is = c.is_only.ensures.only c.if-is_only.true x x cx b e in
-    let item : (get_or envelopes k none).item ≡ x.item = ap (λ (r : Envelope). r.item) (same ∙ is) in
+    let same = get_or_default envelopes k none met.by (c.is_only.ensures.within c.if-is_only.true) in
+    let is = c.is_only.ensures.only c.if-is_only.true met met.by in
+    let item : (get_or envelopes k none).item ≡ met.by.item = ap (λ (r : Envelope). r.item) (same ∙ is) in
     (omega arith, omega arith)

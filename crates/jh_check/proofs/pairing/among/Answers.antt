@@ -24,10 +24,10 @@ loop-r-preserved-then-not-may_meet c =
     let m = c.min-r-end.ensures in
     let s = c.saturating_add.ensures in
     let h : c.loop-r.r < length regions = rw v at (let k : c.loop-r.r < length c.as_slice-regions.result.now = omega arith in k) in
-    let own = own_spot pair.a pair.one.now c.loop-r.r none pair.b pair.other.now h c.requires.same in
+    let own = own_spot pair.a pair.one.now c.loop-r.r none pair.b pair.other.now h c.requires.pair.same in
     let told = c.may_meet.ensures.told c.if-not-may_meet.true in
     let missed = rw v at told in
-    let e : found c.loop-r.r (get_or regions c.loop-r.r none) ≡ [] = beside_none_met pair.rule (spot pair.a pair.one.now c.loop-r.r (get_or regions c.loop-r.r none)) pair.b pair.other.now pair.envelopes.now c.requires.envelopes own missed in
+    let e : found c.loop-r.r (get_or regions c.loop-r.r none) ≡ [] = beside_none_met pair.rule (spot pair.a pair.one.now c.loop-r.r (get_or regions c.loop-r.r none)) pair.b pair.other.now pair.envelopes.now c.requires.pair.envelopes own missed in
     record {
       gaps = c.may_meet.ensures.gaps;
       within = omega arith;
@@ -79,5 +79,5 @@ visit-requires-clause-own c =
     let t = c.loop-r-test.true in
     let m = c.min-r-end.ensures in
     let h : c.loop-r.r < length c.args.pair.now.one.now.memory_regions = rw v at (let k : c.loop-r.r < length c.as_slice-regions.result.now = omega arith in k) in
-    let k = own_spot c.args.pair.now.a c.args.pair.now.one.now c.loop-r.r none c.args.pair.now.b c.args.pair.now.other.now h c.requires.same in
+    let k = own_spot c.args.pair.now.a c.args.pair.now.one.now c.loop-r.r none c.args.pair.now.b c.args.pair.now.other.now h c.requires.pair.same in
     rw v k

@@ -22,7 +22,7 @@ loop-k-preserved-then-lie_in c =
     let unshared = gaps.unshared _ (c.lie_in.ensures.unshared lies) in
     let t = c.loop-k-test.true in
     let e : BLOCK * (k + 1) ≡ BLOCK * k + BLOCK = omega arith in
-    let passed = block_beyond pair.rule pair.a pair.one.now pair.b pair.other.now pair.envelopes.now (BLOCK * k) BLOCK _ c.requires.envelopes c.requires.same (c.requires.blocks.each k _ (omega arith)) any unshared in
+    let passed = block_beyond pair.rule pair.a pair.one.now pair.b pair.other.now pair.envelopes.now (BLOCK * k) BLOCK _ c.requires.pair.envelopes c.requires.pair.same (c.requires.blocks.each k _ (omega arith)) any unshared in
     record {
       gaps = gaps;
       found = ap (λ n. capped (c.loop-k.found ++ between_from pair.rule pair.a pair.one.now pair.b pair.other.now n)) e ∙ ap (λ xs. capped (c.loop-k.found ++ xs)) (sym passed) ∙ c.loop-k.invariant.found;

@@ -1,8 +1,7 @@
 -- Each cell in turn adds what its regions give with those of all cells.
-use Rattle.std.proofs.Common.{◌≡◌, ◌<◌, ◌++◌, length, get_or, refl, sym, subst, arith}
+use Rattle.std.proofs.Common.{◌<◌, length, refl, sym, subst, arith}
 use Rattle.jh_check.specs.Private.Cells.{cells_of}
 use Rattle.jh_check.specs.Private.Envelopes.{AreOfEach}
-use Rattle.jh_check.specs.Lists.{capped}
 use Rattle.jh_check.specs.Findings.{from_cell, in_pairs}
 use Rattle.jh_check.proofs.ListLemmas.{found_step, found_done}
 use Rattle.jh_check.proofs.pairing.by_envelopes.Goals as goal
@@ -13,13 +12,9 @@ loop-a-init c = refl
 
 pub loop-a-preserved : goal.loop-a-preserved
 loop-a-preserved c =
-    let found = from_cell c.args.rule (cells_of c.args.setup.now) in
     let all = cells_of c.args.setup.now in
-    let v = c.cell.ensures in
     let h : c.loop-a.a < length all = omega arith in
-    let a = c.in_ok-from_cell.ensures in
-    let e : capped c.from_cell.new.found ≡ capped (c.loop-a.found ++ found c.loop-a.a (get_or all c.loop-a.a c.cell.result.now)) = cc in
-    found_step found all c.loop-a.a c.cell.result.now c.loop-a.found c.from_cell.new.found _ h e c.loop-a.invariant
+    found_step (from_cell c.args.rule all) all c.loop-a.a c.args.setup.now.root.now c.loop-a.found c.from_cell.new.found _ h (c.in_ok-from_cell.ensures c.args.setup.now.root.now) c.loop-a.invariant
 
 pub returns : goal.returns
 returns c = found_done (from_cell c.args.rule (cells_of c.args.setup.now)) (cells_of c.args.setup.now) c.loop-a.a c.loop-a.found _ (omega arith) c.loop-a.invariant

@@ -10,4 +10,4 @@ returns-then-not-may_be_met_within c =
     let pair = c.args.pair.now in
     let far = c.if-not-may_be_met_within.true in
     capped_none_more c.args.found.now (between rule pair.a pair.one.now pair.b pair.other.now)
-    (between_beyond rule pair.a pair.one.now pair.b pair.other.now pair.envelopes.now c.args.outline.now.extents c.requires.envelopes c.requires.same c.requires.extents (c.may_be_met_within.ensures.any far) (c.may_be_met_within.ensures.unshared far))
+    (between_beyond rule pair.a pair.one.now pair.b pair.other.now pair.envelopes.now c.args.outline.now.extents c.requires.pair.envelopes c.requires.pair.same c.requires.extents (c.may_be_met_within.ensures.any far) (c.may_be_met_within.ensures.unshared far))

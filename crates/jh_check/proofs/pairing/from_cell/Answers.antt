@@ -14,7 +14,7 @@ loop-b-init c = refl
 
 pub loop-b-preserved : goal.loop-b-preserved
 loop-b-preserved c =
-    let found = between c.args.rule c.args.a c.args.one.now in
+    let found = between c.args.rule c.args.a c.cell-one.result.now in
     let all = cells_of c.args.setup.now in
     let v = c.cell.ensures in
     let h : c.loop-b.b < length all = omega arith in
@@ -23,19 +23,23 @@ loop-b-preserved c =
     found_step found all c.loop-b.b c.cell.result.now c.loop-b.found c.join.new.found _ h e c.loop-b.invariant
 
 pub returns : goal.returns
-returns c = found_done (between c.args.rule c.args.a c.args.one.now) (cells_of c.args.setup.now) c.loop-b.b c.loop-b.found _ (omega arith) c.loop-b.invariant
-
-pub join-requires-clause-same : goal.join-requires-clause-same
-join-requires-clause-same c =
+returns c = λ d.
     let all = cells_of c.args.setup.now in
-    λ e. c.requires.one ∙ ap (λ k. get_or all k c.args.one.now) e ∙ get_or_default all c.loop-b.b c.args.one.now c.cell.result.now (omega arith) ∙ sym c.cell.ensures
+    let one = c.cell-one.result.now in
+    let is : one ≡ get_or all c.args.a d = c.cell-one.ensures ∙ get_or_default all c.args.a one d c.requires.among in
+    found_done (between c.args.rule c.args.a one) all c.loop-b.b c.loop-b.found _ (omega arith) c.loop-b.invariant
+    ∙ ap (λ cell. capped (c.args.found.now ++ from_cell c.args.rule all c.args.a cell)) is
 
-pub join-requires-clause-envelopes : goal.join-requires-clause-envelopes
-join-requires-clause-envelopes c =
+pub join-requires-clause-pair : goal.join-requires-clause-pair
+join-requires-clause-pair c =
     let all = cells_of c.args.setup.now in
+    let one = c.cell-one.result.now in
     let b = c.loop-b.b in
     let each = c.args.each.now in
     let v = c.cell.ensures in
     let h : b < length all = omega arith in
     let k : AreOf c.args.rule b (get_or all b c.cell.result.now) (get_or each b c.index-each-b.result) = c.requires.each b c.index-each-b.result c.cell.result.now h in
-    subst (λ x. AreOf c.args.rule b c.cell.result.now x) (sym c.index-each-b.is) (subst (λ x. AreOf c.args.rule b x (get_or each b c.index-each-b.result)) (sym v) k)
+    record {
+      envelopes = subst (λ x. AreOf c.args.rule b c.cell.result.now x) (sym c.index-each-b.is) (subst (λ x. AreOf c.args.rule b x (get_or each b c.index-each-b.result)) (sym v) k);
+      same = λ e. c.cell-one.ensures ∙ ap (λ k. get_or all k one) e ∙ get_or_default all b one c.cell.result.now h ∙ sym v;
+    }
