@@ -62,7 +62,7 @@ abbrev pub HypervisorIsAlone : SystemConfig → List CellConfig → Type 0
 HypervisorIsAlone system cells =
     EachCell system cells (λ cell. EachItem cell (λ r x. is_comm x ≡ false → SharesNoPlace x system.hypervisor_memory))
 
--- two cells besides root hold no place unshared, but in the sections at the same offset of two linked devices:
+-- no place is held unshared by two cells besides root, but in the sections at the same offset of two linked devices:
 -- that memory is theirs together
 abbrev pub CellsAreApart : SystemConfig → List CellConfig → Type 0
 CellsAreApart system cells =

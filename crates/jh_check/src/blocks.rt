@@ -16,14 +16,14 @@ use std::alloc::Global;
 /// How many regions a block has; the last may have fewer.
 pub(crate) const BLOCK: usize = 32;
 
-/// What has all regions that take part, of each kind by which they are looked for.
+/// Two spans that together have all regions that take part: `unshared` those that may meet shared ones, `any` the others.
 #[derive(Clone, Copy)]
 pub(crate) struct Extents {
     pub(crate) any: Span,
     pub(crate) unshared: Span,
 }
 
-/// What has no region.
+/// A span that has no region.
 const NOWHERE: Span = Span {
     start: u64::MAX,
     end: 0,
@@ -64,7 +64,7 @@ fn widened(extents: Extents, rule: Rule, item: usize, region: &Region) -> Extent
     }
 }
 
-/// What has all regions of a block that take part: those from the number `first` on.
+/// The extents of the regions of a block, which begins with the number `first`.
 #[inline(never)]
 fn block_from(rule: Rule, regions: &[Region], first: usize) -> Extents
     ensures { AreExtentsOf rule regions.now first (first + BLOCK) result }
@@ -79,7 +79,7 @@ fn block_from(rule: Rule, regions: &[Region], first: usize) -> Extents
     extents
 }
 
-/// What has all regions of each block.
+/// The extents of each block.
 pub(crate) fn blocks_of(
     alloc: Global,
     rule: Rule,
@@ -95,7 +95,7 @@ pub(crate) fn blocks_of(
     Ok(blocks)
 }
 
-/// What has all regions of a cell that take part, by that of its blocks.
+/// The extents of all regions of a cell, by those of its blocks.
 pub(crate) fn extents_of(blocks: &[Extents]) -> Extents
     ensures { (rule : TheRule) (regions : List TheRegion) → AreBlocks rule regions blocks.now → AreExtents rule regions result }
 {

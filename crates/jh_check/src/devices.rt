@@ -12,8 +12,10 @@ use crate::setup::Setup;
 use jh_cellcfg::{CellConfig, PciDevice, Region, RegionFlags, are_zero};
 use jh_num::PAGE_SIZE;
 
+/// The mask of BAR 0: a page of registers.
 const PAGE_BAR: u32 = 0xffff_f000;
 
+/// The mask of BAR 1, where there are vectors: half a kilobyte for a table of them.
 const VECTORS_BAR: u32 = 0xffff_fe00;
 
 /// Whether the devices, which are of different cells, are linked: both are ivshmem devices, with one bdf.

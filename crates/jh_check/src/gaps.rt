@@ -99,7 +99,7 @@ fn is_last(envelopes: &[Envelope], gap: Gap, span: Span) -> bool {
         && u128::from(envelopes[gap.before - 1].start) < span.end
 }
 
-/// Whether the span, which lies neither in the gap nor in the next one, may be met; only then may it be told so. The gap
+/// Whether the span, which lies neither in the gap nor in the next one, may be met; where this says no, it isn't. The gap
 /// becomes one near the span: mostly it stays the same, or becomes the next.
 #[inline(never)]
 fn may_be_met_far(envelopes: &[Envelope], span: Span, gap: &mut Gap, next: Gap) -> bool
@@ -120,7 +120,7 @@ fn may_be_met_far(envelopes: &[Envelope], span: Span, gap: &mut Gap, next: Gap) 
     !lies_in(*gap, span)
 }
 
-/// Whether the span, which doesn't lie in the gap, may be met; only then may it be told so. The gap becomes one near
+/// Whether the span, which doesn't lie in the gap, may be met; where this says no, it isn't. The gap becomes one near
 /// the span: the next, if the span lies there.
 #[inline(always)]
 fn may_be_met(envelopes: &[Envelope], span: Span, gap: &mut Gap) -> bool
@@ -151,7 +151,8 @@ fn may_be_met_unshared(envelopes: &Envelopes, span: Span, gap: &mut Gap) -> bool
     may_be_met(unshared_of(envelopes), span, gap)
 }
 
-/// Whether the region, of that number in its cell, may break the rule with one of those. The gaps become ones near it.
+/// Whether the region, of that number in its cell, may break the rule with one that has an envelope. The gaps become ones
+/// near it.
 pub(crate) fn may_meet(
     envelopes: &Envelopes,
     rule: Rule,

@@ -29,7 +29,7 @@ pub fn findings_are_ordered(_system: &SystemConfig, _cells: &[CellConfig])
     ensures { IsCountable (_system.now.root ∷ _cells.now) → AllPairs Precedes (findings _system.now _cells.now) }
 {}
 
-/// Nothing is found exactly where no rule is broken, each in its own words.
+/// Nothing is found exactly where each rule is kept, as it stands in its own words.
 pub fn nothing_is_found_in_what_is_clean(_system: &SystemConfig, _cells: &[CellConfig])
     ensures { (findings _system.now _cells.now ≡ []) ↔ IsClean _system.now _cells.now }
 {}
@@ -50,12 +50,12 @@ pub fn fewer_cells_stay_clean(
     ensures { IsClean _system.now (_before.now ++ _gone.now ∷ _after.now) → IsClean _system.now (_before.now ++ _after.now) }
 {}
 
-/// What is clean gives of root, its regions and the hypervisor's memory, whatever cells there are.
+/// In what is clean root is sound, with its regions and the hypervisor's memory, whatever other cells there are.
 pub fn clean_root_is_sound(_system: &SystemConfig, _cells: &[CellConfig])
     ensures { IsClean _system.now _cells.now → IsSoundRoot _system.now }
 {}
 
-/// Cells besides root take whole pages from root's page-mapped regions.
+/// What a cell besides root holds unshared takes whole pages from root's page-mapped regions.
 pub fn pages_are_whole(_system: &SystemConfig, _cells: &[CellConfig])
     ensures { IsClean _system.now _cells.now → PagesAreWhole _system.now _cells.now }
 {}
@@ -100,8 +100,8 @@ pub fn hypervisor_is_alone(_system: &SystemConfig, _cells: &[CellConfig])
     ensures { findings _system.now _cells.now ≡ [] → HypervisorIsAlone _system.now _cells.now }
 {}
 
-/// Without findings, no two cells besides root hold a place unshared, unless linked devices of theirs
-/// have it at the same offset of their shared memory.
+/// Without findings, no place is held unshared by two cells besides root, unless linked devices of theirs have it at the
+/// same offset of their shared memory.
 pub fn cells_are_apart(_system: &SystemConfig, _cells: &[CellConfig])
     ensures { findings _system.now _cells.now ≡ [] → CellsAreApart _system.now _cells.now }
 {}

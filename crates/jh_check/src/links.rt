@@ -57,14 +57,14 @@ fn short(item: usize) -> Option<u16>
 }
 
 /// Notes the partner of the region of that number, if there is room for one.
-fn put(partners: &mut Vec<Option<u16>>, item: usize, mate: usize)
+fn put(partners: &mut Vec<Option<u16>>, item: usize, partner: usize)
     ensures others { (k : ℕ) → k ≢ item → slice_index_or partners.new.items k None ≡ slice_index_or partners.old.items k None }
-    ensures own { (s : ℕ) → slice_index_or partners.new.items item None ≡ Some s → mate ≡ s }
+    ensures own { (s : ℕ) → slice_index_or partners.new.items item None ≡ Some s → partner ≡ s }
 {
     if item >= partners.len() {
         return;
     }
-    partners[item] = short(mate);
+    partners[item] = short(partner);
 }
 
 /// Whether so many sections of the two devices seem to be noted as partners, as the first and the last are.
@@ -147,7 +147,7 @@ pub(crate) fn partner_of(partners: &[Option<u16>], item: usize) -> Option<usize>
     ensures { result ≡ slice_index_or partners.now item None }
 {
     match partners.get(item) {
-        Some(Some(mate)) => Some(usize::from(*mate)),
+        Some(Some(partner)) => Some(usize::from(*partner)),
         Some(None) | None => None,
     }
 }

@@ -18,7 +18,7 @@ pub(crate) struct Row {
     pub(crate) end: u128,
     /// The number of the last that takes part.
     pub(crate) item: usize,
-    /// Those before it end before all behind them begin.
+    /// Those before it have ended where all behind them begin.
     pub(crate) first: usize,
     /// Those behind it begin where all before them have ended.
     pub(crate) last: usize,
@@ -78,7 +78,8 @@ pub(crate) fn stretch_of(rule: Rule, regions: &[Region]) -> Option<Window>
     })
 }
 
-/// The last number behind `item`, up to `last`, before which no region that takes part begins at `end` or behind it.
+/// The first number behind `item` and below `last` of a region that takes part and begins at `end` or behind it; `last`,
+/// where there is none.
 pub(crate) fn last_before(
     rule: Rule,
     regions: &[Region],

@@ -73,7 +73,7 @@ fn sorted(alloc: Global, rule: Rule, regions: &[Region]) -> Result<Vec<Span>, No
     Ok(spans)
 }
 
-/// Whether the span of that number ends behind its start, and begins behind the one before it.
+/// Whether the span of that number doesn't end before its start, and doesn't begin before the end of the one before it.
 fn is_behind(spans: &[Span], k: usize) -> bool
     requires { k < length spans.now }
     ensures ordered { result ≡ true → (d : Span) → (slice_index_or spans.now k d).start ≤ (slice_index_or spans.now k d).end }
@@ -83,7 +83,7 @@ fn is_behind(spans: &[Span], k: usize) -> bool
     start <= spans[k].end && (k == 0 || spans[k - 1].end <= start)
 }
 
-/// Whether each of the spans ends before those behind it begin.
+/// Whether no span ends before its start, and each has ended where those behind it begin.
 fn are_apart(spans: &[Span]) -> bool
     ensures { result ≡ true → AreSpansApart spans.now }
 {
@@ -95,7 +95,8 @@ fn are_apart(spans: &[Span]) -> bool
     true
 }
 
-/// Where the region ends, if it takes part and begins at `end` or behind it. None, if it begins before.
+/// Where the region ends, if it takes part and begins at `end` or behind it; `end`, if it takes no part. None, if it takes
+/// part and begins before.
 fn end_behind(rule: Rule, item: usize, region: &Region, end: u128) -> Option<u128>
     ensures grows { IfSome result (λ more. end ≤ more) }
     ensures behind { IfSome result (λ more. takes_part rule region.now ≡ true → LiesWithin (span_of rule item region.now) end more) }
@@ -111,7 +112,7 @@ fn end_behind(rule: Rule, item: usize, region: &Region, end: u128) -> Option<u12
     }
 }
 
-/// Whether each of the regions that take part begins behind those before it.
+/// Whether each of the regions that take part begins where those before it have ended, or behind.
 pub(crate) fn are_disjoint(rule: Rule, regions: &[Region]) -> bool
     ensures { result ≡ true → AreDisjoint rule regions.now }
 {
@@ -141,7 +142,7 @@ pub(crate) fn index(
     }
 }
 
-/// Whether that one lies behind the first `n` of the spans and before the others.
+/// Whether that one begins where the first `n` of the spans have ended, and ends where the others haven't begun.
 fn lies_between(spans: &[Span], n: usize, other: Span) -> bool
     requires { AreSpansApart spans.now }
     ensures { result ≡ true → (x : Span) → Contains spans.now x → spans_meet x other ≡ true → ⊥ }

@@ -18,8 +18,8 @@ end_at rule regions d k = (span_of rule k (slice_index_or regions k d)).end
 abbrev pub TakesPart : Rule → List Region → Region → ℕ → Type 0
 TakesPart rule regions d k = takes_part rule (slice_index_or regions k d) ≡ true
 
--- of the first regions, those that take part begin in the order of their numbers, and end before those behind them
--- begin, where they stand before `first` or those behind `last`
+-- of the first regions, those that take part begin in the order of their numbers, and have ended where those behind
+-- them begin, where they stand before `first` or those behind `last`
 pub record IsRisingTo (rule : Rule) (regions : List Region) (n first last : ℕ) : Type 0 where
   pub rising : (i j : ℕ) (d : Region) → i < j → j < n → TakesPart rule regions d i → TakesPart rule regions d j → start_at rule regions d i ≤ start_at rule regions d j
   pub before : (i j : ℕ) (d : Region) → i < j → j < n → i < first → TakesPart rule regions d i → TakesPart rule regions d j → end_at rule regions d i ≤ start_at rule regions d j
@@ -51,8 +51,8 @@ pub record IsJoined (rule : Rule) (item : ℕ) (region : Region) (row more : Row
 abbrev pub IsRowMore : Rule → ℕ → Region → Row → Row → Type 0
 IsRowMore rule item region row more = (takes_part rule region ≡ true → IsJoined rule item region row more) × (takes_part rule region ≡ false → more ≡ row)
 
--- each region behind `item` up to `last` that takes part and has a number above `stop` begins no earlier than one that
--- takes part, begins at `end` or behind it, and has a number up to `stop`
+-- where numbers up to `last` are above `stop`, the region of the number `stop` is behind `item`, takes part, and begins at
+-- `end` or behind it
 abbrev pub EndsBefore : Rule → List Region → ℕ → ℕ → ℕ → ℕ → Type 0
 EndsBefore rule regions item last end stop =
     (s : ℕ) → stop < s → s ≤ last → (d : Region) → (item < stop) × (stop < length regions) × TakesPart rule regions d stop × (end ≤ start_at rule regions d stop)

@@ -41,12 +41,12 @@ HasEach rule regions spans =
 abbrev pub HasOnly : List Region → List Span → Type 0
 HasOnly regions spans = (x : Span) → Contains spans x → x.item < length regions
 
--- the first of the spans end nowhere before their starts, and each ends before those behind it begin
+-- the first of the spans end nowhere before their starts, and each has ended where those behind it begin
 pub record AreApartTo (spans : List Span) (n : ℕ) : Type 0 where
   pub ordered : (i : ℕ) (d : Span) → i < n → (slice_index_or spans i d).start ≤ (slice_index_or spans i d).end
   pub apart : (i j : ℕ) (d : Span) → i < j → j < n → (slice_index_or spans i d).end ≤ (slice_index_or spans j d).start
 
--- the spans end nowhere before their starts, and each ends before those behind it begin
+-- the spans end nowhere before their starts, and each has ended where those behind it begin
 abbrev pub AreSpansApart : List Span → Type 0
 AreSpansApart spans = AreApartTo spans (length spans)
 
@@ -55,13 +55,13 @@ pub record LiesWithin (span : Span) (low high : ℕ) : Type 0 where
   pub starts : low ≤ span.start
   pub ends : span.end ≤ high
 
--- of the first regions, those that take part end by `end`, and each begins behind those before it
+-- of the first regions, those that take part end by `end`, and each begins where those before it have ended
 pub record AreDisjointTo (rule : Rule) (regions : List Region) (n end : ℕ) : Type 0 where
   pub ends : (i : ℕ) (d : Region) → i < n → takes_part rule (slice_index_or regions i d) ≡ true → (span_of rule i (slice_index_or regions i d)).end ≤ end
   pub apart : (i j : ℕ) (d : Region) → i < j → j < n → takes_part rule (slice_index_or regions i d) ≡ true → takes_part rule (slice_index_or regions j d) ≡ true
       → (span_of rule i (slice_index_or regions i d)).end ≤ (span_of rule j (slice_index_or regions j d)).start
 
--- of the regions that take part each begins behind those before it
+-- of the regions that take part each begins where those before it have ended
 abbrev pub AreDisjoint : Rule → List Region → Type 0
 AreDisjoint rule regions =
     (i j : ℕ) (d : Region) → i < j → j < length regions → takes_part rule (slice_index_or regions i d) ≡ true → takes_part rule (slice_index_or regions j d) ≡ true

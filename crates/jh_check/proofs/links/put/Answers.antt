@@ -1,4 +1,4 @@
--- The one place gets the mate's number, if that is short enough; past the end nothing is noted.
+-- The one place gets the partner's number, if that is short enough; past the end nothing is noted.
 use Rattle.std.proofs.Common.{◌≡◌, ◌<◌, ◌≤◌, ℕ, Option, None, Some, length, sym, ◌∙◌, arith}
 use Rattle.std.proofs.lemmas.List.{get_or-set_same, get_or-set_other, get_or_past}
 use Rattle.jh_check.proofs.links.put.Goals as goal
