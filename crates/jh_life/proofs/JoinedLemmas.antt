@@ -1,13 +1,15 @@
 -- Configurations, each with its mark.
-use Rattle.std.proofs.Common.{◌≡◌, ℕ, zero, suc, ◌+◌, ◌-◌, ◌<◌, nat_lt, Bool, true, false, cond, List, [], ◌∷◌, ◌++◌, length, get_or, map, remove, position, sum_by, Some, None, refl, sym, ap, ◌∙◌, arith}
+use Rattle.std.proofs.Common.{◌≡◌, ℕ, suc, ◌+◌, ◌-◌, ◌<◌, nat_lt, Bool, true, false, cond, List, [], ◌∷◌, ◌++◌, length, get_or, map, remove, position, sum_by, Some, None, refl, sym, ap, subst, ◌∙◌, arith}
 use Rattle.std.specs.Prelude.{option_map}
 use Rattle.std.specs.List.{position_or_len}
+use Rattle.std.proofs.lemmas.Bool.{ltb-true}
 use Rattle.std.proofs.lemmas.Bool.Decides.{nat_tests}
+use Rattle.std.proofs.lemmas.Option.{none-some, same_Some}
 use Rattle.std.proofs.lemmas.List.{length_push, map_push, get_or-map}
 use Rattle.std.proofs.lemmas.List.Edits.{length-remove}
 use Rattle.std.proofs.lemmas.List.Sums.{sum_by_push, sum_by-remove}
 use Rattle.std.proofs.lemmas.List.Quantifiers.{all_pairs_push, all_pairs_remove}
-use Rattle.jh_num.proofs.Public.{list_any_false, read_again}
+use Rattle.jh_num.proofs.Public.{list_any_false, map_remove, read_again}
 use Rattle.jh_cellcfg.specs.declared.config.CellConfig.{CellConfig}
 use Rattle.jh_check.specs.Refusals.{is_namesake, is_known, AreTwo}
 use Rattle.jh_life.specs.Lives.{marks_of}
@@ -42,12 +44,6 @@ own_among root configs marks own taken i e gone h l is =
     let pages : gone ≡ own_pages (get_or configs i root) = is ∙ ap (λ (ns : List ℕ). get_or ns i e) h.each ∙ get_or-map own_pages configs i root e l in
     ap (λ n. sum_by own_pages (remove configs i) + n) pages ∙ sum_by-remove own_pages configs i root l ∙ sym h.pages
 
-map_removed : {X Y : Type 0} (f : X → Y) (xs : List X) (i : ℕ) → remove (map f xs) i ≡ map f (remove xs i)
-map_removed f [] zero = refl
-map_removed f [] (suc i) = refl
-map_removed f (x ∷ xs) zero = refl
-map_removed {Y = Y} f (x ∷ xs) (suc i) = ap (λ (rest : List Y). f x ∷ rest) (map_removed f xs i)
-
 pub stands_remove : (root : CellConfig) (configs : List CellConfig) (marks : List Bool) (own : List ℕ) (taken i e gone : ℕ) → AreSoundRecords root configs marks own taken → i < length configs → gone ≡ get_or own i e → AreSoundRecords root (remove configs i) (remove marks i) (remove own i) (taken - gone)
 stands_remove root configs marks own taken i e gone h l is =
     let even = h.even in
@@ -59,7 +55,7 @@ stands_remove root configs marks own taken i e gone h l is =
       even = omega arith;
       few = omega arith;
       differ = all_pairs_remove AreTwo (root ∷ configs) (suc i) (omega arith) h.differ;
-      each = ap (λ (ns : List ℕ). remove ns i) h.each ∙ map_removed own_pages configs i;
+      each = ap (λ (ns : List ℕ). remove ns i) h.each ∙ sym (map_remove own_pages configs i);
       pages = omega arith;
     }
 
@@ -74,3 +70,11 @@ behind n m =
 
 pub position_behind : {X : Type 0} (p : X → Bool) (x : X) (xs : List X) → p x ≡ false → position p (x ∷ xs) ≡ option_map (λ k. k + 1) (position p xs)
 position_behind p x xs fails = rw fails (behind (position_or_len p xs) (length xs))
+
+-- a place that is found is in the list
+within_by : (b : Bool) (n m k : ℕ) → nat_lt n m ≡ b → cond b (Some n) None ≡ Some k → k < m
+within_by true n m k is h = subst (λ i. i < m) (same_Some n k h) (ltb-true n m is)
+within_by false n m k is h = absurd (none-some k h)
+
+pub position_within : {X : Type 0} (p : X → Bool) (xs : List X) (k : ℕ) → position p xs ≡ Some k → k < length xs
+position_within p xs k h = within_by (nat_lt (position_or_len p xs) (length xs)) (position_or_len p xs) (length xs) k refl h

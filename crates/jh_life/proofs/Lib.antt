@@ -1,5 +1,4 @@
 mod JoinedLemmas
-mod MaskLemmas
 mod VerdictLemmas
 mod CauseLemmas
 mod ChangeLemmas

@@ -3,6 +3,7 @@ use Rattle.std.proofs.Common.{◌≡◌, ℕ, Bool, true, false, cond, ◌==◌,
 use Rattle.std.specs.Prelude.{filter}
 use Rattle.std.proofs.lemmas.Bool.{cases_Bool, both_ways, eq-eqb, ne_eqb, eqb-true}
 use Rattle.std.proofs.lemmas.List.{append-nil}
+use Rattle.jh_num.proofs.Public.{filter_all}
 use Rattle.jh_cellcfg.specs.declared.config.CellConfig.{CellConfig}
 use Rattle.jh_cellcfg.specs.declared.live.Live.{Live}
 use Rattle.jh_cellcfg.specs.Lives.{has_id}
@@ -10,10 +11,6 @@ use Rattle.jh_life.specs.Lives.{new_live}
 use Rattle.jh_shape.specs.Lives.{configs_of, marked}
 use Rattle.jh_shape.proofs.Public.{configs_marked}
 use Rattle.jh_life.specs.Changes.{CellChange, Created, Dropped, Marked, without, after, is_left_alone, lasting}
-
-none_dropped : (configs : List CellConfig) → filter (is_left_alone []) configs ≡ configs
-none_dropped [] = refl
-none_dropped (x ∷ xs) = ap (λ (rest : List CellConfig). x ∷ rest) (none_dropped xs)
 
 -- ---- a cell is created
 
@@ -48,7 +45,7 @@ dropped id changes (x ∷ xs) =
 -- ---- and all
 
 pub listed : (changes : List CellChange) (lives : List Live) → configs_of (fold after lives changes) ≡ filter (is_left_alone changes) (configs_of lives) ++ lasting changes
-listed [] lives = sym (append-nil (filter (is_left_alone []) (configs_of lives)) ∙ none_dropped (configs_of lives))
+listed [] lives = sym (append-nil (filter (is_left_alone []) (configs_of lives)) ∙ filter_all (is_left_alone []) (configs_of lives) (λ config _. refl))
 listed (Created config ∷ changes) lives = listed changes (after lives (Created config)) ∙ created config changes lives
 listed (Dropped id ∷ changes) lives =
     listed changes (without id lives) ∙ ap (λ (configs : List CellConfig). configs ++ lasting changes) (dropped id changes lives)

@@ -1,17 +1,22 @@
 -- What befalls the cells besides root, told by their ids.
-use Rattle.std.specs.Prelude.{◌≡◌, ℕ, Bool, false, not, ◌==◌, List, [], ◌∷◌, ◌++◌, map, filter, Option, Some, None, option_map, if◌then◌else◌}
+use Rattle.std.specs.Prelude.{◌≡◌, ℕ, Bool, false, not, ◌==◌, List, [], ◌∷◌, ◌++◌, map, filter, Option, Some, None, option_map, slice_set, if◌then◌else◌}
 use Rattle.std.specs.List.{find, list_any}
 use Rattle.jh_cellcfg.specs.declared.config.CellConfig.{CellConfig}
 use Rattle.jh_cellcfg.specs.declared.live.Live.{Live}
 use Rattle.jh_cellcfg.specs.Lives.{has_id}
-use Rattle.jh_shape.specs.Lives.{marked}
-use Rattle.jh_life.specs.Lives.{new_live}
+use Rattle.jh_shape.specs.Lives.{configs_of, marked}
+use Rattle.jh_life.specs.Lives.{marks_of, new_live}
 
 -- a cell is created; the cell with the id is dropped; or it becomes loadable, or isn't so any longer
 pub data CellChange : Type 0 where
   Created : CellConfig → CellChange
   Dropped : ℕ → CellChange
   Marked : ℕ → Bool → CellChange
+
+-- of the live cells the one at the index has its mark put so, and nothing else is changed
+pub record IsMarkedAt (index : ℕ) (on : Bool) (lives new : List Live) : Type 0 where
+  pub configs : configs_of new ≡ configs_of lives
+  pub marks : marks_of new ≡ slice_set (marks_of lives) index on
 
 -- the live cells but the one with the id
 abbrev pub without : ℕ → List Live → List Live

@@ -50,13 +50,6 @@ impl Model for Cells {
     ghost invariant = { λ c. AreSoundRecords c.system.root c.configs.items c.marks.items c.own.items c.taken };
 }
 
-/// The index of the cell with the id.
-fn index_of(cells: &[CellConfig], id: u32) -> Option<usize>
-    ensures { result ≡ position (has_config_id id) cells.now }
-{
-    cells.iter().position(|cell| cell.id == id)
-}
-
 impl Cells {
     /// The system.
     pub(crate) fn system(&self) -> &SystemConfig
@@ -86,10 +79,17 @@ impl Cells {
         if self.system.root.id == id {
             return Some(0);
         }
-        match index_of(self.configs.as_slice(), id) {
+        match self.index_of(u64::from(id)) {
             Some(index) => Some(index as u32 + 1),
             None => None,
         }
+    }
+
+    /// The index in the list of the cell with the id; `None` where none of the list has it. A register holds 64 bits.
+    pub fn index_of(&self, id: u64) -> Option<usize>
+        ensures { result ≡ position (has_config_id id) (configs_of self.now.lives) }
+    {
+        self.list().iter().position(|cell| u64::from(cell.id) == id)
     }
 
     /// How many pages the hypervisor needs for root and the live cells, and for one cell more: their tables, and a

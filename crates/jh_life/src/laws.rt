@@ -1,14 +1,12 @@
 //! What holds of the live cells, whatever befalls them: each law is the contract of a function that does nothing.
-ghost use Rattle.std.specs.Prelude.{◌≡◌, ◌↔◌, ◌⊎◌, true, ℕ, ℤ, Bool, List, [], remove, slice_get, slice_set, fold, map, Some, None};
+ghost use Rattle.std.specs.Prelude.{◌≡◌, ◌↔◌, ◌⊎◌, true, ℕ, ℤ, Bool, List, [], remove, slice_get, fold, map, Some, None};
 ghost use Rattle.std.specs.List.{find};
 ghost use Rattle.jh_num.specs.declared.error.TheConstants.{EBUSY, EEXIST, EINVAL, ENOMEM, EPERM};
 ghost use Rattle.jh_cellcfg.specs.declared.live.Live.{Live};
 ghost use Rattle.jh_cellcfg.specs.Lives.{has_id};
 ghost use Rattle.jh_life.specs.CellsView.{CellsView};
-ghost use Rattle.jh_life.specs.Lives.{marks_of};
 ghost use Rattle.jh_shape.specs.Lives.{configs_of, marked};
-ghost use Rattle.jh_life.specs.Changes.{CellChange, without, after, live_after, lasting, AreNew};
-ghost use Rattle.jh_life.specs.Verdict.{verdict_of_create};
+ghost use Rattle.jh_life.specs.Changes.{CellChange, IsMarkedAt, without, after, live_after, lasting, AreNew};
 ghost use Rattle.jh_life.specs.Causes.{Create, IsLetIn, verdict_on, Cause, Known, TakenCpu, BrokenRule, Overlap, FewPages, number_for, SpeaksAgainst, IsFirst};
 
 use crate::cells::{Cells, live_cells_differ};
@@ -24,9 +22,7 @@ pub fn a_cell_is_dropped_by_its_id(cells: &Cells)
 
 /// The cell whose mark is put by its number is the one with its id, and the others stay with theirs.
 pub fn a_cell_is_marked_by_its_id(cells: &Cells)
-    ensures { (i : ℕ) (cell : Live) (on : Bool) (new : List Live) → slice_get cells.now.lives i ≡ Some cell
-        → configs_of new ≡ configs_of cells.now.lives → marks_of new ≡ slice_set (marks_of cells.now.lives) i on
-        → new ≡ map (marked cell.config.id on) cells.now.lives }
+    ensures { (i : ℕ) (cell : Live) (on : Bool) (new : List Live) → slice_get cells.now.lives i ≡ Some cell → IsMarkedAt i on cells.now.lives new → new ≡ map (marked cell.config.id on) cells.now.lives }
 {
     live_cells_differ(cells);
 }
@@ -43,10 +39,8 @@ pub fn a_cell_is_as_it_was_last_set()
 {}
 
 /// Which cells are loadable, and how much room there is, changes no verdict.
-pub fn a_verdict_goes_by_the_listed_cells(_new: &CellConfig)
-    ensures { (one other : CellsView) (locked : Bool) (owned caller pool : ℕ) → one.system ≡ other.system
-        → configs_of one.lives ≡ configs_of other.lives
-        → verdict_of_create one locked _new.now owned caller pool ≡ verdict_of_create other locked _new.now owned caller pool }
+pub fn a_verdict_goes_by_the_listed_cells()
+    ensures { (one other : CellsView) (create : Create) → one.system ≡ other.system → configs_of one.lives ≡ configs_of other.lives → verdict_on one create ≡ verdict_on other create }
 {}
 
 /// A new cell isn't refused exactly where no cell is locked, nothing of what it would be refused for holds, and the

@@ -221,31 +221,31 @@ met_from_span level region n old new span h s e =
     e ∙ ap (λ b. old || b) (s ∙ sym (ap (λ b. b && touches region.virt_start (virt_end region) (n * slot_size level) (slot_size level)) h))
 
 -- a number is below those past the end of so many slots where the slots end before it
-past_from : (limit size number top : ℕ) → 0 < size → limit < (min number top + (size - 1)) / size → limit * size < min number top
-past_from limit size number top some h =
+past_from : (limit size point top : ℕ) → 0 < size → limit < (min point top + (size - 1)) / size → limit * size < min point top
+past_from limit size point top some h =
     let next = next_slot limit size in
-    let l : limit + 1 ≤ (min number top + (size - 1)) / size = omega arith in
-    let m : (limit + 1) * size ≤ min number top + (size - 1) = (le-div_iff_mul-le {k = size} {x = limit + 1} {y = min number top + (size - 1)} some).0 l in
+    let l : limit + 1 ≤ (min point top + (size - 1)) / size = omega arith in
+    let m : (limit + 1) * size ≤ min point top + (size - 1) = (le-div_iff_mul-le {k = size} {x = limit + 1} {y = min point top + (size - 1)} some).0 l in
     omega arith
 
-pub past_by_end : (limit size number top : ℕ) → 0 < size → limit * size < top → nat_lt (limit * size) number ≡ nat_lt limit ((min number top + (size - 1)) / size)
-past_by_end limit size number top some low =
+pub past_by_end : (limit size point top : ℕ) → 0 < size → limit * size < top → nat_lt (limit * size) point ≡ nat_lt limit ((min point top + (size - 1)) / size)
+past_by_end limit size point top some low =
     let next = next_slot limit size in
-    same_test (nat_lt (limit * size) number) (nat_lt limit ((min number top + (size - 1)) / size))
+    same_test (nat_lt (limit * size) point) (nat_lt limit ((min point top + (size - 1)) / size))
     (λ e.
-    let l = ltb-true (limit * size) number e in
-    let m : (limit + 1) * size ≤ min number top + (size - 1) = omega arith in
-    let d : limit + 1 ≤ (min number top + (size - 1)) / size = (le-div_iff_mul-le {k = size} {x = limit + 1} {y = min number top + (size - 1)} some).1 m in
-    lt-ltb limit ((min number top + (size - 1)) / size) (omega arith))
+    let l = ltb-true (limit * size) point e in
+    let m : (limit + 1) * size ≤ min point top + (size - 1) = omega arith in
+    let d : limit + 1 ≤ (min point top + (size - 1)) / size = (le-div_iff_mul-le {k = size} {x = limit + 1} {y = min point top + (size - 1)} some).1 m in
+    lt-ltb limit ((min point top + (size - 1)) / size) (omega arith))
     (λ e.
-    let l = past_from limit size number top some (ltb-true limit ((min number top + (size - 1)) / size) e) in
-    lt-ltb (limit * size) number (omega arith))
+    let l = past_from limit size point top some (ltb-true limit ((min point top + (size - 1)) / size) e) in
+    lt-ltb (limit * size) point (omega arith))
 
 -- none is where they end with the top
-pub past_no_end : (limit size number top : ℕ) → 0 < size → top ≤ limit * size → nat_lt limit ((min number top + (size - 1)) / size) ≡ false
-past_no_end limit size number top some high =
-    false_from_ne_true (nat_lt limit ((min number top + (size - 1)) / size)) (λ e.
-    let l = past_from limit size number top some (ltb-true limit ((min number top + (size - 1)) / size) e) in
+pub past_no_end : (limit size point top : ℕ) → 0 < size → top ≤ limit * size → nat_lt limit ((min point top + (size - 1)) / size) ≡ false
+past_no_end limit size point top some high =
+    false_from_ne_true (nat_lt limit ((min point top + (size - 1)) / size)) (λ e.
+    let l = past_from limit size point top some (ltb-true limit ((min point top + (size - 1)) / size) e) in
     absurd (omega arith))
 
 -- the last of them that it spans it touches
@@ -254,52 +254,52 @@ spanned_below x size some =
     let under : (x / size) * size ≤ x = div-mul-le_self x size in
     (le-div_iff_mul-le {k = size} {x = x / size} {y = x + (size - 1)} some).1 (omega arith)
 
--- the slot that a number lies inside of
-pub inside_only : (n size number : ℕ) → 0 < size → (number / size) * size < number → nat_eq n (number / size) ≡ is_inside (n * size) size number
-inside_only n size number some above =
-    let q = number / size in
-    let over : number < q * size + size = lt-div-mul-add {a = number} {b = size} some in
-    same_test (nat_eq n q) (is_inside (n * size) size number)
+-- the slot that a point lies inside of
+pub inside_only : (n size point : ℕ) → 0 < size → (point / size) * size < point → nat_eq n (point / size) ≡ is_inside (n * size) size point
+inside_only n size point some above =
+    let q = point / size in
+    let over : point < q * size + size = lt-div-mul-add {a = point} {b = size} some in
+    same_test (nat_eq n q) (is_inside (n * size) size point)
     (λ e.
     let same : n ≡ q = eqb-true n q e in
-    let P : ℕ → Type 0 = λ m. is_inside (m * size) size number ≡ true in
-    subst P (sym same) (and_from (nat_lt (q * size) number) (nat_lt number (q * size + size)) (lt-ltb (q * size) number above) (lt-ltb number (q * size + size) over)))
+    let P : ℕ → Type 0 = λ m. is_inside (m * size) size point ≡ true in
+    subst P (sym same) (and_from (nat_lt (q * size) point) (nat_lt point (q * size + size)) (lt-ltb (q * size) point above) (lt-ltb point (q * size + size) over)))
     (λ e.
-    let p = and_parts (nat_lt (n * size) number) (nat_lt number (n * size + size)) e in
-    let x = ltb-true (n * size) number p.0 in
-    let y = ltb-true number (n * size + size) p.1 in
+    let p = and_parts (nat_lt (n * size) point) (nat_lt point (n * size + size)) e in
+    let x = ltb-true (n * size) point p.0 in
+    let y = ltb-true point (n * size + size) p.1 in
     let next = next_slot n size in
-    let low : n ≤ q = (le-div_iff_mul-le {k = size} {x = n} {y = number} some).1 (omega arith) in
-    let high : q < n + 1 = (div-lt_iff_lt-mul {k = size} {x = number} {y = n + 1} some).1 (omega arith) in
+    let low : n ≤ q = (le-div_iff_mul-le {k = size} {x = n} {y = point} some).1 (omega arith) in
+    let high : q < n + 1 = (div-lt_iff_lt-mul {k = size} {x = point} {y = n + 1} some).1 (omega arith) in
     eq-eqb n q (omega arith))
 
 -- there is none where it begins one
-pub inside_none : (n size number : ℕ) → 0 < size → number ≤ (number / size) * size → is_inside (n * size) size number ≡ false
-inside_none n size number some begins =
-    let q = number / size in
-    let under : q * size ≤ number = div-mul-le_self number size in
-    false_from_ne_true (is_inside (n * size) size number) (λ e.
-    let p = and_parts (nat_lt (n * size) number) (nat_lt number (n * size + size)) e in
-    let x = ltb-true (n * size) number p.0 in
-    let y = ltb-true number (n * size + size) p.1 in
+pub inside_none : (n size point : ℕ) → 0 < size → point ≤ (point / size) * size → is_inside (n * size) size point ≡ false
+inside_none n size point some begins =
+    let q = point / size in
+    let under : q * size ≤ point = div-mul-le_self point size in
+    false_from_ne_true (is_inside (n * size) size point) (λ e.
+    let p = and_parts (nat_lt (n * size) point) (nat_lt point (n * size + size)) e in
+    let x = ltb-true (n * size) point p.0 in
+    let y = ltb-true point (n * size + size) p.1 in
     let next = next_slot n size in
     let low : n < q = (let l : n * size < q * size = omega arith in lt_of_mul-lt-mul_right size {m = n} {n = q} l) in
     let more : (n + 1) * size ≤ q * size = mul-le-mul_right size (let l : n + 1 ≤ q = omega arith in l) in
     absurd (omega arith))
 
 -- nor below the slot that it lies in
-pub inside_above : (n size number : ℕ) → 0 < size → n < number / size → is_inside (n * size) size number ≡ false
-inside_above n size number some h =
-    let under : (number / size) * size ≤ number = div-mul-le_self number size in
+pub inside_above : (n size point : ℕ) → 0 < size → n < point / size → is_inside (n * size) size point ≡ false
+inside_above n size point some h =
+    let under : (point / size) * size ≤ point = div-mul-le_self point size in
     let next = next_slot n size in
-    let more : (n + 1) * size ≤ (number / size) * size = mul-le-mul_right size (let l : n + 1 ≤ number / size = omega arith in l) in
-    and_right (nat_lt (n * size) number) (nat_lt number (n * size + size)) (le-ltb number (n * size + size) (omega arith))
+    let more : (n + 1) * size ≤ (point / size) * size = mul-le-mul_right size (let l : n + 1 ≤ point / size = omega arith in l) in
+    and_right (nat_lt (n * size) point) (nat_lt point (n * size + size)) (le-ltb point (n * size + size) (omega arith))
 
 -- nor where it lies past the end of addresses
-pub inside_past : (n size number top : ℕ) → 0 < size → n < top / size → top ≤ number → is_inside (n * size) size number ≡ false
-inside_past n size number top some h past =
+pub inside_past : (n size point top : ℕ) → 0 < size → n < top / size → top ≤ point → is_inside (n * size) size point ≡ false
+inside_past n size point top some h past =
     let ends = slot_ends n size top some h in
-    and_right (nat_lt (n * size) number) (nat_lt number (n * size + size)) (le-ltb number (n * size + size) (omega arith))
+    and_right (nat_lt (n * size) point) (nat_lt point (n * size + size)) (le-ltb point (n * size + size) (omega arith))
 
 -- below the last level a mapped region that blocks fit makes a leaf of each slot that it spans and nothing cuts
 above_pages : (level : ℕ) → level < 3 → (level == 3) ≡ false

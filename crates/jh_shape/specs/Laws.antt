@@ -1,11 +1,13 @@
 -- Words for what holds of shapes and pages, told by single addresses and places.
 use Rattle.std.specs.Prelude.{◌≡◌, ◌≢◌, ℕ, ◌+◌, ◌*◌, ◌^◌, ◌%◌, ◌<◌, ◌≤◌, Bool, true, false, List, Contains, IsTrue}
+use Rattle.jh_num.specs.declared.rights.Rights.{Rights}
 use Rattle.jh_cellcfg.specs.declared.live.Live.{Live}
 use Rattle.jh_cellcfg.specs.declared.region.Region.{Region}
 use Rattle.jh_cellcfg.specs.Regions.{has_address, has_place, place_in, is_page_mapped, is_comm, is_unshared, is_loadable, may_have_blocks}
 use Rattle.jh_shape.specs.declared.want.Want.{Want}
 use Rattle.jh_shape.specs.declared.want.Want.TheVariants.{Nothing, Table, Leaf}
 use Rattle.jh_shape.specs.Claims.{Claims, Holder}
+use Rattle.jh_shape.specs.Grants.{IsGranted}
 use Rattle.jh_shape.specs.Pages.{count_below}
 use Rattle.jh_num.specs.Levels.{slot_size}
 
@@ -76,3 +78,15 @@ is_to_table (Leaf out rights device) = false
 abbrev pub tables_by : (ℕ → ℕ → Want) → ℕ
 tables_by want =
     1 + (count_below (λ n. is_to_table (want 1 (n * 2 ^ 30))) 512 + count_below (λ n. is_to_table (want 2 (n * 2 ^ 21))) (512 * 512))
+
+-- a page of addresses that is to lead to a page of places, byte by byte, with these rights and kind of memory
+pub record PageGrant : Type 0 where
+  pub page : ℕ
+  pub place : ℕ
+  pub rights : Rights
+  pub device : Bool
+  pub whole : page % 4096 ≡ 0
+
+-- the cell is granted the byte of the page, at the same byte of the places
+abbrev pub HasByte : Claims → PageGrant → ℕ → Type 0
+HasByte claims grant k = IsGranted claims (grant.page + k) (grant.place + k) grant.rights grant.device

@@ -1,11 +1,9 @@
 //! What holds of shapes and pages, whatever the regions are: each law is the contract of a function that
 //! does nothing.
-ghost use Rattle.std.specs.Prelude.{◌≡◌, ℕ, ◌+◌, ◌-◌, ◌%◌, ◌^◌, ◌<◌, ◌≤◌, List, [], ◌∷◌, ◌++◌, map, Bool, IsTrue, ◌↔◌};
+ghost use Rattle.std.specs.Prelude.{◌≡◌, ℕ, ◌+◌, ◌-◌, ◌%◌, ◌^◌, ◌<◌, ◌≤◌, List, [], ◌∷◌, ◌++◌, map, IsTrue, ◌↔◌};
 ghost use Rattle.jh_cellcfg.specs.declared.live.Live.{Live as LiveOf};
-ghost use Rattle.jh_num.specs.declared.rights.Rights.{Rights as RightsOf};
 ghost use Rattle.jh_shape.specs.Claims.{Claims, claims_of};
-ghost use Rattle.jh_shape.specs.Grants.{IsGranted};
-ghost use Rattle.jh_shape.specs.Laws.{IsMet, IsServed, IsTaken, tables_by};
+ghost use Rattle.jh_shape.specs.Laws.{HasByte, IsMet, IsServed, IsTaken, PageGrant, tables_by};
 ghost use Rattle.jh_shape.specs.Pages.{pages_of, tables_of};
 ghost use Rattle.jh_shape.specs.Shapes.{holder_of_live, is_closed, is_leaf, is_met, is_table, want_of};
 ghost use Rattle.jh_num.specs.Levels.{slot_size};
@@ -70,9 +68,7 @@ pub fn tables_stand_below_tables()
 /// A page of a page-mapped region is granted wholly or not at all: what one byte of a page of addresses
 /// is granted, each is, at the places beside it.
 pub fn a_page_is_granted_wholly_or_not_at_all()
-    ensures { (claims : Claims) (page place j k : ℕ) (rights : RightsOf) (device : Bool) → AreSoundClaims claims → page % 4096 ≡ 0
-        → j < 4096 → k < 4096 → IsGranted claims (page + j) (place + j) rights device
-        → IsGranted claims (page + k) (place + k) rights device }
+    ensures { (claims : Claims) (grant : PageGrant) (j k : ℕ) → AreSoundClaims claims → j < 4096 → k < 4096 → HasByte claims grant j → HasByte claims grant k }
 {}
 
 /// A place is closed to root exactly where a live cell holds it for itself, and doesn't leave it to root

@@ -114,14 +114,14 @@ pub(crate) fn fits_blocks(level: u8, region: &Region) -> bool
 }
 
 /// Whether the level's slot of the number `limit` begins below the end of addresses, which is that of places too, and
-/// below the number.
-fn is_past(number: u128, level: u8, limit: usize) -> bool
+/// below the point.
+fn is_past(point: u128, level: u8, limit: usize) -> bool
     requires level { level < LAST_LEVEL }
     requires limit { limit ≤ SLOTS }
-    ensures { result ≡ nat_lt limit (past_slot level number) }
+    ensures { result ≡ nat_lt limit (past_slot level point) }
 {
     let end = limit as u64 * slot_size(level);
-    end < ADDRESS_END && u128::from(end) < number
+    end < ADDRESS_END && u128::from(end) < point
 }
 
 /// Whether the level's slot of the number `limit` begins below the end of addresses, and below the end of those of one
@@ -148,17 +148,17 @@ pub(crate) fn any_place_beyond(regions: &[Region], level: u8, limit: usize) -> b
         .any(|region| is_past(region.phys_end(), level, limit))
 }
 
-/// Marks the slot that the number lies in, unless it is the first there, or the slot isn't below the limit.
-fn mark_inside(words: &mut [u64], level: u8, number: u128, limit: usize)
+/// Marks the slot that the point lies in, unless it is the first there, or the slot isn't below the limit.
+fn mark_inside(words: &mut [u64], level: u8, point: u128, limit: usize)
     requires level { level < LAST_LEVEL }
     requires room { limit ≤ WORD_BITS * length words.old }
-    ensures { AreMarkedBelow limit words.new level (λ n. is_marked words.old n || is_inside (n * slot_size level) (slot_size level) number) }
+    ensures { AreMarkedBelow limit words.new level (λ n. is_marked words.old n || is_inside (n * slot_size level) (slot_size level) point) }
 {
-    if number < u128::from(ADDRESS_END) {
-        let number = number as u64;
-        let n = slot_of(level, number);
+    if point < u128::from(ADDRESS_END) {
+        let point = point as u64;
+        let n = slot_of(level, point);
         if n < limit as u64 {
-            if n * slot_size(level) < number {
+            if n * slot_size(level) < point {
                 mark(words, n as usize);
             }
         }

@@ -1,6 +1,8 @@
 -- Which member is at fault.
 use Rattle.std.proofs.Common.{◌≡◌, ◌↔◌, ℕ, Bool, true, false, cond, List, [], ◌∷◌, ◌++◌, codes, Option, Some, None, Result, Ok, Err, is_some, is_none, is_err, refl, sym, ap, ◌∙◌, subst}
-use Rattle.std.specs.Option.{option_map_or}
+use Rattle.std.specs.Prelude.{option_map}
+use Rattle.std.specs.List.{find}
+use Rattle.std.specs.Option.{option_map_or, option_or}
 use Rattle.std.proofs.lemmas.Option.{same_Some, none-some}
 use Rattle.serde_json.specs.Data.{Data}
 use Rattle.serde_json.specs.Find.{get, as_object}
@@ -12,11 +14,71 @@ use Rattle.jh_spec.specs.declared.spec.Spec.TheVariants.{Cell as CellSpec, Syste
 use Rattle.jh_spec.specs.declared.spec.Kind.{Kind}
 use Rattle.jh_spec.specs.declared.spec.Kind.TheVariants.{Cell, System}
 use Rattle.jh_spec.specs.Faults.{◌>>=◌, member_told, no_name}
-use Rattle.jh_spec.specs.Json.{list_at, unlisted}
-use Rattle.jh_spec.specs.Fields.{u8_at, u16_at, u32_at, u64_at, region_told, irqchip_told, device_told}
-use Rattle.jh_spec.specs.Cells.{cell_name, cpu_set_size, cpu_set_in, console_at, region_at, cell_names, system_names, identity_told, lists_told, settings_told, cell_told, root_of, root_in, root_told, platform_told, system_told}
+use Rattle.jh_spec.specs.Json.{unlisted}
+use Rattle.jh_spec.specs.Fields.{u8_at, u16_at, u32_at, u64_at}
+use Rattle.jh_spec.specs.Cells.{cell_name, cpu_set_size, cpu_set_in, regions_in, irqchips_in, devices_in, console_at, region_at, cell_names, system_names, identity_told, lists_told, settings_told, cell_told, root_of, root_in, root_told, platform_told, system_told}
 use Rattle.jh_spec.specs.Specs.{names_with_kind, kind_told, told_by, object_told, spec_told}
-use Rattle.jh_spec.specs.Laws.{blamed, identity_members, lists_members, settings_members, cell_members, platform_members, root_member, system_members, blame}
+use Rattle.jh_spec.specs.Laws.{cell_members, root_member, system_members, first_at_fault, blame}
+
+-- ---- members as they are told one after another
+
+-- the first of the members that is marked as at fault, else the other name
+abbrev blamed : List (List ℕ × Bool) → Option (List ℕ) → Option (List ℕ)
+blamed [] other = other
+blamed (member ∷ members) other = cond member.1 (Some member.0) (blamed members other)
+
+-- that is the first at fault, or else the other name
+abbrev name_of : Option (List ℕ × Bool) → Option (List ℕ)
+name_of found = option_map (λ (member : List ℕ × Bool). member.0) found
+
+first_by : (b : Bool) (member : List ℕ × Bool) (found : Option (List ℕ × Bool)) (other rest : Option (List ℕ)) → option_or (name_of found) other ≡ rest → option_or (name_of (cond b (Some member) found)) other ≡ cond b (Some member.0) rest
+first_by true member found other rest h = refl
+first_by false member found other rest h = h
+
+first_blamed : (members : List (List ℕ × Bool)) (other : Option (List ℕ)) → option_or (first_at_fault members) other ≡ blamed members other
+first_blamed [] other = refl
+first_blamed (m ∷ ms) other = first_by m.1 m (find (λ (member : List ℕ × Bool). member.1) ms) other (blamed ms other) (first_blamed ms other)
+
+-- a cell's members of its name, id, flags and CPU bitmap, each with whether it is at fault
+abbrev identity_members : Data → List (List ℕ × Bool)
+identity_members d =
+    (codes "name", is_none (cell_name d))
+    ∷ (codes "id", is_none (u32_at (codes "id") d))
+    ∷ (codes "flags", is_none (u32_at (codes "flags") d))
+    ∷ (codes "cpu_set_size", is_none (cpu_set_size d))
+    ∷ (codes "cpus", option_map_or (λ bytes. is_none (cpu_set_in bytes d)) (cpu_set_size d) false)
+    ∷ []
+
+-- a cell's members that are lists, each with whether it is at fault
+abbrev lists_members : Data → List (List ℕ × Bool)
+lists_members d =
+    (codes "regions", is_none (regions_in d))
+    ∷ (codes "irqchips", is_none (irqchips_in d))
+    ∷ (codes "devices", is_none (devices_in d))
+    ∷ []
+
+-- a cell's other members, each with whether it is at fault
+abbrev settings_members : Data → List (List ℕ × Bool)
+settings_members d =
+    (codes "vpci_irq_base", is_none (u32_at (codes "vpci_irq_base") d))
+    ∷ (codes "cpu_reset_address", is_none (u64_at (codes "cpu_reset_address") d))
+    ∷ (codes "msg_reply_timeout", is_none (u64_at (codes "msg_reply_timeout") d))
+    ∷ (codes "console", is_none (console_at (codes "console") d))
+    ∷ []
+
+-- a system's members but root, each with whether it is at fault
+abbrev platform_members : Data → List (List ℕ × Bool)
+platform_members d =
+    (codes "flags", is_none (u32_at (codes "flags") d))
+    ∷ (codes "hypervisor", is_none (region_at (codes "hypervisor") d))
+    ∷ (codes "debug_console", is_none (console_at (codes "debug_console") d))
+    ∷ (codes "mmconfig_base", is_none (u64_at (codes "mmconfig_base") d))
+    ∷ (codes "end_bus", is_none (u8_at (codes "end_bus") d))
+    ∷ (codes "is_virtual", is_none (u8_at (codes "is_virtual") d))
+    ∷ (codes "domain", is_none (u16_at (codes "domain") d))
+    ∷ []
+
+-- ---- one chain
 
 -- the answer is Ok where none is blamed, and else the fault of that member
 IsBlamed : {X : Type 0} → Result X JsonFault → Option (List ℕ) → Type 0
@@ -55,9 +117,9 @@ identity_blamed d =
 lists_blamed : (d : Data) → IsBlamed (lists_told d) (blamed (lists_members d) None)
 unfolding lists_told
 lists_blamed d =
-    one (codes "regions") (list_at region_told 1024 (codes "regions") d) _ ((codes "irqchips", is_none (list_at irqchip_told 64 (codes "irqchips") d)) ∷ (codes "devices", is_none (list_at device_told 256 (codes "devices") d)) ∷ []) (λ memory_regions _.
-    one (codes "irqchips") (list_at irqchip_told 64 (codes "irqchips") d) _ ((codes "devices", is_none (list_at device_told 256 (codes "devices") d)) ∷ []) (λ irqchips _.
-    one (codes "devices") (list_at device_told 256 (codes "devices") d) _ ([]) (λ pci_devices _. ended _)))
+    one (codes "regions") (regions_in d) _ ((codes "irqchips", is_none (irqchips_in d)) ∷ (codes "devices", is_none (devices_in d)) ∷ []) (λ memory_regions _.
+    one (codes "irqchips") (irqchips_in d) _ ((codes "devices", is_none (devices_in d)) ∷ []) (λ irqchips _.
+    one (codes "devices") (devices_in d) _ ([]) (λ pci_devices _. ended _)))
 
 settings_blamed : (d : Data) → IsBlamed (settings_told d) (blamed (settings_members d) None)
 unfolding settings_told
@@ -146,11 +208,14 @@ made (Err (Member m)) f found is = is
 made (Err Json) f found is = absurd is
 made (Err NoMemory) f found is = absurd is
 
+first_is : {X : Type 0} {r : Result X JsonFault} (members : List (List ℕ × Bool)) (other : Option (List ℕ)) → IsBlamed r (blamed members other) → IsBlamed r (option_or (first_at_fault members) other)
+first_is {r = r} members other is = subst (IsBlamed r) (sym (first_blamed members other)) is
+
 kind_blamed : (kind : Option Kind) (d : Data) → IsBlamed (told_by kind d) (blame kind d)
 unfolding IsBlamed
 kind_blamed None d = refl
-kind_blamed (Some Cell) d = made (cell_told names_with_kind d) CellSpec (blame (Some Cell) d) (cell_blamed names_with_kind d)
-kind_blamed (Some System) d = made (system_told d) SystemSpec (blame (Some System) d) (system_blamed d)
+kind_blamed (Some Cell) d = made (cell_told names_with_kind d) CellSpec (blame (Some Cell) d) (first_is (cell_members d) (unlisted names_with_kind d) (cell_blamed names_with_kind d))
+kind_blamed (Some System) d = made (system_told d) SystemSpec (blame (Some System) d) (first_is (system_members d) (unlisted (codes "kind" ∷ system_names) d) (system_blamed d))
 
 -- ---- the laws
 

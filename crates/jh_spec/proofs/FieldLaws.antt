@@ -18,9 +18,9 @@ use Rattle.jh_spec.specs.declared.cell.Lists.{Lists}
 use Rattle.jh_spec.specs.declared.cell.Settings.{Settings}
 use Rattle.jh_spec.specs.Faults.{◌>>=◌, member_told, all_listed}
 use Rattle.jh_syscfg.specs.Layout.{system_of}
-use Rattle.jh_spec.specs.Json.{told_or, number_told, number_below, list_told, list_at, has_only}
+use Rattle.jh_spec.specs.Json.{told_or, number_told, number_below, list_told, has_only}
 use Rattle.jh_spec.specs.Fields.{u8_at, u16_at, u32_at, u64_at, u32_told, words_at, words_told, region_names, irqchip_names, device_names, console_names, region_members, irqchip_members, device_members, console_members, region_told, irqchip_told, device_told, console_told}
-use Rattle.jh_spec.specs.Cells.{cell_name, cpu_set_size, cpu_set_in, console_at, region_at, cell_names, system_names, identity_told, lists_told, settings_told, cell_of, cell_told, root_of, root_in, root_told, platform_told, system_told}
+use Rattle.jh_spec.specs.Cells.{cell_name, cpu_set_size, cpu_set_in, regions_in, irqchips_in, devices_in, console_at, region_at, cell_names, system_names, identity_told, lists_told, settings_told, cell_of, cell_told, root_of, root_in, root_told, platform_told, system_told}
 use Rattle.jh_spec.specs.Laws.{IsNumberOf, AreWordsOf, IsRegionOf, IsIrqchipOf, IsDeviceOf, IsConsoleOf, IsCellOf, IsSystemOf}
 
 -- ---- one number
@@ -205,20 +205,20 @@ identity_fields d x h =
     })
 
 record ListsOf (d : Data) (x : Lists) : Type 0 where
-  memory_regions : list_at region_told 1024 (codes "regions") d ≡ Some x.memory_regions
-  irqchips : list_at irqchip_told 64 (codes "irqchips") d ≡ Some x.irqchips
-  pci_devices : list_at device_told 256 (codes "devices") d ≡ Some x.pci_devices
+  memory_regions : regions_in d ≡ Some x.memory_regions
+  irqchips : irqchips_in d ≡ Some x.irqchips
+  pci_devices : devices_in d ≡ Some x.pci_devices
 
 lists_fields : (d : Data) (x : Lists) → lists_told d ≡ Ok x → ListsOf d x
 unfolding lists_told
 lists_fields d x h =
-    let s1 = steps (member_told (codes "regions") (list_at region_told 1024 (codes "regions") d)) _ x h in
-    let s2 = steps (member_told (codes "irqchips") (list_at irqchip_told 64 (codes "irqchips") d)) _ x s1.2 in
-    let s3 = steps (member_told (codes "devices") (list_at device_told 256 (codes "devices") d)) _ x s2.2 in
+    let s1 = steps (member_told (codes "regions") (regions_in d)) _ x h in
+    let s2 = steps (member_told (codes "irqchips") (irqchips_in d)) _ x s1.2 in
+    let s3 = steps (member_told (codes "devices") (devices_in d)) _ x s2.2 in
     subst (ListsOf d) (same_Ok _ x s3.2) (record {
-      memory_regions = told_member (codes "regions") (list_at region_told 1024 (codes "regions") d) s1.0 s1.1;
-      irqchips = told_member (codes "irqchips") (list_at irqchip_told 64 (codes "irqchips") d) s2.0 s2.1;
-      pci_devices = told_member (codes "devices") (list_at device_told 256 (codes "devices") d) s3.0 s3.1;
+      memory_regions = told_member (codes "regions") (regions_in d) s1.0 s1.1;
+      irqchips = told_member (codes "irqchips") (irqchips_in d) s2.0 s2.1;
+      pci_devices = told_member (codes "devices") (devices_in d) s3.0 s3.1;
     })
 
 record SettingsOf (d : Data) (x : Settings) : Type 0 where

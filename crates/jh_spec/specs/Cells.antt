@@ -48,6 +48,18 @@ cpu_set_size d = told_or size_told 8 (get (codes "cpu_set_size") d)
 abbrev pub cpu_set_in : ℕ → Data → Option (List ℕ)
 cpu_set_in bytes d = told_or (cpus_told bytes) (bitmap bytes []) (get (codes "cpus") d)
 
+-- the memory regions that the cell's member tells, at most 1,024
+abbrev pub regions_in : Data → Option (List Region)
+regions_in d = list_at region_told 1024 (codes "regions") d
+
+-- the interrupt controllers that the cell's member tells, at most 64
+abbrev pub irqchips_in : Data → Option (List Irqchip)
+irqchips_in d = list_at irqchip_told 64 (codes "irqchips") d
+
+-- the PCI devices that the cell's member tells, at most 256
+abbrev pub devices_in : Data → Option (List PciDevice)
+devices_in d = list_at device_told 256 (codes "devices") d
+
 -- the memory region whose fields are all 0
 abbrev pub no_region : Region
 no_region = record { phys_start = 0; virt_start = 0; size = 0; flags = 0 }
@@ -100,9 +112,9 @@ identity_told d = do
 -- what an object's members tell of a cell's regions, interrupt controllers and devices; else the first fault
 unfoldable pub lists_told : Data → Result Lists JsonFault
 lists_told d = do
-  regions ← member_told (codes "regions") (list_at region_told 1024 (codes "regions") d)
-  irqchips ← member_told (codes "irqchips") (list_at irqchip_told 64 (codes "irqchips") d)
-  devices ← member_told (codes "devices") (list_at device_told 256 (codes "devices") d)
+  regions ← member_told (codes "regions") (regions_in d)
+  irqchips ← member_told (codes "irqchips") (irqchips_in d)
+  devices ← member_told (codes "devices") (devices_in d)
   Ok (record { memory_regions = regions; irqchips = irqchips; pci_devices = devices })
 
 -- what an object's members tell of a cell's other numbers and its console; else the first fault

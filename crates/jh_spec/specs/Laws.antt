@@ -1,6 +1,7 @@
 -- What a SPEC tells, in the words of who writes one: which member each field is, and which member is at fault.
-use Rattle.std.specs.Prelude.{◌≡◌, ◌⊎◌, ℕ, ◌^◌, ◌<◌, Bool, true, false, List, [], ◌∷◌, ◌++◌, length, codes, replicate, Option, Some, None, is_none, is_err, if◌then◌else◌}
-use Rattle.std.specs.Option.{option_map_or}
+use Rattle.std.specs.Prelude.{◌≡◌, ◌⊎◌, ℕ, ◌^◌, ◌<◌, Bool, true, false, List, [], ◌∷◌, length, codes, replicate, Option, Some, None, is_none, is_err, option_map}
+use Rattle.std.specs.List.{find}
+use Rattle.std.specs.Option.{option_map_or, option_or}
 use Rattle.serde_json.specs.Data.{Data}
 use Rattle.serde_json.specs.Find.{get}
 use Rattle.jh_cellcfg.specs.declared.config.CellConfig.{CellConfig}
@@ -12,9 +13,10 @@ use Rattle.jh_cellcfg.specs.declared.region.Region.{Region}
 use Rattle.jh_cellcfg.specs.Spelling.{console_bytes}
 use Rattle.jh_spec.specs.declared.spec.Kind.{Kind}
 use Rattle.jh_spec.specs.declared.spec.Kind.TheVariants.{Cell, System}
-use Rattle.jh_spec.specs.Json.{number_told, list_told, list_at, unlisted}
-use Rattle.jh_spec.specs.Fields.{u8_at, u16_at, u32_at, u64_at, u32_told, region_told, irqchip_told, device_told}
-use Rattle.jh_spec.specs.Cells.{cell_name, cpu_set_size, cpu_set_in, console_at, region_at, cell_names, system_names, cell_told}
+use Rattle.jh_spec.specs.Json.{number_told, list_told, unlisted}
+use Rattle.jh_spec.specs.Fields.{u8_at, u16_at, u32_at, u64_at, u32_told, u64_told}
+use Rattle.jh_spec.specs.Cpus.{cpus_told}
+use Rattle.jh_spec.specs.Cells.{cell_name, cpu_set_size, cpu_set_in, regions_in, irqchips_in, devices_in, console_at, region_at, cell_names, system_names, cell_told}
 use Rattle.jh_spec.specs.Specs.{names_with_kind}
 
 -- ---- which member a field is
@@ -80,9 +82,9 @@ pub record IsCellOf (d : Data) (cell : CellConfig) : Type 0 where
   pub id : IsNumberOf 32 (codes "id") d cell.id
   pub flags : IsNumberOf 32 (codes "flags") d cell.flags
   pub cpu_set : (bytes : ℕ) × (cpu_set_size d ≡ Some bytes) × (cpu_set_in bytes d ≡ Some cell.cpu_set)
-  pub memory_regions : list_at region_told 1024 (codes "regions") d ≡ Some cell.memory_regions
-  pub irqchips : list_at irqchip_told 64 (codes "irqchips") d ≡ Some cell.irqchips
-  pub pci_devices : list_at device_told 256 (codes "devices") d ≡ Some cell.pci_devices
+  pub memory_regions : regions_in d ≡ Some cell.memory_regions
+  pub irqchips : irqchips_in d ≡ Some cell.irqchips
+  pub pci_devices : devices_in d ≡ Some cell.pci_devices
   pub vpci_irq_base : IsNumberOf 32 (codes "vpci_irq_base") d cell.vpci_irq_base
   pub cpu_reset_address : IsNumberOf 64 (codes "cpu_reset_address") d cell.cpu_reset_address
   pub msg_reply_timeout : IsNumberOf 64 (codes "msg_reply_timeout") d cell.msg_reply_timeout
@@ -104,54 +106,39 @@ pub record IsSystemOf (d : Data) (system : SystemConfig) : Type 0 where
   pub root_head : system.root_head ≡ replicate 8 0
   pub root : (root : Data) × (get (codes "root") d ≡ Some root) × IsCellOf root system.root
 
+-- ---- the CPU bitmap
+
+-- a value that is a list of CPUs, and the bitmap of so many bytes that it tells
+pub record ToldBitmap : Type 0 where
+  pub value : Data
+  pub bytes : ℕ
+  pub cpus : List ℕ
+  pub bitmap : List ℕ
+  pub listed : list_told u64_told value ≡ Some cpus
+  pub told : cpus_told bytes value ≡ Some bitmap
+
 -- ---- which member is at fault
 
--- the first of the members that is marked as at fault, else the other name
-abbrev pub blamed : List (List ℕ × Bool) → Option (List ℕ) → Option (List ℕ)
-blamed [] other = other
-blamed (member ∷ members) other = if member.1 then Some member.0 else blamed members other
+-- a member's name, and whether it is at fault: whether nothing is told by the member of this name
+abbrev pub member_at : {X : Type 0} → (List ℕ → Data → Option X) → List ℕ → Data → List ℕ × Bool
+member_at tells name d = (name, is_none (tells name d))
 
--- a cell's members of its name, id, flags and CPU bitmap, each with whether it is at fault
-abbrev pub identity_members : Data → List (List ℕ × Bool)
-identity_members d =
+-- a cell's members in the order of `cell_names`, each with whether it is at fault; where the size of the CPU bitmap
+-- is, the CPUs aren't
+abbrev pub cell_members : Data → List (List ℕ × Bool)
+cell_members d =
     (codes "name", is_none (cell_name d))
-    ∷ (codes "id", is_none (u32_at (codes "id") d))
-    ∷ (codes "flags", is_none (u32_at (codes "flags") d))
+    ∷ member_at u32_at (codes "id") d
+    ∷ member_at u32_at (codes "flags") d
     ∷ (codes "cpu_set_size", is_none (cpu_set_size d))
     ∷ (codes "cpus", option_map_or (λ bytes. is_none (cpu_set_in bytes d)) (cpu_set_size d) false)
-    ∷ []
-
--- a cell's members that are lists, each with whether it is at fault
-abbrev pub lists_members : Data → List (List ℕ × Bool)
-lists_members d =
-    (codes "regions", is_none (list_at region_told 1024 (codes "regions") d))
-    ∷ (codes "irqchips", is_none (list_at irqchip_told 64 (codes "irqchips") d))
-    ∷ (codes "devices", is_none (list_at device_told 256 (codes "devices") d))
-    ∷ []
-
--- a cell's other members, each with whether it is at fault
-abbrev pub settings_members : Data → List (List ℕ × Bool)
-settings_members d =
-    (codes "vpci_irq_base", is_none (u32_at (codes "vpci_irq_base") d))
-    ∷ (codes "cpu_reset_address", is_none (u64_at (codes "cpu_reset_address") d))
-    ∷ (codes "msg_reply_timeout", is_none (u64_at (codes "msg_reply_timeout") d))
-    ∷ (codes "console", is_none (console_at (codes "console") d))
-    ∷ []
-
--- a cell's members in the order of `cell_names`, each with whether it is at fault
-abbrev pub cell_members : Data → List (List ℕ × Bool)
-cell_members d = identity_members d ++ (lists_members d ++ settings_members d)
-
--- a system's members but root, each with whether it is at fault
-abbrev pub platform_members : Data → List (List ℕ × Bool)
-platform_members d =
-    (codes "flags", is_none (u32_at (codes "flags") d))
-    ∷ (codes "hypervisor", is_none (region_at (codes "hypervisor") d))
-    ∷ (codes "debug_console", is_none (console_at (codes "debug_console") d))
-    ∷ (codes "mmconfig_base", is_none (u64_at (codes "mmconfig_base") d))
-    ∷ (codes "end_bus", is_none (u8_at (codes "end_bus") d))
-    ∷ (codes "is_virtual", is_none (u8_at (codes "is_virtual") d))
-    ∷ (codes "domain", is_none (u16_at (codes "domain") d))
+    ∷ (codes "regions", is_none (regions_in d))
+    ∷ (codes "irqchips", is_none (irqchips_in d))
+    ∷ (codes "devices", is_none (devices_in d))
+    ∷ member_at u32_at (codes "vpci_irq_base") d
+    ∷ member_at u64_at (codes "cpu_reset_address") d
+    ∷ member_at u64_at (codes "msg_reply_timeout") d
+    ∷ member_at console_at (codes "console") d
     ∷ []
 
 -- root is at fault where it is missing, and where anything in it is
@@ -160,11 +147,24 @@ root_member d = (codes "root", option_map_or (λ root. is_err (cell_told cell_na
 
 -- a system's members in the order of `system_names`, each with whether it is at fault
 abbrev pub system_members : Data → List (List ℕ × Bool)
-system_members d = platform_members d ++ root_member d ∷ []
+system_members d =
+    member_at u32_at (codes "flags") d
+    ∷ member_at region_at (codes "hypervisor") d
+    ∷ member_at console_at (codes "debug_console") d
+    ∷ member_at u64_at (codes "mmconfig_base") d
+    ∷ member_at u8_at (codes "end_bus") d
+    ∷ member_at u8_at (codes "is_virtual") d
+    ∷ member_at u16_at (codes "domain") d
+    ∷ root_member d
+    ∷ []
+
+-- the name of the first of the members that is at fault
+abbrev pub first_at_fault : List (List ℕ × Bool) → Option (List ℕ)
+first_at_fault members = option_map (λ (member : List ℕ × Bool). member.0) (find (λ (member : List ℕ × Bool). member.1) members)
 
 -- the member of an object of this kind that is at fault: the first of those that are listed, else the first name that
 -- isn't listed, in the order of an object's names, which is that of their bytes
 abbrev pub blame : Option Kind → Data → Option (List ℕ)
 blame None d = Some (codes "kind")
-blame (Some Cell) d = blamed (cell_members d) (unlisted names_with_kind d)
-blame (Some System) d = blamed (system_members d) (unlisted (codes "kind" ∷ system_names) d)
+blame (Some Cell) d = option_or (first_at_fault (cell_members d)) (unlisted names_with_kind d)
+blame (Some System) d = option_or (first_at_fault (system_members d)) (unlisted (codes "kind" ∷ system_names) d)

@@ -10,12 +10,10 @@ ghost use Rattle.jh_cellcfg.specs.declared.config.PciDevice.{PciDevice as TheDev
 ghost use Rattle.jh_cellcfg.specs.declared.config.Console.{Console as TheConsole};
 ghost use Rattle.jh_cellcfg.specs.declared.region.Region.{Region as TheRegion};
 ghost use Rattle.jh_spec.specs.declared.spec.Spec.{Spec as TheSpec};
-ghost use Rattle.jh_spec.specs.Json.{list_told};
-ghost use Rattle.jh_spec.specs.Fields.{u64_told, region_told, irqchip_told, device_told, console_told};
-ghost use Rattle.jh_spec.specs.Cpus.{cpus_told};
+ghost use Rattle.jh_spec.specs.Fields.{region_told, irqchip_told, device_told, console_told};
 ghost use Rattle.jh_spec.specs.Cells.{cell_told, system_told};
 ghost use Rattle.jh_spec.specs.Specs.{kind_told, spec_told};
-ghost use Rattle.jh_spec.specs.Laws.{IsRegionOf, IsIrqchipOf, IsDeviceOf, IsConsoleOf, IsCellOf, IsSystemOf, blame};
+ghost use Rattle.jh_spec.specs.Laws.{IsRegionOf, IsIrqchipOf, IsDeviceOf, IsConsoleOf, IsCellOf, IsSystemOf, ToldBitmap, blame};
 
 use crate::fault::JsonFault;
 
@@ -41,8 +39,6 @@ pub fn the_first_fault_is_to_blame()
 /// The bitmap has the bytes that it is to have, and bit i mod 8 of byte i div 8 is set exactly where the list names
 /// CPU i.
 pub fn a_cpu_that_is_named_has_its_bit()
-    ensures size { (d : Data) (bytes : ℕ) (cpus set : List ℕ) → list_told u64_told d ≡ Some cpus → cpus_told bytes d ≡ Some set
-        → length set ≡ bytes }
-    ensures bits { (d : Data) (bytes : ℕ) (cpus set : List ℕ) → list_told u64_told d ≡ Some cpus → cpus_told bytes d ≡ Some set
-        → (cpu : ℕ) → cpu < 8 * bytes → (bit_at (slice_index set (cpu / 8)) (cpu % 8) ≡ 1) ↔ Contains cpus cpu }
+    ensures size { (it : ToldBitmap) → length it.bitmap ≡ it.bytes }
+    ensures bits { (it : ToldBitmap) (cpu : ℕ) → cpu < 8 * it.bytes → (bit_at (slice_index it.bitmap (cpu / 8)) (cpu % 8) ≡ 1) ↔ Contains it.cpus cpu }
 {}

@@ -7,9 +7,9 @@ use Rattle.jh_life.proofs.ChangeLemmas.{single, lives_same, marked_marks}
 use Rattle.jh_life.proofs.laws.a_cell_is_marked_by_its_id.Goals as goal
 
 pub returns : goal.returns
-returns c = λ i cell on new is configs marks.
+returns c = λ i cell on new is put.
     let now = c.args.cells.now in
     let id = cell.config.id in
     lives_same new (map (marked id on) now.lives)
-    (configs ∙ sym (configs_marked id on now.lives))
-    (marks ∙ sym (marked_marks i id on now.lives cell (single now.system.root now.lives id c.live_cells_differ.ensures.differ) is (eq-eqb id id refl)))
+    (put.configs ∙ sym (configs_marked id on now.lives))
+    (put.marks ∙ sym (marked_marks i id on now.lives cell (single now.system.root now.lives id c.live_cells_differ.ensures.differ) is (eq-eqb id id refl)))

@@ -1,4 +1,4 @@
--- The number is past the slots where it is past their end, never where they are all of the level's.
+-- The point is past the slots where it is past their end, never where they are all of the level's.
 use Rattle.std.proofs.Common.{◌*◌, ◌<◌, ◌≤◌, nat_lt, sym, ap, ◌∙◌, arith}
 use Rattle.std.proofs.lemmas.Bool.{le-ltb}
 use Rattle.jh_num.specs.declared.address.TheConstants.{ADDRESS_END}
@@ -14,7 +14,7 @@ pub returns-then-end-lt-ADDRESS_END : goal.returns-then-end-lt-ADDRESS_END
 returns-then-end-lt-ADDRESS_END c =
     let size = slot_size c.args.level in
     let low : c.args.limit * size < ADDRESS_END = rw c.slot_size.ensures at c.if-end-lt-ADDRESS_END.true in
-    rw (c.from.ensures, c.slot_size.ensures) (past_by_end c.args.limit size c.args.number ADDRESS_END (size_some c.args.level) low)
+    rw (c.from.ensures, c.slot_size.ensures) (past_by_end c.args.limit size c.args.point ADDRESS_END (size_some c.args.level) low)
 
 pub returns-else-end-lt-ADDRESS_END : goal.returns-else-end-lt-ADDRESS_END
 returns-else-end-lt-ADDRESS_END c =
@@ -22,4 +22,4 @@ returns-else-end-lt-ADDRESS_END c =
     let high : ADDRESS_END ≤ c.args.limit * size = rw c.slot_size.ensures at c.if-end-lt-ADDRESS_END.false in
     ap (λ end. nat_lt (c.args.limit * end) ADDRESS_END) c.slot_size.ensures
     ∙ le-ltb (c.args.limit * size) ADDRESS_END high
-    ∙ sym (past_no_end c.args.limit size c.args.number ADDRESS_END (size_some c.args.level) high)
+    ∙ sym (past_no_end c.args.limit size c.args.point ADDRESS_END (size_some c.args.level) high)

@@ -1,1 +1,0 @@
--- Marks as bits.
