@@ -19,7 +19,7 @@ use Rattle.jh_history.specs.Facts.{Facts}
 use Rattle.jh_history.specs.Lives.{is_on_board}
 use Rattle.jh_shape.specs.Lives.{configs_of}
 use Rattle.jh_history.specs.Sound.{AreSoundCells, HasItsCpus, AreOwned, IsSound}
-use Rattle.jh_history.specs.DueFacts.{NamesCpu}
+use Rattle.jh_history.specs.DueFacts.{NamesCpu, EachNamesCpu}
 use Rattle.jh_history.proofs.SoundCellsLemmas.{cells_joined}
 use Rattle.jh_history.proofs.SoundDecideLemmas.{board_few}
 use Rattle.jh_history.proofs.SoundCommitLemmas.{cell_lent, owned_lent}
@@ -108,14 +108,14 @@ owned_few image configs cpu own sound owned names on root =
     let as_many : length (cpus_of configs names) ≡ length configs = cpus_length configs names in
     omega arith
 
-names_of : (cells : List Live) → All (λ (live : Live). NamesCpu live.config) cells → (config : CellConfig) → NamesCpu config → AllName (configs_of cells ++ config ∷ [])
+names_of : (cells : List Live) → EachNamesCpu cells → (config : CellConfig) → NamesCpu config → AllName (configs_of cells ++ config ∷ [])
 names_of [] all config names = (names, tt)
 names_of (live ∷ cells) all config names = (all 0 live (omega arith), names_of cells (λ k d lt. all (suc k) d (omega arith)) config names)
 
 lent_caller : (config : CellConfig) (cpu : ℕ → Cpu) (caller : ℕ) → is_cpu_set config.cpu_set caller ≡ false → cell_lent config cpu caller ≡ cpu caller
 lent_caller config cpu caller other = rw other refl
 
-pub few_cells : (image : Image) (f : Facts) (o : OpenCall) (config : CellConfig) → IsSound image f → All (λ (live : Live). NamesCpu live.config) f.cells → NamesCpu config → f.call ≡ Some o → o.phase ≡ ToCreate config → length f.cells < 15
+pub few_cells : (image : Image) (f : Facts) (o : OpenCall) (config : CellConfig) → IsSound image f → EachNamesCpu f.cells → NamesCpu config → f.call ≡ Some o → o.phase ≡ ToCreate config → length f.cells < 15
 few_cells image f o config sound all names call phase =
     let configs : List CellConfig = configs_of f.cells in
     let caller = (call_open image f o sound call).caller in

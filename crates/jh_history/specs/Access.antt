@@ -1,5 +1,5 @@
 -- What an access reaches, and what a read and a write there mean.
-use Rattle.std.specs.Prelude.{ℕ, zero, suc, ◌+◌, ◌-◌, ◌%◌, ◌^◌, Bool, true, false, ◌&&◌, nat_le, if◌then◌else◌, List, [], ◌∷◌, map, find, Option, Some, None, option_map, option_and_then}
+use Rattle.std.specs.Prelude.{◌≡◌, ◌≤◌, ℕ, zero, suc, ◌+◌, ◌-◌, ◌%◌, ◌^◌, Bool, true, false, ◌&&◌, nat_le, if◌then◌else◌, List, [], ◌∷◌, map, find, Option, Some, None, option_map, option_and_then}
 use Rattle.std.specs.Option.{option_map_or}
 use Rattle.jh_num.specs.declared.address.TheConstants.{ADDRESS_END}
 use Rattle.jh_num.specs.Memory.{spelled}
@@ -70,6 +70,14 @@ or_behind Nothing behind = behind
 abbrev pub memory_read : (Place → ℕ) → Reach → Option ℕ
 memory_read byte (Memory places) = Some (spelled (map byte places))
 memory_read byte _ = None
+
+-- no address from the end of addresses on has a place
+abbrev pub EndsWithAddresses : (ℕ → Option Place) → Type 0
+EndsWithAddresses place = (at : ℕ) → ADDRESS_END ≤ at → place at ≡ None
+
+-- the byte that an access of one byte reads of memory, where the address has a place
+abbrev pub byte_read : (Place → ℕ) → (ℕ → Option Place) → ℕ → Option ℕ
+byte_read byte place at = memory_read byte (reach_by place at 1)
 
 -- what the cell reads of configuration space: of a function that is present its bytes, of an absent one all ones
 abbrev pub config_value : Devices → InConfig → ℕ

@@ -1,8 +1,10 @@
--- That root lives alone: where no program has a hypercall, no journal makes another cell.
-use Rattle.std.specs.Prelude.{◌≡◌, ℕ, false, [], None}
+-- That root lives alone: where no program has a hypercall, no legal journal makes another cell.
+use Rattle.std.specs.Prelude.{◌≡◌, ℕ, false, List, [], ◌∷◌, ◌++◌, Some, None}
 use Rattle.jh_script.specs.declared.image.Image.{Image}
 use Rattle.jh_history.specs.declared.entry.Entry.{Entry}
+use Rattle.jh_history.specs.Admitted.{HasNoCall}
 use Rattle.jh_history.specs.Calls.{is_call}
+use Rattle.jh_history.specs.Due.{due_at, IsLegal}
 use Rattle.jh_history.specs.Facts.{Facts}
 
 -- no cell lives besides root, no call is open, and each CPU is root's
@@ -15,3 +17,29 @@ pub record IsAlone (image : Image) (facts : Facts) : Type 0 where
 pub record IsByRoot (image : Image) (entry : Entry) : Type 0 where
   pub cell : entry.cell ≡ image.system.root.id
   pub act : is_call entry.act ≡ false
+
+-- a legal journal of a silent image: no program of it has a hypercall
+pub record SilentJournal : Type 0 where
+  pub image : Image
+  pub entries : List Entry
+  pub silent : HasNoCall image
+  pub legal : IsLegal image entries
+
+-- an entry of a legal journal of a silent image, with the entries before it and the rest behind it
+pub record SilentMoment : Type 0 where
+  pub image : Image
+  pub before : List Entry
+  pub entry : Entry
+  pub rest : List Entry
+  pub silent : HasNoCall image
+  pub legal : IsLegal image (before ++ entry ∷ rest)
+
+-- an entry that is due to a CPU of a silent image, where root is alone
+pub record LoneEntry : Type 0 where
+  pub image : Image
+  pub facts : Facts
+  pub cpu : ℕ
+  pub entry : Entry
+  pub silent : HasNoCall image
+  pub alone : IsAlone image facts
+  pub due : due_at image facts cpu ≡ Some entry

@@ -25,11 +25,11 @@ is_named (Loadable cell) id = cell == id
 is_named (Destroy cell) id = cell == id
 is_named _ id = false
 
--- a cell of the configuration is told that another was created or destroyed, unless it is passive
+-- a cell of the configuration is told that the cell `about` was created or destroyed: it is another, and isn't passive
 abbrev pub is_recipient_by : ℕ → CellConfig → Bool
 is_recipient_by about config = not (config.id == about) && not (is_passive config)
 
--- a cell is told that another was created or destroyed, unless it is passive
+-- the cell is told that the cell `about` was created or destroyed: it is another, and isn't passive
 abbrev pub is_recipient : ℕ → Live → Bool
 is_recipient about live = is_recipient_by about live.config
 

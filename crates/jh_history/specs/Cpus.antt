@@ -1,5 +1,5 @@
 -- What an entry does to CPUs.
-use Rattle.std.specs.Prelude.{ℕ, Bool, true, false, ◌==◌, ◌&&◌, not, length, Option, is_some, if◌then◌else◌}
+use Rattle.std.specs.Prelude.{◌≡◌, ℕ, ◌<◌, Bool, true, false, ◌==◌, ◌&&◌, not, List, length, slice_get, Option, Some, is_some, if◌then◌else◌}
 use Rattle.std.specs.Option.{option_map_or}
 use Rattle.jh_cellcfg.specs.Cells.{name_of, is_cpu_set}
 use Rattle.jh_cpu.specs.declared.cpu.Cpu.{Cpu}
@@ -81,7 +81,7 @@ committed image (Loadable id) phase i cpu = if cpu.owner == id then parked cpu e
 committed image (Destroy id) phase i cpu = if cpu.owner == id then returned image.system.root.id (end_in_root image i) cpu else cpu
 committed image _ phase i cpu = cpu
 
--- the CPU, no longer stopped where it is root's
+-- the CPU, resumed where it is root's
 abbrev pub resumed_in : ℕ → Cpu → Cpu
 resumed_in root cpu = if cpu.owner == root then resumed cpu else cpu
 
@@ -96,6 +96,10 @@ acted image call (Settle how) own i cpu = option_map_or (λ (o : OpenCall). sett
 acted image call Commit own i cpu = option_map_or (λ (o : OpenCall). committed image o.call o.phase i cpu) call cpu
 acted image call (Finish answer) own i cpu = finished image own i cpu
 acted image call act own i cpu = if i == own then changed (change_of act) cpu else cpu
+
+-- the list has the states of CPUs 0 to 15, in order
+abbrev pub ListsCpus : List Cpu → (ℕ → Cpu) → Type 0
+ListsCpus cpus state = (i : ℕ) → i < 16 → slice_get cpus i ≡ Some (state i)
 
 -- the CPUs after an entry
 abbrev pub cpu_after : Image → Facts → Entry → ℕ → Cpu

@@ -3,7 +3,6 @@ use Rattle.std.specs.Prelude.{◌≡◌, ◌⊎◌, ℕ, ◌<◌, true, false, L
 use Rattle.jh_num.specs.declared.address.TheConstants.{PAGE_SIZE}
 use Rattle.jh_cellcfg.specs.declared.config.CellConfig.{CellConfig}
 use Rattle.jh_cellcfg.specs.declared.live.Live.{Live}
-use Rattle.jh_cellcfg.specs.declared.region.Region.{Region}
 use Rattle.jh_cellcfg.specs.Cells.{is_cpu_set}
 use Rattle.jh_cellcfg.specs.Regions.{SharesNoAddress, AreInRange}
 use Rattle.jh_check.specs.Clean.{IsSoundBitmap}
@@ -44,6 +43,10 @@ pub record HasRead (image : Image) (facts : Facts) (caller at : ℕ) : Type 0 wh
 -- the cell's set names a CPU
 abbrev pub NamesCpu : CellConfig → Type 0
 NamesCpu config = (cpu : ℕ) × (is_cpu_set config.cpu_set cpu ≡ true)
+
+-- each of these cells names a CPU in its set
+abbrev pub EachNamesCpu : List Live → Type 0
+EachNamesCpu cells = All (λ (live : Live). NamesCpu live.config) cells
 
 -- the cell with the configuration may live beside root and these: none of them has its name or its id, no two of its
 -- regions have an address in common, each that isn't empty ends within the addresses, and within the places where it has

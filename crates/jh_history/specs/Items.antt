@@ -37,7 +37,7 @@ abbrev pub rounds : ℕ → List ℕ → List ℕ
 rounds zero cpus = []
 rounds (suc n) cpus = rounds n cpus ++ cpus
 
--- the items of the schedule, and then rounds of all CPUs: each round before the last adds an entry,
--- so these are enough, and at a quiet journal no item changes anything
+-- the items of the schedule, and then rounds of all CPUs: these are enough, since a round adds an entry, or nothing is
+-- due, or the limit has stopped the items; and at a quiet journal no item changes anything
 unfoldable pub played : Image → ℕ → List ℕ → Reached
 played image limit schedule = items image limit (schedule ++ rounds (limit + 1) (cpus_of image)) []

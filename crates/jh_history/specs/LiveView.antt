@@ -1,4 +1,4 @@
--- What the slow plain program keeps of the live cells, and which of them are locked by its bytes.
+-- An image with the cells that live besides its root, and which of these are locked, by some bytes.
 use Rattle.std.specs.Prelude.{ℕ, Bool, ◌==◌, ◌&&◌, not, List}
 use Rattle.jh_comm.specs.Page.{state_in}
 use Rattle.jh_comm.specs.declared.words.TheConstants.{STATE_RUNNING_LOCKED}

@@ -1,4 +1,4 @@
--- How a configuration is read from bytes, where these may be read.
+-- How a configuration is read from bytes, where these may be read, and what it is refused for beside other cells.
 use Rattle.std.specs.Prelude.{ℕ, ℤ, zero, suc, ◌+◌, Bool, ◌==◌, ◌&&◌, not, List, [], ◌∷◌, ◌++◌, Option, Some, option_map, option_and_then}
 use Rattle.jh_cellcfg.specs.declared.config.CellConfig.{CellConfig}
 use Rattle.jh_check.specs.Refusals.{refusal_of}

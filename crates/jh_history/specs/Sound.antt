@@ -64,7 +64,7 @@ pub record IsCalm (cpu : Cpu) : Type 0 where
   pub asked : cpu.asked ≡ false
   pub stopped : cpu.stopped ≡ false
 
--- the CPU is no longer asked to stop, and is stopped exactly where it would run
+-- the CPU isn't asked to stop, and is stopped exactly where its mode is that of a CPU that runs
 pub record IsHalted (cpu : Cpu) : Type 0 where
   pub asked : cpu.asked ≡ false
   pub stopped : cpu.stopped ≡ is_running cpu.mode
@@ -95,13 +95,13 @@ pub record IsCaller (image : Image) (caller : ℕ) (call : Call) (cpu : Cpu) : T
   pub asks : call ≡ decoded code a b
   pub management : is_management call ≡ true
 
--- another CPU of root on the board has come: up to the Decide it is halting, from then on it is halted
+-- how another CPU of root on the board stands in the phase: up to the Decide it is halting, from then on it is halted
 abbrev pub HasHalted : Phase → Cpu → Type 0
 HasHalted ToDecide cpu = IsHalting cpu
 HasHalted _ cpu = IsHalted cpu
 
--- a CPU of a cell goes on: it is calm; but after a Settle that isn't denied, up to the Commit, a CPU of the cell that
--- the call is about is halting
+-- how a CPU of a cell stands in the phase: it is calm; but after a Settle that isn't denied, up to the Commit, a CPU of
+-- the cell that the call is about is halting
 abbrev pub GoesOn : Call → Phase → Cpu → Type 0
 GoesOn call ToCommit cpu = (is_named call cpu.owner ≡ true → IsHalting cpu) × (is_named call cpu.owner ≡ false → IsCalm cpu)
 GoesOn call _ cpu = IsCalm cpu

@@ -1,12 +1,12 @@
 //! What an entry does to CPUs.
-ghost use Rattle.std.specs.Prelude.{◌≡◌, ℕ, ◌<◌, ◌==◌, Some, Option, false, length, slice_get, option_copied, if◌then◌else◌};
+ghost use Rattle.std.specs.Prelude.{◌≡◌, ℕ, ◌==◌, Some, Option, false, slice_get, option_copied, if◌then◌else◌};
 ghost use Rattle.jh_cpu.specs.declared.cpu.Cpu.{Cpu as TheCpu};
 ghost use Rattle.jh_call.specs.declared.call.Call.TheVariants.{Create};
 ghost use Rattle.jh_script.specs.declared.image.Image.{Image as TheImage};
 ghost use Rattle.jh_history.specs.declared.call.OpenCall.{OpenCall as TheOpenCall};
 ghost use Rattle.jh_history.specs.Admitted.{IsAdmitted};
 ghost use Rattle.jh_history.specs.Facts.{Facts};
-ghost use Rattle.jh_history.specs.Cpus.{change_if, change_of, changed, begun, is_agreed, settled, end_in_root, committed, finished, acted, cpu_after, is_running};
+ghost use Rattle.jh_history.specs.Cpus.{change_if, change_of, changed, begun, is_agreed, settled, end_in_root, committed, finished, acted, cpu_after, is_running, ListsCpus};
 
 use crate::call::{OpenCall, Phase};
 use crate::cells::{is_on_board, program_ops};
@@ -210,9 +210,8 @@ fn is_for_many(act: &Act) -> bool
 }
 
 /// Changes each of the CPUs as the entry does.
-fn act_on_all(image: &Image, call: Option<&OpenCall>, entry: &Entry, cpus: &mut [Cpu])
-    requires admitted { IsAdmitted image.now }
-    requires cpus { length cpus.old ≡ 16 }
+fn act_on_all(image: &Image, call: Option<&OpenCall>, entry: &Entry, cpus: &mut [Cpu; MAX_CPUS])
+    requires { IsAdmitted image.now }
     ensures { (i : ℕ) (state : TheCpu) → slice_get cpus.old i ≡ Some state → slice_get cpus.new i ≡ Some (acted image.now (option_copied call.entry) entry.now.act entry.now.cpu i state) }
 {
     for i in 0..MAX_CPUS as u8 {
@@ -221,11 +220,9 @@ fn act_on_all(image: &Image, call: Option<&OpenCall>, entry: &Entry, cpus: &mut 
 }
 
 /// Changes the CPUs as the entry does; `call` is the call that was open before it.
-pub fn cpus_after(cpus: &mut [Cpu], image: &Image, call: Option<&OpenCall>, entry: &Entry)
-    requires admitted { IsAdmitted image.now }
-    requires cpus { length cpus.old ≡ 16 }
-    ensures { (f : Facts) → f.call ≡ option_copied call.entry → ((i : ℕ) → i < 16 → slice_get cpus.old i ≡ Some (f.cpu i))
-        → (i : ℕ) → i < 16 → slice_get cpus.new i ≡ Some (cpu_after image.now f entry.now i) }
+pub fn cpus_after(cpus: &mut [Cpu; MAX_CPUS], image: &Image, call: Option<&OpenCall>, entry: &Entry)
+    requires { IsAdmitted image.now }
+    ensures { (f : Facts) → f.call ≡ option_copied call.entry → ListsCpus cpus.old f.cpu → ListsCpus cpus.new (cpu_after image.now f entry.now) }
 {
     if is_for_many(&entry.act) {
         act_on_all(image, call, entry, cpus);

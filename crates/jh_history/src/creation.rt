@@ -1,8 +1,9 @@
 //! What comes of a create.
-ghost use Rattle.std.specs.Prelude.{◌≡◌, ℕ, ◌<◌, ◌≤◌, ◌==◌, Some, length, slice_get, IfOk, IfSome, IfNone};
+ghost use Rattle.std.specs.Prelude.{◌≡◌, ℕ, ◌≤◌, length, IfOk, IfSome, IfNone};
 ghost use Rattle.jh_num.specs.Bits.{has_bit};
 ghost use Rattle.jh_check.specs.Refusals.{refusal_of};
 ghost use Rattle.jh_history.specs.Admitted.{pool_pages, IsAdmitted};
+ghost use Rattle.jh_history.specs.Cpus.{ListsCpus};
 ghost use Rattle.jh_history.specs.Facts.{Facts};
 ghost use Rattle.jh_history.specs.Phases.{may_give, unless_refused, creation_by};
 ghost use Rattle.jh_shape.specs.Lives.{configs_of};
@@ -31,10 +32,9 @@ fn may_give(image: &Image, state: Cpu, caller: u8, cpu: u8) -> bool
 }
 
 /// The CPUs that the caller may give to a new cell: those on the board that are root's, without the caller.
-fn given(image: &Image, cpus: &[Cpu], caller: u8) -> u16
-    requires admitted { IsAdmitted image.now }
-    requires cpus { length cpus.now ≡ 16 }
-    ensures { (f : Facts) → ((i : ℕ) → i < 16 → slice_get cpus.now i ≡ Some (f.cpu i)) → (cpu : ℕ) → has_bit result cpu ≡ may_give image.now f caller cpu }
+fn given(image: &Image, cpus: &[Cpu; MAX_CPUS], caller: u8) -> u16
+    requires { IsAdmitted image.now }
+    ensures { (f : Facts) → ListsCpus cpus.now f.cpu → (cpu : ℕ) → has_bit result cpu ≡ may_give image.now f caller cpu }
 {
     admitted_roots_are_sound(image);
     let mut may = 0;
@@ -101,15 +101,13 @@ pub(crate) fn creation_by(
     alloc: Global,
     image: &Image,
     cells: &[CellConfig],
-    cpus: &[Cpu],
+    cpus: &[Cpu; MAX_CPUS],
     caller: u8,
     read: ReadCell,
 ) -> Result<Option<Creation>, NoMemory>
     requires admitted { IsAdmitted image.now }
     requires few { length cells.now ≤ 15 }
-    requires cpus { length cpus.now ≡ 16 }
-    ensures told { (f : Facts) → configs_of f.cells ≡ cells.now → ((i : ℕ) → i < 16 → slice_get cpus.now i ≡ Some (f.cpu i))
-        → IfOk result (λ told. IfSome told (λ creation. creation ≡ creation_by image.now f caller read)) }
+    ensures told { (f : Facts) → configs_of f.cells ≡ cells.now → ListsCpus cpus.now f.cpu → IfOk result (λ told. IfSome told (λ creation. creation ≡ creation_by image.now f caller read)) }
     ensures untold { IfOk result (λ told. IfNone told (length cells.now ≡ 15)) }
 {
     match read {

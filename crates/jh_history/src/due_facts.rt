@@ -1,8 +1,7 @@
 //! What the facts of a sound board say where an entry is due, or where a cell is about to come. Each function
 //! does nothing; its contract is the law.
-ghost use Rattle.std.specs.Prelude.{◌≡◌, ◌≢◌, ◌<◌, ℕ, ℤ, [], length, All, IfSome, Option, Some, None};
+ghost use Rattle.std.specs.Prelude.{◌≡◌, ◌≢◌, ◌<◌, ℕ, ℤ, [], length, IfSome, Option, Some, None};
 ghost use Rattle.jh_cellcfg.specs.declared.config.CellConfig.{CellConfig as TheConfig};
-ghost use Rattle.jh_cellcfg.specs.declared.live.Live.{Live as TheLive};
 ghost use Rattle.jh_check.specs.Clean.{IsSoundBitmap};
 ghost use Rattle.jh_call.specs.declared.call.Call.TheVariants.{Create};
 ghost use Rattle.jh_script.specs.declared.image.Image.{Image as TheImage};
@@ -26,7 +25,7 @@ ghost use Rattle.jh_history.specs.Endpoints.{change_by, changing_by, HasGoodDevi
 ghost use Rattle.jh_history.specs.Grants.{reach, devices_of};
 ghost use Rattle.jh_history.specs.Wants.{IsReachOfEntry};
 ghost use Rattle.jh_history.specs.Sound.{IsSound};
-ghost use Rattle.jh_history.specs.DueFacts.{IsDueEntry, HasRead, MayLive, NamesCpu, HasPage, ReachesCells, WritesCells, IsWordOf};
+ghost use Rattle.jh_history.specs.DueFacts.{IsDueEntry, HasRead, MayLive, NamesCpu, EachNamesCpu, HasPage, ReachesCells, WritesCells, IsWordOf};
 
 use jh_cellcfg::CellConfig;
 use jh_check::sound_bitmaps_name_few_cpus;
@@ -77,8 +76,7 @@ pub fn sound_cells_name_a_cpu(config: &CellConfig)
 /// Where each cell that lives besides root names a CPU, and one that comes does, fewer than 15 live besides root
 /// until it has come: each has a CPU of the board's 16 for itself, and root keeps the caller.
 pub fn few_cells_live()
-    ensures { (image : TheImage) (f : Facts) (o : TheCall) (config : TheConfig) → IsSound image f → All (λ (live : TheLive). NamesCpu live.config) f.cells →
-        NamesCpu config → f.call ≡ Some o → o.phase ≡ ToCreate config → length f.cells < 15 }
+    ensures { (image : TheImage) (f : Facts) (o : TheCall) (config : TheConfig) → IsSound image f → EachNamesCpu f.cells → NamesCpu config → f.call ≡ Some o → o.phase ≡ ToCreate config → length f.cells < 15 }
 {}
 
 /// The devices of root may join at opening, and those of the cell that a Commit is about may join, be reset or leave.

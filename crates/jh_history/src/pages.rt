@@ -1,5 +1,5 @@
 //! What an entry writes into a communication page, for the hypervisor.
-ghost use Rattle.std.specs.Prelude.{◌≡◌, ℕ, ◌<◌, ◌&&◌, List, Some, length, slice_get, option_map, option_and_then, option_copied};
+ghost use Rattle.std.specs.Prelude.{◌≡◌, ℕ, ◌&&◌, List, option_map, option_and_then, option_copied};
 ghost use Rattle.jh_call.specs.declared.call.Call.TheVariants.{Create};
 ghost use Rattle.jh_history.specs.declared.call.OpenCall.{OpenCall as TheOpenCall};
 ghost use Rattle.jh_history.specs.declared.comm.PageChange.TheVariants.{State, Fresh};
@@ -10,7 +10,7 @@ ghost use Rattle.jh_cellcfg.specs.declared.live.Live.{Live as TheLive};
 ghost use Rattle.jh_check.specs.Refusals.{any_below};
 ghost use Rattle.jh_history.specs.Facts.{Facts};
 ghost use Rattle.jh_history.specs.Lives.{is_on_board, live_in};
-ghost use Rattle.jh_history.specs.Cpus.{cpu_after};
+ghost use Rattle.jh_history.specs.Cpus.{cpu_after, ListsCpus};
 ghost use Rattle.jh_shape.specs.Lives.{configs_of};
 ghost use Rattle.jh_history.specs.Pages.{on_page, named_cell, is_left, failing, unless_good, asking, committing, page_write_by};
 
@@ -69,9 +69,8 @@ fn is_left(cell: u32, cpu: Cpu) -> bool
 }
 
 /// Whether one of the CPUs is the cell's, and hasn't failed.
-fn is_any_left(image: &Image, cell: u32, cpus: &[Cpu]) -> bool
-    requires { length cpus.now ≡ 16 }
-    ensures { (state : ℕ → TheCpu) → ((i : ℕ) → i < 16 → slice_get cpus.now i ≡ Some (state i)) → result ≡ any_below (λ i. is_on_board image.now i && is_left cell (state i)) 16 }
+fn is_any_left(image: &Image, cell: u32, cpus: &[Cpu; MAX_CPUS]) -> bool
+    ensures { (state : ℕ → TheCpu) → ListsCpus cpus.now state → result ≡ any_below (λ i. is_on_board image.now i && is_left cell (state i)) 16 }
 {
     for i in 0..MAX_CPUS as u8 {
         if is_on_board(image, i) && is_left(cell, cpus[usize::from(i)]) {
@@ -82,9 +81,8 @@ fn is_any_left(image: &Image, cell: u32, cpus: &[Cpu]) -> bool
 }
 
 /// A violation after which all CPUs of a cell besides root have failed puts it into the state FAILED.
-fn failing(image: &Image, cpus: &[Cpu], entry: &Entry) -> Option<PageWrite>
-    requires { length cpus.now ≡ 16 }
-    ensures { (f : Facts) → ((i : ℕ) → i < 16 → slice_get cpus.now i ≡ Some (cpu_after image.now f entry.now i)) → result ≡ failing image.now f entry.now }
+fn failing(image: &Image, cpus: &[Cpu; MAX_CPUS], entry: &Entry) -> Option<PageWrite>
+    ensures { (f : Facts) → ListsCpus cpus.now (cpu_after image.now f entry.now) → result ≡ failing image.now f entry.now }
 {
     if entry.cell == image.system.root.id || is_any_left(image, entry.cell, cpus) {
         return None;
@@ -96,10 +94,13 @@ fn failing(image: &Image, cpus: &[Cpu], entry: &Entry) -> Option<PageWrite>
 }
 
 /// What an access writes into a page: where it is a violation, what that writes; nothing where it is good.
-fn unless_good(good: bool, image: &Image, cpus: &[Cpu], entry: &Entry) -> Option<PageWrite>
-    requires { length cpus.now ≡ 16 }
-    ensures { (f : Facts) → ((i : ℕ) → i < 16 → slice_get cpus.now i ≡ Some (cpu_after image.now f entry.now i))
-        → result ≡ unless_good good (failing image.now f entry.now) }
+fn unless_good(
+    good: bool,
+    image: &Image,
+    cpus: &[Cpu; MAX_CPUS],
+    entry: &Entry,
+) -> Option<PageWrite>
+    ensures { (f : Facts) → ListsCpus cpus.now (cpu_after image.now f entry.now) → result ≡ unless_good good (failing image.now f entry.now) }
 {
     if good {
         return None;
@@ -111,44 +112,32 @@ fn unless_good(good: bool, image: &Image, cpus: &[Cpu], entry: &Entry) -> Option
 fn asking(cells: &[CellConfig], call: &Call) -> Option<PageWrite>
     ensures { (lives : List TheLive) → configs_of lives ≡ cells.now → result ≡ asking lives call.now }
 {
-    match named_cell(cells, call) {
-        Some(cell) => {
-            if cell.is_passive() {
-                None
-            } else {
-                Some(on_page(PageChange::Message(MESSAGE_SHUTDOWN_REQUEST), cell))
-            }
-        }
-        None => None,
+    let cell = named_cell(cells, call)?;
+    if cell.is_passive() {
+        return None;
     }
+    Some(on_page(PageChange::Message(MESSAGE_SHUTDOWN_REQUEST), cell))
 }
 
 /// The change of the page, where there is a cell.
 fn on_page_of(change: PageChange, cell: Option<&CellConfig>) -> Option<PageWrite>
     ensures { result ≡ option_map (on_page change) (option_copied cell.entry) }
 {
-    match cell {
-        Some(cell) => Some(on_page(change, cell)),
-        None => None,
-    }
+    cell.map(|cell| on_page(change, cell))
 }
 
 /// A fresh page of the cell.
 fn fresh_of(state: u32, window: u64, cell: Option<&CellConfig>) -> Option<PageWrite>
     ensures { result ≡ option_map (λ (c : TheConfig). on_page (Fresh state c.console window) c) (option_copied cell.entry) }
 {
-    match cell {
-        Some(cell) => {
-            let console = cell.console;
-            let change = PageChange::Fresh {
-                state,
-                console,
-                window,
-            };
-            Some(on_page(change, cell))
-        }
-        None => None,
-    }
+    let cell = cell?;
+    let console = cell.console;
+    let change = PageChange::Fresh {
+        state,
+        console,
+        window,
+    };
+    Some(on_page(change, cell))
 }
 
 /// The configuration of the cell that the phase creates.
@@ -180,10 +169,7 @@ fn committing(window: u64, cells: &[CellConfig], begun: &OpenCall) -> Option<Pag
 fn at_decide(cells: &[CellConfig], call: Option<&OpenCall>) -> Option<PageWrite>
     ensures { (lives : List TheLive) → configs_of lives ≡ cells.now → result ≡ option_and_then (λ (o : TheOpenCall). asking lives o.call) (option_copied call.entry) }
 {
-    match call {
-        Some(begun) => asking(cells, &begun.call),
-        None => None,
-    }
+    asking(cells, &call?.call)
 }
 
 /// What a Settle writes at which the cell's time is over.
@@ -191,23 +177,15 @@ fn at_timeout(cells: &[CellConfig], call: Option<&OpenCall>) -> Option<PageWrite
     ensures { (lives : List TheLive) → configs_of lives ≡ cells.now
         → result ≡ option_and_then (λ (o : TheOpenCall). option_map (on_page (State STATE_FAILED)) (named_cell lives o.call)) (option_copied call.entry) }
 {
-    match call {
-        Some(begun) => on_page_of(
-            PageChange::State(STATE_FAILED),
-            named_cell(cells, &begun.call),
-        ),
-        None => None,
-    }
+    let cell = named_cell(cells, &call?.call);
+    on_page_of(PageChange::State(STATE_FAILED), cell)
 }
 
 /// What a Commit writes.
 fn at_commit(window: u64, cells: &[CellConfig], call: Option<&OpenCall>) -> Option<PageWrite>
     ensures { (lives : List TheLive) → configs_of lives ≡ cells.now → result ≡ option_and_then (λ (o : TheOpenCall). committing window lives o.call o.phase) (option_copied call.entry) }
 {
-    match call {
-        Some(begun) => committing(window, cells, begun),
-        None => None,
-    }
+    committing(window, cells, call?)
 }
 
 /// What the entry writes into a page, and into which. `cells` are the configurations of the cells that live
@@ -216,12 +194,10 @@ pub fn page_write(
     image: &Image,
     cells: &[CellConfig],
     call: Option<&OpenCall>,
-    cpus: &[Cpu],
+    cpus: &[Cpu; MAX_CPUS],
     entry: &Entry,
 ) -> Option<PageWrite>
-    requires { length cpus.now ≡ 16 }
-    ensures { (f : Facts) → configs_of f.cells ≡ cells.now → f.call ≡ option_copied call.entry
-        → ((i : ℕ) → i < 16 → slice_get cpus.now i ≡ Some (cpu_after image.now f entry.now i))
+    ensures { (f : Facts) → configs_of f.cells ≡ cells.now → f.call ≡ option_copied call.entry → ListsCpus cpus.now (cpu_after image.now f entry.now)
         → result ≡ page_write_by image.now f entry.now entry.now.act }
 {
     match entry.act {

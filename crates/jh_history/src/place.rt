@@ -95,7 +95,7 @@ impl Places {
         requires { number_of first + 4 < 2 ^ 64 }
         ensures { result ≡ places_in_row first 4 }
     {
-        Places::new(Row { first, count: 0 }, Row { first, count: 4 })
+        Places::new(Row { first, count: 4 }, Row { first, count: 0 })
     }
 
     /// The two rows that they are.

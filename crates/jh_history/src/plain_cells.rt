@@ -4,7 +4,7 @@ ghost use Rattle.jh_cellcfg.specs.declared.live.Live.{Live as TheLive};
 ghost use Rattle.jh_history.specs.declared.call.Phase.{Phase as ThePhase};
 ghost use Rattle.jh_shape.specs.Shapes.{is_closed, holder_of_live};
 ghost use Rattle.jh_shape.specs.Lives.{configs_of, with_marks, marked};
-ghost use Rattle.jh_history.specs.Commits.{is_other, committed_cells, created as created_by};
+ghost use Rattle.jh_history.specs.Commits.{is_other, committed_cells, created as created_in};
 
 use crate::boxed::BoxedCell;
 use jh_call::Call;
@@ -112,7 +112,7 @@ impl PlainCells {
 
     /// The cells after a Commit of the call, which creates a cell of that configuration.
     pub(crate) fn commit(&mut self, call: &Call, created: Option<BoxedCell>) -> Result<(), NoMemory>
-        ensures ok { OnOk result ((phase : ThePhase) → created ≡ created_by call.now phase → self.new ≡ committed_cells call.now phase self.old) }
+        ensures ok { OnOk result ((phase : ThePhase) → created ≡ created_in call.now phase → self.new ≡ committed_cells call.now phase self.old) }
         ensures err { OnErr result (self.new ≡ self.old) }
     {
         match *call {

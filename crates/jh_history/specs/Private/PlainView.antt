@@ -1,6 +1,6 @@
 -- What the slow plain program keeps of a journal: CPUs, the live cells, the endpoints of their devices, the open call,
 -- and the bytes that were written.
-use Rattle.std.specs.Prelude.{◌≡◌, ℕ, ◌+◌, ◌^◌, ◌<◌, ◌≤◌, ◌==◌, ◌++◌, List, length, fold, slice_get, if◌then◌else◌, Option, Some, IfSome}
+use Rattle.std.specs.Prelude.{◌≡◌, ℕ, ◌+◌, ◌^◌, ◌<◌, ◌≤◌, ◌==◌, ◌++◌, List, length, fold, if◌then◌else◌, Option, Some, IfSome}
 use Rattle.jh_num.specs.Memory.{stored}
 use Rattle.jh_cellcfg.specs.declared.config.CellConfig.{CellConfig}
 use Rattle.jh_cellcfg.specs.declared.live.Live.{Live}
@@ -17,10 +17,11 @@ use Rattle.jh_history.specs.declared.place.Place.TheVariants.{Physical, Page}
 use Rattle.jh_history.specs.declared.written.WrittenByte.{WrittenByte}
 use Rattle.jh_history.specs.Places.{is_same, overlaid}
 use Rattle.jh_history.specs.declared.access.Access.TheVariants.{Read}
-use Rattle.jh_history.specs.Access.{reach_by, memory_read, endpoint_word_of_reach}
+use Rattle.jh_history.specs.Access.{byte_read, endpoint_word_of_reach}
 use Rattle.jh_history.specs.Grants.{granted_in}
 use Rattle.jh_history.specs.Devices.{devices_in}
 use Rattle.jh_history.specs.Calls.{call_by}
+use Rattle.jh_history.specs.Cpus.{ListsCpus}
 use Rattle.jh_history.specs.Endpoints.{change_by, changing_by, specs_changing, with_words, IsNextOf, MayChange}
 use Rattle.jh_history.specs.Facts.{Facts}
 use Rattle.jh_history.specs.Bytes.{loaded_byte}
@@ -49,7 +50,7 @@ last_byte image bytes q = fold (overwritten q) (loaded_byte image q) bytes
 
 -- the byte that root reads at the address, where it may
 abbrev pub root_byte : PlainView → ℕ → Option ℕ
-root_byte plain at = memory_read (last_byte plain.image plain.bytes) (reach_by (granted_in plain.image plain.cells plain.image.system.root.id Read) at 1)
+root_byte plain at = byte_read (last_byte plain.image plain.bytes) (granted_in plain.image plain.cells plain.image.system.root.id Read) at
 
 -- the bytes, with the list's from the offset on in the page of the cell
 abbrev pub put_in_page : ℕ → ℕ → List ℕ → (Place → ℕ) → Place → ℕ
@@ -69,7 +70,7 @@ pub record Represents (plain : PlainView) (image : Image) (facts : Facts) : Type
   pub cells : facts.cells ≡ plain.cells
   pub endpoints : facts.endpoints ≡ plain.endpoints
   pub call : facts.call ≡ plain.call
-  pub cpus : (i : ℕ) → i < 16 → slice_get plain.cpus i ≡ Some (facts.cpu i)
+  pub cpus : ListsCpus plain.cpus facts.cpu
   pub bytes : (q : Place) → facts.byte q ≡ last_byte image plain.bytes q
 
 -- the bytes are these of the facts, whatever facts the old one stands for

@@ -1,3 +1,4 @@
+-- One cell more.
 use Rattle.std.proofs.Common.{◌≡◌, ℕ, ◌+◌, List, take, get_or, sum_by, sym, ap, ◌∙◌, arith}
 use Rattle.std.proofs.lemmas.List.{take_all}
 use Rattle.std.proofs.lemmas.List.Sums.{sum_by_more}

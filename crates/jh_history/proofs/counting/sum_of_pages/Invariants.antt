@@ -1,3 +1,4 @@
+-- The pages of the cells so far, and how many they are at most.
 use Rattle.std.proofs.Common.{◌≡◌, ◌+◌, ◌*◌, ◌≤◌, take, sum_by}
 use Rattle.jh_cellcfg.specs.declared.config.CellConfig.{CellConfig}
 use Rattle.jh_shape.specs.Pages.{tables_of, cell_claims}

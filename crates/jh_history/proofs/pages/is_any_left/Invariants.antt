@@ -1,11 +1,11 @@
 -- None of the CPUs so far.
-use Rattle.std.proofs.Common.{◌≡◌, ℕ, ◌<◌, ◌&&◌, false, Some}
-use Rattle.std.specs.Prelude.{slice_get}
+use Rattle.std.proofs.Common.{◌≡◌, ℕ, ◌&&◌, false}
 use Rattle.jh_check.specs.Refusals.{any_below}
 use Rattle.jh_cpu.specs.declared.cpu.Cpu.{Cpu}
+use Rattle.jh_history.specs.Cpus.{ListsCpus}
 use Rattle.jh_history.specs.Lives.{is_on_board}
 use Rattle.jh_history.specs.Pages.{is_left}
 use Rattle.jh_history.proofs.pages.is_any_left.Given as goal
 
 abbrev pub invariant-loop-i : goal.invariant-loop-i
-invariant-loop-i l = (state : ℕ → Cpu) → ((i : ℕ) → i < 16 → slice_get l.cpus i ≡ Some (state i)) → any_below (λ i. is_on_board l.image i && is_left l.cell (state i)) l.i ≡ false
+invariant-loop-i l = (state : ℕ → Cpu) → ListsCpus l.cpus state → any_below (λ i. is_on_board l.image i && is_left l.cell (state i)) l.i ≡ false
