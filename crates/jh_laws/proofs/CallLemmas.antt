@@ -36,7 +36,7 @@ use Rattle.jh_shape.specs.Lives.{configs_of}
 use Rattle.jh_history.specs.Due.{due_at, due, is_idle_but, IsLegal, IsLegalFrom}
 use Rattle.jh_history.proofs.Public.{facts_push, due_split, IsLegal_begin, come_rests, halting_rests, root_unnamed, IsNext, next_from_due, IsOutcomeOf, IsOfProgram, state_parts, IsOfCall, call_parts, coming_from_decision, sound_after, legal_sound, noted_act, settle_act, unless, after_call, call_open}
 use Rattle.jh_history.specs.Sound.{HasHalted, IsAboutLive, IsCreate, IsNews, IsOpen, IsSound}
-use Rattle.jh_laws.specs.Ways.{is_phase, is_decide, is_finish, is_agreement, call_begun, begun_by, begun, IsBegun, IsNoteOr, IsNoteOrEnd, IsBehindGo, IsBehindCommit, MayFollow}
+use Rattle.jh_laws.specs.Ways.{is_phase, is_decide, is_finish, is_agreement, call_begun, begun_by, begun, call_after, IsBegun, IsNoteOr, IsNoteOrEnd, IsBehindGo, IsBehindCommit, MayFollow}
 use Rattle.jh_laws.proofs.LegalLemmas.{IsLegal_rest}
 use Rattle.jh_history.specs.Commits.{is_commit}
 
@@ -710,6 +710,15 @@ begun_some (Some entry) (Some p) o is h =
 pub begun_of : (image : Image) (entries : List Entry) (o : OpenCall) → (facts image entries).call ≡ Some o → (first : Entry) × (begun entries ≡ Some first) × (o.caller ≡ first.cpu) × (o.call ≡ call_begun first.act)
 begun_of image entries o is = begun_some (begun entries) (facts image entries).call o is (begun_call image entries)
 
+-- it is that one
+pub call_of_open : (image : Image) (entries : List Entry) (o : OpenCall) → (facts image entries).call ≡ Some o → call_after entries ≡ Some o.call
+call_of_open image entries o is =
+    let first = begun_of image entries o is in
+    ap (option_map (λ (opening : Entry). call_begun opening.act)) first.1 ∙ ap (λ (call : Call). Some call) (sym first.3)
+
+pub same_call : (image : Image) (entries : List Entry) (o : OpenCall) (call : Call) → (facts image entries).call ≡ Some o → call_after entries ≡ Some call → o.call ≡ call
+same_call image entries o call opens is = same_Some o.call call (sym (call_of_open image entries o opens) ∙ is)
+
 begin_none_by : (image : Image) (f : Facts) (entry : Entry) (code a b : ℕ) (call : Option OpenCall) → entry.act ≡ Begin code a b → IsSound image f → f.call ≡ call → due_at image f entry.cpu ≡ Some entry → f.call ≡ None
 begin_none_by image f entry code a b None act sound is due = is
 begin_none_by image f entry code a b (Some o) act sound is due =
@@ -734,32 +743,28 @@ phases_own image before rest entry admitted legal phase =
     let first = begun_of image before of.o of.opens in
     (first.0, first.1, sym first.2 ∙ of.caller)
 
--- what may follow, by the beginning of the call
-pub follows_begun : (image : Image) (before middle rest : List Entry) (one next : Entry) → IsAdmitted image → IsLegal image (before ++ one ∷ (middle ++ next ∷ rest))
+-- what may follow, by the call that was begun
+pub follows_call : (image : Image) (before middle rest : List Entry) (one next : Entry) → IsAdmitted image → IsLegal image (before ++ one ∷ (middle ++ next ∷ rest))
     → is_call one.act ≡ true → is_finish one.act ≡ false → All (λ (e : Entry). e.cpu ≢ one.cpu) middle → next.cpu ≡ one.cpu
-    → (first : Entry) × (begun (before ++ one ∷ []) ≡ Some first) × MayFollow (call_begun first.act) one.act next.act
-follows_begun image before middle rest one next admitted legal call more others own =
+    → (k : Call) × (call_after (before ++ one ∷ []) ≡ Some k) × MayFollow k one.act next.act
+follows_call image before middle rest one next admitted legal call more others own =
     let h = follows image before middle rest one next admitted legal call more others own in
-    let first = begun_of image (before ++ one ∷ []) h.0 (ap (λ (f : Facts). f.call) (facts_push image before one) ∙ h.1) in
-    let P : Call → Type 0 = λ k. MayFollow k one.act next.act in
-    (first.0, first.1, subst P first.3 h.2)
+    (h.0.call, call_of_open image (before ++ one ∷ []) h.0 (ap (λ (f : Facts). f.call) (facts_push image before one) ∙ h.1), h.2)
 
 -- from a Settle that isn't denied to the Commit the CPUs of the cell stop
-pub suspended_cells : (image : Image) (before middle rest : List Entry) (first settle last : Entry) → IsAdmitted image → IsLegal image (before ++ settle ∷ (middle ++ last ∷ rest))
-    → is_agreement settle.act ≡ true → All (λ (e : Entry). is_commit e.act ≡ false) middle → begun before ≡ Some first → is_named (call_begun first.act) last.cell ≡ true → last.act ≡ Stop
-suspended_cells image before middle rest first settle last admitted legal agreed others is named =
+pub suspended_cells : (image : Image) (before middle rest : List Entry) (settle last : Entry) (call : Call) → IsAdmitted image → IsLegal image (before ++ settle ∷ (middle ++ last ∷ rest))
+    → call_after before ≡ Some call → is_agreement settle.act ≡ true → All (λ (e : Entry). is_commit e.act ≡ false) middle → is_named call last.cell ≡ true → last.act ≡ Stop
+suspended_cells image before middle rest settle last call admitted legal is agreed others named =
     let s = stretch image before middle rest settle last admitted legal in
     let f0 : Facts = facts image before in
     let f : Facts = after image f0 settle in
     let how = agreement_settles settle.act agreed in
     let of = phase_of_due image f0 settle s.sound s.first_due how.3 in
     let o : OpenCall = of.o in
-    let begins = begun_of image before o of.opens in
-    let same : first ≡ begins.0 = same_Some first begins.0 (sym is ∙ begins.1) in
-    let call : call_begun first.act ≡ o.call = ap (λ (e : Entry). call_begun e.act) same ∙ sym begins.3 in
+    let same : o.call ≡ call = same_call image before o call of.opens is in
     let end = along image (IsCommitting o.call) (λ (e : Entry). is_commit e.act ≡ false) (committing_kept image o.call) f middle
     (sound_after image f0 settle s.sound s.first_due) (o.caller, settled_call image f0 o settle how.0 of.opens how.1 how.2) s.between others in
-    committing_stops image o.call (fold (after image) f middle) last end.0 end.1 s.last_due (ap (λ (k : Call). is_named k last.cell) (sym call) ∙ named)
+    committing_stops image o.call (fold (after image) f middle) last end.0 end.1 s.last_due (ap (λ (k : Call). is_named k last.cell) same ∙ named)
 
 -- ---- what an entry is
 

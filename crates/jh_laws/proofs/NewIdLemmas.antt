@@ -3,7 +3,6 @@ use Rattle.std.proofs.Common.{◌≡◌, ℕ, ℤ, pos, List, [], ◌∷◌, ◌
 use Rattle.std.specs.List.{fold}
 use Rattle.std.proofs.lemmas.Bool.{both_ways, cond_both}
 use Rattle.std.proofs.lemmas.List.{append_cancel_left}
-use Rattle.std.proofs.lemmas.Option.{same_Some}
 use Rattle.jh_cellcfg.specs.declared.config.CellConfig.{CellConfig}
 use Rattle.jh_cellcfg.specs.declared.live.Live.{Live}
 use Rattle.jh_cpu.specs.declared.cpu.Cpu.{Cpu}
@@ -26,8 +25,8 @@ use Rattle.jh_history.specs.History.{after, facts, coming_of}
 use Rattle.jh_shape.specs.Lives.{configs_of}
 use Rattle.jh_history.specs.Sound.{IsInPhase, IsSound}
 use Rattle.jh_history.proofs.Public.{facts_push, after_call, sound_after, call_open}
-use Rattle.jh_laws.specs.Ways.{is_phase, is_finish, call_begun, begun}
-use Rattle.jh_laws.proofs.CallLemmas.{Expects, IsBeside, along, begun_of, call_counted, entry_of_call, not_same, phase_expects, phase_of_due, stretch}
+use Rattle.jh_laws.specs.Ways.{is_phase, is_finish, call_after}
+use Rattle.jh_laws.proofs.CallLemmas.{Expects, IsBeside, along, call_counted, entry_of_call, not_same, phase_expects, phase_of_due, same_call, stretch}
 
 -- the phase leads to the end with the answer
 abbrev Answers : ℤ → Phase → Type 0
@@ -148,15 +147,14 @@ cells_behind : (image : Image) (before : List Entry) (entry : Entry) → (facts 
 unfolding after
 cells_behind image before entry = ap (λ (f : Facts). f.cells) (facts_push image before entry)
 
-pub new_id : (image : Image) (before middle rest : List Entry) (first commit last : Entry) (at : ℕ) (live : Live) (answer : ℤ) → IsAdmitted image → IsLegal image (before ++ commit ∷ (middle ++ last ∷ rest))
-    → begun before ≡ Some first → call_begun first.act ≡ Create at → commit.act ≡ Commit → (facts image (before ++ commit ∷ [])).cells ≡ (facts image before).cells ++ live ∷ []
+pub new_id : (image : Image) (before middle rest : List Entry) (commit last : Entry) (at : ℕ) (live : Live) (answer : ℤ) → IsAdmitted image → IsLegal image (before ++ commit ∷ (middle ++ last ∷ rest))
+    → call_after before ≡ Some (Create at) → commit.act ≡ Commit → (facts image (before ++ commit ∷ [])).cells ≡ (facts image before).cells ++ live ∷ []
     → All (λ (e : Entry). is_finish e.act ≡ false) middle → last.act ≡ Finish answer → answer ≡ pos live.config.id
-new_id image before middle rest first commit last at live answer admitted legal begins create act made more ends =
+new_id image before middle rest commit last at live answer admitted legal is act made more ends =
     let s = stretch image before middle rest commit last admitted legal in
     let f : Facts = facts image before in
     let of = phase_of_due image f commit s.sound s.first_due (ap is_phase act) in
-    let opened = begun_of image before of.o of.opens in
-    let call : of.o.call ≡ Create at = opened.3 ∙ ap (λ (e : Entry). call_begun e.act) (same_Some opened.0 first (sym opened.1 ∙ begins)) ∙ create in
+    let call : of.o.call ≡ Create at = same_call image before of.o (Create at) of.opens is in
     let expects = subst (Expects of.o.phase) act (phase_expects image f (is_idle_but image f of.o.caller) of.o.caller of.o.call of.o.phase commit.act of.act) in
     let cells = subst (λ (x : Act). cells_by f.call f.cells x ≡ f.cells ++ live ∷ []) act (sym (cells_behind image before commit) ∙ made) in
     let will = answers_commit image f commit of.o at live s.sound of.opens call expects act cells in

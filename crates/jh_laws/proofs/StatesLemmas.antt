@@ -3,7 +3,7 @@ use Rattle.std.proofs.Common.{◌≡◌, ◌≢◌, ℕ, ◌+◌, ◌-◌, ◌^�
 use Rattle.std.specs.Prelude.{slice_get}
 use Rattle.std.specs.Option.{option_map_or}
 use Rattle.std.proofs.lemmas.Bool.{both_ways, and_left, and_right, eq-eqb, ne_eqb, false≢true}
-use Rattle.std.proofs.lemmas.Option.{none-some, same_Some, slice_get_within}
+use Rattle.std.proofs.lemmas.Option.{none-some, slice_get_within}
 use Rattle.jh_cellcfg.specs.declared.config.CellConfig.{CellConfig}
 use Rattle.jh_cellcfg.specs.declared.live.Live.{Live}
 use Rattle.jh_cellcfg.specs.Cells.{name_of}
@@ -37,11 +37,11 @@ use Rattle.jh_shape.specs.Lives.{configs_of}
 use Rattle.jh_history.specs.Due.{is_idle_but, IsLegal}
 use Rattle.jh_history.proofs.Public.{facts_push, due_split, IsLegal_begin, configs_joined, legal_sound, after_cells, call_open, few_operations}
 use Rattle.jh_history.specs.Sound.{IsCaller, IsInPhase}
-use Rattle.jh_laws.specs.Ways.{is_phase, is_agreement, call_begun, begun}
+use Rattle.jh_laws.specs.Ways.{is_phase, is_agreement, call_after}
 use Rattle.jh_laws.specs.Moves.{stepped, ended}
 use Rattle.jh_laws.specs.Outcomes.{is_violation}
 use Rattle.jh_laws.specs.States.{changes_others, is_stop_act, HasBegun, HasAgreed, HasCommitted, HasFinished}
-use Rattle.jh_laws.proofs.CallLemmas.{Expects, phase_expects, phase_of_due, begun_of, not_same, IsMadeBy, Stopping, Running as Runs, Calling, made_by, phase_call}
+use Rattle.jh_laws.proofs.CallLemmas.{Expects, phase_expects, phase_of_due, same_call, not_same, IsMadeBy, Stopping, Running as Runs, Calling, made_by, phase_call}
 use Rattle.jh_laws.proofs.FactsLemmas.{cpu_after_holds}
 
 -- CPU i behind an entry
@@ -263,17 +263,16 @@ pub record IsPhaseBegun (image : Image) (before : List Entry) (entry : Entry) (c
   pub holds : IsInPhase image (configs_of (facts image before).cells) (facts image before).cpu entry.cpu call phase
   pub manages : is_management call ≡ true
 
-phase_begun : (image : Image) (before rest : List Entry) (entry first : Entry) → IsAdmitted image → IsLegal image (before ++ entry ∷ rest) → is_phase entry.act ≡ true → begun before ≡ Some first → IsPhaseBegun image before entry (call_begun first.act)
-phase_begun image before rest entry first admitted legal phase is =
+phase_begun : (image : Image) (before rest : List Entry) (entry : Entry) (call : Call) → IsAdmitted image → IsLegal image (before ++ entry ∷ rest) → call_after before ≡ Some call → is_phase entry.act ≡ true → IsPhaseBegun image before entry call
+phase_begun image before rest entry call admitted legal is phase =
     let f : Facts = facts image before in
     let sound = legal_sound image before admitted (IsLegal_begin image before (entry ∷ rest) legal) in
     let of = phase_of_due image f entry sound (due_split image before rest entry legal) phase in
     let o : OpenCall = of.o in
     let opens = call_open image f o sound of.opens in
-    let begins_at = begun_of image before o of.opens in
-    let call : o.call ≡ call_begun first.act = begins_at.3 ∙ ap (λ (e : Entry). call_begun e.act) (same_Some begins_at.0 first (sym begins_at.1 ∙ is)) in
-    let whole : record { caller = o.caller; call = o.call; phase = o.phase } ≡ record { caller = entry.cpu; call = call_begun first.act; phase = o.phase } =
-    ap (λ (k : ℕ). record { caller = k; call = o.call; phase = o.phase }) of.caller ∙ ap (λ (c : Call). record { caller = entry.cpu; call = c; phase = o.phase }) call in
+    let same : o.call ≡ call = same_call image before o call of.opens is in
+    let whole : record { caller = o.caller; call = o.call; phase = o.phase } ≡ record { caller = entry.cpu; call = call; phase = o.phase } =
+    ap (λ (k : ℕ). record { caller = k; call = o.call; phase = o.phase }) of.caller ∙ ap (λ (c : Call). record { caller = entry.cpu; call = c; phase = o.phase }) same in
     let P : Call → Type 0 = λ k. IsInPhase image (configs_of f.cells) f.cpu entry.cpu k o.phase in
     let Q : ℕ → Type 0 = λ k. IsInPhase image (configs_of f.cells) f.cpu k o.call o.phase in
     let M : Call → Type 0 = λ k. is_management k ≡ true in
@@ -281,8 +280,8 @@ phase_begun image before rest entry first admitted legal phase is =
       phase = o.phase;
       opens = of.opens ∙ ap Some whole;
       expects = phase_expects image f (is_idle_but image f o.caller) o.caller o.call o.phase entry.act of.act;
-      holds = subst P call (subst Q of.caller opens.phase);
-      manages = subst M call opens.caller.management;
+      holds = subst P same (subst Q of.caller opens.phase);
+      manages = subst M same opens.caller.management;
     }
 
 settle_by : (image : Image) (call : Option OpenCall) (o : OpenCall) (act : Act) (own i : ℕ) (cpu : Cpu) → call ≡ Some o → is_agreement act ≡ true → HasAgreed o.call cpu (acted image call act own i cpu)
@@ -319,13 +318,13 @@ agreement_phase (Irq device vector) h = h
 agreement_phase (Hvc code x y answer) h = h
 agreement_phase Stop h = h
 
-pub settle_cpus : (image : Image) (before rest : List Entry) (entry first : Entry) (i : ℕ) → IsAdmitted image → IsLegal image (before ++ entry ∷ rest) → is_agreement entry.act ≡ true → begun before ≡ Some first
-    → HasAgreed (call_begun first.act) ((facts image before).cpu i) ((facts image (before ++ entry ∷ [])).cpu i)
-settle_cpus image before rest entry first i admitted legal agreed is =
+pub settle_cpus : (image : Image) (before rest : List Entry) (entry : Entry) (call : Call) (i : ℕ) → IsAdmitted image → IsLegal image (before ++ entry ∷ rest) → call_after before ≡ Some call → is_agreement entry.act ≡ true
+    → HasAgreed call ((facts image before).cpu i) ((facts image (before ++ entry ∷ [])).cpu i)
+settle_cpus image before rest entry call i admitted legal is agreed =
     let f : Facts = facts image before in
-    let of = phase_begun image before rest entry first admitted legal (agreement_phase entry.act agreed) is in
-    let P : Cpu → Type 0 = HasAgreed (call_begun first.act) (f.cpu i) in
-    subst P (sym (behind_cpu image before entry i)) (settle_by image f.call (record { caller = entry.cpu; call = call_begun first.act; phase = of.phase }) entry.act entry.cpu i (f.cpu i) of.opens agreed)
+    let of = phase_begun image before rest entry call admitted legal is (agreement_phase entry.act agreed) in
+    let P : Cpu → Type 0 = HasAgreed call (f.cpu i) in
+    subst P (sym (behind_cpu image before entry i)) (settle_by image f.call (record { caller = entry.cpu; call = call; phase = of.phase }) entry.act entry.cpu i (f.cpu i) of.opens agreed)
 
 created_cpus : (image : Image) (cells made : List Live) (cpu : ℕ → Cpu) (caller at i : ℕ) (phase : Phase) → Expects phase Commit → IsInPhase image (configs_of cells) cpu caller (Create at) phase → made ≡ committed_cells (Create at) phase cells
     → HasCommitted image (configs_of cells) (configs_of made) (Create at) i (cpu i) (committed image (Create at) phase i (cpu i))
@@ -360,12 +359,11 @@ commit_by image cells made cpu caller i (State id) phase manages e h is = both_w
 commit_by image cells made cpu caller i (CpuInfo n kind) phase manages e h is = both_ways false refl manages
 commit_by image cells made cpu caller i Unknown phase manages e h is = both_ways false refl manages
 
-pub commit_cpus : (image : Image) (before rest : List Entry) (entry first : Entry) (i : ℕ) → IsAdmitted image → IsLegal image (before ++ entry ∷ rest) → entry.act ≡ Commit → begun before ≡ Some first
-    → HasCommitted image (configs_of (facts image before).cells) (configs_of (facts image (before ++ entry ∷ [])).cells) (call_begun first.act) i ((facts image before).cpu i) ((facts image (before ++ entry ∷ [])).cpu i)
-commit_cpus image before rest entry first i admitted legal act is =
+pub commit_cpus : (image : Image) (before rest : List Entry) (entry : Entry) (call : Call) (i : ℕ) → IsAdmitted image → IsLegal image (before ++ entry ∷ rest) → call_after before ≡ Some call → entry.act ≡ Commit
+    → HasCommitted image (configs_of (facts image before).cells) (configs_of (facts image (before ++ entry ∷ [])).cells) call i ((facts image before).cpu i) ((facts image (before ++ entry ∷ [])).cpu i)
+commit_cpus image before rest entry call i admitted legal is act =
     let f : Facts = facts image before in
-    let of = phase_begun image before rest entry first admitted legal (ap is_phase act) is in
-    let call : Call = call_begun first.act in
+    let of = phase_begun image before rest entry call admitted legal is (ap is_phase act) in
     let o : OpenCall = record { caller = entry.cpu; call = call; phase = of.phase } in
     let made : List Live = (facts image (before ++ entry ∷ [])).cells in
     let E : Act → Type 0 = Expects of.phase in
