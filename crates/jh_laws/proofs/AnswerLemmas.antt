@@ -6,7 +6,7 @@ use Rattle.std.proofs.lemmas.Option.{none-some, same_Some}
 use Rattle.jh_cellcfg.specs.declared.config.CellConfig.{CellConfig}
 use Rattle.jh_cellcfg.specs.Lives.{has_id}
 use Rattle.jh_call.specs.declared.call.Call.{Call}
-use Rattle.jh_call.specs.declared.call.Call.TheVariants.{Create, Start, Loadable, Destroy, Info, State, CpuInfo, Unknown}
+use Rattle.jh_call.specs.declared.call.Call.TheVariants.{Create}
 use Rattle.jh_script.specs.declared.image.Image.{Image}
 use Rattle.jh_history.specs.declared.call.OpenCall.{OpenCall}
 use Rattle.jh_history.specs.declared.call.Phase.{Phase}
@@ -28,11 +28,11 @@ use Rattle.jh_history.specs.History.{after, facts, coming_of, coming_by}
 use Rattle.jh_history.specs.Due.{due_at, is_idle_but, IsLegal}
 use Rattle.jh_history.specs.Admitted.{IsAdmitted}
 use Rattle.jh_history.specs.Sound.{IsSound}
-use Rattle.jh_laws.specs.Ways.{is_phase, is_decide, call_begun, begun}
+use Rattle.jh_laws.specs.Ways.{is_phase, is_decide, call_after}
 use Rattle.jh_laws.specs.Exchanges.{how_many, made_by_named, made_by_cell, IsSettledBy, IsHeardBy}
 use Rattle.jh_history.proofs.Public.{sound_after, after_call}
 use Rattle.jh_history.specs.Commits.{is_commit}
-use Rattle.jh_laws.proofs.CallLemmas.{Expects, phase_expects, expects_counted, phase_of_due, begun_of, stretch, IsBeside, entry_of_call, not_same}
+use Rattle.jh_laws.proofs.CallLemmas.{Expects, phase_expects, expects_counted, phase_of_due, same_call, stretch, IsBeside, entry_of_call, not_same}
 use Rattle.jh_laws.proofs.DueCpusLemmas.{named_of, settled_with, heard_with}
 use Rattle.jh_laws.proofs.ExchangeLemmas.{counted_over, waits_over, settle_counts, noted_counts, settled_as, heard_as}
 use Rattle.jh_laws.proofs.HeldLemmas.{live_found}
@@ -48,13 +48,7 @@ expects_over call phase (entry ∷ entries) act h = expects_counted entry.cell c
 decided_settle : (call : Call) (coming : Option CellConfig) (how : Settled) → Expects (decided call coming None) (Settle how) → decided call coming None ≡ ToSettle 0
 decided_settle (Create at) None how h = absurd (not_same is_decide (Decide h.0) (Settle how) refl refl (sym h.1))
 decided_settle (Create at) (Some config) how h = absurd (not_same is_commit Commit (Settle how) refl refl (sym h))
-decided_settle (Start id) coming how h = refl
-decided_settle (Loadable id) coming how h = refl
-decided_settle (Destroy id) coming how h = refl
-decided_settle (Info kind) coming how h = refl
-decided_settle (State id) coming how h = refl
-decided_settle (CpuInfo cpu kind) coming how h = refl
-decided_settle Unknown coming how h = refl
+decided_settle _ coming how h = refl
 
 abbrev is_note : Act → Bool
 is_note (Note id) = true
@@ -151,20 +145,18 @@ noted_call image f entry o id about answer opens caller phase act =
     ∙ ap (λ (p : Phase). Some (record { caller = o.caller; call = o.call; phase = after_note p })) phase
     ∙ ap (λ (k : ℕ). Some (record { caller = k; call = o.call; phase = ToNoted id about answer 0 })) caller
 
-pub settles_at : (image : Image) (before middle rest : List Entry) (decide settle first : Entry) (how : Settled) → IsAdmitted image → IsLegal image (before ++ decide ∷ (middle ++ settle ∷ rest)) → begun before ≡ Some first
+pub settles_at : (image : Image) (before middle rest : List Entry) (decide settle : Entry) (call : Call) (how : Settled) → IsAdmitted image → IsLegal image (before ++ decide ∷ (middle ++ settle ∷ rest)) → call_after before ≡ Some call
     → decide.act ≡ Decide None → All (λ (e : Entry). e.cpu ≢ decide.cpu) middle → settle.cpu ≡ decide.cpu → settle.act ≡ Settle how
-    → (config : CellConfig) × Contains (configs_of (facts image (before ++ decide ∷ middle)).cells) config × (is_named (call_begun first.act) config.id ≡ true)
-    × IsSettledBy image (facts image (before ++ decide ∷ middle)) decide.cpu config (made_by_named (call_begun first.act) middle) how
-settles_at image before middle rest decide settle first how admitted legal is act others own settles =
+    → (config : CellConfig) × Contains (configs_of (facts image (before ++ decide ∷ middle)).cells) config × (is_named call config.id ≡ true)
+    × IsSettledBy image (facts image (before ++ decide ∷ middle)) decide.cpu config (made_by_named call middle) how
+settles_at image before middle rest decide settle call how admitted legal is act others own settles =
     let s = stretch image before middle rest decide settle admitted legal in
     let f0 : Facts = facts image before in
     let f1 : Facts = after image f0 decide in
     let f : Facts = fold (after image) f1 middle in
     let of = phase_of_due image f0 decide s.sound s.first_due (ap is_phase act) in
     let o : OpenCall = of.o in
-    let call : Call = call_begun first.act in
-    let begins = begun_of image before o of.opens in
-    let same : o.call ≡ call = begins.3 ∙ ap (λ (e : Entry). call_begun e.act) (same_Some begins.0 first (sym begins.1 ∙ is)) in
+    let same : o.call ≡ call = same_call image before o call of.opens is in
     let caller : ℕ = decide.cpu in
     let coming : Option CellConfig = coming_by image f0 call in
     let made = decided_call image f0 decide o call of.opens of.caller same act in

@@ -27,6 +27,7 @@ use Rattle.jh_history.specs.Due.{IsLegal, IsLegalFrom}
 use Rattle.jh_history.specs.Admitted.{IsAdmitted, has_byte_at, IsOtherPreload}
 use Rattle.jh_history.proofs.Public.{facts_push, facts_nil, IsLegal_begin}
 use Rattle.jh_laws.specs.Outcomes.{is_violation}
+use Rattle.jh_laws.specs.Preloads.{IsPreloaded}
 use Rattle.jh_laws.specs.Writes.{Writes, WritesNot}
 use Rattle.jh_laws.specs.Written.{IsByteBy}
 use Rattle.jh_laws.specs.Ends.{IsAnsweredByRegister}
@@ -193,15 +194,19 @@ opening_none image place bare none =
 has_byte_there : (p : Preload) (k : ℕ) → k < length p.bytes → has_byte_at p (p.at + k) ≡ true
 has_byte_there p k lt = and_from (leb p.at (p.at + k)) (ltb (p.at + k) (p.at + length p.bytes)) (le-leb p.at (p.at + k) (omega arith)) (lt-ltb (p.at + k) (p.at + length p.bytes) (omega arith))
 
-pub opening_byte : (image : Image) (p : Preload) (k : ℕ) → IsAdmitted image → HasNoDevice image → Contains image.preloads p → k < length p.bytes → (facts image []).byte (Physical (p.at + k)) ≡ slice_index p.bytes k
-opening_byte image p k admitted bare held lt =
+byte_put : (image : Image) (p : Preload) (k : ℕ) → IsAdmitted image → HasNoDevice image → Contains image.preloads p → k < length p.bytes → (facts image []).byte (Physical (p.at + k)) ≡ slice_index p.bytes k
+byte_put image p k admitted bare held lt =
     let same : (p.at + k) - p.at ≡ k = omega arith in
     opening_put image (p.at + k) p admitted bare held (has_byte_there p k lt) ∙ ap (slice_index p.bytes) same
 
-pub opening_zero : (image : Image) (place : ℕ) → HasNoDevice image → ((p : Preload) (k : ℕ) → Contains image.preloads p → k < length p.bytes → place ≢ p.at + k) → (facts image []).byte (Physical place) ≡ 0
+pub opening_byte : (image : Image) (place byte : ℕ) → IsAdmitted image → HasNoDevice image → IsPreloaded image place byte → (facts image []).byte (Physical place) ≡ byte
+opening_byte image place byte admitted bare by =
+    ap (λ (q : ℕ). (facts image []).byte (Physical q)) by.place_is ∙ byte_put image by.preload by.index admitted bare by.there by.within ∙ sym by.byte_is
+
+pub opening_zero : (image : Image) (place : ℕ) → HasNoDevice image → ((byte : ℕ) → IsPreloaded image place byte → ⊥) → (facts image []).byte (Physical place) ≡ 0
 opening_zero image place bare none =
     opening_none image place bare (λ p held has.
     let parts = and_parts (leb p.at place) (ltb place (p.at + length p.bytes)) has in
     let first : p.at ≤ place = leb-true p.at place parts.0 in
     let last : place < p.at + length p.bytes = ltb-true place (p.at + length p.bytes) parts.1 in
-    none p (place - p.at) held (omega arith) (omega arith))
+    none (slice_index p.bytes (place - p.at)) (record { preload = p; index = place - p.at; there = held; within = omega arith; place_is = omega arith; byte_is = refl }))

@@ -27,8 +27,9 @@ use Rattle.jh_history.specs.Due.{due_at, is_idle_but, IsLegal}
 use Rattle.jh_history.specs.Admitted.{IsAdmitted}
 use Rattle.jh_history.proofs.Public.{facts_push, due_split, IsLegal_begin, sound_after, legal_sound, after_call, after_cells, uncommitted_cells, call_open}
 use Rattle.jh_history.specs.Sound.{IsInPhase, IsOpen, IsSound}
-use Rattle.jh_laws.specs.Ways.{is_phase, is_finish, call_begun, begun}
-use Rattle.jh_laws.proofs.CallLemmas.{Expects, phase_expects, phase_of_due, phase_goes, call_counted, IsBeside, entry_of_call, along, stretch, begun_of, past_from, not_same, IsPast}
+use Rattle.jh_laws.specs.Ways.{is_phase, is_finish, call_after}
+use Rattle.jh_laws.specs.Creations.{new_live}
+use Rattle.jh_laws.proofs.CallLemmas.{Expects, phase_expects, phase_of_due, phase_goes, call_counted, IsBeside, entry_of_call, along, stretch, same_call, past_from, not_same, IsPast}
 use Rattle.jh_laws.proofs.FactsLemmas.{facts_append}
 
 pub cells_kept : (image : Image) (before : List Entry) (entry : Entry) → is_commit entry.act ≡ false → (facts image (before ++ entry ∷ [])).cells ≡ (facts image before).cells
@@ -43,33 +44,28 @@ pub record IsCommitOf (image : Image) (before : List Entry) (entry : Entry) (cal
   pub holds : IsInPhase image (configs_of (facts image before).cells) (facts image before).cpu entry.cpu call phase
   pub cells : (facts image (before ++ entry ∷ [])).cells ≡ committed_cells call phase (facts image before).cells
 
-pub commit_of : (image : Image) (before rest : List Entry) (entry first : Entry) → IsAdmitted image → IsLegal image (before ++ entry ∷ rest) → entry.act ≡ Commit → begun before ≡ Some first → IsCommitOf image before entry (call_begun first.act)
-commit_of image before rest entry first admitted legal act is =
+pub commit_of : (image : Image) (before rest : List Entry) (entry : Entry) (call : Call) → IsAdmitted image → IsLegal image (before ++ entry ∷ rest) → call_after before ≡ Some call → entry.act ≡ Commit → IsCommitOf image before entry call
+commit_of image before rest entry call admitted legal is act =
     let f : Facts = facts image before in
     let sound = legal_sound image before admitted (IsLegal_begin image before (entry ∷ rest) legal) in
     let due : due_at image f entry.cpu ≡ Some entry = due_split image before rest entry legal in
     let of = phase_of_due image f entry sound due (ap is_phase act) in
     let o : OpenCall = of.o in
     let opens : IsOpen image (configs_of f.cells) f.cpu o = call_open image f o sound of.opens in
-    let begins = begun_of image before o of.opens in
-    let call : o.call ≡ call_begun first.act = begins.3 ∙ ap (λ (e : Entry). call_begun e.act) (same_Some begins.0 first (sym begins.1 ∙ is)) in
+    let same : o.call ≡ call = same_call image before o call of.opens is in
     let P : Call → Type 0 = λ k. IsInPhase image (configs_of f.cells) f.cpu entry.cpu k o.phase in
     let Q : ℕ → Type 0 = λ k. IsInPhase image (configs_of f.cells) f.cpu k o.call o.phase in
     let E : Act → Type 0 = Expects o.phase in
     record {
       phase = o.phase;
       expects = subst E act (phase_expects image f (is_idle_but image f o.caller) o.caller o.call o.phase entry.act of.act);
-      holds = subst P call (subst Q of.caller opens.phase);
+      holds = subst P same (subst Q of.caller opens.phase);
       cells = ap (λ (g : Facts). g.cells) (facts_push image before entry)
           ∙ after_cells image f entry
           ∙ ap (λ (c : Option OpenCall). cells_by c f.cells entry.act) of.opens
           ∙ ap (cells_by (Some o) f.cells) act
-          ∙ ap (λ (k : Call). committed_cells k o.phase f.cells) call;
+          ∙ ap (λ (k : Call). committed_cells k o.phase f.cells) same;
     }
-
--- by the call
-with_call : (image : Image) (before : List Entry) (entry : Entry) (one other : Call) → one ≡ other → IsCommitOf image before entry one → IsCommitOf image before entry other
-with_call image before entry one other same h = let P : Call → Type 0 = IsCommitOf image before entry in subst P same h
 
 pub commit_start : (image : Image) (before : List Entry) (entry : Entry) (id : ℕ) → IsCommitOf image before entry (Start id) → (facts image (before ++ entry ∷ [])).cells ≡ map (marked id false) (facts image before).cells
 commit_start image before entry id h = h.cells
@@ -81,7 +77,7 @@ pub commit_destroy : (image : Image) (before : List Entry) (entry : Entry) (id :
 commit_destroy image before entry id h = h.cells
 
 created_by : (image : Image) (configs : List CellConfig) (cpu : ℕ → Cpu) (caller at : ℕ) (cells after : List Live) (phase : Phase) → Expects phase Commit → IsInPhase image configs cpu caller (Create at) phase → after ≡ committed_cells (Create at) phase cells
-    → (config : CellConfig) × (after ≡ cells ++ (record { config = config; loadable = false }) ∷ [])
+    → (config : CellConfig) × (after ≡ cells ++ new_live config ∷ [])
 created_by image configs cpu caller at cells after ToDecide e h is = absurd (not_same is_commit Commit (Decide e.0) refl refl e.1)
 created_by image configs cpu caller at cells after (ToSettle waited) e h is = absurd (not_same is_commit Commit (Settle e.0) refl refl e.1)
 created_by image configs cpu caller at cells after (ToCreate config) e h is = (config, is)
@@ -91,12 +87,9 @@ created_by image configs cpu caller at cells after (ToNoted id about answer wait
 created_by image configs cpu caller at cells after (ToFinish answer) e h is = absurd (not_same is_commit Commit (Finish answer) refl refl e)
 
 pub commit_create : (image : Image) (before : List Entry) (entry : Entry) (at : ℕ) → IsCommitOf image before entry (Create at)
-    → (config : CellConfig) × ((facts image (before ++ entry ∷ [])).cells ≡ (facts image before).cells ++ (record { config = config; loadable = false }) ∷ [])
+    → (config : CellConfig) × ((facts image (before ++ entry ∷ [])).cells ≡ (facts image before).cells ++ new_live config ∷ [])
 commit_create image before entry at h =
     created_by image (configs_of (facts image before).cells) (facts image before).cpu entry.cpu at (facts image before).cells (facts image (before ++ entry ∷ [])).cells h.phase h.expects h.holds h.cells
-
-pub commit_as : (image : Image) (before rest : List Entry) (entry first : Entry) (call : Call) → IsAdmitted image → IsLegal image (before ++ entry ∷ rest) → entry.act ≡ Commit → begun before ≡ Some first → call_begun first.act ≡ call → IsCommitOf image before entry call
-commit_as image before rest entry first call admitted legal act is same = with_call image before entry (call_begun first.act) call same (commit_of image before rest entry first admitted legal act is)
 
 -- ---- the configuration of a create
 
@@ -116,7 +109,7 @@ creating_kept image caller at config f entry sound is due other =
     (entry_of_call image f (creating caller at config) entry sound is due)
 
 creating_commits : (image : Image) (caller at : ℕ) (config : CellConfig) (f : Facts) (entry : Entry) → IsSound image f → IsCreating caller at config f → due_at image f entry.cpu ≡ Some entry → entry.cpu ≡ caller
-    → (after image f entry).cells ≡ f.cells ++ (record { config = config; loadable = false }) ∷ []
+    → (after image f entry).cells ≡ f.cells ++ new_live config ∷ []
 creating_commits image caller at config f entry sound is due own =
     let o : OpenCall = creating caller at config in
     ⊎_elim
@@ -150,25 +143,23 @@ decided_call image f entry at sound due act o opens caller call =
     ∙ ap (λ (k : ℕ). Some (record { caller = k; call = Create at; phase = decided (Create at) (config_read (read_at image f at)) None })) caller in
     decided_by entry.cpu at (after image f entry).call goes.0 (config_read (read_at image f at)) made goes.1 (past_from goes.0.call entry.act goes.0.phase phase goes.3)
 
-made_cells : (behind made there up_to : Facts) (config : CellConfig) → behind ≡ made → made.cells ≡ there.cells ++ (record { config = config; loadable = false }) ∷ [] → up_to ≡ there
-    → behind.cells ≡ up_to.cells ++ (record { config = config; loadable = false }) ∷ []
+made_cells : (behind made there up_to : Facts) (config : CellConfig) → behind ≡ made → made.cells ≡ there.cells ++ new_live config ∷ [] → up_to ≡ there
+    → behind.cells ≡ up_to.cells ++ new_live config ∷ []
 made_cells behind made there up_to config same cells before =
-    ap (λ (g : Facts). g.cells) same ∙ cells ∙ ap (λ (g : Facts). g.cells ++ (record { config = config; loadable = false }) ∷ []) (sym before)
+    ap (λ (g : Facts). g.cells) same ∙ cells ∙ ap (λ (g : Facts). g.cells ++ new_live config ∷ []) (sym before)
 
 -- what the Decide read is what the Commit makes
-pub created_as_read : (image : Image) (before middle rest : List Entry) (decide commit first : Entry) (at : ℕ) → IsAdmitted image → IsLegal image (before ++ decide ∷ (middle ++ commit ∷ rest))
-    → begun before ≡ Some first → call_begun first.act ≡ Create at → decide.act ≡ Decide None → All (λ (e : Entry). e.cpu ≢ decide.cpu) middle → commit.cpu ≡ decide.cpu
+pub created_as_read : (image : Image) (before middle rest : List Entry) (decide commit : Entry) (at : ℕ) → IsAdmitted image → IsLegal image (before ++ decide ∷ (middle ++ commit ∷ rest))
+    → call_after before ≡ Some (Create at) → decide.act ≡ Decide None → All (λ (e : Entry). e.cpu ≢ decide.cpu) middle → commit.cpu ≡ decide.cpu
     → (config : CellConfig) × (config_read (read_at image (facts image before) at) ≡ Some config)
-    × ((facts image (before ++ decide ∷ (middle ++ commit ∷ []))).cells ≡ (facts image (before ++ decide ∷ middle)).cells ++ (record { config = config; loadable = false }) ∷ [])
-created_as_read image before middle rest decide commit first at admitted legal is call act others own =
+    × ((facts image (before ++ decide ∷ (middle ++ commit ∷ []))).cells ≡ (facts image (before ++ decide ∷ middle)).cells ++ new_live config ∷ [])
+created_as_read image before middle rest decide commit at admitted legal is act others own =
     let s = stretch image before middle rest decide commit admitted legal in
     let f0 : Facts = facts image before in
     let f : Facts = after image f0 decide in
     let there : Facts = fold (after image) f middle in
     let of = phase_of_due image f0 decide s.sound s.first_due (ap is_phase act) in
-    let begins = begun_of image before of.o of.opens in
-    let same : of.o.call ≡ Create at = begins.3 ∙ ap (λ (e : Entry). call_begun e.act) (same_Some begins.0 first (sym begins.1 ∙ is)) ∙ call in
-    let made = decided_call image f0 decide at s.sound s.first_due act of.o of.opens of.caller same in
+    let made = decided_call image f0 decide at s.sound s.first_due act of.o of.opens of.caller (same_call image before of.o (Create at) of.opens is) in
     let config : CellConfig = made.0 in
     let end = along image (IsCreating decide.cpu at config) (λ (e : Entry). e.cpu ≢ decide.cpu) (creating_kept image decide.cpu at config) f middle
     (sound_after image f0 decide s.sound s.first_due) made.2 s.between others in

@@ -17,7 +17,7 @@ use Rattle.jh_check.proofs.Public.{accepted_to}
 use Rattle.jh_shape.specs.Pages.{pages_of}
 use Rattle.jh_comm.specs.declared.words.TheConstants.{STATE_RUNNING_LOCKED}
 use Rattle.jh_call.specs.declared.call.Call.{Call}
-use Rattle.jh_call.specs.declared.call.Call.TheVariants.{Create, Start, Loadable, Destroy, Info, State, CpuInfo, Unknown}
+use Rattle.jh_call.specs.declared.call.Call.TheVariants.{Create, Start, Loadable, Destroy}
 use Rattle.jh_call.specs.Calls.{is_management}
 use Rattle.jh_script.specs.declared.image.Image.{Image}
 use Rattle.jh_history.specs.declared.call.OpenCall.{OpenCall}
@@ -38,9 +38,9 @@ use Rattle.jh_shape.specs.Lives.{configs_of}
 use Rattle.jh_history.specs.Due.{due_at, is_idle_but, IsLegal}
 use Rattle.jh_history.proofs.Public.{due_split, IsLegal_begin, other_root, legal_sound, call_open}
 use Rattle.jh_history.specs.Sound.{AreSoundCells}
-use Rattle.jh_laws.specs.Ways.{is_phase, is_decide, call_begun, begun}
+use Rattle.jh_laws.specs.Ways.{is_phase, is_decide, call_after}
 use Rattle.jh_laws.specs.Decisions.{IsLockedBy, NoneIsLocked, NoOtherIsLocked, LivesNot, IsIdDecision, IsDestroyDecision, IsReadRefusal, IsRefusedOf, IsCreateDecision, IsDecision}
-use Rattle.jh_laws.proofs.CallLemmas.{phase_expects, phase_of_due, begun_of, not_same}
+use Rattle.jh_laws.proofs.CallLemmas.{phase_expects, phase_of_due, same_call, not_same}
 use Rattle.jh_laws.proofs.HeldLemmas.{live_cell}
 use Rattle.jh_laws.proofs.HvcLemmas.{none_live}
 
@@ -166,10 +166,7 @@ decision_of image f caller (Create at) manages sound = create_decision image f c
 decision_of image f caller (Start id) manages sound = id_decision image f id sound
 decision_of image f caller (Loadable id) manages sound = id_decision image f id sound
 decision_of image f caller (Destroy id) manages sound = destroy_decision image f id sound
-decision_of image f caller (Info kind) manages sound = both_ways false refl manages
-decision_of image f caller (State id) manages sound = both_ways false refl manages
-decision_of image f caller (CpuInfo cpu kind) manages sound = both_ways false refl manages
-decision_of image f caller Unknown manages sound = both_ways false refl manages
+decision_of image f caller _ manages sound = both_ways false refl manages
 
 abbrev refused_in : Act → Option ℤ
 refused_in (Decide refused) = refused
@@ -189,19 +186,18 @@ decide_says image f idle caller call (ToNoted id about answer waited) act is h =
     let e = phase_expects image f idle caller call (ToNoted id about answer waited) act h in absurd (not_same is_decide act (Noted id e.0) is refl e.1)
 decide_says image f idle caller call (ToFinish answer) act is h = absurd (not_same is_decide act (Finish answer) is refl (phase_expects image f idle caller call (ToFinish answer) act h))
 
-pub decides : (image : Image) (before rest : List Entry) (entry first : Entry) (refused : Option ℤ) → IsAdmitted image → IsLegal image (before ++ entry ∷ rest) → entry.act ≡ Decide refused → begun before ≡ Some first
-    → IsDecision image (facts image before) entry.cpu (call_begun first.act) refused
-decides image before rest entry first refused admitted legal act is =
+pub decides : (image : Image) (before rest : List Entry) (entry : Entry) (call : Call) (refused : Option ℤ) → IsAdmitted image → IsLegal image (before ++ entry ∷ rest) → call_after before ≡ Some call → entry.act ≡ Decide refused
+    → IsDecision image (facts image before) entry.cpu call refused
+decides image before rest entry call refused admitted legal is act =
     let f : Facts = facts image before in
     let sound = legal_sound image before admitted (IsLegal_begin image before (entry ∷ rest) legal) in
     let due : due_at image f entry.cpu ≡ Some entry = due_split image before rest entry legal in
     let of = phase_of_due image f entry sound due (ap is_phase act) in
     let o : OpenCall = of.o in
-    let begins = begun_of image before o of.opens in
-    let call : o.call ≡ call_begun first.act = begins.3 ∙ ap (λ (e : Entry). call_begun e.act) (same_Some begins.0 first (sym begins.1 ∙ is)) in
+    let that : o.call ≡ call = same_call image before o call of.opens is in
     let says : refused_in entry.act ≡ decision image f o.caller o.call = decide_says image f (is_idle_but image f o.caller) o.caller o.call o.phase entry.act (ap is_decide act) of.act in
     let same : decision image f o.caller o.call ≡ refused = sym says ∙ ap refused_in act in
     let P : Option ℤ → Type 0 = IsDecision image f o.caller o.call in
     let Q : Call → Type 0 = λ k. IsDecision image f o.caller k refused in
-    let R : ℕ → Type 0 = λ k. IsDecision image f k (call_begun first.act) refused in
-    subst R of.caller (subst Q call (subst P same (decision_of image f o.caller o.call (call_open image f o sound of.opens).caller.management sound.cells)))
+    let R : ℕ → Type 0 = λ k. IsDecision image f k call refused in
+    subst R of.caller (subst Q that (subst P same (decision_of image f o.caller o.call (call_open image f o sound of.opens).caller.management sound.cells)))

@@ -3,7 +3,6 @@ use Rattle.std.proofs.Common.{◌≡◌, ℕ, ℤ, pos, List, [], ◌∷◌, ◌
 use Rattle.std.specs.List.{fold}
 use Rattle.std.proofs.lemmas.Bool.{both_ways, cond_both}
 use Rattle.std.proofs.lemmas.List.{append_cancel_left}
-use Rattle.std.proofs.lemmas.Option.{same_Some}
 use Rattle.jh_cellcfg.specs.declared.config.CellConfig.{CellConfig}
 use Rattle.jh_cellcfg.specs.declared.live.Live.{Live}
 use Rattle.jh_cpu.specs.declared.cpu.Cpu.{Cpu}
@@ -26,8 +25,8 @@ use Rattle.jh_history.specs.History.{after, facts, coming_of}
 use Rattle.jh_shape.specs.Lives.{configs_of}
 use Rattle.jh_history.specs.Sound.{IsInPhase, IsSound}
 use Rattle.jh_history.proofs.Public.{facts_push, after_call, sound_after, call_open}
-use Rattle.jh_laws.specs.Ways.{is_phase, is_finish, call_begun, begun}
-use Rattle.jh_laws.proofs.CallLemmas.{Expects, IsBeside, along, begun_of, call_counted, entry_of_call, not_same, phase_expects, phase_of_due, stretch}
+use Rattle.jh_laws.specs.Ways.{is_phase, is_finish, call_after}
+use Rattle.jh_laws.proofs.CallLemmas.{Expects, IsBeside, along, call_counted, entry_of_call, not_same, phase_expects, phase_of_due, same_call, stretch}
 
 -- the phase leads to the end with the answer
 abbrev Answers : ℤ → Phase → Type 0
@@ -45,22 +44,15 @@ answers_telling answer a about None h = h
 answers_telling answer a about (Some id) h = h
 
 answers_counted : (answer : ℤ) (cell : ℕ) (call : Call) (phase : Phase) → Answers answer phase → Answers answer (counted cell call phase)
-answers_counted answer cell call ToDecide h = absurd h
-answers_counted answer cell call (ToSettle waited) h = absurd h
-answers_counted answer cell call (ToCreate config) h = absurd h
-answers_counted answer cell call ToCommit h = absurd h
 answers_counted answer cell call (ToNote id about a) h = h
 answers_counted answer cell call (ToNoted id about a waited) h =
     cond_both (eqb cell id) (ToNoted id about a (counted_up waited)) (ToNoted id about a waited) (Answers answer) (λ _. h) (λ _. h)
 answers_counted answer cell call (ToFinish a) h = h
+answers_counted answer cell call _ h = absurd h
 
 -- a phase behind the Commit that isn't the last leads on
 answers_next : (answer : ℤ) (cells : List Live) (coming : Option CellConfig) (entry : Entry) (caller : ℕ) (call : Call) (phase : Phase) (act : Act) → Answers answer phase → Expects phase act → is_finish act ≡ false
     → WillAnswer answer (call_by cells coming (Some (record { caller = caller; call = call; phase = phase })) entry act)
-answers_next answer cells coming entry caller call ToDecide act h e more = absurd h
-answers_next answer cells coming entry caller call (ToSettle waited) act h e more = absurd h
-answers_next answer cells coming entry caller call (ToCreate config) act h e more = absurd h
-answers_next answer cells coming entry caller call ToCommit act h e more = absurd h
 answers_next answer cells coming entry caller call (ToNote id about a) act h e more =
     let P : Act → Type 0 = λ x. WillAnswer answer (call_by cells coming (Some (record { caller = caller; call = call; phase = ToNote id about a })) entry x) in
     subst P (sym e) (record { caller = caller; call = call; phase = ToNoted id about a 0 }, refl, h)
@@ -69,6 +61,7 @@ answers_next answer cells coming entry caller call (ToNoted id about a waited) a
     let told : Option ℕ = first_recipient about (listed_behind id cells) in
     subst P (sym e.1) (record { caller = caller; call = call; phase = telling about a told }, refl, answers_telling answer a about told h)
 answers_next answer cells coming entry caller call (ToFinish a) act h e more = absurd (both_ways (is_finish act) more (ap is_finish e))
+answers_next answer cells coming entry caller call _ act h e more = absurd h
 
 call_behind : (image : Image) (f : Facts) (entry : Entry) (o : OpenCall) → f.call ≡ Some o → (after image f entry).call ≡ call_by f.cells (coming_of image f) (Some o) entry entry.act
 call_behind image f entry o is = after_call image f entry ∙ ap (λ (c : Option OpenCall). call_by f.cells (coming_of image f) c entry entry.act) is
@@ -128,13 +121,10 @@ answer_in (Finish answer) = answer
 answer_in _ = pos 0
 
 finishes_with : (phase : Phase) (answer a : ℤ) → Answers a phase → Expects phase (Finish answer) → answer ≡ a
-finishes_with ToDecide answer a h e = absurd h
-finishes_with (ToSettle waited) answer a h e = absurd h
-finishes_with (ToCreate config) answer a h e = absurd h
-finishes_with ToCommit answer a h e = absurd h
 finishes_with (ToNote id about b) answer a h e = absurd (not_same is_finish (Finish answer) (Note id) refl refl e)
 finishes_with (ToNoted id about b waited) answer a h e = absurd (not_same is_finish (Finish answer) (Noted id e.0) refl refl e.1)
 finishes_with (ToFinish b) answer a h e = ap answer_in e ∙ h
+finishes_with _ answer a h e = absurd h
 
 finish_is : (image : Image) (f : Facts) (entry : Entry) (answer a : ℤ) → IsSound image f → WillAnswer a f.call → due_at image f entry.cpu ≡ Some entry → entry.act ≡ Finish answer → answer ≡ a
 finish_is image f entry answer a sound will due act =
@@ -148,15 +138,14 @@ cells_behind : (image : Image) (before : List Entry) (entry : Entry) → (facts 
 unfolding after
 cells_behind image before entry = ap (λ (f : Facts). f.cells) (facts_push image before entry)
 
-pub new_id : (image : Image) (before middle rest : List Entry) (first commit last : Entry) (at : ℕ) (live : Live) (answer : ℤ) → IsAdmitted image → IsLegal image (before ++ commit ∷ (middle ++ last ∷ rest))
-    → begun before ≡ Some first → call_begun first.act ≡ Create at → commit.act ≡ Commit → (facts image (before ++ commit ∷ [])).cells ≡ (facts image before).cells ++ live ∷ []
+pub new_id : (image : Image) (before middle rest : List Entry) (commit last : Entry) (at : ℕ) (live : Live) (answer : ℤ) → IsAdmitted image → IsLegal image (before ++ commit ∷ (middle ++ last ∷ rest))
+    → call_after before ≡ Some (Create at) → commit.act ≡ Commit → (facts image (before ++ commit ∷ [])).cells ≡ (facts image before).cells ++ live ∷ []
     → All (λ (e : Entry). is_finish e.act ≡ false) middle → last.act ≡ Finish answer → answer ≡ pos live.config.id
-new_id image before middle rest first commit last at live answer admitted legal begins create act made more ends =
+new_id image before middle rest commit last at live answer admitted legal is act made more ends =
     let s = stretch image before middle rest commit last admitted legal in
     let f : Facts = facts image before in
     let of = phase_of_due image f commit s.sound s.first_due (ap is_phase act) in
-    let opened = begun_of image before of.o of.opens in
-    let call : of.o.call ≡ Create at = opened.3 ∙ ap (λ (e : Entry). call_begun e.act) (same_Some opened.0 first (sym opened.1 ∙ begins)) ∙ create in
+    let call : of.o.call ≡ Create at = same_call image before of.o (Create at) of.opens is in
     let expects = subst (Expects of.o.phase) act (phase_expects image f (is_idle_but image f of.o.caller) of.o.caller of.o.call of.o.phase commit.act of.act) in
     let cells = subst (λ (x : Act). cells_by f.call f.cells x ≡ f.cells ++ live ∷ []) act (sym (cells_behind image before commit) ∙ made) in
     let will = answers_commit image f commit of.o at live s.sound of.opens call expects act cells in

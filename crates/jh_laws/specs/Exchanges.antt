@@ -1,7 +1,8 @@
 -- How a cell met the request to shut down, and the note of a change.
-use Rattle.std.specs.Prelude.{◌≡◌, ◌≢◌, ◌≤◌, ◌^◌, ◌-◌, ◌⊎◌, ℕ, true, false, Bool, ◌==◌, ◌+◌, min, if◌then◌else◌, List, [], ◌∷◌}
+use Rattle.std.specs.Prelude.{◌≡◌, ◌≢◌, ◌≤◌, ◌^◌, ◌-◌, ◌⊎◌, ℕ, true, false, Bool, ◌==◌, ◌+◌, min, if◌then◌else◌, List, [], ◌∷◌, Contains}
 use Rattle.jh_cellcfg.specs.declared.config.CellConfig.{CellConfig}
 use Rattle.jh_cellcfg.specs.Cells.{is_passive}
+use Rattle.jh_shape.specs.Lives.{configs_of}
 use Rattle.jh_comm.specs.declared.words.TheConstants.{REPLY_REQUEST_APPROVED, REPLY_RECEIVED}
 use Rattle.jh_call.specs.declared.call.Call.{Call}
 use Rattle.jh_script.specs.declared.image.Image.{Image}
@@ -13,6 +14,7 @@ use Rattle.jh_history.specs.declared.entry.Heard.TheVariants.{Received, Down, Ot
 use Rattle.jh_history.specs.Facts.{Facts}
 use Rattle.jh_history.specs.Calls.{is_named}
 use Rattle.jh_history.specs.Phases.{state_word, reply_word, is_down}
+use Rattle.jh_laws.specs.Moments.{AdmittedSpan, facts_at_last}
 use Rattle.jh_laws.specs.Ready.{NothingElseIsDue}
 
 -- how many of the entries pass the test
@@ -48,3 +50,17 @@ pub record IsHeardBy (image : Image) (f : Facts) (caller : ℕ) (config : CellCo
   pub received : is_down (state_word f config.id) ≡ false → reply_word f config.id ≡ REPLY_RECEIVED → how ≡ Received
   pub other : is_down (state_word f config.id) ≡ false → reply_word f config.id ≢ REPLY_RECEIVED → reply_word f config.id ≢ 0 → how ≡ Other
   pub silent : is_down (state_word f config.id) ≡ false → reply_word f config.id ≡ 0 → (how ≡ Silent) × IsTimeOver image f caller config waited
+
+-- at the last entry the cell that the call is about has met the request to shut down so, which it was asked by the first
+pub record IsSettledAtLast (s : AdmittedSpan) (call : Call) (how : Settled) : Type 0 where
+  pub config : CellConfig
+  pub lives : Contains (configs_of (facts_at_last s).cells) config
+  pub named : is_named call config.id ≡ true
+  pub settles : IsSettledBy s.image (facts_at_last s) s.first.cpu config (made_by_named call s.between) how
+
+-- at the last entry the cell with the id has met the note so, which it was told by the first
+pub record IsHeardAtLast (s : AdmittedSpan) (id : ℕ) (how : Heard) : Type 0 where
+  pub config : CellConfig
+  pub lives : Contains (configs_of (facts_at_last s).cells) config
+  pub named : config.id ≡ id
+  pub hears : IsHeardBy s.image (facts_at_last s) s.first.cpu config (made_by_cell id s.between) how

@@ -11,6 +11,7 @@ use Rattle.jh_history.specs.declared.place.Place.{Place}
 use Rattle.jh_history.specs.declared.place.Place.TheVariants.{Physical, Page}
 use Rattle.jh_history.specs.declared.access.Access.{Access}
 use Rattle.jh_shape.specs.Lives.{configs_of}
+use Rattle.jh_laws.specs.Moments.{AdmittedJournal, AdmittedMoment, facts_of, facts_before}
 use Rattle.jh_laws.specs.Grants.{IsGiven}
 
 -- the cell is root, or one of those that live besides it
@@ -31,6 +32,10 @@ pub record IsGrantedTo (image : Image) (cells : List Live) (id : ℕ) (access : 
   pub given : IsGiven cell access at place
   pub left : IsLeft image cells cell place
 
+-- the live cell with the id is granted the place at the address, after the journal
+abbrev pub IsGrantedAfter : AdmittedJournal → ℕ → Access → ℕ → Place → Type 0
+IsGrantedAfter j id access at place = IsGrantedTo j.image (facts_of j).cells id access at place
+
 -- each of so many bytes from the address on is granted some place
 abbrev pub AreGrantedTo : Image → List Live → ℕ → Access → ℕ → ℕ → Type 0
 AreGrantedTo image cells id access at width = (k : ℕ) → k < width → (place : Place) × IsGrantedTo image cells id access (at + k) place
@@ -45,6 +50,10 @@ pub record IsHeld (cells : List Live) (live : Live) (number : ℕ) (region : Reg
   pub alone : is_unshared region ≡ true
   pub has : has_place region place ≡ true
   pub kept : live.loadable ≡ true → is_loadable region ≡ true → ⊥
+
+-- just before the entry the cell holds the place for itself, by its region of that number
+abbrev pub IsHeldBefore : AdmittedMoment → Live → ℕ → ℕ → Type 0
+IsHeldBefore m live number place = (region : Region) × IsHeld (facts_before m).cells live number region place
 
 -- the region of the cell, and that of the other one, are the same section of two linked devices
 abbrev pub AreLinkedSections : CellConfig → ℕ → CellConfig → ℕ → Type 0

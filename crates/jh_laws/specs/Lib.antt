@@ -17,3 +17,5 @@ pub mod States
 pub mod Ready
 pub mod Exchanges
 pub mod Typed
+pub mod Creations
+pub mod Preloads

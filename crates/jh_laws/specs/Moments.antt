@@ -1,7 +1,8 @@
--- Legal journals of admitted images, and which cells live and which call is open after entries of one.
-use Rattle.std.specs.Prelude.{◌≢◌, ℕ, List, [], ◌∷◌, ◌++◌, Option}
+-- Legal journals of admitted images, which cells live and which call is open after entries of one, and stretches of them.
+use Rattle.std.specs.Prelude.{◌≡◌, ◌≢◌, ℕ, false, List, [], ◌∷◌, ◌++◌, All, Option}
 use Rattle.jh_cellcfg.specs.declared.config.CellConfig.{CellConfig}
 use Rattle.jh_cpu.specs.declared.cpu.Cpu.{Cpu}
+use Rattle.jh_call.specs.declared.call.Call.{Call}
 use Rattle.jh_script.specs.declared.image.Image.{Image}
 use Rattle.jh_history.specs.declared.call.OpenCall.{OpenCall}
 use Rattle.jh_history.specs.declared.entry.Entry.{Entry}
@@ -11,6 +12,8 @@ use Rattle.jh_history.specs.History.{facts}
 use Rattle.jh_shape.specs.Lives.{configs_of}
 use Rattle.jh_history.specs.Due.{IsLegal}
 use Rattle.jh_history.specs.Admitted.{IsAdmitted}
+use Rattle.jh_history.specs.Commits.{is_commit}
+use Rattle.jh_laws.specs.Ways.{is_finish, call_after}
 
 -- a legal journal of an image that a board may be opened with
 pub record AdmittedJournal : Type 0 where
@@ -68,6 +71,10 @@ facts_before m = facts m.image m.before
 abbrev pub facts_behind : AdmittedMoment → Facts
 facts_behind m = facts m.image (m.before ++ m.entry ∷ [])
 
+-- the facts after the whole journal: the entries before the entry, the entry and the rest
+abbrev pub facts_at_end : AdmittedMoment → Facts
+facts_at_end m = facts m.image (m.before ++ m.entry ∷ m.rest)
+
 -- the byte at the place is another just behind the entry than it was just before
 abbrev pub ByteChanges : AdmittedMoment → Place → Type 0
 ByteChanges m place = (facts_behind m).byte place ≢ (facts_before m).byte place
@@ -88,9 +95,9 @@ cells_behind m = configs_of (facts_behind m).cells
 abbrev pub owner_of : AdmittedJournal → ℕ → ℕ
 owner_of j cpu = ((facts_of j).cpu cpu).owner
 
--- the call that is open after the journal
-abbrev pub call_of : AdmittedJournal → Option OpenCall
-call_of j = (facts_of j).call
+-- the call that is open after the journal, with its caller and its phase
+abbrev pub open_call_of : AdmittedJournal → Option OpenCall
+open_call_of j = (facts_of j).call
 
 -- the state of the CPU just before the entry
 abbrev pub state_before : AdmittedMoment → ℕ → Cpu
@@ -99,3 +106,32 @@ state_before m cpu = (facts_before m).cpu cpu
 -- the state of the CPU just behind the entry
 abbrev pub state_behind : AdmittedMoment → ℕ → Cpu
 state_behind m cpu = (facts_behind m).cpu cpu
+
+-- ---- calls
+
+-- the call that was begun before the entry, and hasn't ended
+abbrev pub call_before : AdmittedMoment → Option Call
+call_before m = call_after m.before
+
+-- the call that was begun before the first entry, and hasn't ended
+abbrev pub call_at_first : AdmittedSpan → Option Call
+call_at_first s = call_after s.before
+
+-- the call that was begun up to the first entry, by it or before it, and hasn't ended
+abbrev pub call_past_first : AdmittedSpan → Option Call
+call_past_first s = call_after (s.before ++ s.first ∷ [])
+
+-- ---- what is between
+
+-- the last entry is the next that the CPU of the first makes: it is of that CPU, and none between is
+pub record IsCpusNext (s : AdmittedSpan) : Type 0 where
+  pub others : All (λ (e : Entry). e.cpu ≢ s.first.cpu) s.between
+  pub own : s.last.cpu ≡ s.first.cpu
+
+-- no entry between is the end of a call
+abbrev pub NoneFinishesBetween : AdmittedSpan → Type 0
+NoneFinishesBetween s = All (λ (e : Entry). is_finish e.act ≡ false) s.between
+
+-- no entry between is a Commit
+abbrev pub NoneCommitsBetween : AdmittedSpan → Type 0
+NoneCommitsBetween s = All (λ (e : Entry). is_commit e.act ≡ false) s.between

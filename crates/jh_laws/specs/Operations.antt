@@ -13,6 +13,7 @@ use Rattle.jh_history.specs.declared.entry.Act.{Act}
 use Rattle.jh_history.specs.declared.entry.Act.TheVariants.{Read, Write, Fetch, Await, Irq, Hvc, Begin}
 use Rattle.jh_history.specs.History.{facts}
 use Rattle.jh_history.specs.Lives.{program_ops}
+use Rattle.jh_laws.specs.Moments.{AdmittedMoment, state_before}
 use Rattle.jh_laws.specs.RootAlone.{cpu_at}
 use Rattle.jh_laws.specs.Ends.{IsAnswered, IsReadBy}
 use Rattle.jh_laws.specs.Outcomes.{HasItsOutcome}
@@ -39,6 +40,10 @@ operations_by cpu entries = filter_map (op_by cpu) entries
 -- the operations of the CPU's program in the cell
 abbrev pub program_in : Image → CellConfig → ℕ → List Op
 program_in image cell cpu = program_ops image (name_of cell) cpu
+
+-- the operation that the entry's CPU is at just before the entry, in its program of the cell
+abbrev pub op_before : AdmittedMoment → CellConfig → Option Op
+op_before m cell = slice_get (program_in m.image cell m.entry.cpu) (state_before m m.entry.cpu).position
 
 -- the cell's operation is due after the entries: a read, write or fetch always is, and an await where it reads the value
 -- that it waits for, if anything answers it. These are the operations of images whose root has no device, and which have no

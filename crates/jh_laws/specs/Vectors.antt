@@ -1,7 +1,7 @@
 -- Pending vectors of devices: what raises one, and what drops it. A vector is pending exactly where it was raised while it
 -- was open, and wasn't taken since, nor its device reset or gone: behind an entry the vectors that are pending are those
 -- that it raises and those that were pending before it, but for those that it drops.
-use Rattle.std.specs.Prelude.{◌≡◌, ◌≢◌, ◌≤◌, ◌⊎◌, ◌/◌, ◌%◌, ◌^◌, ℕ, true, false, [], ◌∷◌, Contains, Some, IsTrue}
+use Rattle.std.specs.Prelude.{◌≡◌, ◌≢◌, ◌≤◌, ◌⊎◌, ◌/◌, ◌%◌, ◌^◌, ℕ, true, false, [], ◌∷◌, Contains, Option, Some, IsTrue}
 use Rattle.jh_ivshmem.specs.declared.endpoint.Endpoint.{Endpoint}
 use Rattle.jh_ivshmem.specs.declared.vector.Vector.{Vector}
 use Rattle.jh_ivshmem.specs.Endpoint.{is_open, vector_at}
@@ -16,6 +16,7 @@ use Rattle.jh_history.specs.declared.entry.Act.{Act}
 use Rattle.jh_history.specs.declared.entry.Act.TheVariants.{Write, Irq, Commit}
 use Rattle.jh_history.specs.Facts.{Facts}
 use Rattle.jh_laws.specs.Ends.{IsAnsweredByRegister}
+use Rattle.jh_laws.specs.Moments.{AdmittedMoment, facts_before, facts_behind}
 
 -- the vector of the device of the cell is pending
 abbrev pub IsPendingIn : Facts → ℕ → ℕ → ℕ → Type 0
@@ -93,6 +94,17 @@ abbrev pub Drops : Facts → Entry → ℕ → ℕ → ℕ → Type 0
 Drops f entry id n v = ((entry.cell ≡ id) × (entry.act ≡ Irq n v)) ⊎ Clears f entry id
 
 -- ---- what cells do to one another by devices
+
+-- the endpoint is there just before the entry, is of another cell than the one that makes it, and stays: the entry neither
+-- starts nor destroys its cell
+pub record StaysAnothers (m : AdmittedMoment) (e : Endpoint) : Type 0 where
+  pub there : Contains (facts_before m).endpoints e
+  pub other : m.entry.cell ≢ e.spec.cell
+  pub stays : Clears (facts_before m) m.entry e.spec.cell → ⊥
+
+-- the endpoint of the same device of the same cell just behind the entry
+abbrev pub endpoint_behind : AdmittedMoment → Endpoint → Option Endpoint
+endpoint_behind m e = endpoint_at e.spec.cell e.spec.device (facts_behind m).endpoints
 
 -- the vector but for whether it is pending: its address, its message and its mask, which its own cell writes
 abbrev pub written_part : Vector → Vector

@@ -1,5 +1,5 @@
 -- The ways of management calls: which entries are theirs, and which may follow which.
-use Rattle.std.specs.Prelude.{◌≡◌, ◌⊎◌, ℕ, ℤ, pos, Bool, true, false, List, fold, Option, Some, None}
+use Rattle.std.specs.Prelude.{◌≡◌, ◌⊎◌, ℕ, ℤ, pos, Bool, true, false, List, fold, Option, Some, None, option_map}
 use Rattle.jh_num.specs.declared.error.TheConstants.{EPERM}
 use Rattle.jh_call.specs.declared.call.Call.{Call}
 use Rattle.jh_call.specs.declared.call.Call.TheVariants.{Create, Start, Loadable, Destroy, Unknown}
@@ -56,6 +56,10 @@ begun_by begun entry act = begun
 -- the last beginning of a call that no end follows
 abbrev pub begun : List Entry → Option Entry
 begun entries = fold (λ (b : Option Entry) (entry : Entry). begun_by b entry entry.act) None entries
+
+-- the call that is open after the entries: the one that was begun last, where no end follows
+abbrev pub call_after : List Entry → Option Call
+call_after entries = option_map (λ (opening : Entry). call_begun opening.act) (begun entries)
 
 -- the call that is open is the one that was begun, by its CPU
 abbrev pub IsBegun : Option Entry → Option OpenCall → Type 0

@@ -16,6 +16,7 @@ use Rattle.jh_history.specs.Facts.{Facts}
 use Rattle.jh_history.specs.History.{cells_after, facts}
 use Rattle.jh_history.specs.Pages.{page_after, page_write_by}
 use Rattle.jh_history.specs.Endpoints.{specs_changing}
+use Rattle.jh_laws.specs.Moments.{AdmittedMoment}
 use Rattle.jh_laws.specs.Ends.{AreItsPlaces}
 use Rattle.jh_laws.specs.Held.{IsOwnOrLinked}
 use Rattle.jh_laws.specs.Vectors.{PutsRegister}
@@ -97,3 +98,7 @@ abbrev pub NoneWrites : Image → List Entry → List Entry → Place → Type 0
 NoneWrites image before [] place = Unit {0}
 NoneWrites image before (entry ∷ rest) place =
     ((byte : ℕ) → WritesByte image (facts image before) entry place byte → ⊥) × NoneWrites image (before ++ entry ∷ []) rest place
+
+-- no entry behind the entry writes the place
+abbrev pub NoneWritesBehind : AdmittedMoment → Place → Type 0
+NoneWritesBehind m place = NoneWrites m.image (m.before ++ m.entry ∷ []) m.rest place

@@ -1,25 +1,23 @@
 //! Management calls: which is open, who is suspended by it, and what may follow what in it.
-ghost use Rattle.std.specs.Prelude.{◌≡◌, ◌≢◌, ℕ, ℤ, pos, Option, [], ◌∷◌, ◌++◌, Some, None, true, false, All, Contains};
-ghost use Rattle.jh_cellcfg.specs.declared.config.CellConfig.{CellConfig as TheConfig};
+ghost use Rattle.std.specs.Prelude.{◌≡◌, ℕ, ℤ, pos, Option, Some, None, true, false};
 ghost use Rattle.jh_cellcfg.specs.declared.live.Live.{Live as TheLive};
-ghost use Rattle.jh_call.specs.declared.call.Call.TheVariants.{Create};
+ghost use Rattle.jh_call.specs.declared.call.Call.{Call as TheCall};
 ghost use Rattle.jh_history.specs.declared.entry.Settled.{Settled as TheSettled};
 ghost use Rattle.jh_history.specs.declared.entry.Heard.{Heard as TheHeard};
-ghost use Rattle.jh_shape.specs.Lives.{configs_of};
-ghost use Rattle.jh_laws.specs.Exchanges.{made_by_named, made_by_cell, IsSettledBy, IsHeardBy};
 ghost use Rattle.jh_history.specs.declared.entry.Entry.{Entry as TheEntry};
-ghost use Rattle.jh_history.specs.declared.entry.Act.TheVariants.{Begin, Stop, Decide, Settle, Commit, Note, Noted, Finish};
+ghost use Rattle.jh_history.specs.declared.entry.Act.TheVariants.{Begin, Stop, Decide, Settle, Note, Noted, Finish};
 ghost use Rattle.jh_history.specs.Due.{IsQuiet};
 ghost use Rattle.jh_history.specs.Calls.{is_named, is_call};
-ghost use Rattle.jh_history.specs.Commits.{is_commit};
-ghost use Rattle.jh_laws.specs.Moments.{AdmittedJournal, AdmittedMoment, AdmittedSpan, call_of, facts_before, facts_at_first, facts_past_first, facts_at_last};
+ghost use Rattle.jh_laws.specs.Moments.{AdmittedJournal, AdmittedMoment, AdmittedSpan, open_call_of, facts_before, call_before, call_at_first, call_past_first, IsCpusNext, NoneFinishesBetween, NoneCommitsBetween};
+ghost use Rattle.jh_laws.specs.Creations.{IsMadeByFirst};
 ghost use Rattle.jh_laws.specs.Decisions.{IsDecision};
-ghost use Rattle.jh_laws.specs.Ways.{is_phase, is_decide, is_agreement, is_finish, begun, call_begun, IsBegun, MayFollow};
+ghost use Rattle.jh_laws.specs.Exchanges.{IsSettledAtLast, IsHeardAtLast};
+ghost use Rattle.jh_laws.specs.Ways.{is_phase, is_decide, is_agreement, is_finish, begun, IsBegun, MayFollow};
 
 /// The call that is open is the last that was begun and not ended, and its CPU is the caller. None begins while
 /// another is open, and each of its phases is an entry of its caller.
 pub fn one_call_is_open()
-    ensures open { (j : AdmittedJournal) → IsBegun (begun j.entries) (call_of j) }
+    ensures open { (j : AdmittedJournal) → IsBegun (begun j.entries) (open_call_of j) }
     ensures begins { (m : AdmittedMoment) (code a b : ℕ) → m.entry.act ≡ Begin code a b → begun m.before ≡ None }
     ensures phases { (m : AdmittedMoment) → is_phase m.entry.act ≡ true →
         (first : TheEntry) × (begun m.before ≡ Some first) × (first.cpu ≡ m.entry.cpu) }
@@ -27,52 +25,41 @@ pub fn one_call_is_open()
 
 /// What the CPU does next, behind an entry of its call that doesn't end it.
 pub fn calls_go_phase_by_phase()
-    ensures { (s : AdmittedSpan) → is_call s.first.act ≡ true → is_finish s.first.act ≡ false →
-        All (λ (e : TheEntry). e.cpu ≢ s.first.cpu) s.between → s.last.cpu ≡ s.first.cpu →
-        (opening : TheEntry) × (begun (s.before ++ s.first ∷ []) ≡ Some opening) × MayFollow (call_begun opening.act) s.first.act s.last.act }
+    ensures { (s : AdmittedSpan) → is_call s.first.act ≡ true → is_finish s.first.act ≡ false → IsCpusNext s →
+        (call : TheCall) × (call_past_first s ≡ Some call) × MayFollow call s.first.act s.last.act }
 {}
 
 /// A create whose Commit makes a cell ends with that cell's id, however many cells are told of it before.
 pub fn a_create_answers_the_new_cells_id()
-    ensures { (s : AdmittedSpan) (opening : TheEntry) (at : ℕ) (live : TheLive) (answer : ℤ) → begun s.before ≡ Some opening →
-        call_begun opening.act ≡ Create at → s.first.act ≡ Commit →
-        (facts_past_first s).cells ≡ (facts_at_first s).cells ++ live ∷ [] →
-        All (λ (e : TheEntry). is_finish e.act ≡ false) s.between → s.last.act ≡ Finish answer → answer ≡ pos live.config.id }
+    ensures { (s : AdmittedSpan) (live : TheLive) (answer : ℤ) → IsMadeByFirst s live → NoneFinishesBetween s →
+        s.last.act ≡ Finish answer → answer ≡ pos live.config.id }
 {}
 
 /// From a Decide to the end of its call no CPU of root but the caller makes an entry. From a Settle that isn't
 /// denied to the Commit a CPU of the cell that the call is about makes no entry but its stop.
 pub fn suspended_cpus_make_no_entry()
-    ensures roots { (s : AdmittedSpan) → is_decide s.first.act ≡ true →
-        All (λ (e : TheEntry). is_finish e.act ≡ false) s.between →
+    ensures roots { (s : AdmittedSpan) → is_decide s.first.act ≡ true → NoneFinishesBetween s →
         s.last.cell ≡ s.image.system.root.id → s.last.cpu ≡ s.first.cpu }
-    ensures cells { (s : AdmittedSpan) (opening : TheEntry) → is_agreement s.first.act ≡ true →
-        All (λ (e : TheEntry). is_commit e.act ≡ false) s.between →
-        begun s.before ≡ Some opening → is_named (call_begun opening.act) s.last.cell ≡ true → s.last.act ≡ Stop }
+    ensures cells { (s : AdmittedSpan) (call : TheCall) → call_at_first s ≡ Some call → is_agreement s.first.act ≡ true →
+        NoneCommitsBetween s → is_named call s.last.cell ≡ true → s.last.act ≡ Stop }
 {}
 
 /// While a call is open something is due to some CPU; so a quiet journal has no open call.
 pub fn quiet_journals_have_no_open_call()
-    ensures { (j : AdmittedJournal) → IsQuiet j.image j.entries → call_of j ≡ None }
+    ensures { (j : AdmittedJournal) → IsQuiet j.image j.entries → open_call_of j ≡ None }
 {}
 
 /// What a call is refused for at its Decide, by its cause, or that it goes on.
 pub fn calls_are_decided_by_their_cause()
-    ensures { (m : AdmittedMoment) (first : TheEntry) (refused : Option ℤ) → m.entry.act ≡ Decide refused →
-        begun m.before ≡ Some first →
-        IsDecision m.image (facts_before m) m.entry.cpu (call_begun first.act) refused }
+    ensures { (m : AdmittedMoment) (call : TheCall) (refused : Option ℤ) → call_before m ≡ Some call →
+        m.entry.act ≡ Decide refused → IsDecision m.image (facts_before m) m.entry.cpu call refused }
 {}
 
 /// How a cell met the request to shut down, and the note of a change: by its state word and its reply at that time,
 /// or by its time-out, which counts the entries of its CPUs since it was asked or told.
 pub fn cells_are_heard_by_their_words()
-    ensures settle { (s : AdmittedSpan) (opening : TheEntry) (how : TheSettled) → begun s.before ≡ Some opening → s.first.act ≡ Decide None →
-        All (λ (e : TheEntry). e.cpu ≢ s.first.cpu) s.between → s.last.cpu ≡ s.first.cpu → s.last.act ≡ Settle how →
-        (config : TheConfig) × Contains (configs_of (facts_at_last s).cells) config ×
-        (is_named (call_begun opening.act) config.id ≡ true) ×
-        IsSettledBy s.image (facts_at_last s) s.first.cpu config (made_by_named (call_begun opening.act) s.between) how }
+    ensures settle { (s : AdmittedSpan) (call : TheCall) (how : TheSettled) → call_at_first s ≡ Some call →
+        s.first.act ≡ Decide None → IsCpusNext s → s.last.act ≡ Settle how → IsSettledAtLast s call how }
     ensures note { (s : AdmittedSpan) (id other : ℕ) (how : TheHeard) → s.first.act ≡ Note id →
-        All (λ (e : TheEntry). e.cpu ≢ s.first.cpu) s.between → s.last.cpu ≡ s.first.cpu → s.last.act ≡ Noted other how →
-        (other ≡ id) × ((config : TheConfig) × Contains (configs_of (facts_at_last s).cells) config ×
-        (config.id ≡ id) × IsHeardBy s.image (facts_at_last s) s.first.cpu config (made_by_cell id s.between) how) }
+        IsCpusNext s → s.last.act ≡ Noted other how → (other ≡ id) × IsHeardAtLast s id how }
 {}

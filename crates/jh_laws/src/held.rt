@@ -2,7 +2,6 @@
 ghost use Rattle.std.specs.Prelude.{◌≡◌, ◌↔◌, ◌⊎◌, ℕ, Some, Contains};
 ghost use Rattle.jh_cellcfg.specs.declared.config.CellConfig.{CellConfig as TheConfig};
 ghost use Rattle.jh_cellcfg.specs.declared.live.Live.{Live as TheLive};
-ghost use Rattle.jh_cellcfg.specs.declared.region.Region.{Region as TheRegion};
 ghost use Rattle.jh_shape.specs.Laws.{IsTaken};
 ghost use Rattle.jh_script.specs.declared.image.Image.{Image as TheImage};
 ghost use Rattle.jh_history.specs.declared.access.Access.{Access as TheAccess};
@@ -13,13 +12,13 @@ ghost use Rattle.jh_history.specs.Grants.{granted};
 ghost use Rattle.jh_laws.specs.Moments.{AdmittedJournal, AdmittedMoment, facts_of, facts_before, live_configs, ByteChanges};
 ghost use Rattle.jh_laws.specs.Grants.{IsGiven};
 ghost use Rattle.jh_laws.specs.Ends.{EndsAsGranted};
-ghost use Rattle.jh_laws.specs.Held.{IsGrantedTo, IsHeld};
+ghost use Rattle.jh_laws.specs.Held.{IsGrantedAfter, IsHeldBefore};
 ghost use Rattle.jh_laws.specs.Written.{MayChangeHeld, WritesPageOf};
 
 /// The place that a live cell is granted at an address.
 pub fn cells_are_granted_their_places()
     ensures { (j : AdmittedJournal) (id : ℕ) (access : TheAccess) (at : ℕ) (place : ThePlace) →
-        (granted j.image (facts_of j) id access at ≡ Some place) ↔ IsGrantedTo j.image (facts_of j).cells id access at place }
+        (granted j.image (facts_of j) id access at ≡ Some place) ↔ IsGrantedAfter j id access at place }
 {}
 
 /// What root is granted at an address is the place of physical memory that has this address.
@@ -33,13 +32,13 @@ pub fn root_is_granted_its_addresses()
 /// its regions give.
 pub fn root_is_granted_the_rest()
     ensures root { (j : AdmittedJournal) (access : TheAccess) (at : ℕ) →
-        IsGrantedTo j.image (facts_of j).cells j.image.system.root.id access at (Physical at) ↔
+        IsGrantedAfter j j.image.system.root.id access at (Physical at) ↔
         (IsGiven j.image.system.root access at (Physical at) × (IsTaken (facts_of j).cells at → ⊥)) }
     ensures address { (j : AdmittedJournal) (access : TheAccess) (at : ℕ) (place : ThePlace) →
-        IsGrantedTo j.image (facts_of j).cells j.image.system.root.id access at place → place ≡ Physical at }
+        IsGrantedAfter j j.image.system.root.id access at place → place ≡ Physical at }
     ensures cells { (j : AdmittedJournal) (cell : TheConfig) (access : TheAccess) (at : ℕ) (place : ThePlace) →
         Contains (live_configs j) cell →
-        (IsGrantedTo j.image (facts_of j).cells cell.id access at place ↔ IsGiven cell access at place) }
+        (IsGrantedAfter j cell.id access at place ↔ IsGiven cell access at place) }
 {}
 
 /// An access succeeds exactly where its cell is granted each of its bytes, or a subpage region of the cell answers it,
@@ -56,8 +55,8 @@ pub fn accesses_end_as_granted()
 /// state table, of a device of such a cell or of root. A byte of a communication page changes only by an entry of its
 /// cell, or where the hypervisor writes into that page.
 pub fn what_a_cell_holds_is_its_own()
-    ensures memory { (m : AdmittedMoment) (live : TheLive) (number : ℕ) (region : TheRegion) (place : ℕ) →
-        IsHeld (facts_before m).cells live number region place → ByteChanges m (Physical place) →
+    ensures memory { (m : AdmittedMoment) (live : TheLive) (number place : ℕ) →
+        IsHeldBefore m live number place → ByteChanges m (Physical place) →
         MayChangeHeld m.image (facts_before m) m.entry live.config number place }
     ensures pages { (m : AdmittedMoment) (cell offset : ℕ) → ByteChanges m (Page cell offset) →
         (m.entry.cell ≡ cell) ⊎ WritesPageOf m.image (facts_before m) m.entry cell }

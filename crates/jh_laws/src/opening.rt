@@ -1,24 +1,21 @@
 //! What there is at opening: bytes, CPUs and programs.
-ghost use Rattle.std.specs.Prelude.{◌≡◌, ◌≢◌, ℕ, ◌+◌, ◌<◌, [], List, length, Contains, false, slice_index};
+ghost use Rattle.std.specs.Prelude.{◌≡◌, ℕ, [], List, Contains, false};
 ghost use Rattle.jh_cpu.specs.declared.cpu.Mode.TheVariants.{Running as Runs};
 ghost use Rattle.jh_script.specs.declared.image.Image.{Image as TheImage};
-ghost use Rattle.jh_script.specs.declared.image.Preload.{Preload as ThePreload};
 ghost use Rattle.jh_script.specs.declared.image.Program.{Program as TheProgram};
 ghost use Rattle.jh_history.specs.declared.place.Place.TheVariants.{Physical, Page};
 ghost use Rattle.jh_history.specs.Admitted.{IsAdmitted};
 ghost use Rattle.jh_history.specs.Lives.{program_ops};
+ghost use Rattle.jh_laws.specs.Preloads.{IsPreloaded};
 ghost use Rattle.jh_laws.specs.RootAlone.{HasNoDevice, byte_at, cpu_at};
 
 /// Where root has no ivshmem device, a byte of physical memory is at opening the preload's where one puts one there, and
 /// 0 elsewhere. Each byte of a communication page is 0.
 pub fn memory_opens_with_the_preloads()
-    ensures put { (image : TheImage) (preload : ThePreload) (k : ℕ) → IsAdmitted image → HasNoDevice image →
-        Contains image.preloads preload → k < length preload.bytes →
-        byte_at image [] (Physical (preload.at + k)) ≡ slice_index preload.bytes k }
+    ensures put { (image : TheImage) (place byte : ℕ) → IsAdmitted image → HasNoDevice image →
+        IsPreloaded image place byte → byte_at image [] (Physical place) ≡ byte }
     ensures zero { (image : TheImage) (place : ℕ) → IsAdmitted image → HasNoDevice image →
-        ((preload : ThePreload) (k : ℕ) → Contains image.preloads preload → k < length preload.bytes →
-        place ≢ preload.at + k) →
-        byte_at image [] (Physical place) ≡ 0 }
+        ((byte : ℕ) → IsPreloaded image place byte → ⊥) → byte_at image [] (Physical place) ≡ 0 }
     ensures pages { (image : TheImage) (cell offset : ℕ) → byte_at image [] (Page cell offset) ≡ 0 }
 {}
 

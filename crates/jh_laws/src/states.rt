@@ -1,24 +1,22 @@
 //! What entries do to CPUs.
-ghost use Rattle.std.specs.Prelude.{◌≡◌, ◌≢◌, ◌↔◌, ℕ, ℤ, true, false, Some, IsSome, slice_get, All};
+ghost use Rattle.std.specs.Prelude.{◌≡◌, ◌≢◌, ◌↔◌, ℕ, ℤ, true, false, Some, IsSome};
 ghost use Rattle.jh_cellcfg.specs.declared.config.CellConfig.{CellConfig as TheConfig};
-ghost use Rattle.jh_cellcfg.specs.Cells.{name_of};
 ghost use Rattle.jh_cpu.specs.declared.cpu.Mode.TheVariants.{Running as Runs};
 ghost use Rattle.jh_cpu.specs.Changes.{stopped_of};
+ghost use Rattle.jh_call.specs.declared.call.Call.{Call as TheCall};
 ghost use Rattle.jh_script.specs.declared.op.Op.{Op as TheOp};
-ghost use Rattle.jh_history.specs.Lives.{is_on_board, program_ops};
-ghost use Rattle.jh_history.specs.declared.entry.Entry.{Entry as TheEntry};
+ghost use Rattle.jh_history.specs.Lives.{is_on_board};
 ghost use Rattle.jh_history.specs.declared.entry.Act.TheVariants.{Begin, Stop, Commit, Finish};
-ghost use Rattle.jh_laws.specs.Moments.{AdmittedJournal, AdmittedMoment, AdmittedSpan, facts_of, facts_before, facts_behind, state_before, state_behind, cells_before, cells_behind};
-ghost use Rattle.jh_laws.specs.Ways.{is_agreement, begun, call_begun};
+ghost use Rattle.jh_laws.specs.Moments.{AdmittedJournal, AdmittedMoment, AdmittedSpan, facts_of, facts_before, facts_behind, state_before, state_behind, cells_before, cells_behind, call_before, NoneCommitsBetween};
+ghost use Rattle.jh_laws.specs.Ways.{is_agreement};
 ghost use Rattle.jh_history.specs.Due.{due};
 ghost use Rattle.jh_history.specs.Pages.{page_write_by, failing};
 ghost use Rattle.jh_history.specs.declared.place.Place.TheVariants.{Physical};
 ghost use Rattle.jh_laws.specs.Ready.{IsReadyAt};
 ghost use Rattle.jh_history.specs.Sound.{IsCalm};
 ghost use Rattle.jh_history.specs.Calls.{is_call};
-ghost use Rattle.jh_history.specs.Commits.{is_commit};
 ghost use Rattle.jh_laws.specs.Held.{IsRootOrLive};
-ghost use Rattle.jh_laws.specs.Operations.{op_of};
+ghost use Rattle.jh_laws.specs.Operations.{op_of, op_before};
 ghost use Rattle.jh_laws.specs.Moves.{stepped, ended};
 ghost use Rattle.jh_laws.specs.Outcomes.{is_violation};
 ghost use Rattle.jh_laws.specs.States.{changes_others, is_stop_act, HasBegun, HasAgreed, HasCommitted, HasFinished};
@@ -42,11 +40,10 @@ pub fn entries_change_their_cpu()
 pub fn calls_change_cpus()
     ensures begin { (m : AdmittedMoment) (code a b cpu : ℕ) → m.entry.act ≡ Begin code a b →
         HasBegun m.image m.entry.cpu cpu (state_before m cpu) (state_behind m cpu) }
-    ensures settle { (m : AdmittedMoment) (first : TheEntry) (cpu : ℕ) → is_agreement m.entry.act ≡ true →
-        begun m.before ≡ Some first → HasAgreed (call_begun first.act) (state_before m cpu) (state_behind m cpu) }
-    ensures commit { (m : AdmittedMoment) (first : TheEntry) (cpu : ℕ) → m.entry.act ≡ Commit →
-        begun m.before ≡ Some first →
-        HasCommitted m.image (cells_before m) (cells_behind m) (call_begun first.act) cpu (state_before m cpu) (state_behind m cpu) }
+    ensures settle { (m : AdmittedMoment) (call : TheCall) (cpu : ℕ) → call_before m ≡ Some call →
+        is_agreement m.entry.act ≡ true → HasAgreed call (state_before m cpu) (state_behind m cpu) }
+    ensures commit { (m : AdmittedMoment) (call : TheCall) (cpu : ℕ) → call_before m ≡ Some call → m.entry.act ≡ Commit →
+        HasCommitted m.image (cells_before m) (cells_behind m) call cpu (state_before m cpu) (state_behind m cpu) }
     ensures finish { (m : AdmittedMoment) (answer : ℤ) (cpu : ℕ) → m.entry.act ≡ Finish answer →
         HasFinished m.image m.entry.cpu cpu (state_before m cpu) (state_behind m cpu) }
 {}
@@ -59,8 +56,7 @@ pub fn entries_are_their_cpus_own()
     ensures runs { (m : AdmittedMoment) → is_stop_act m.entry.act ≡ false →
         IsCalm (state_before m m.entry.cpu) × ((state_before m m.entry.cpu).mode ≡ Runs) }
     ensures operation { (m : AdmittedMoment) (op : TheOp) → op_of m.entry.act ≡ Some op →
-        (cell : TheConfig) × IsRootOrLive m.image (facts_before m).cells cell × (cell.id ≡ m.entry.cell) ×
-        (slice_get (program_ops m.image (name_of cell) m.entry.cpu) (state_before m m.entry.cpu).position ≡ Some op) }
+        (cell : TheConfig) × IsRootOrLive m.image (facts_before m).cells cell × (cell.id ≡ m.entry.cell) × (op_before m cell ≡ Some op) }
 {}
 
 /// An entry is due to a CPU of the board exactly where it is asked to stop, or the next phase of its call is due, or
@@ -74,8 +70,7 @@ pub fn cpus_that_are_ready_have_an_entry_due()
 /// root. All that a violation writes is the state of its cell, where all CPUs of a cell besides root have failed
 /// then.
 pub fn violations_end_their_cpus()
-    ensures rests { (s : AdmittedSpan) → is_violation s.first.act ≡ true →
-        All (λ (e : TheEntry). is_commit e.act ≡ false) s.between → s.last.cpu ≢ s.first.cpu }
+    ensures rests { (s : AdmittedSpan) → is_violation s.first.act ≡ true → NoneCommitsBetween s → s.last.cpu ≢ s.first.cpu }
     ensures state { (m : AdmittedMoment) → is_violation m.entry.act ≡ true →
         page_write_by m.image (facts_before m) m.entry m.entry.act ≡ failing m.image (facts_before m) m.entry }
     ensures memory { (m : AdmittedMoment) (place : ℕ) → is_violation m.entry.act ≡ true →

@@ -1,14 +1,13 @@
 //! Pending vectors of devices, and interrupts.
-ghost use Rattle.std.specs.Prelude.{◌≡◌, ◌≢◌, ◌↔◌, ◌⊎◌, ℕ, [], Some, IsSome, Contains};
+ghost use Rattle.std.specs.Prelude.{◌≡◌, ◌↔◌, ◌⊎◌, ℕ, [], Some, IsSome};
 ghost use Rattle.jh_ivshmem.specs.declared.endpoint.Endpoint.{Endpoint as TheEndpoint};
-ghost use Rattle.jh_ivshmem.specs.Links.{endpoint_at};
 ghost use Rattle.jh_script.specs.declared.image.Image.{Image as TheImage};
 ghost use Rattle.jh_history.specs.History.{facts};
 ghost use Rattle.jh_history.specs.declared.entry.Act.TheVariants.{Irq};
 ghost use Rattle.jh_history.specs.Due.{due};
 ghost use Rattle.jh_laws.specs.Moments.{AdmittedJournal, AdmittedMoment, facts_of, facts_before, facts_behind, owner_of};
 ghost use Rattle.jh_laws.specs.Ready.{IsAtInterrupt};
-ghost use Rattle.jh_laws.specs.Vectors.{HasPending, IsPendingIn, IsNextVector, Raises, Drops, Clears, IsKeptByOthers};
+ghost use Rattle.jh_laws.specs.Vectors.{HasPending, IsPendingIn, IsNextVector, Raises, Drops, StaysAnothers, endpoint_behind, IsKeptByOthers};
 
 /// A CPU of the board that goes on with its program, and is at the wait for an interrupt, has an entry due exactly
 /// where a vector of a device of its cell is pending. The entry takes the next: the lowest vector of the lowest device
@@ -34,8 +33,7 @@ pub fn vectors_are_pending_from_raise_to_drop()
 /// and masks of vectors that it had; its interrupt control is another only where the entry raises a vector of it, which turns
 /// it off in one-shot mode; what was pending is pending still, and nothing else but what the entry raises. Only where the entry starts or destroys the endpoint's cell is it otherwise.
 pub fn devices_of_other_cells_stay()
-    ensures { (m : AdmittedMoment) (e : TheEndpoint) → Contains (facts_before m).endpoints e →
-        m.entry.cell ≢ e.spec.cell → (Clears (facts_before m) m.entry e.spec.cell → ⊥) →
-        (behind : TheEndpoint) × (endpoint_at e.spec.cell e.spec.device (facts_behind m).endpoints ≡ Some behind) ×
+    ensures { (m : AdmittedMoment) (e : TheEndpoint) → StaysAnothers m e →
+        (behind : TheEndpoint) × (endpoint_behind m e ≡ Some behind) ×
         IsKeptByOthers m.image (facts_before m) m.entry e behind }
 {}

@@ -6,4 +6,4 @@ pub returns-clause-roots : goal.returns-clause-roots
 returns-clause-roots c = λ s. suspended_roots s.image s.before s.between s.rest s.first s.last s.admitted s.legal
 
 pub returns-clause-cells : goal.returns-clause-cells
-returns-clause-cells c = λ s opening. suspended_cells s.image s.before s.between s.rest opening s.first s.last s.admitted s.legal
+returns-clause-cells c = λ s call. suspended_cells s.image s.before s.between s.rest s.first s.last call s.admitted s.legal

@@ -3,7 +3,7 @@ use Rattle.jh_laws.proofs.ByteLemmas.{opening_byte, opening_page, opening_zero}
 use Rattle.jh_laws.proofs.opening.memory_opens_with_the_preloads.Goals as goal
 
 pub returns-clause-put : goal.returns-clause-put
-returns-clause-put c = λ image preload k admitted bare held lt. opening_byte image preload k admitted bare held lt
+returns-clause-put c = opening_byte
 
 pub returns-clause-zero : goal.returns-clause-zero
 returns-clause-zero c = λ image place admitted bare none. opening_zero image place bare none

@@ -6,10 +6,10 @@ pub returns-clause-begin : goal.returns-clause-begin
 returns-clause-begin c = λ m code a b cpu act. begin_cpus m.image m.before m.entry code a b cpu act
 
 pub returns-clause-settle : goal.returns-clause-settle
-returns-clause-settle c = λ m first cpu agreed is. settle_cpus m.image m.before m.rest m.entry first cpu m.admitted m.legal agreed is
+returns-clause-settle c = λ m call cpu. settle_cpus m.image m.before m.rest m.entry call cpu m.admitted m.legal
 
 pub returns-clause-commit : goal.returns-clause-commit
-returns-clause-commit c = λ m first cpu act is. commit_cpus m.image m.before m.rest m.entry first cpu m.admitted m.legal act is
+returns-clause-commit c = λ m call cpu. commit_cpus m.image m.before m.rest m.entry call cpu m.admitted m.legal
 
 pub returns-clause-finish : goal.returns-clause-finish
 returns-clause-finish c = λ m answer cpu act. finish_cpus m.image m.before m.rest m.entry answer cpu m.admitted m.legal act

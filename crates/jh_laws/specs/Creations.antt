@@ -1,0 +1,25 @@
+-- Cells that creates make.
+use Rattle.std.specs.Prelude.{◌≡◌, ℕ, [], ◌∷◌, ◌++◌, false, Some}
+use Rattle.jh_cellcfg.specs.declared.config.CellConfig.{CellConfig}
+use Rattle.jh_cellcfg.specs.declared.live.Live.{Live}
+use Rattle.jh_call.specs.declared.call.Call.TheVariants.{Create}
+use Rattle.jh_history.specs.declared.entry.Act.TheVariants.{Commit}
+use Rattle.jh_history.specs.Configs.{config_read, read_at}
+use Rattle.jh_laws.specs.Moments.{AdmittedSpan, call_at_first, facts_at_first, facts_past_first, facts_at_last, facts_past_last}
+
+-- the live cell of the configuration as it is just created: not loadable
+abbrev pub new_live : CellConfig → Live
+new_live config = record { config = config; loadable = false }
+
+-- the first entry is the Commit of a create, by which the live cell comes behind the others
+pub record IsMadeByFirst (s : AdmittedSpan) (live : Live) : Type 0 where
+  pub at : ℕ
+  pub call : call_at_first s ≡ Some (Create at)
+  pub act : s.first.act ≡ Commit
+  pub joins : (facts_past_first s).cells ≡ (facts_at_first s).cells ++ live ∷ []
+
+-- by the last entry a cell comes behind the others, with the configuration that is read at the address just before the first
+pub record IsMadeAsRead (s : AdmittedSpan) (at : ℕ) : Type 0 where
+  pub config : CellConfig
+  pub read : config_read (read_at s.image (facts_at_first s) at) ≡ Some config
+  pub joins : (facts_past_last s).cells ≡ (facts_at_last s).cells ++ new_live config ∷ []
