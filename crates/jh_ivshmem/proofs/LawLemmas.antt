@@ -1,6 +1,9 @@
 -- The laws of endpoints.
-use Rattle.std.proofs.Common.{ℕ, ◌≡◌, ◌≢◌, ◌/◌, ◌%◌, ◌^◌, ◌<◌, ◌≤◌, Bool, true, false, not, ◌&&◌, ◌||◌, ◌==◌, nat_lt, cond, List, length, get_or, set, inl, inr, refl, sym, ◌∙◌, ap, arith}
-use Rattle.std.proofs.lemmas.Bool.{cases_Bool, cases_eq, cases_lt}
+use Rattle.std.proofs.Common.{ℕ, ◌≡◌, ◌≢◌, ◌/◌, ◌%◌, ◌^◌, ◌<◌, ◌≤◌, Bool, true, false, not, ◌&&◌, ◌||◌, ◌==◌, nat_lt, cond, List, Option, Some, None, option_map, length, get_or, set, inl, inr, refl, sym, ◌∙◌, ap, arith}
+use Rattle.std.proofs.lemmas.Bool.{cases_Bool, cases_eq, cases_lt, false≢true}
+use Rattle.std.specs.List.{slice_get}
+use Rattle.std.specs.Option.{option_map_or}
+use Rattle.std.proofs.lemmas.Option.{slice_get-map}
 use Rattle.std.proofs.lemmas.List.{get_or-set_same, get_or-set_other, get_or_past}
 use Rattle.jh_vpci.specs.Space.{has_vectors, is_open as is_function_open}
 use Rattle.jh_vpci.proofs.Public.{differs}
@@ -11,7 +14,7 @@ use Rattle.jh_ivshmem.specs.Specs.{vector_count, is_device, is_peer, is_other}
 use Rattle.jh_ivshmem.specs.Endpoint.{is_open, raised, cleared, vector_at, fresh_vector}
 use Rattle.jh_ivshmem.specs.Registers.{register_written, with_word, is_in_table}
 use Rattle.jh_ivshmem.specs.Changes.{changed}
-use Rattle.jh_ivshmem.specs.Links.{told_of, written, reset_of}
+use Rattle.jh_ivshmem.specs.Links.{is_pending_at, told_of, written, reset_of}
 use Rattle.jh_ivshmem.proofs.ApartLemmas.{changed_at, changed_length}
 use Rattle.jh_ivshmem.proofs.KeyLemmas.{not_below}
 
@@ -113,9 +116,6 @@ raised_others v u e other =
       | inr closes ↦ rw closes refl
     ]
 
-none : false ≡ true → ⊥
-none h = cc
-
 -- a vector written at an index keeps what is pending, where the new one keeps it
 set_keeps : (xs : List Vector) (v u : ℕ) (y : Vector) → ((get_or xs v fresh_vector).pending ≡ true → y.pending ≡ true)
     → (get_or xs u fresh_vector).pending ≡ true → (get_or (set xs v y) u fresh_vector).pending ≡ true
@@ -127,7 +127,7 @@ set_keeps xs v u y keeps was =
             let inside : v < length xs = omega arith in
             ap (λ (x : Vector). x.pending) (ap (λ n. get_or (set xs v y) n fresh_vector) same ∙ get_or-set_same xs v y fresh_vector inside)
             ∙ keeps (ap (λ n. (get_or xs n fresh_vector).pending) (sym same) ∙ was)
-        | inr past ↦ absurd (none (sym (ap (λ (x : Vector). x.pending) (get_or_past xs u fresh_vector past)) ∙ was))
+        | inr past ↦ absurd (false≢true (sym (ap (λ (x : Vector). x.pending) (get_or_past xs u fresh_vector past)) ∙ was))
       ]
     ]
 
@@ -169,20 +169,29 @@ either f v keeps true o h = keeps o h
 either f v keeps false o h = h
 
 -- a change that keeps pending vectors keeps them at each index
-changed_keeps_pending : (test : EndpointSpec → Bool) (f : Endpoint → Endpoint) (list : List Endpoint) (k v : ℕ) (d : Endpoint)
-    → ((o : Endpoint) → (vector_at o v).pending ≡ true → (vector_at (f o) v).pending ≡ true) → k < length list
-    → (vector_at (get_or list k d) v).pending ≡ true → (vector_at (get_or (changed test f list) k d) v).pending ≡ true
-changed_keeps_pending test f list k v d keeps within was =
-    ap (λ (o : Endpoint). (vector_at o v).pending) (changed_at test f list k d within)
-    ∙ either f v keeps (test (get_or list k d).spec) (get_or list k d) was
+kept_where_found : (test : EndpointSpec → Bool) (f : Endpoint → Endpoint) (v : ℕ)
+    → ((o : Endpoint) → (vector_at o v).pending ≡ true → (vector_at (f o) v).pending ≡ true) → (found : Option Endpoint)
+    → option_map_or (λ (o : Endpoint). (vector_at o v).pending) found false ≡ true
+    → option_map_or (λ (o : Endpoint). (vector_at o v).pending) (option_map (λ (o : Endpoint). cond (test o.spec) (f o) o) found) false ≡ true
+kept_where_found test f v keeps None was = was
+kept_where_found test f v keeps (Some e) was = either f v keeps (test e.spec) e was
 
-told_keeps_pending : (e : Endpoint) (value : ℕ) (list : List Endpoint) (k v : ℕ) (d : Endpoint) → k < length list
-    → (vector_at (get_or list k d) v).pending ≡ true → (vector_at (get_or (told_of e value list) k d) v).pending ≡ true
-told_keeps_pending e value list k v d within was =
-    elim (cases_Bool (e.state == value)) as (λ _. (vector_at (get_or (told_of e value list) k d) v).pending ≡ true) [
+changed_keeps_pending : (test : EndpointSpec → Bool) (f : Endpoint → Endpoint) (list : List Endpoint) (k v : ℕ)
+    → ((o : Endpoint) → (vector_at o v).pending ≡ true → (vector_at (f o) v).pending ≡ true)
+    → is_pending_at k v list ≡ true → is_pending_at k v (changed test f list) ≡ true
+unfolding changed
+changed_keeps_pending test f list k v keeps was =
+    ap (λ (found : Option Endpoint). option_map_or (λ (o : Endpoint). (vector_at o v).pending) found false)
+    (slice_get-map (λ (o : Endpoint). cond (test o.spec) (f o) o) list k)
+    ∙ kept_where_found test f v keeps (slice_get list k) was
+
+told_keeps_pending : (e : Endpoint) (value : ℕ) (list : List Endpoint) (k v : ℕ)
+    → is_pending_at k v list ≡ true → is_pending_at k v (told_of e value list) ≡ true
+told_keeps_pending e value list k v was =
+    elim (cases_Bool (e.state == value)) as (λ _. is_pending_at k v (told_of e value list) ≡ true) [
       | inl same ↦ rw same was
-      | inr other ↦ rw other (changed_keeps_pending (is_other e.spec.bdf e.spec.id) (raised 0) list k v d
-          (λ o h. raised_keeps_pending 0 v o h) within was)
+      | inr other ↦ rw other (changed_keeps_pending (is_other e.spec.bdf e.spec.id) (raised 0) list k v
+          (λ o h. raised_keeps_pending 0 v o h) was)
     ]
 
 told_length : (e : Endpoint) (value : ℕ) (list : List Endpoint) → length (told_of e value list) ≡ length list
@@ -192,33 +201,44 @@ told_length e value list =
       | inr other ↦ rw other (changed_length (is_other e.spec.bdf e.spec.id) (raised 0) list)
     ]
 
-pub written_keeps_pending : (e : Endpoint) (bar at value : ℕ) (list : List Endpoint) (k v : ℕ) (d : Endpoint) → k < length list
-    → (vector_at (get_or list k d) v).pending ≡ true → (vector_at (get_or (written e bar at value list) k d) v).pending ≡ true
+pub written_keeps_pending : (e : Endpoint) (bar at value : ℕ) (list : List Endpoint) (k v : ℕ)
+    → is_pending_at k v list ≡ true → is_pending_at k v (written e bar at value list) ≡ true
 unfolding written
-written_keeps_pending e bar at value list k v d within was =
-    elim (cases_Bool ((bar == 0) && (at == 0x0c))) as (λ _. (vector_at (get_or (written e bar at value list) k d) v).pending ≡ true) [
-      | inl doorbell ↦ rw doorbell (changed_keeps_pending (is_peer e.spec.bdf (value / 2 ^ 16)) (raised (value % 2 ^ 16)) list k v d
-          (λ o h. raised_keeps_pending (value % 2 ^ 16) v o h) within was)
+written_keeps_pending e bar at value list k v was =
+    elim (cases_Bool ((bar == 0) && (at == 0x0c))) as (λ _. is_pending_at k v (written e bar at value list) ≡ true) [
+      | inl doorbell ↦ rw doorbell (changed_keeps_pending (is_peer e.spec.bdf (value / 2 ^ 16)) (raised (value % 2 ^ 16)) list k v
+          (λ o h. raised_keeps_pending (value % 2 ^ 16) v o h) was)
       | inr other ↦ elim (cases_Bool ((bar == 0) && (at == 0x10)))
-          as (λ _. (vector_at (get_or (written e bar at value list) k d) v).pending ≡ true) [
+          as (λ _. is_pending_at k v (written e bar at value list) ≡ true) [
             | inl state ↦ rw (other, state)
                 (changed_keeps_pending (is_device e.spec.cell e.spec.device) (λ (o : Endpoint). record o { state = value })
-                (told_of e value list) k v d (λ o h. h) (let same = told_length e value list in omega arith)
-                (told_keeps_pending e value list k v d within was))
+                (told_of e value list) k v (λ o h. h) (told_keeps_pending e value list k v was))
             | inr register ↦ rw (other, register)
-                (changed_keeps_pending (is_device e.spec.cell e.spec.device) (register_written bar at value) list k v d
-                (λ o h. register_written_keeps_pending bar at value v o h) within was)
+                (changed_keeps_pending (is_device e.spec.cell e.spec.device) (register_written bar at value) list k v
+                (λ o h. register_written_keeps_pending bar at value v o h) was)
           ]
     ]
 
+-- what stands at an index after a change
+changed_get : (test : EndpointSpec → Bool) (f : Endpoint → Endpoint) (list : List Endpoint) (k : ℕ) (e : Endpoint)
+    → slice_get list k ≡ Some e → slice_get (changed test f list) k ≡ Some (cond (test e.spec) (f e) e)
+unfolding changed
+changed_get test f list k e found =
+    slice_get-map (λ (o : Endpoint). cond (test o.spec) (f o) o) list k
+    ∙ ap (option_map (λ (o : Endpoint). cond (test o.spec) (f o) o)) found
+
+pub meant_get : (test : EndpointSpec → Bool) (f : Endpoint → Endpoint) (list : List Endpoint) (k : ℕ) (e : Endpoint)
+    → slice_get list k ≡ Some e → test e.spec ≡ true → slice_get (changed test f list) k ≡ Some (f e)
+meant_get test f list k e found passes = changed_get test f list k e found ∙ ap (λ b. Some (cond b (f e) e)) passes
+
+pub stays_get : (test : EndpointSpec → Bool) (f : Endpoint → Endpoint) (list : List Endpoint) (k : ℕ) (e : Endpoint)
+    → slice_get list k ≡ Some e → test e.spec ≡ false → slice_get (changed test f list) k ≡ Some e
+stays_get test f list k e found fails = changed_get test f list k e found ∙ ap (λ b. Some (cond b (f e) e)) fails
+
 -- an endpoint that isn't meant stays
-pub stays_at : (test : EndpointSpec → Bool) (f : Endpoint → Endpoint) (list : List Endpoint) (k : ℕ) (d : Endpoint)
+stays_at : (test : EndpointSpec → Bool) (f : Endpoint → Endpoint) (list : List Endpoint) (k : ℕ) (d : Endpoint)
     → k < length list → test (get_or list k d).spec ≡ false → get_or (changed test f list) k d ≡ get_or list k d
 stays_at test f list k d within fails = changed_at test f list k d within ∙ rw fails refl
-
-pub meant_at : (test : EndpointSpec → Bool) (f : Endpoint → Endpoint) (list : List Endpoint) (k : ℕ) (d : Endpoint)
-    → k < length list → test (get_or list k d).spec ≡ true → get_or (changed test f list) k d ≡ f (get_or list k d)
-meant_at test f list k d within passes = changed_at test f list k d within ∙ rw passes refl
 
 no_peer : (bdf id : ℕ) (s : EndpointSpec) → s.bdf ≢ bdf → is_peer bdf id s ≡ false
 no_peer bdf id s other = rw (differs s.bdf bdf other) refl

@@ -1,10 +1,10 @@
 -- The endpoint of a device is dropped, and its key, which stands at the same index.
-use Rattle.std.proofs.Common.{ℕ, zero, suc, ◌≡◌, ◌≢◌, ◌<◌, Bool, true, false, not, List, [], ◌∷◌, length, map, filter, find, get_or, position, Some, None, inl, inr, refl, sym, ◌∙◌, ap, subst, arith}
+use Rattle.std.proofs.Common.{ℕ, zero, suc, ◌≡◌, ◌≢◌, ◌<◌, Bool, true, false, not, List, [], ◌∷◌, length, map, filter, find, get_or, position, Some, None, refl, sym, ◌∙◌, ap, subst, arith}
 use Rattle.std.specs.List.{remove}
-use Rattle.std.proofs.lemmas.Bool.{cases_Bool}
+use Rattle.std.proofs.lemmas.Bool.{not_from_false}
 use Rattle.std.proofs.lemmas.List.{length-map, get_or-map}
 use Rattle.std.proofs.lemmas.List.Quantifiers.{position-Some}
-use Rattle.std.proofs.lemmas.Option.{none-some}
+use Rattle.jh_num.proofs.Public.{filter_all, find_None, map_remove}
 use Rattle.jh_ivshmem.specs.declared.change.Whom.TheVariants.{Device}
 use Rattle.jh_ivshmem.specs.declared.endpoint.Endpoint.{Endpoint}
 use Rattle.jh_ivshmem.specs.declared.spec.EndpointSpec.{EndpointSpec}
@@ -19,27 +19,17 @@ use Rattle.jh_ivshmem.proofs.KeyLemmas.{found_within, found_none, kept_filter}
 abbrev others : ℕ → ℕ → List Endpoint → List Endpoint
 others cell device es = filter (λ (e : Endpoint). not (is_device cell device e.spec)) es
 
-all_stay : {X : Type 0} (p : X → Bool) (xs : List X) → ((k : ℕ) (d : X) → k < length xs → p (get_or xs k d) ≡ false)
-    → xs ≡ filter (λ x. not (p x)) xs
-all_stay p [] none = refl
-all_stay p (x ∷ xs) none =
-    rw (none 0 x (omega arith)) (ap (λ l. x ∷ l) (all_stay p xs (λ k d within. none (suc k) d (omega arith))))
-
 -- the one that passes the test is gone
 one_goes : {X : Type 0} (p : X → Bool) (xs : List X) (i : ℕ) → i < length xs → ((d : X) → p (get_or xs i d) ≡ true)
     → ((k : ℕ) (d : X) → k < length xs → k ≢ i → p (get_or xs k d) ≡ false) → remove xs i ≡ filter (λ x. not (p x)) xs
 one_goes p [] i within here none = absurd (let no : ⊥ = omega arith in no)
 one_goes p (x ∷ xs) zero within here none =
-    rw (here x) (all_stay p xs (λ k d inside. none (suc k) d (omega arith) (λ same. let no : ⊥ = omega arith in no)))
+    rw (here x) (sym (filter_all (λ y. not (p y)) xs (λ y held.
+    let inside : held.0 < length xs = held.1 in
+    not_from_false (p y) (ap p (sym held.2) ∙ none (suc held.0) y (omega arith) (λ same. let no : ⊥ = omega arith in no)))))
 one_goes p (x ∷ xs) (suc i) within here none =
     rw (none 0 x (omega arith) (λ same. let no : ⊥ = omega arith in no)) (ap (λ l. x ∷ l) (one_goes p xs i (omega arith) here
     (λ k d inside other. none (suc k) d (omega arith) (λ same. other (let equal : k ≡ i = omega arith in equal)))))
-
-keys_remove : (es : List Endpoint) (i : ℕ) → map key_of (remove es i) ≡ remove (map key_of es) i
-keys_remove [] zero = refl
-keys_remove [] (suc i) = refl
-keys_remove (e ∷ es) zero = refl
-keys_remove (e ∷ es) (suc i) = ap (λ l. key_of e ∷ l) (keys_remove es i)
 
 -- the others are kept, with their keys
 others_kept : (cell device : ℕ) (es : List Endpoint) (ks : List Key) → AreKept es ks
@@ -67,7 +57,7 @@ leaves cell device es ks i kept is =
     ∙ (position-Some (is_key_meant (Device cell device)) (map key_of es) i (key_of d) found).1 in
     let gone : remove es i ≡ others cell device es = one_goes (λ (e : Endpoint). is_device cell device e.spec) es i inside here
     (λ k d within other. single (is_device cell device) (devices_apart cell device) es i k d kept.apart inside (here d) within other) in
-    let keys : remove ks i ≡ map key_of (remove es i) = ap (λ l. remove l i) kept.keys ∙ sym (keys_remove es i) in
+    let keys : remove ks i ≡ map key_of (remove es i) = ap (λ l. remove l i) kept.keys ∙ sym (map_remove key_of es i) in
     let left : AreKept (remove es i) (map key_of (remove es i)) =
     subst (λ l. AreKept l (map key_of l)) (sym gone) (others_kept cell device es ks kept) in
     record {
@@ -80,11 +70,8 @@ leaves cell device es ks i kept is =
 -- nothing is dropped where no key is the device's
 pub nothing_leaves : (cell device : ℕ) (es : List Endpoint) (ks : List Key) → AreKept es ks
     → None ≡ position (is_key_meant (Device cell device)) ks → es ≡ others cell device es
-nothing_leaves cell device es ks kept is = stay es (found_none (Device cell device) es (ap (position (is_key_meant (Device cell device))) (sym kept.keys) ∙ sym is))
-  where
-    stay : (es : List Endpoint) → find (λ (e : Endpoint). is_device cell device e.spec) es ≡ None → es ≡ others cell device es
-    stay [] none = refl
-    stay (e ∷ es) none = elim (cases_Bool (is_device cell device e.spec)) as (λ _. (e ∷ es) ≡ others cell device (e ∷ es)) [
-      | inl here ↦ absurd (none-some e (sym (rw here at none)))
-      | inr other ↦ rw other (ap (λ l. e ∷ l) (stay es (rw other at none)))
-    ]
+nothing_leaves cell device es ks kept is =
+    let none : find (λ (e : Endpoint). is_device cell device e.spec) es ≡ None =
+    found_none (Device cell device) es (ap (position (is_key_meant (Device cell device))) (sym kept.keys) ∙ sym is) in
+    sym (filter_all (λ (e : Endpoint). not (is_device cell device e.spec)) es (λ e held.
+    not_from_false (is_device cell device e.spec) (find_None (λ (o : Endpoint). is_device cell device o.spec) es e none held)))

@@ -11,7 +11,7 @@ use Rattle.jh_ivshmem.specs.Specs.{AreEndpointsApart, is_device, is_before, is_p
 use Rattle.jh_ivshmem.specs.Endpoint.{raised, taken, cleared, fresh, vector_at, fresh_vector}
 use Rattle.jh_ivshmem.specs.Registers.{register_written}
 use Rattle.jh_ivshmem.specs.Changes.{changed}
-use Rattle.jh_ivshmem.specs.Links.{endpoint_at, is_pending, joined, others_raised, told_of, written, reset_of, left_by, taken_of}
+use Rattle.jh_ivshmem.specs.Links.{configured, endpoint_at, is_pending, joined, others_raised, told_of, written, reset_of, left_by, taken_of}
 use Rattle.jh_ivshmem.proofs.ApartLemmas.{device_is, devices_apart}
 use Rattle.jh_ivshmem.proofs.ChangeLemmas.{raised_spec, register_written_spec, taken_spec, cleared_spec}
 use Rattle.jh_ivshmem.proofs.LawLemmas.{raised_keeps_pending, register_written_keeps_pending}
@@ -103,7 +103,7 @@ pending_written e bar at value list cell device v h =
     ]
 
 pub pending_configured : (at_cell at_device : ℕ) (space : Space) (list : List Endpoint) (cell device v : ℕ) → is_pending cell device v list ≡ true
-    → is_pending cell device v (changed (is_device at_cell at_device) (λ (e : Endpoint). record e { space = space }) list) ≡ true
+    → is_pending cell device v (configured at_cell at_device space list) ≡ true
 pending_configured at_cell at_device space list cell device v h =
     pending_changed cell device v (is_device at_cell at_device) (λ (e : Endpoint). record e { space = space }) (λ e. refl) (λ e here meant was. was) list h
 

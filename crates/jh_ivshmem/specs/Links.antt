@@ -1,6 +1,7 @@
 -- All endpoints: what each call leaves of them. A link is the endpoints with one bdf.
-use Rattle.std.specs.Prelude.{ℕ, ◌≡◌, ◌≢◌, ◌<◌, length, slice_index_or, ◌/◌, ◌%◌, ◌^◌, Bool, false, not, ◌&&◌, ◌==◌, nat_lt, Option, None, Some, List, [], ◌∷◌, fold, filter, find, option_map, if◌then◌else◌}
+use Rattle.std.specs.Prelude.{ℕ, ◌≡◌, ◌≢◌, ◌<◌, length, slice_get, slice_index_or, ◌/◌, ◌%◌, ◌^◌, Bool, true, false, not, ◌&&◌, ◌==◌, nat_lt, Option, None, Some, List, [], ◌∷◌, fold, filter, find, option_map, if◌then◌else◌}
 use Rattle.std.specs.Option.{option_map_or}
+use Rattle.jh_vpci.specs.Space.{Space}
 use Rattle.jh_ivshmem.specs.declared.endpoint.Endpoint.{Endpoint}
 use Rattle.jh_ivshmem.specs.declared.spec.EndpointSpec.{EndpointSpec}
 use Rattle.jh_ivshmem.specs.declared.spec.EndpointWord.{EndpointWord}
@@ -24,6 +25,14 @@ besides test list = filter (λ (e : Endpoint). not (test e.spec)) list
 -- the endpoint of this device of this cell has the vector pending
 abbrev pub is_pending : ℕ → ℕ → ℕ → List Endpoint → Bool
 is_pending cell device v list = option_map_or (λ (e : Endpoint). (vector_at e v).pending) (endpoint_at cell device list) false
+
+-- so has the endpoint of that number in the list
+abbrev pub is_pending_at : ℕ → ℕ → List Endpoint → Bool
+is_pending_at k v list = option_map_or (λ (e : Endpoint). (vector_at e v).pending) (slice_get list k) false
+
+-- the endpoints after the configuration space of the endpoint of this device of this cell is another
+abbrev pub configured : ℕ → ℕ → Space → List Endpoint → List Endpoint
+configured cell device space list = changed (is_device cell device) (λ (e : Endpoint). record e { space = space }) list
 
 -- the endpoints after one joins, as after a reset: it stands behind those of lower cells, and of lower devices of its
 -- cell
@@ -97,3 +106,19 @@ pub record IsOnAnotherLink (e : Endpoint) (list : List Endpoint) (k : ℕ) (d : 
   pub within : k < length list
   pub link : (slice_index_or list k d).spec.bdf ≢ e.spec.bdf
   pub device : is_device e.spec.cell e.spec.device (slice_index_or list k d).spec ≡ false
+
+-- endpoints, a device of a cell that has one of them, and a vector that this one has pending
+pub record PendingVector : Type 0 where
+  pub list : List Endpoint
+  pub cell : ℕ
+  pub device : ℕ
+  pub vector : ℕ
+  pub pending : is_pending cell device vector list ≡ true
+
+-- the vector is pending at the device's endpoint among these too
+abbrev pub StaysPending : PendingVector → List Endpoint → Type 0
+StaysPending p list = is_pending p.cell p.device p.vector list ≡ true
+
+-- the endpoint is of another device than the one that has the vector pending
+abbrev pub IsOfAnother : PendingVector → Endpoint → Type 0
+IsOfAnother p e = is_device p.cell p.device e.spec ≡ false

@@ -1,11 +1,10 @@
 //! What holds of endpoints whatever their guests do, in the words of the subject. Each function does nothing;
 //! its contract is the law.
-ghost use Rattle.std.specs.Prelude.{◌≡◌, ◌≢◌, ℕ, ◌<◌, ◌≤◌, true, false, not, All, Some, List, length, slice_index_or};
+ghost use Rattle.std.specs.Prelude.{◌≡◌, ◌≢◌, ℕ, ◌<◌, ◌≤◌, true, false, not, All, Some, List, length, slice_get, slice_index_or};
 ghost use Rattle.jh_vpci.specs.Space.{Space, has_vectors};
-ghost use Rattle.jh_ivshmem.specs.Specs.{AreEndpointsApart, vector_count, is_device, is_peer};
+ghost use Rattle.jh_ivshmem.specs.Specs.{AreEndpointsApart, vector_count, is_peer};
 ghost use Rattle.jh_ivshmem.specs.Endpoint.{is_open, raised, vector_at};
-ghost use Rattle.jh_ivshmem.specs.Changes.{changed};
-ghost use Rattle.jh_ivshmem.specs.Links.{ForEndpoint, IsOnAnotherLink, is_pending, joined, rung, written, reset_of, left_by, pending_of, taken_of};
+ghost use Rattle.jh_ivshmem.specs.Links.{ForEndpoint, IsOfAnother, IsOnAnotherLink, PendingVector, StaysPending, configured, is_pending_at, joined, left_by, pending_of, reset_of, rung, taken_of, written};
 
 use crate::endpoint::Endpoint;
 use crate::endpoints::Endpoints;
@@ -34,15 +33,12 @@ pub fn a_raise_of_an_open_vector_is_pending()
 /// A doorbell reaches the one endpoint of the link that has the target's number, the ringing one too, and every
 /// other endpoint stays as it was; no two endpoints have that number.
 pub fn a_doorbell_reaches_one_endpoint(_links: &Endpoints)
-    ensures target { (bdf target v k : ℕ) (d : Endpoint) → k < length _links.now.list
-        → is_peer bdf target (slice_index_or _links.now.list k d).spec ≡ true
-        → slice_index_or (rung bdf target v _links.now.list) k d ≡ raised v (slice_index_or _links.now.list k d) }
-    ensures others { (bdf target v k : ℕ) (d : Endpoint) → k < length _links.now.list
-        → is_peer bdf target (slice_index_or _links.now.list k d).spec ≡ false
-        → slice_index_or (rung bdf target v _links.now.list) k d ≡ slice_index_or _links.now.list k d }
-    ensures one { (bdf target i k : ℕ) (d : Endpoint) → i < length _links.now.list → k < length _links.now.list → k ≢ i
-        → is_peer bdf target (slice_index_or _links.now.list i d).spec ≡ true
-        → is_peer bdf target (slice_index_or _links.now.list k d).spec ≡ false }
+    ensures target { (bdf target v k : ℕ) (e : Endpoint) → slice_get _links.now.list k ≡ Some e → is_peer bdf target e.spec ≡ true
+        → slice_get (rung bdf target v _links.now.list) k ≡ Some (raised v e) }
+    ensures others { (bdf target v k : ℕ) (e : Endpoint) → slice_get _links.now.list k ≡ Some e → is_peer bdf target e.spec ≡ false
+        → slice_get (rung bdf target v _links.now.list) k ≡ Some e }
+    ensures one { (bdf target i k : ℕ) (e o : Endpoint) → slice_get _links.now.list i ≡ Some e → slice_get _links.now.list k ≡ Some o
+        → k ≢ i → is_peer bdf target e.spec ≡ true → is_peer bdf target o.spec ≡ false }
 {
     // for the proof: the invariant, by which no two endpoints are alike
     let _ = &_links.keys;
@@ -59,27 +55,22 @@ pub fn the_same_state_changes_nothing(_links: &Endpoints, _cell: u32, _device: u
 /// A pending vector stays pending over every write of any endpoint, also where the write masks it: it goes by
 /// being taken, by a reset and by leaving alone.
 pub fn a_pending_vector_stays_over_writes()
-    ensures { (e : Endpoint) (bar at value : ℕ) (list : List Endpoint) (k v : ℕ) (d : Endpoint) → k < length list
-        → (vector_at (slice_index_or list k d) v).pending ≡ true
-        → (vector_at (slice_index_or (written e bar at value list) k d) v).pending ≡ true }
+    ensures { (e : Endpoint) (bar at value : ℕ) (list : List Endpoint) (k v : ℕ)
+        → is_pending_at k v list ≡ true → is_pending_at k v (written e bar at value list) ≡ true }
 {}
 
 /// A pending vector of a device stays pending over all but its being taken, a reset and the leaving of its own
 /// device: over writes of registers and of configuration space, joinings, resets and leavings of others, and
 /// where another vector is taken.
 pub fn a_pending_vector_goes_only_by_its_own()
-    ensures written { (e : Endpoint) (bar at value : ℕ) (list : List Endpoint) (cell device v : ℕ) → is_pending cell device v list ≡ true
-        → is_pending cell device v (written e bar at value list) ≡ true }
-    ensures configured { (at_cell at_device : ℕ) (space : Space) (list : List Endpoint) (cell device v : ℕ) → is_pending cell device v list ≡ true
-        → is_pending cell device v (changed (is_device at_cell at_device) (λ (e : Endpoint). record e { space = space }) list) ≡ true }
-    ensures joined { (s : EndpointSpec) (list : List Endpoint) (cell device v : ℕ) → All (λ (o : Endpoint). AreEndpointsApart o.spec s) list
-        → is_pending cell device v list ≡ true → is_pending cell device v (joined s list) ≡ true }
-    ensures reset { (e : Endpoint) (list : List Endpoint) (cell device v : ℕ) → is_device cell device e.spec ≡ false
-        → is_pending cell device v list ≡ true → is_pending cell device v (reset_of e list) ≡ true }
-    ensures left { (e : Endpoint) (list : List Endpoint) (cell device v : ℕ) → is_device cell device e.spec ≡ false
-        → is_pending cell device v list ≡ true → is_pending cell device v (left_by e list) ≡ true }
-    ensures taken { (from : ℕ) (list : List Endpoint) (cell device v : ℕ) → (cell ≡ from → pending_of from list ≡ Some (device, v) → ⊥)
-        → is_pending cell device v list ≡ true → is_pending cell device v (taken_of from (pending_of from list) list) ≡ true }
+    ensures written { (p : PendingVector) (e : Endpoint) (bar at value : ℕ) → StaysPending p (written e bar at value p.list) }
+    ensures configured { (p : PendingVector) (cell device : ℕ) (space : Space) → StaysPending p (configured cell device space p.list) }
+    ensures joined { (p : PendingVector) (s : EndpointSpec) → All (λ (o : Endpoint). AreEndpointsApart o.spec s) p.list
+        → StaysPending p (joined s p.list) }
+    ensures reset { (p : PendingVector) (e : Endpoint) → IsOfAnother p e → StaysPending p (reset_of e p.list) }
+    ensures left { (p : PendingVector) (e : Endpoint) → IsOfAnother p e → StaysPending p (left_by e p.list) }
+    ensures taken { (p : PendingVector) (from : ℕ) → (p.cell ≡ from → pending_of from p.list ≡ Some (p.device, p.vector) → ⊥)
+        → StaysPending p (taken_of from (pending_of from p.list) p.list) }
 {}
 
 /// What an endpoint does is never seen on another link: an endpoint of another bdf that isn't the writing one

@@ -1,11 +1,11 @@
 -- What an answer tells of the regions.
-use Rattle.std.proofs.Common.{◌≡◌, ℕ, ◌+◌, ◌<◌, ◌≤◌, Bool, true, false, ◌&&◌, not, cond, ltb, List, Option, Some, None, length, get_or, refl, sym, ◌∙◌, ap, subst, arith, IsTrue}
+use Rattle.std.proofs.Common.{◌≡◌, ℕ, ◌+◌, ◌<◌, ◌≤◌, Bool, true, false, ◌&&◌, not, cond, List, Option, Some, None, length, get_or, refl, sym, ◌∙◌, ap, subst, arith, IsTrue}
 use Rattle.std.specs.Prelude.{position, slice_get, AllPairs}
-use Rattle.std.specs.List.{list_any, range_with_len, position_or_len}
+use Rattle.std.specs.List.{list_any, range_with_len}
 use Rattle.std.specs.Option.{option_map_or}
-use Rattle.std.proofs.lemmas.Bool.{ltb-true, and_parts, false_from_ne_true, both_ways}
+use Rattle.std.proofs.lemmas.Bool.{and_parts, false_from_ne_true, both_ways}
 use Rattle.std.proofs.lemmas.Option.{none-some, same_Some, slice_get-get_or, slice_get_within, get_or_from_slice_get}
-use Rattle.std.proofs.lemmas.List.Sums.{passes_at_first}
+use Rattle.std.proofs.lemmas.List.Quantifiers.{position-Some}
 use Rattle.jh_num.proofs.Public.{list_any_from_Contains, position_here}
 use Rattle.jh_num.specs.declared.range.Range.{Range}
 use Rattle.jh_cellcfg.specs.declared.region.Region.{Region}
@@ -13,23 +13,11 @@ use Rattle.jh_cellcfg.specs.Regions.{has_address, has_size, is_page_mapped, is_c
 use Rattle.jh_cellcfg.proofs.Public.{no_region}
 use Rattle.jh_mmio.specs.declared.hitting.Window.{Window}
 use Rattle.jh_mmio.specs.declared.hitting.Hitting.TheVariants.{Subpage, Ecam, Bar, Nothing}
-use Rattle.jh_mmio.specs.Dispatch.{IsLetThrough, lies_between, is_at_closed, takes_all, lets_through, by_subpage, by_ecam, by_window, window_has, hitting_behind_regions, hitting}
+use Rattle.jh_mmio.specs.Dispatch.{lies_between, is_at_closed, takes_all, lets_through, by_subpage, by_ecam, by_window, window_has, hitting_behind_regions, hitting}
 use Rattle.jh_num.specs.Numbers.{item_number}
 use Rattle.jh_mmio.proofs.AccessLemmas.{byte_of}
 use Rattle.jh_mmio.proofs.IndexLemmas.{one_number}
 use Rattle.jh_mmio.proofs.HittingLemmas.{takes_all_has}
-
-hit_by : {X : Type 0} (p : X → Bool) (xs : List X) (k : ℕ) (d : X) (b : Bool) → ltb (position_or_len p xs) (length xs) ≡ b → cond b (Some (position_or_len p xs)) None ≡ Some k → (k < length xs) × (p (get_or xs k d) ≡ true)
-hit_by p xs k d true e h =
-    let same : position_or_len p xs ≡ k = same_Some (position_or_len p xs) k h in
-    let P : ℕ → Type 0 = λ m. (m < length xs) × (p (get_or xs m d) ≡ true) in
-    let lt = ltb-true (position_or_len p xs) (length xs) e in
-    subst P same (lt, passes_at_first p xs d lt)
-hit_by p xs k d false e h = absurd (none-some k h)
-
--- what stands at the position passes
-position_hit : {X : Type 0} (p : X → Bool) (xs : List X) (k : ℕ) (d : X) → position p xs ≡ Some k → (k < length xs) × (p (get_or xs k d) ≡ true)
-position_hit p xs k d h = hit_by p xs k d (ltb (position_or_len p xs) (length xs)) refl h
 
 -- neither configuration space nor a window answers as a region
 no_ecam : (b : Bool) (k : ℕ) → cond b Ecam Nothing ≡ Subpage k → ⊥
@@ -71,7 +59,7 @@ unfolding hitting
 it_answers regions closed ecam windows at n write told h =
     let a = answers_by regions ecam windows at n write (position (takes_all closed at n) regions) told h in
     let k : ℕ = a.number in
-    let hit = position_hit (takes_all closed at n) regions k no_region a.it in
+    let hit = position-Some (takes_all closed at n) regions k no_region a.it in
     let r : Region = get_or regions k no_region in
     let is : slice_get regions k ≡ Some r = slice_get-get_or regions k no_region hit.0 in
     (k, r, a.tells, is, hit.1, sym (ap (λ (o : Option Region). option_map_or (lets_through at n write) o false) is) ∙ a.lets)
@@ -116,10 +104,10 @@ closed_lacks_at regions closed at n k r a is comm low high shut j s there takes 
 
 pub closed_another : (regions : List Region) (closed : ℕ → Bool) (ecam : Range) (windows : List Window) (at n : ℕ) (write : Bool) (k : ℕ) (r : Region) (a : ℕ) → slice_get regions k ≡ Some r → is_comm r ≡ false
     → at ≤ a → a < at + n → closed (place_in r a) ≡ true → (told : ℕ) → hitting regions closed ecam windows at n write ≡ Subpage told
-    → (j : ℕ) × (j ≡ k → ⊥) × (told ≡ item_number j) × IsLetThrough regions closed at n write j
+    → (j : ℕ) × (j ≡ k → ⊥) × (told ≡ item_number j) × (s : Region) × (slice_get regions j ≡ Some s) × (takes_all closed at n s ≡ true) × (lets_through at n write s ≡ true)
 closed_another regions closed ecam windows at n write k r a is comm low high shut told h =
     let answer = it_answers regions closed ecam windows at n write told h in
-    (answer.0, closed_lacks_at regions closed at n k r a is comm low high shut answer.0 answer.1 answer.3 answer.4, answer.2, (answer.1, answer.3, answer.4, answer.5))
+    (answer.0, closed_lacks_at regions closed at n k r a is comm low high shut answer.0 answer.1 answer.3 answer.4, answer.2, answer.1, answer.3, answer.4, answer.5)
 
 -- a number before the last one is told of one region alone
 told_once : (j k : ℕ) → k < 0xffffffff → k ≡ item_number j → j ≡ k

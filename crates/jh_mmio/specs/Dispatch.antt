@@ -12,7 +12,7 @@
 -- A case that holds and whose tests fail ends the search: nothing answers. Closed places are those that
 -- other cells hold; only root has some. An answer names the region or the window by its number, in 32
 -- bits; those that have no number of 32 bits share the last one.
-use Rattle.std.specs.Prelude.{◌≡◌, ℕ, ◌+◌, ◌-◌, ◌%◌, Bool, true, false, ◌&&◌, ◌||◌, not, ◌==◌, nat_lt, nat_le, if◌then◌else◌, List, Option, Some, None, position, slice_get}
+use Rattle.std.specs.Prelude.{ℕ, ◌+◌, ◌-◌, ◌%◌, Bool, true, false, ◌&&◌, ◌||◌, not, ◌==◌, nat_lt, nat_le, if◌then◌else◌, List, Option, Some, None, position, slice_get}
 use Rattle.std.specs.List.{list_all, list_any, range_with_len}
 use Rattle.std.specs.Option.{option_map_or}
 use Rattle.jh_num.specs.declared.range.Range.{Range}
@@ -57,11 +57,6 @@ has_right true r = has_flags 0x2 r
 -- the region lets an access that is its own through
 abbrev pub lets_through : ℕ → ℕ → Bool → Region → Bool
 lets_through at width write r = has_right write r && (allows_width width r && (allows_unaligned r || (at % width == 0)))
-
--- the region of the number has the access and lets it through
-abbrev pub IsLetThrough : List Region → (ℕ → Bool) → ℕ → ℕ → Bool → ℕ → Type 0
-IsLetThrough regions closed at width write k =
-    (r : Region) × (slice_get regions k ≡ Some r) × (takes_all closed at width r ≡ true) × (lets_through at width write r ≡ true)
 
 -- the answer of the region with the number
 abbrev pub by_subpage : List Region → ℕ → ℕ → Bool → ℕ → Hitting

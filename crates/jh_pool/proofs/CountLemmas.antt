@@ -1,10 +1,11 @@
 -- Each page of a range is in a list of its pages or had elsewhere.
-use Rattle.std.proofs.Common.{◌≡◌, ◌≢◌, ℕ, ◌+◌, ◌-◌, ◌*◌, ◌/◌, ◌%◌, ◌<◌, ◌≤◌, ◌⊎◌, inl, inr, Bool, true, false, cond, eqb, List, [], ◌∷◌, length, zero, suc, refl, ◌∙◌, arith}
+use Rattle.std.proofs.Common.{◌≡◌, ◌≢◌, ℕ, ◌+◌, ◌-◌, ◌*◌, ◌/◌, ◌%◌, ◌<◌, ◌≤◌, ◌⊎◌, inl, inr, Bool, true, false, cond, eqb, List, [], ◌∷◌, length, get_or, zero, suc, refl, ◌∙◌, arith}
 use Rattle.std.specs.List.{sum_by, range_with_len, list_any}
 use Rattle.std.specs.Prelude.{map, ◌↔◌, not}
 use Rattle.std.proofs.lemmas.Bool.{cases_eq}
 use Rattle.std.proofs.lemmas.Bool.Decides.{nat_tests}
-use Rattle.std.proofs.lemmas.List.Sums.{sum_by-cons}
+use Rattle.std.proofs.lemmas.List.Sums.{sum_by-cons, sum_by-le}
+use Rattle.std.proofs.lemmas.List.FromFn.{length-map-range_with_len}
 use Rattle.jh_num.proofs.Public.{count_few}
 use Rattle.jh_pool.specs.Pages.{IsPageIn, IsTakenPage}
 use Rattle.jh_pool.specs.SoundPool.{often, IsSoundPool}
@@ -90,11 +91,9 @@ sum_ones f base a (suc n) each =
     sum_by-cons f (base + 4096 * a) (pages_from base (a + 1) n) ∙ omega arith
 
 sum_few : (f : ℕ → ℕ) (base a n : ℕ) → ((q : ℕ) → f q ≤ 1) → sum_by f (pages_from base a n) ≤ n
-sum_few f base a zero each = omega arith
-sum_few f base a (suc n) each =
-    let head : f (base + 4096 * a) ≤ 1 = each (base + 4096 * a) in
-    let rest : sum_by f (pages_from base (a + 1) n) ≤ n = sum_few f base (a + 1) n each in
-    let all : sum_by f (pages_from base a (suc n)) ≡ f (base + 4096 * a) + sum_by f (pages_from base (a + 1) n) = sum_by-cons f (base + 4096 * a) (pages_from base (a + 1) n) in
+sum_few f base a n each =
+    let few : sum_by f (pages_from base a n) ≤ length (pages_from base a n) * 1 = sum_by-le f 1 (pages_from base a n) (λ k d within. each (get_or (pages_from base a n) k d)) in
+    let len : length (pages_from base a n) ≡ n = length-map-range_with_len (λ k. base + 4096 * k) a n in
     omega arith
 
 -- pages of the range, each once, are at most as many as it has

@@ -1,7 +1,7 @@
 -- One free page more, and one less.
 use Rattle.std.proofs.Common.{◌≡◌, ℕ, ◌+◌, ◌<◌, ◌≤◌, ◌⊎◌, inl, inr, true, false, eqb, List, [], ◌∷◌, ◌++◌, length, length-append, arith, sym, subst, ◌∙◌, append-nil}
 use Rattle.std.specs.List.{list_any}
-use Rattle.std.specs.Prelude.{Result, Ok, Err, IsOk, is_ok, if◌then◌else◌, Option, Some, None, IfSome, option_to_list}
+use Rattle.std.specs.Prelude.{Option, Some, None, IfSome, option_to_list}
 use Rattle.std.proofs.lemmas.Bool.{cases_eq}
 use Rattle.jh_pool.specs.Pages.{IsPageIn, IsTakenPage}
 use Rattle.jh_pool.specs.SoundPool.{often, IsSoundPool}
@@ -65,11 +65,6 @@ last_once base n capacity page free stands =
 
 pub others_free : (q page : ℕ) (free : List ℕ) → (q ≡ page → ⊥) → list_any (λ x. eqb x q) (free ++ page ∷ []) ≡ list_any (λ x. eqb x q) free
 others_free q page free ne = any_alike q free (free ++ page ∷ []) (often_other q free page ne)
-
--- what a push that succeeds leaves
-pub pushed : {E : Type 0} (r : Result (Unit {0}) E) (xs more now : List ℕ) → IsOk r → now ≡ (if is_ok r then more else xs) → now ≡ more
-pushed (Ok x) xs more now ok e = e
-pushed (Err x) xs more now ok e = cc
 
 -- what a pop leaves
 pub popped_stands : (base n capacity capacity' : ℕ) (r : Option ℕ) (old new : List ℕ) → capacity' ≡ capacity → old ≡ new ++ option_to_list r → IsSoundPool base n old capacity → IsSoundPool base n new capacity'

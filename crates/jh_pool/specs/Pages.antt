@@ -1,5 +1,5 @@
 -- The pages of a range of memory, and which of them are taken.
-use Rattle.std.specs.Prelude.{◌≡◌, ℕ, ◌+◌, ◌-◌, ◌*◌, ◌%◌, ◌<◌, ◌≤◌, Bool, false, ◌==◌, List, length, map}
+use Rattle.std.specs.Prelude.{◌≡◌, ℕ, ◌+◌, ◌-◌, ◌*◌, ◌%◌, ◌<◌, ◌≤◌, ◌↔◌, Bool, false, ◌==◌, List, length, map}
 use Rattle.std.specs.List.{list_any, range_with_len}
 
 -- what contracts see of a pool: where its range begins, of how many pages of 4,096 bytes it is, and the
@@ -35,3 +35,8 @@ pages_of pool = map (λ k. pool.base + 4096 * k) (range_with_len 0 pool.size)
 -- how many pages of the pool are taken, where none is twice among the free ones
 abbrev pub used_of : PoolView → ℕ
 used_of pool = pool.size - length pool.free
+
+-- how often each page is had: a page of the pool that is taken once, and no other page of it
+pub record AreHadOnce (pool : PoolView) (had : ℕ → ℕ) : Type 0 where
+  pub once : (page : ℕ) → IsPageOf pool page → had page ≤ 1
+  pub taken : (page : ℕ) → IsPageOf pool page → 0 < had page ↔ IsTakenPage pool page

@@ -2,6 +2,7 @@
 use Rattle.std.specs.Prelude.{ℕ, ◌+◌, Bool, false, ◌&&◌, ◌||◌, not, nat_lt, ◌==◌, Option, None, Some, if◌then◌else◌}
 use Rattle.jh_num.specs.declared.range.Range.{Range}
 use Rattle.jh_vpci.specs.declared.function.FunctionSpec.{FunctionSpec}
+use Rattle.jh_vpci.specs.Windows.{window_size}
 
 -- the function's fixed values, and what a guest can change
 pub record Space : Type 0 where
@@ -49,8 +50,8 @@ is_open space =
 -- and none of a BAR that the function lacks
 abbrev pub window_of : Space → ℕ → Option (ℕ × ℕ)
 window_of space bar =
-    if space.memory && bar == 0 then Some (space.bar0, space.bar0 + 4096)
-    else (if space.memory && bar == 1 && has_vectors space.spec then Some (space.bar1, space.bar1 + 512)
+    if space.memory && bar == 0 then Some (space.bar0, space.bar0 + window_size 0)
+    else (if space.memory && bar == 1 && has_vectors space.spec then Some (space.bar1, space.bar1 + window_size 1)
     else None)
 
 -- where a range begins and ends

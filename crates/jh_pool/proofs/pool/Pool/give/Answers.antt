@@ -1,7 +1,8 @@
 -- A taken page is one page more of the free ones.
-use Rattle.std.specs.Prelude.{vec_capacity, vec_len}
-use Rattle.std.proofs.Common.{◌≡◌, ◌+◌, ◌≤◌, ◌<◌, [], ◌∷◌, ◌++◌, length, length-append, arith, rules}
-use Rattle.jh_pool.proofs.EditLemmas.{more_stands, more_fits, last_free, pushed, others_free}
+use Rattle.std.specs.Prelude.{is_ok, vec_capacity, vec_len}
+use Rattle.std.proofs.Common.{◌≡◌, ◌+◌, ◌≤◌, ◌<◌, [], ◌∷◌, ◌++◌, length, length-append, ◌∙◌, arith, rules}
+use Rattle.std.proofs.lemmas.Bool.{cond-true}
+use Rattle.jh_pool.proofs.EditLemmas.{more_stands, more_fits, last_free, others_free}
 use Rattle.jh_pool.proofs.pool.Pool.give.Goals as goal
 
 more : (c : goal.After-push) → c.push.new.self.items ≡ c.self.inside.free.items ++ c.args.page ∷ []
@@ -11,7 +12,8 @@ more c =
     let len : vec_len c.self.inside.free ≡ length c.self.inside.free.items = search rules in
     let room : c.self.inside.size ≤ vec_capacity c.self.inside.free = c.self.invariant.room in
     let free : vec_len c.self.inside.free < vec_capacity c.self.inside.free = omega arith in
-    pushed c.push.result _ _ _ (c.push.ensures.succeeds free) c.push.ensures.items
+    c.push.ensures.items
+    ∙ cond-true (is_ok c.push.result) (c.self.inside.free.items ++ c.args.page ∷ []) c.self.inside.free.items (c.push.ensures.succeeds free)
 
 pub invariant_of-self : goal.invariant_of-self
 invariant_of-self c =
