@@ -3,14 +3,23 @@ use Rattle.std.proofs.Common.{◌≡◌, ℕ, ◌+◌, ◌-◌, ◌<◌, ◌≤�
 use Rattle.std.specs.List.{find}
 use Rattle.std.specs.Option.{option_map}
 use Rattle.std.proofs.lemmas.Bool.{and_parts, and_from, and_left, eq-eqb, eqb-true, ne_eqb, not-true, not_from_false, false_from_ne_true, both_ways}
-use Rattle.jh_num.proofs.Public.{find_kept}
+use Rattle.jh_num.proofs.Public.{IsFound_from_filter, filter_all, find_None, find_kept, find_nothing}
 use Rattle.jh_desc.specs.declared.descriptor.Hit.{Hit}
 use Rattle.jh_cache.specs.declared.translation.Translation.{Translation}
 use Rattle.jh_cache.specs.Translations.{is_for, looked, without, newest, filled, flushed}
-use Rattle.jh_cache.proofs.ListLemmas.{kept_all, find_none, find_drop, find_last, find_more, filter_few, filter_fewer, newest_few, mapped_at}
+use Rattle.jh_cache.proofs.ListLemmas.{find_drop, find_last, find_more, filter_few, filter_fewer, newest_few, mapped_at}
 
 abbrev hit_in : Option Translation → Option Hit
 hit_in = option_map (λ (t : Translation). t.hit)
+
+-- where none that are looked for stay, none is found
+none_stays : (q out : Translation → Bool) (list : List Translation) → ((x : Translation) → out x ≡ false → q x ≡ false) → find q (without out list) ≡ None
+none_stays q out list goes = find_nothing q (without out list) (λ x held.
+    goes x (not-true (out x) (IsFound_from_filter (λ y. not (out y)) list x held).passes))
+
+-- where none is found, none is taken out
+all_stay : (p : Translation → Bool) (list : List Translation) → find p list ≡ None → without p list ≡ list
+all_stay p list none = filter_all (λ x. not (p x)) list (λ x held. not_from_false (p x) (find_None p list x none held))
 
 for_itself : (t : Translation) → is_for t.tag t.page t ≡ true
 for_itself t = and_from (eqb t.tag t.tag) (eqb t.page t.page) (eq-eqb t.tag t.tag refl) (eq-eqb t.page t.page refl)
@@ -27,7 +36,7 @@ stays t x tag page other is =
 
 pub filled_found : (t : Translation) (list : List Translation) → looked (filled t list) t.tag t.page ≡ Some t.hit
 filled_found t list =
-    let none : find (is_for t.tag t.page) (without (is_for t.tag t.page) list) ≡ None = find_none (is_for t.tag t.page) (λ x. not (is_for t.tag t.page x)) list (λ x kept. not-true (is_for t.tag t.page x) kept) in
+    let none : find (is_for t.tag t.page) (without (is_for t.tag t.page) list) ≡ None = none_stays (is_for t.tag t.page) (is_for t.tag t.page) list (λ x kept. kept) in
     ap hit_in (find_last (is_for t.tag t.page) (newest 63 (without (is_for t.tag t.page) list)) t
     (find_drop (is_for t.tag t.page) (length (without (is_for t.tag t.page) list) - 63) (without (is_for t.tag t.page) list) none) (for_itself t))
 
@@ -44,13 +53,13 @@ none_from (Some t) e = cc
 
 pub filled_full : (t oldest : Translation) (list : List Translation) → length list ≡ 63 → looked (oldest ∷ list) t.tag t.page ≡ None → filled t (oldest ∷ list) ≡ list ++ t ∷ []
 filled_full t oldest list full absent =
-    let kept : without (is_for t.tag t.page) (oldest ∷ list) ≡ oldest ∷ list = kept_all (is_for t.tag t.page) (oldest ∷ list) (none_from (find (is_for t.tag t.page) (oldest ∷ list)) absent) in
+    let kept : without (is_for t.tag t.page) (oldest ∷ list) ≡ oldest ∷ list = all_stay (is_for t.tag t.page) (oldest ∷ list) (none_from (find (is_for t.tag t.page) (oldest ∷ list)) absent) in
     let one : length (oldest ∷ list) - 63 ≡ 1 = omega arith in
     ap (λ l. newest 63 l ++ t ∷ []) kept ∙ ap (λ n. drop n (oldest ∷ list) ++ t ∷ []) one
 
 pub filled_room : (t : Translation) (list : List Translation) → length list < 64 → looked list t.tag t.page ≡ None → filled t list ≡ list ++ t ∷ []
 filled_room t list room absent =
-    let kept : without (is_for t.tag t.page) list ≡ list = kept_all (is_for t.tag t.page) list (none_from (find (is_for t.tag t.page) list) absent) in
+    let kept : without (is_for t.tag t.page) list ≡ list = all_stay (is_for t.tag t.page) list (none_from (find (is_for t.tag t.page) list) absent) in
     ap (λ l. newest 63 l ++ t ∷ []) kept ∙ ap (λ l. l ++ t ∷ []) (newest_few list (omega arith))
 
 pub filled_again : (t : Translation) (list : List Translation) → length list ≤ 64 → (looked list t.tag t.page ≡ None → ⊥) → filled t list ≡ without (is_for t.tag t.page) list ++ t ∷ []
@@ -60,7 +69,7 @@ filled_again t list few there =
 
 pub flushed_gone : (list : List Translation) (tag page : ℕ) → looked (flushed tag list) tag page ≡ None
 flushed_gone list tag page =
-    ap hit_in (find_none (is_for tag page) (λ x. not (eqb x.tag tag)) list (λ x kept. and_left (eqb x.tag tag) (eqb x.page page) (not-true (eqb x.tag tag) kept)))
+    ap hit_in (none_stays (is_for tag page) (λ x. eqb x.tag tag) list (λ x kept. and_left (eqb x.tag tag) (eqb x.page page) kept))
 
 pub flushed_others : (list : List Translation) (tag other page : ℕ) → (other ≡ tag → ⊥) → looked (flushed tag list) other page ≡ looked list other page
 flushed_others list tag other page ne =

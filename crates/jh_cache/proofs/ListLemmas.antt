@@ -1,38 +1,14 @@
 -- Lists from which some are taken out, and lists with one more.
-use Rattle.std.proofs.Common.{◌≡◌, ℕ, zero, suc, ◌+◌, ◌-◌, ◌<◌, ◌≤◌, Bool, true, false, not, ◌||◌, cond, List, [], ◌∷◌, ◌++◌, length, take, drop, set, get_or, Option, Some, None, refl, sym, ap, ◌∙◌, add-one, append-nil, arith}
-use Rattle.std.specs.Prelude.{Result, Ok, Err, IsOk, is_ok, if◌then◌else◌, map}
-use Rattle.std.specs.List.{filter, find, list_any}
-use Rattle.std.specs.Option.{option_map}
-use Rattle.std.proofs.lemmas.List.{take_all, drop_all, take-append-le}
-use Rattle.std.proofs.lemmas.Bool.{cond-true, cond-false, not_from_false, or_parts}
-
--- what no test takes out stays as it is
-pub kept_any : {X : Type 0} (p : X → Bool) (xs : List X) → list_any p xs ≡ false → filter (λ x. not (p x)) xs ≡ xs
-kept_any p [] e = refl
-kept_any p (x ∷ xs) e =
-    let parts = or_parts (p x) (list_any p xs) e in
-    cond-true (not (p x)) (x ∷ filter (λ y. not (p y)) xs) (filter (λ y. not (p y)) xs) (not_from_false (p x) parts.0)
-    ∙ ap (λ l. x ∷ l) (kept_any p xs parts.1)
-
-any_by_cases : {X : Type 0} (b : Bool) (rest : Bool) (x : X) (o : Option X) → (o ≡ None → rest ≡ false) → cond b (Some x) o ≡ None → (b || rest) ≡ false
-any_by_cases true rest x o h e = cc
-any_by_cases false rest x o h e = h e
-
-none_any : {X : Type 0} (p : X → Bool) (xs : List X) → find p xs ≡ None → list_any p xs ≡ false
-none_any p [] e = refl
-none_any p (x ∷ xs) e = any_by_cases (p x) (list_any p xs) x (find p xs) (none_any p xs) e
-
-pub kept_all : {X : Type 0} (p : X → Bool) (xs : List X) → find p xs ≡ None → filter (λ x. not (p x)) xs ≡ xs
-kept_all p xs e = kept_any p xs (none_any p xs e)
-
-none_by_cases : {X : Type 0} (q : X → Bool) (k : Bool) (x : X) (ys : List X) → (k ≡ true → q x ≡ false) → find q ys ≡ None → find q (cond k (x ∷ ys) ys) ≡ None
-none_by_cases q true x ys h e = cond-false (q x) (Some x) (find q ys) (h refl) ∙ e
-none_by_cases q false x ys h e = e
-
--- where none that are looked for stay, none is found
-pub find_none : {X : Type 0} (q keep : X → Bool) (xs : List X) → ((x : X) → keep x ≡ true → q x ≡ false) → find q (filter keep xs) ≡ None
-find_none q keep [] h = refl
-find_none q keep (x ∷ xs) h = none_by_cases q (keep x) x (filter keep xs) (h x) (find_none q keep xs h)
+use Rattle.std.proofs.Common.{◌≡◌, ℕ, zero, suc, ◌+◌, ◌-◌, ◌<◌, ◌≤◌, Bool, true, false, not, cond, List, [], ◌∷◌, ◌++◌, length, take, drop, set, get_or, Option, Some, None, refl, sym, ap, ◌∙◌, append-nil, arith}
+use Rattle.std.specs.Prelude.{map}
+use Rattle.std.specs.List.{filter, find}
+use Rattle.std.specs.Option.{option_map, option_or}
+use Rattle.std.proofs.lemmas.List.{length-append, length-drop, length-map, length-take, take_all, drop_all, take-append-le}
+use Rattle.std.proofs.lemmas.List.Edits.{map_over_more}
+use Rattle.std.proofs.lemmas.List.Folds.{find-append}
+use Rattle.std.proofs.lemmas.List.Sums.{count_by-le-length, length-filter}
+use Rattle.std.proofs.lemmas.Bool.{cond-true, cond-false}
+use Rattle.jh_num.proofs.Public.{read_again}
 
 none_tail : {X : Type 0} (b : Bool) (x : X) (o : Option X) → cond b (Some x) o ≡ None → o ≡ None
 none_tail true x o e = cc
@@ -43,26 +19,18 @@ find_drop q zero xs e = e
 find_drop q (suc n) [] e = e
 find_drop q (suc n) (x ∷ xs) e = find_drop q n xs (none_tail (q x) x (find q xs) e)
 
-last_by_cases : {X : Type 0} (b : Bool) (x t : X) (o more : Option X) → (o ≡ None → more ≡ Some t) → cond b (Some x) o ≡ None → cond b (Some x) more ≡ Some t
-last_by_cases true x t o more h e = cc
-last_by_cases false x t o more h e = h e
-
 -- one more at the end, which is looked for or isn't
 pub find_last : {X : Type 0} (q : X → Bool) (xs : List X) (t : X) → find q xs ≡ None → q t ≡ true → find q (xs ++ t ∷ []) ≡ Some t
-find_last q [] t e is = cond-true (q t) (Some t) None is
-find_last q (x ∷ xs) t e is = last_by_cases (q x) x t (find q xs) (find q (xs ++ t ∷ [])) (λ none. find_last q xs t none is) e
+find_last q xs t e is =
+    find-append q xs (t ∷ []) ∙ ap (λ o. option_or o (find q (t ∷ []))) e ∙ cond-true (q t) (Some t) None is
 
 pub find_more : {X : Type 0} (q : X → Bool) (xs : List X) (t : X) → q t ≡ false → find q (xs ++ t ∷ []) ≡ find q xs
 find_more q [] t other = cond-false (q t) (Some t) None other
 find_more q (x ∷ xs) t other = ap (λ o. cond (q x) (Some x) o) (find_more q xs t other)
 
-few_by_cases : {X : Type 0} (k : Bool) (x : X) (ys : List X) (n : ℕ) → length ys ≤ n → length (cond k (x ∷ ys) ys) ≤ suc n
-few_by_cases true x ys n le = omega arith
-few_by_cases false x ys n le = omega arith
-
+-- a filter leaves no more than there are
 pub filter_few : {X : Type 0} (keep : X → Bool) (xs : List X) → length (filter keep xs) ≤ length xs
-filter_few keep [] = omega arith
-filter_few keep (x ∷ xs) = few_by_cases (keep x) x (filter keep xs) (length xs) (filter_few keep xs)
+filter_few keep xs = omega (arith, length-filter keep xs, count_by-le-length keep xs)
 
 fewer_by_cases : {X : Type 0} (b : Bool) (x : X) (ys : List X) (o : Option X) (n : ℕ) → length ys ≤ n → ((o ≡ None → ⊥) → length ys + 1 ≤ n) → (cond b (Some x) o ≡ None → ⊥) → length (cond (not b) (x ∷ ys) ys) + 1 ≤ suc n
 fewer_by_cases true x ys o n le h ne = omega arith
@@ -80,23 +48,20 @@ newest_full xs e = let one : length xs - 63 ≡ 1 = omega arith in rw one refl
 pub newest_few : {X : Type 0} (xs : List X) → length xs ≤ 63 → drop (length xs - 63) xs ≡ xs
 newest_few xs le = let none : length xs - 63 ≡ 0 = omega arith in rw none refl
 
--- what a push that succeeds leaves
-pub pushed : {X E : Type 0} (r : Result (Unit {0}) E) (xs more now : List X) → IsOk r → now ≡ (if is_ok r then more else xs) → now ≡ more
-pushed (Ok x) xs more now ok e = e
-pushed (Err x) xs more now ok e = cc
-
 -- a list of lists, mapped up to an index, and read
-mapped_suc : {X : Type 0} (f : X → X) (xs : List X) (i : ℕ) (d : X) → i < length xs → set (map f (take i xs) ++ drop i xs) i (f (get_or (map f (take i xs) ++ drop i xs) i d)) ≡ map f (take (suc i) xs) ++ drop (suc i) xs
-mapped_suc f [] i d lt = elim lt [ ]
-mapped_suc f (x ∷ xs) zero d lt = refl
-mapped_suc f (x ∷ xs) (suc i) d lt = ap (λ l. f x ∷ l) (mapped_suc f xs i d (omega arith))
-
-pub mapped_more : {X : Type 0} (f : X → X) (xs : List X) (i : ℕ) (d : X) → i < length xs → set (map f (take i xs) ++ drop i xs) i (f (get_or (map f (take i xs) ++ drop i xs) i d)) ≡ map f (take (i + 1) xs) ++ drop (i + 1) xs
-mapped_more f xs i d lt = rw add-one (mapped_suc f xs i d lt)
+mapped_length : {X : Type 0} (f : X → X) (xs : List X) (i : ℕ) → length (map f (take i xs) ++ drop i xs) ≡ length xs
+mapped_length f xs i =
+    let two = length-append (map f (take i xs)) (drop i xs) in
+    let mapped = length-map (take i xs) f in
+    let front = length-take i xs in
+    let back = length-drop i xs in
+    omega arith
 
 pub one_mapped : {X : Type 0} (f : X → X) (xs now : List X) (i : ℕ) (new item : X) → i < length xs → now ≡ map f (take i xs) ++ drop i xs → new ≡ f (get_or now i item) → set now i new ≡ map f (take (i + 1) xs) ++ drop (i + 1) xs
 one_mapped f xs now i new item lt so_far e =
-    ap (λ z. set now i z) e ∙ ap (λ l. set l i (f (get_or l i item))) so_far ∙ mapped_more f xs i item lt
+    let same : length now ≡ length xs = ap length so_far ∙ mapped_length f xs i in
+    let inside : i < length now = omega arith in
+    ap (set now i) e ∙ map_over_more f xs now i (get_or now i item) lt so_far (read_again now i item inside)
 
 pub all_mapped : {X : Type 0} (f : X → X) (xs now : List X) (i : ℕ) → length xs ≤ i → now ≡ map f (take i xs) ++ drop i xs → now ≡ map f xs
 all_mapped f xs now i past e = e ∙ rw (take_all i xs past, drop_all i xs past) (append-nil (map f xs))

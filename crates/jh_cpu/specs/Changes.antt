@@ -58,18 +58,14 @@ lent owner cpu = record {
 abbrev pub position_in_root : ℕ → Cpu → ℕ
 position_in_root end cpu = if cpu.failed_in_root then end else cpu.root_position
 
--- a CPU as root has it again, at the position: it would run, and is stopped until the call that gave it back is over
-abbrev pub back_in_root : ℕ → ℕ → Cpu
-back_in_root root position = record {
+-- the CPU as root has it again: it would run, and is stopped until the call that gave it back is over
+abbrev pub returned : ℕ → ℕ → Cpu → Cpu
+returned root end cpu = record {
   owner = root;
   mode = Running;
   asked = false;
   stopped = true;
-  position = position;
+  position = position_in_root end cpu;
   root_position = 0;
   failed_in_root = false;
 }
-
--- the CPU as it comes back to root, in whose program there are so many operations
-abbrev pub returned : ℕ → ℕ → Cpu → Cpu
-returned root end cpu = back_in_root root (position_in_root end cpu)

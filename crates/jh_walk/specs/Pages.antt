@@ -1,5 +1,5 @@
 -- The pages that valid table descriptors reach from a first table, counted.
-use Rattle.std.specs.Prelude.{◌≡◌, ◌≢◌, ℕ, ◌+◌, ◌-◌, ◌*◌, ◌%◌, ◌<◌, nat_eq, zero, suc, if◌then◌else◌, ◌⊎◌}
+use Rattle.std.specs.Prelude.{◌≡◌, ◌≢◌, ℕ, ◌+◌, ◌-◌, ◌*◌, ◌%◌, ◌<◌, ◌≤◌, nat_eq, zero, suc, if◌then◌else◌, ◌⊎◌}
 use Rattle.jh_desc.specs.declared.descriptor.Descriptor.{Descriptor}
 use Rattle.jh_desc.specs.declared.descriptor.Descriptor.TheVariants.{Invalid, Table, Leaf}
 use Rattle.jh_desc.specs.Descriptors.{read_of}
@@ -72,3 +72,27 @@ abbrev pub Grows : (ℕ → ℕ) → (ℕ → ℕ) → ℕ → ℕ → Type 0
 Grows word word' zero table = Unit {0}
 Grows word word' (suc n) table =
     (slot : ℕ) → slot < 512 → IsKept (Grows word word' n) (read_of (word (table + 8 * slot)) (LAST_LEVEL - n)) (word' (table + 8 * slot) ≡ word (table + 8 * slot))
+
+-- a change of words within one page alone, among aligned pages that are reached from a table with so many levels left
+pub record PageChange : Type 0 where
+  pub page : ℕ
+  pub weight : Weight
+  pub before : ℕ → ℕ
+  pub after : ℕ → ℕ
+  pub left : ℕ
+  pub table : ℕ
+  pub alike : AlikeBut page weight before after
+  pub aligned : AreAligned before left table
+
+-- how often the page was reached from the table
+abbrev pub times_before : PageChange → ℕ
+times_before c = times c.before c.left c.table c.page
+
+-- the page was reached once, with `left` levels left at it
+pub record WasReachedOnce (c : PageChange) (left : ℕ) : Type 0 where
+  pub once : times_before c ≤ 1
+  pub reached : IsReached c.before c.left c.table left c.page
+
+-- what is counted from a table with so many levels left is 1 less after the change
+abbrev pub FallsAt : PageChange → ℕ → ℕ → Type 0
+FallsAt c left table = count c.weight c.after left table + 1 ≡ count c.weight c.before left table

@@ -1,9 +1,9 @@
 //! What holds of every walk, over any words. Each function does nothing; its contract is the law.
-ghost use Rattle.std.specs.Prelude.{◌≡◌, ◌≢◌, ℕ, ◌+◌, ◌/◌, ◌<◌, ◌≤◌, ◌⊎◌, List, length, Some};
+ghost use Rattle.std.specs.Prelude.{◌≡◌, ℕ, ◌/◌, ◌≤◌, length, Some};
 ghost use Rattle.jh_desc.specs.declared.descriptor.Hit.{Hit as AnyHit};
 ghost use Rattle.jh_walk.specs.Walks.{levels, probes_of, walk_of};
 ghost use Rattle.jh_walk.specs.Paths.{shifted, EndsAtLeaf};
-ghost use Rattle.jh_walk.specs.Pages.{count, times, AlikeBut, AreAligned, Grows, IsReached, SameTables, Weight};
+ghost use Rattle.jh_walk.specs.Pages.{FallsAt, Grows, PageChange, SameTables, WasReachedOnce, count, times, times_before};
 
 /// A walk gives something exactly where table descriptors, level by level from its first table on, lead to a
 /// leaf.
@@ -30,14 +30,12 @@ pub fn walks_read_their_pages()
     ensures pages { (word word' : ℕ → ℕ) (n table q : ℕ) → SameTables word word' n table → times word' n table q ≡ times word n table q }
 {}
 
-/// A change within one page alone changes a count by as much, where that page is reached once, and not at
-/// all where it isn't reached.
+/// A change within one page alone changes nothing of what is counted from a table that doesn't reach the page.
+/// Where it takes 1 off what is counted from the page, it takes 1 off what is counted from a table that reaches the
+/// page once.
 pub fn changes_are_lifted()
-    ensures elsewhere { (inner : ℕ) (w : Weight) (word word' : ℕ → ℕ) (n page : ℕ) → AlikeBut inner w word word'
-        → AreAligned word n page → times word n page inner ≡ 0 → count w word' n page ≡ count w word n page }
-    ensures falls { (inner m : ℕ) (w : Weight) (word word' : ℕ → ℕ) (n page : ℕ) → AlikeBut inner w word word'
-        → AreAligned word n page → times word n page inner ≤ 1 → IsReached word n page m inner
-        → count w word' m inner + 1 ≡ count w word m inner → count w word' n page + 1 ≡ count w word n page }
+    ensures elsewhere { (c : PageChange) → times_before c ≡ 0 → count c.weight c.after c.left c.table ≡ count c.weight c.before c.left c.table }
+    ensures falls { (c : PageChange) (left : ℕ) → WasReachedOnce c left → FallsAt c left c.page → FallsAt c c.left c.table }
 {}
 
 /// Where the words that read valid stay, in all tables that are reached, what a walk found it still finds,

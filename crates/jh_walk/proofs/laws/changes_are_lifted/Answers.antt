@@ -3,7 +3,9 @@ use Rattle.jh_walk.proofs.LiftLemmas.{count_same, count_falls}
 use Rattle.jh_walk.proofs.laws.changes_are_lifted.Goals as goal
 
 pub returns-clause-elsewhere : goal.returns-clause-elsewhere
-returns-clause-elsewhere c = λ inner w word word' n page alike aligned none. count_same w word word' inner alike n page aligned none
+returns-clause-elsewhere c = λ change none.
+    count_same change.weight change.before change.after change.page change.alike change.left change.table change.aligned none
 
 pub returns-clause-falls : goal.returns-clause-falls
-returns-clause-falls c = λ inner m w word word' n page alike aligned once on fall. count_falls w word word' inner m alike fall n page aligned once on
+returns-clause-falls c = λ change left on fall.
+    count_falls change.weight change.before change.after change.page left change.alike fall change.left change.table change.aligned on.once on.reached
