@@ -12,7 +12,7 @@ use Rattle.jh_history.specs.declared.call.OpenCall.{OpenCall}
 use Rattle.jh_history.specs.declared.comm.PageWrite.{PageWrite}
 use Rattle.jh_history.specs.declared.entry.Entry.{Entry}
 use Rattle.jh_history.specs.declared.entry.Act.{Act}
-use Rattle.jh_history.specs.declared.entry.Act.TheVariants.{Read, Write, Fetch, Await, Irq, Hvc, Begin, Stop, Decide, Settle, Commit, Note, Noted, Finish}
+use Rattle.jh_history.specs.declared.entry.Act.TheVariants.{Read, Write, Fetch, Await, Irq, Hvc, Stop, Commit}
 use Rattle.jh_history.specs.Facts.{Facts}
 use Rattle.jh_history.specs.Calls.{is_call}
 use Rattle.jh_history.specs.Pages.{failing, unless_good, page_write_by, with_page_write}
@@ -38,30 +38,12 @@ no_page image f entry (Await width at value ok) is own = ap (unless_good ok) (no
 no_page image f entry (Irq device vector) is own = refl
 no_page image f entry (Hvc code a b answer) is own = refl
 no_page image f entry Stop is own = refl
-no_page image f entry (Begin code a b) is own = absurd (both_ways true own refl)
-no_page image f entry (Decide refused) is own = absurd (both_ways true own refl)
-no_page image f entry (Settle how) is own = absurd (both_ways true own refl)
-no_page image f entry Commit is own = absurd (both_ways true own refl)
-no_page image f entry (Note id) is own = absurd (both_ways true own refl)
-no_page image f entry (Noted id how) is own = absurd (both_ways true own refl)
-no_page image f entry (Finish answer) is own = absurd (both_ways true own refl)
+no_page image f entry _ is own = absurd (both_ways true own refl)
 
 -- nor does it change the devices of a cell as a Commit does
 unchanged : (cells : List Live) (o : OpenCall) (act : Act) → is_call act ≡ false → changing_at cells o act ≡ None
-unchanged cells o (Read width at got) own = refl
-unchanged cells o (Write width at value ok) own = refl
-unchanged cells o (Fetch at got) own = refl
-unchanged cells o (Await width at value ok) own = refl
-unchanged cells o (Irq device vector) own = refl
-unchanged cells o (Hvc code a b answer) own = refl
-unchanged cells o Stop own = refl
-unchanged cells o (Begin code a b) own = refl
-unchanged cells o (Decide refused) own = refl
-unchanged cells o (Settle how) own = refl
 unchanged cells o Commit own = absurd (both_ways true own refl)
-unchanged cells o (Note id) own = refl
-unchanged cells o (Noted id how) own = refl
-unchanged cells o (Finish answer) own = refl
+unchanged cells o _ own = refl
 
 unchanged_by : (cells : List Live) (call : Option OpenCall) (act : Act) → is_call act ≡ false → changing_by cells call act ≡ None
 unchanged_by cells None act own = refl

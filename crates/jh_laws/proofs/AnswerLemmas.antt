@@ -6,7 +6,7 @@ use Rattle.std.proofs.lemmas.Option.{none-some, same_Some}
 use Rattle.jh_cellcfg.specs.declared.config.CellConfig.{CellConfig}
 use Rattle.jh_cellcfg.specs.Lives.{has_id}
 use Rattle.jh_call.specs.declared.call.Call.{Call}
-use Rattle.jh_call.specs.declared.call.Call.TheVariants.{Create, Start, Loadable, Destroy, Info, State, CpuInfo, Unknown}
+use Rattle.jh_call.specs.declared.call.Call.TheVariants.{Create}
 use Rattle.jh_script.specs.declared.image.Image.{Image}
 use Rattle.jh_history.specs.declared.call.OpenCall.{OpenCall}
 use Rattle.jh_history.specs.declared.call.Phase.{Phase}
@@ -48,13 +48,7 @@ expects_over call phase (entry ∷ entries) act h = expects_counted entry.cell c
 decided_settle : (call : Call) (coming : Option CellConfig) (how : Settled) → Expects (decided call coming None) (Settle how) → decided call coming None ≡ ToSettle 0
 decided_settle (Create at) None how h = absurd (not_same is_decide (Decide h.0) (Settle how) refl refl (sym h.1))
 decided_settle (Create at) (Some config) how h = absurd (not_same is_commit Commit (Settle how) refl refl (sym h))
-decided_settle (Start id) coming how h = refl
-decided_settle (Loadable id) coming how h = refl
-decided_settle (Destroy id) coming how h = refl
-decided_settle (Info kind) coming how h = refl
-decided_settle (State id) coming how h = refl
-decided_settle (CpuInfo cpu kind) coming how h = refl
-decided_settle Unknown coming how h = refl
+decided_settle _ coming how h = refl
 
 abbrev is_note : Act → Bool
 is_note (Note id) = true

@@ -10,8 +10,8 @@ use Rattle.jh_cellcfg.specs.declared.config.CellConfig.{CellConfig}
 use Rattle.jh_cellcfg.specs.declared.live.Live.{Live}
 use Rattle.jh_cpu.specs.declared.cpu.Cpu.{Cpu}
 use Rattle.jh_call.specs.declared.call.Call.{Call}
-use Rattle.jh_call.specs.declared.call.Call.TheVariants.{Create, Start, Loadable, Destroy, Info, State, CpuInfo, Unknown}
-use Rattle.jh_call.specs.Calls.{decoded, is_management}
+use Rattle.jh_call.specs.declared.call.Call.TheVariants.{Create, Start, Loadable, Destroy}
+use Rattle.jh_call.specs.Calls.{decoded}
 use Rattle.jh_check.specs.Refusals.{any_below}
 use Rattle.jh_script.specs.declared.image.Image.{Image}
 use Rattle.jh_script.specs.declared.op.Op.{Op}
@@ -62,13 +62,7 @@ no_call image cell op (Await width at value ok) other comes = refl
 no_call image cell op (Irq device vector) other comes = refl
 no_call image cell op (Hvc code a b answer) other comes = refl
 no_call image cell op (Begin code a b) other comes = absurd (other comes.1)
-no_call image cell op Stop other comes = absurd comes
-no_call image cell op (Decide refused) other comes = absurd comes
-no_call image cell op (Settle how) other comes = absurd comes
-no_call image cell op Commit other comes = absurd comes
-no_call image cell op (Note id) other comes = absurd comes
-no_call image cell op (Noted id how) other comes = absurd comes
-no_call image cell op (Finish answer) other comes = absurd comes
+no_call image cell op _ other comes = absurd comes
 
 -- with the call in the facts' place
 entry_of_parts : (image : Image) (f : Facts) (o : OpenCall) (entry : Entry) → IsOpen image (configs_of f.cells) f.cpu o → IsNext image f entry → IsOfCall image f o entry.cpu entry.act → IsEntryOf image f o entry
@@ -101,13 +95,6 @@ entry_of_call image f o entry sound is due =
 -- it leaves the call open, and counts at most
 counted_act : (cells : List Live) (coming : Option CellConfig) (o : OpenCall) (entry : Entry) (act : Act) → is_call act ≡ false
     → call_by cells coming (Some o) entry act ≡ Some (record { caller = o.caller; call = o.call; phase = counted entry.cell o.call o.phase })
-counted_act cells coming o entry (Read width at got) own = refl
-counted_act cells coming o entry (Write width at value ok) own = refl
-counted_act cells coming o entry (Fetch at got) own = refl
-counted_act cells coming o entry (Await width at value ok) own = refl
-counted_act cells coming o entry (Irq device vector) own = refl
-counted_act cells coming o entry (Hvc code a b answer) own = refl
-counted_act cells coming o entry Stop own = refl
 counted_act cells coming o entry (Begin code a b) own = absurd (both_ways true own refl)
 counted_act cells coming o entry (Decide refused) own = absurd (both_ways true own refl)
 counted_act cells coming o entry (Settle how) own = absurd (both_ways true own refl)
@@ -115,6 +102,7 @@ counted_act cells coming o entry Commit own = absurd (both_ways true own refl)
 counted_act cells coming o entry (Note id) own = absurd (both_ways true own refl)
 counted_act cells coming o entry (Noted id how) own = absurd (both_ways true own refl)
 counted_act cells coming o entry (Finish answer) own = absurd (both_ways true own refl)
+counted_act cells coming o entry _ own = refl
 
 pub call_counted : (image : Image) (f : Facts) (o : OpenCall) (entry : Entry) → f.call ≡ Some o → is_call entry.act ≡ false
     → (after image f entry).call ≡ Some (record { caller = o.caller; call = o.call; phase = counted entry.cell o.call o.phase })
@@ -145,15 +133,11 @@ phase_expects image f idle caller call (ToFinish answer) act h = sym (same_Some 
 
 -- counting changes nothing of it
 pub expects_counted : (cell : ℕ) (call : Call) (phase : Phase) (act : Act) → Expects (counted cell call phase) act → Expects phase act
-expects_counted cell call ToDecide act h = h
 expects_counted cell call (ToSettle waited) act h =
     cond_both (is_named call cell) (ToSettle (counted_up waited)) (ToSettle waited) (λ (p : Phase). Expects p act → (how : Settled) × (act ≡ Settle how)) (λ _ k. k) (λ _ k. k) h
-expects_counted cell call (ToCreate config) act h = h
-expects_counted cell call ToCommit act h = h
-expects_counted cell call (ToNote id about answer) act h = h
 expects_counted cell call (ToNoted id about answer waited) act h =
     cond_both (eqb cell id) (ToNoted id about answer (counted_up waited)) (ToNoted id about answer waited) (λ (p : Phase). Expects p act → (how : Heard) × (act ≡ Noted id how)) (λ _ k. k) (λ _ k. k) h
-expects_counted cell call (ToFinish answer) act h = h
+expects_counted cell call _ act h = h
 
 -- ---- what follows an act of a call
 
@@ -166,22 +150,13 @@ telling_follows about answer answers None next is h = inr (answer, is, h)
 telling_follows about answer answers (Some id) next is h = inl (id, h)
 
 -- the Decide
-decide_follows : (image : Image) (f : Facts) (caller : ℕ) (call : Call) (o : Option ℤ) (next : Act) → is_management call ≡ true → decision image f caller call ≡ o → Expects (decided call (coming_by image f call) o) next → MayFollow call (Decide o) next
-decide_follows image f caller (Create at) (Some number) next manages is h = h
-decide_follows image f caller (Create at) None next manages is h =
+decide_follows : (image : Image) (f : Facts) (caller : ℕ) (call : Call) (o : Option ℤ) (next : Act) → decision image f caller call ≡ o → Expects (decided call (coming_by image f call) o) next → MayFollow call (Decide o) next
+decide_follows image f caller (Create at) None next is h =
     let coming = coming_from_decision image f caller at is in
     let P : ReadCell → Type 0 = λ r. Expects (decided (Create at) (config_read r) None) next → next ≡ Commit in
     subst P (sym coming.reads) (λ k. k) h
-decide_follows image f caller (Start id) (Some number) next manages is h = h
-decide_follows image f caller (Start id) None next manages is h = h
-decide_follows image f caller (Loadable id) (Some number) next manages is h = h
-decide_follows image f caller (Loadable id) None next manages is h = h
-decide_follows image f caller (Destroy id) (Some number) next manages is h = h
-decide_follows image f caller (Destroy id) None next manages is h = h
-decide_follows image f caller (Info kind) o next manages is h = absurd (both_ways false refl manages)
-decide_follows image f caller (State id) o next manages is h = absurd (both_ways false refl manages)
-decide_follows image f caller (CpuInfo cpu kind) o next manages is h = absurd (both_ways false refl manages)
-decide_follows image f caller Unknown o next manages is h = absurd (both_ways false refl manages)
+decide_follows image f caller _ (Some number) next is h = h
+decide_follows image f caller _ None next is h = h
 
 settle_follows : (call : Call) (how : Settled) (next : Act) → Expects (after_settle how) next → MayFollow call (Settle how) next
 settle_follows call Agreed next h = h
@@ -190,33 +165,18 @@ settle_follows call Timeout next h = h
 
 create_follows : (call : Call) (config : CellConfig) (cells : List Live) (next : Act) → IsCreate call → Expects (after_commit call (ToCreate config) cells) next → MayFollow call Commit next
 create_follows (Create at) config cells next is h = telling_follows config.id (pos config.id) (λ (answer : ℤ). (id : ℕ) × (answer ≡ pos id)) (first_recipient config.id cells) next (config.id, refl) h
-create_follows (Start id) config cells next is h = absurd is
-create_follows (Loadable id) config cells next is h = absurd is
-create_follows (Destroy id) config cells next is h = absurd is
-create_follows (Info kind) config cells next is h = absurd is
-create_follows (State id) config cells next is h = absurd is
-create_follows (CpuInfo cpu kind) config cells next is h = absurd is
-create_follows Unknown config cells next is h = absurd is
+create_follows _ config cells next is h = absurd is
 
 commit_follows : (call : Call) (configs : List CellConfig) (cells : List Live) (next : Act) → IsAboutLive configs call → Expects (after_commit call ToCommit cells) next → MayFollow call Commit next
-commit_follows (Create at) configs cells next about h = absurd (both_ways false refl about.2)
 commit_follows (Start id) configs cells next about h = h
 commit_follows (Loadable id) configs cells next about h = h
 commit_follows (Destroy id) configs cells next about h = telling_follows id (pos 0) (λ (answer : ℤ). answer ≡ pos 0) (first_recipient id cells) next refl h
-commit_follows (Info kind) configs cells next about h = absurd (both_ways false refl about.2)
-commit_follows (State id) configs cells next about h = absurd (both_ways false refl about.2)
-commit_follows (CpuInfo cpu kind) configs cells next about h = absurd (both_ways false refl about.2)
-commit_follows Unknown configs cells next about h = absurd (both_ways false refl about.2)
+commit_follows _ configs cells next about h = absurd (both_ways false refl about.2)
 
 noted_follows : (call : Call) (configs : List CellConfig) (id about : ℕ) (how : Heard) (answer : ℤ) (o : Option ℕ) (next : Act) → IsNews configs call about answer → Expects (telling about answer o) next → MayFollow call (Noted id how) next
 noted_follows (Create at) configs id about how answer o next news h = telling_follows about answer (λ (x : ℤ). (k : ℕ) × (x ≡ pos k)) o next (about, news.3) h
 noted_follows (Destroy gone) configs id about how answer o next news h = telling_follows about answer (λ (x : ℤ). x ≡ pos 0) o next news.2 h
-noted_follows (Start gone) configs id about how answer o next news h = absurd news
-noted_follows (Loadable gone) configs id about how answer o next news h = absurd news
-noted_follows (Info kind) configs id about how answer o next news h = absurd news
-noted_follows (State gone) configs id about how answer o next news h = absurd news
-noted_follows (CpuInfo cpu kind) configs id about how answer o next news h = absurd news
-noted_follows Unknown configs id about how answer o next news h = absurd news
+noted_follows _ configs id about how answer o next news h = absurd news
 
 -- each phase
 phase_follows : (image : Image) (f : Facts) (entry : Entry) (caller : ℕ) (call : Call) (phase : Phase) (idle : Bool) → IsOpen image (configs_of f.cells) f.cpu (record { caller = caller; call = call; phase = phase })
@@ -227,7 +187,7 @@ phase_follows image f entry caller call ToDecide idle opens h more =
     let refused : Option ℤ = decision image f caller call in
     let P : Act → Type 0 = λ act. GoesOnWith (call_by f.cells (coming_by image f call) (Some o) entry act) caller act in
     let is : entry.act ≡ Decide refused = unless (any_below (λ i. keeps_decide image caller i (f.cpu i)) 16) (Decide refused) entry.act h in
-    subst P (sym is) (record { caller = caller; call = call; phase = decided call (coming_by image f call) refused }, refl, refl, λ next e. decide_follows image f caller call refused next opens.caller.management refl e)
+    subst P (sym is) (record { caller = caller; call = call; phase = decided call (coming_by image f call) refused }, refl, refl, λ next e. decide_follows image f caller call refused next refl e)
 phase_follows image f entry caller call (ToSettle waited) idle opens h more =
     let o : OpenCall = record { caller = caller; call = call; phase = ToSettle waited } in
     let P : Act → Type 0 = λ act. GoesOnWith (call_by f.cells (coming_by image f call) (Some o) entry act) caller act in
@@ -257,13 +217,6 @@ phase_follows image f entry caller call (ToFinish answer) idle opens h more =
 
 -- where no call is open, an entry begins one or is none of a call
 none_act : (image : Image) (cell : ℕ) (op : Op) (act : Act) → IsOutcomeOf image cell op act → is_phase act ≡ false
-none_act image cell op (Read width at got) comes = refl
-none_act image cell op (Write width at value ok) comes = refl
-none_act image cell op (Fetch at got) comes = refl
-none_act image cell op (Await width at value ok) comes = refl
-none_act image cell op (Irq device vector) comes = refl
-none_act image cell op (Hvc code a b answer) comes = refl
-none_act image cell op (Begin code a b) comes = refl
 none_act image cell op Stop comes = absurd comes
 none_act image cell op (Decide refused) comes = absurd comes
 none_act image cell op (Settle how) comes = absurd comes
@@ -271,6 +224,7 @@ none_act image cell op Commit comes = absurd comes
 none_act image cell op (Note id) comes = absurd comes
 none_act image cell op (Noted id how) comes = absurd comes
 none_act image cell op (Finish answer) comes = absurd comes
+none_act image cell op _ comes = refl
 
 none_by_call : (image : Image) (f : Facts) (entry : Entry) → IsSound image (with_call f None) → due_at image (with_call f None) entry.cpu ≡ Some entry → is_phase entry.act ≡ false
 none_by_call image f entry sound due =
@@ -293,20 +247,8 @@ pub record IsPhaseOf (image : Image) (f : Facts) (entry : Entry) : Type 0 where
   pub act : phase_act image f (is_idle_but image f o.caller) o.caller o.call o.phase ≡ Some entry.act
 
 pub phase_call : (act : Act) → is_phase act ≡ true → is_call act ≡ true
-phase_call (Decide refused) h = refl
-phase_call (Settle how) h = refl
-phase_call Commit h = refl
-phase_call (Note id) h = refl
-phase_call (Noted id how) h = refl
-phase_call (Finish answer) h = refl
 phase_call (Begin code a b) h = refl
-phase_call (Read width at got) h = h
-phase_call (Write width at value ok) h = h
-phase_call (Fetch at got) h = h
-phase_call (Await width at value ok) h = h
-phase_call (Irq device vector) h = h
-phase_call (Hvc code a b answer) h = h
-phase_call Stop h = h
+phase_call _ h = h
 
 phase_by : (image : Image) (f : Facts) (entry : Entry) (call : Option OpenCall) → IsSound image f → f.call ≡ call → due_at image f entry.cpu ≡ Some entry → is_phase entry.act ≡ true → IsPhaseOf image f entry
 phase_by image f entry None sound is due phase = absurd (both_ways (is_phase entry.act) (entry_of_none image f entry sound is due) phase)
@@ -348,13 +290,7 @@ call_goes image f entry Commit is sound due call more = phase_goes image f entry
 call_goes image f entry (Note id) is sound due call more = phase_goes image f entry sound due (ap is_phase is) (ap is_finish is)
 call_goes image f entry (Noted id how) is sound due call more = phase_goes image f entry sound due (ap is_phase is) (ap is_finish is)
 call_goes image f entry (Finish answer) is sound due call more = absurd (both_ways true more refl)
-call_goes image f entry (Read width at got) is sound due call more = absurd (both_ways false refl call)
-call_goes image f entry (Write width at value ok) is sound due call more = absurd (both_ways false refl call)
-call_goes image f entry (Fetch at got) is sound due call more = absurd (both_ways false refl call)
-call_goes image f entry (Await width at value ok) is sound due call more = absurd (both_ways false refl call)
-call_goes image f entry (Irq device vector) is sound due call more = absurd (both_ways false refl call)
-call_goes image f entry (Hvc code a b answer) is sound due call more = absurd (both_ways false refl call)
-call_goes image f entry Stop is sound due call more = absurd (both_ways false refl call)
+call_goes image f entry _ is sound due call more = absurd (both_ways false refl call)
 
 -- ---- along a journal
 
@@ -446,12 +382,7 @@ IsSuspending caller f = (o : OpenCall) × (f.call ≡ Some o) × (o.caller ≡ c
 
 halted_past : (phase : Phase) (cpu : Cpu) → IsPast phase → HasHalted phase cpu → cpu.asked ≡ false
 halted_past ToDecide cpu past h = absurd past
-halted_past (ToSettle waited) cpu past h = h.asked
-halted_past (ToCreate config) cpu past h = h.asked
-halted_past ToCommit cpu past h = h.asked
-halted_past (ToNote id about answer) cpu past h = h.asked
-halted_past (ToNoted id about answer waited) cpu past h = h.asked
-halted_past (ToFinish answer) cpu past h = h.asked
+halted_past _ cpu past h = h.asked
 
 -- past the Decide an entry of another CPU isn't root's
 pub past_other : (image : Image) (f : Facts) (o : OpenCall) (entry : Entry) → IsSound image f → f.call ≡ Some o → IsPast o.phase → due_at image f entry.cpu ≡ Some entry → entry.cpu ≢ o.caller → entry.cell ≢ image.system.root.id
@@ -474,13 +405,7 @@ not_same test one other passes fails same = both_ways (test other) fails (sym (a
 
 never_behind_go : (call : Call) → IsBehindGo call (Decide None) → ⊥
 never_behind_go (Create at) h = not_same is_decide (Decide None) Commit refl refl h
-never_behind_go (Start id) h = not_same is_decide (Decide None) (Settle h.0) refl refl h.1
-never_behind_go (Loadable id) h = not_same is_decide (Decide None) (Settle h.0) refl refl h.1
-never_behind_go (Destroy id) h = not_same is_decide (Decide None) (Settle h.0) refl refl h.1
-never_behind_go (Info kind) h = not_same is_decide (Decide None) (Settle h.0) refl refl h.1
-never_behind_go (State id) h = not_same is_decide (Decide None) (Settle h.0) refl refl h.1
-never_behind_go (CpuInfo cpu kind) h = not_same is_decide (Decide None) (Settle h.0) refl refl h.1
-never_behind_go Unknown h = not_same is_decide (Decide None) (Settle h.0) refl refl h.1
+never_behind_go _ h = not_same is_decide (Decide None) (Settle h.0) refl refl h.1
 
 never_note : (answers : ℤ → Type 0) → IsNoteOr answers (Decide None) → ⊥
 never_note answers h = ⊎_elim (λ note. not_same is_decide (Decide None) (Note note.0) refl refl note.1) (λ ends. not_same is_decide (Decide None) (Finish ends.0) refl refl ends.2) h
@@ -488,22 +413,12 @@ never_note answers h = ⊎_elim (λ note. not_same is_decide (Decide None) (Note
 never_telling : (call : Call) → IsNoteOrEnd call (Decide None) → ⊥
 never_telling (Create at) h = never_note (λ (answer : ℤ). (id : ℕ) × (answer ≡ pos id)) h
 never_telling (Destroy id) h = never_note (λ (answer : ℤ). answer ≡ pos 0) h
-never_telling (Start id) h = h
-never_telling (Loadable id) h = h
-never_telling (Info kind) h = h
-never_telling (State id) h = h
-never_telling (CpuInfo cpu kind) h = h
-never_telling Unknown h = h
+never_telling _ h = h
 
 never_behind_commit : (call : Call) → IsBehindCommit call (Decide None) → ⊥
-never_behind_commit (Create at) h = never_telling (Create at) h
 never_behind_commit (Start id) h = not_same is_decide (Decide None) (Finish (pos 0)) refl refl h
 never_behind_commit (Loadable id) h = not_same is_decide (Decide None) (Finish (pos 0)) refl refl h
-never_behind_commit (Destroy id) h = never_telling (Destroy id) h
-never_behind_commit (Info kind) h = h
-never_behind_commit (State id) h = h
-never_behind_commit (CpuInfo cpu kind) h = h
-never_behind_commit Unknown h = h
+never_behind_commit call h = never_telling call h
 
 -- a Decide follows the beginning alone
 never_decide : (call : Call) (act : Act) → is_phase act ≡ true → MayFollow call act (Decide None) → ⊥
@@ -515,43 +430,25 @@ never_decide call (Settle Denied) phase h = not_same is_decide (Decide None) (Fi
 never_decide call Commit phase h = never_behind_commit call h
 never_decide call (Note id) phase h = not_same is_decide (Decide None) (Noted id h.0) refl refl h.1
 never_decide call (Noted id how) phase h = never_telling call h
-never_decide call (Finish answer) phase h = h
 never_decide call (Begin code a b) phase h = both_ways false refl phase
-never_decide call (Read width at got) phase h = h
-never_decide call (Write width at value ok) phase h = h
-never_decide call (Fetch at got) phase h = h
-never_decide call (Await width at value ok) phase h = h
-never_decide call (Irq device vector) phase h = h
-never_decide call (Hvc code a b answer) phase h = h
-never_decide call Stop phase h = h
+never_decide call _ phase h = h
 
 -- so behind each phase the call is past it
 pub past_from : (call : Call) (act : Act) (phase : Phase) → is_phase act ≡ true → ((next : Act) → Expects phase next → MayFollow call act next) → IsPast phase
 past_from call act ToDecide is h = never_decide call act is (h (Decide None) (None, refl))
-past_from call act (ToSettle waited) is h = tt
-past_from call act (ToCreate config) is h = tt
-past_from call act ToCommit is h = tt
-past_from call act (ToNote id about answer) is h = tt
-past_from call act (ToNoted id about answer waited) is h = tt
-past_from call act (ToFinish answer) is h = tt
+past_from call act _ is h = tt
 
 past_counted : (cell : ℕ) (call : Call) (phase : Phase) → IsPast phase → IsPast (counted cell call phase)
 past_counted cell call ToDecide past = absurd past
 past_counted cell call (ToSettle waited) past = cond_both (is_named call cell) (ToSettle (counted_up waited)) (ToSettle waited) IsPast (λ _. tt) (λ _. tt)
-past_counted cell call (ToCreate config) past = tt
-past_counted cell call ToCommit past = tt
-past_counted cell call (ToNote id about answer) past = tt
 past_counted cell call (ToNoted id about answer waited) past = cond_both (eqb cell id) (ToNoted id about answer (counted_up waited)) (ToNoted id about answer waited) IsPast (λ _. tt) (λ _. tt)
-past_counted cell call (ToFinish answer) past = tt
+past_counted cell call _ past = tt
 
 pub phase_expected : (phase : Phase) (act : Act) → Expects phase act → is_phase act ≡ true
 phase_expected ToDecide act h = ap is_phase h.1
 phase_expected (ToSettle waited) act h = ap is_phase h.1
-phase_expected (ToCreate config) act h = ap is_phase h
-phase_expected ToCommit act h = ap is_phase h
-phase_expected (ToNote id about answer) act h = ap is_phase h
 phase_expected (ToNoted id about answer waited) act h = ap is_phase h.1
-phase_expected (ToFinish answer) act h = ap is_phase h
+phase_expected _ act h = ap is_phase h
 
 suspending_kept : (image : Image) (caller : ℕ) (f : Facts) (entry : Entry) → IsSound image f → IsSuspending caller f → due_at image f entry.cpu ≡ Some entry → is_finish entry.act ≡ false → IsSuspending caller (after image f entry)
 suspending_kept image caller f entry sound suspending due more =
@@ -571,19 +468,7 @@ suspending_kept image caller f entry sound suspending due more =
 
 decide_phase : (act : Act) → is_decide act ≡ true → (is_phase act ≡ true) × (is_finish act ≡ false)
 decide_phase (Decide refused) h = (refl, refl)
-decide_phase (Settle how) h = absurd (both_ways false refl h)
-decide_phase Commit h = absurd (both_ways false refl h)
-decide_phase (Note id) h = absurd (both_ways false refl h)
-decide_phase (Noted id how) h = absurd (both_ways false refl h)
-decide_phase (Finish answer) h = absurd (both_ways false refl h)
-decide_phase (Begin code a b) h = absurd (both_ways false refl h)
-decide_phase (Read width at got) h = absurd (both_ways false refl h)
-decide_phase (Write width at value ok) h = absurd (both_ways false refl h)
-decide_phase (Fetch at got) h = absurd (both_ways false refl h)
-decide_phase (Await width at value ok) h = absurd (both_ways false refl h)
-decide_phase (Irq device vector) h = absurd (both_ways false refl h)
-decide_phase (Hvc code a b answer) h = absurd (both_ways false refl h)
-decide_phase Stop h = absurd (both_ways false refl h)
+decide_phase _ h = absurd (both_ways false refl h)
 
 -- from a Decide to the end of its call an entry of root is its caller's
 pub suspended_roots : (image : Image) (before middle rest : List Entry) (first last : Entry) → IsAdmitted image → IsLegal image (before ++ first ∷ (middle ++ last ∷ rest))
@@ -635,20 +520,7 @@ committing_stops image call f entry sound committing due named =
 agreement_settles : (act : Act) → is_agreement act ≡ true → (how : Settled) × (act ≡ Settle how) × (after_settle how ≡ ToCommit) × (is_phase act ≡ true)
 agreement_settles (Settle Agreed) h = (Agreed, refl, refl, refl)
 agreement_settles (Settle Timeout) h = (Timeout, refl, refl, refl)
-agreement_settles (Settle Denied) h = absurd (both_ways false refl h)
-agreement_settles (Decide refused) h = absurd (both_ways false refl h)
-agreement_settles Commit h = absurd (both_ways false refl h)
-agreement_settles (Note id) h = absurd (both_ways false refl h)
-agreement_settles (Noted id how) h = absurd (both_ways false refl h)
-agreement_settles (Finish answer) h = absurd (both_ways false refl h)
-agreement_settles (Begin code a b) h = absurd (both_ways false refl h)
-agreement_settles (Read width at got) h = absurd (both_ways false refl h)
-agreement_settles (Write width at value ok) h = absurd (both_ways false refl h)
-agreement_settles (Fetch at got) h = absurd (both_ways false refl h)
-agreement_settles (Await width at value ok) h = absurd (both_ways false refl h)
-agreement_settles (Irq device vector) h = absurd (both_ways false refl h)
-agreement_settles (Hvc code a b answer) h = absurd (both_ways false refl h)
-agreement_settles Stop h = absurd (both_ways false refl h)
+agreement_settles _ h = absurd (both_ways false refl h)
 
 settled_call : (image : Image) (f : Facts) (o : OpenCall) (entry : Entry) (how : Settled) → f.call ≡ Some o → entry.act ≡ Settle how → after_settle how ≡ ToCommit
     → (after image f entry).call ≡ Some (record { caller = o.caller; call = o.call; phase = ToCommit })
@@ -669,18 +541,7 @@ begun_kept (Some entry) (Some o) g h = h
 begun_act : (cells : List Live) (coming : Option CellConfig) (b : Option Entry) (call : Option OpenCall) (entry : Entry) (act : Act) → entry.act ≡ act → IsBegun b call → IsBegun (begun_by b entry act) (call_by cells coming call entry act)
 begun_act cells coming b call entry (Begin code a c) is h = (refl, sym (ap call_begun is))
 begun_act cells coming b call entry (Finish answer) is h = tt
-begun_act cells coming b call entry (Decide refused) is h = begun_kept b call (λ (o : OpenCall). phase_after cells coming entry.cell o.call o.phase (Decide refused)) h
-begun_act cells coming b call entry (Settle how) is h = begun_kept b call (λ (o : OpenCall). phase_after cells coming entry.cell o.call o.phase (Settle how)) h
-begun_act cells coming b call entry Commit is h = begun_kept b call (λ (o : OpenCall). phase_after cells coming entry.cell o.call o.phase Commit) h
-begun_act cells coming b call entry (Note id) is h = begun_kept b call (λ (o : OpenCall). phase_after cells coming entry.cell o.call o.phase (Note id)) h
-begun_act cells coming b call entry (Noted id how) is h = begun_kept b call (λ (o : OpenCall). phase_after cells coming entry.cell o.call o.phase (Noted id how)) h
-begun_act cells coming b call entry (Read width at got) is h = begun_kept b call (λ (o : OpenCall). phase_after cells coming entry.cell o.call o.phase (Read width at got)) h
-begun_act cells coming b call entry (Write width at value ok) is h = begun_kept b call (λ (o : OpenCall). phase_after cells coming entry.cell o.call o.phase (Write width at value ok)) h
-begun_act cells coming b call entry (Fetch at got) is h = begun_kept b call (λ (o : OpenCall). phase_after cells coming entry.cell o.call o.phase (Fetch at got)) h
-begun_act cells coming b call entry (Await width at value ok) is h = begun_kept b call (λ (o : OpenCall). phase_after cells coming entry.cell o.call o.phase (Await width at value ok)) h
-begun_act cells coming b call entry (Irq device vector) is h = begun_kept b call (λ (o : OpenCall). phase_after cells coming entry.cell o.call o.phase (Irq device vector)) h
-begun_act cells coming b call entry (Hvc code a c answer) is h = begun_kept b call (λ (o : OpenCall). phase_after cells coming entry.cell o.call o.phase (Hvc code a c answer)) h
-begun_act cells coming b call entry Stop is h = begun_kept b call (λ (o : OpenCall). phase_after cells coming entry.cell o.call o.phase Stop) h
+begun_act cells coming b call entry act is h = begun_kept b call (λ (o : OpenCall). phase_after cells coming entry.cell o.call o.phase act) h
 
 begun_from : (image : Image) (f : Facts) (b : Option Entry) (entries : List Entry) → IsBegun b f.call → IsBegun (fold (λ (x : Option Entry) (entry : Entry). begun_by x entry entry.act) b entries) (fold (after image) f entries).call
 begun_from image f b [] h = h

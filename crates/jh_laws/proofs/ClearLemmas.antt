@@ -15,7 +15,7 @@ use Rattle.jh_ivshmem.specs.Links.{endpoint_at}
 use Rattle.jh_ivshmem.specs.Specs.{is_other}
 use Rattle.jh_ivshmem.proofs.Public.{raised_spec, named_cell, named_device}
 use Rattle.jh_call.specs.declared.call.Call.{Call}
-use Rattle.jh_call.specs.declared.call.Call.TheVariants.{Create, Start, Loadable, Destroy, Info, State, CpuInfo, Unknown}
+use Rattle.jh_call.specs.declared.call.Call.TheVariants.{Create, Start, Loadable, Destroy}
 use Rattle.jh_script.specs.declared.image.Image.{Image}
 use Rattle.jh_history.specs.declared.call.OpenCall.{OpenCall}
 use Rattle.jh_history.specs.declared.call.Phase.{Phase}
@@ -127,11 +127,7 @@ commit_case image f entry caller (Destroy id) sound is commits phase =
     inl (clear_case image f entry caller id (Destroy id) phase.0 sound is commits tt (λ k about. sym about) refl phase.1 (same_named id phase.0 phase.2) (commit_after image f entry (opened_call caller (Destroy id) ToCommit) is commits))
 commit_case image f entry caller (Loadable id) sound is commits phase =
     inr (inr (record { none = λ k clears. about_of f entry (opened_call caller (Loadable id) ToCommit) k is clears; after = commit_after image f entry (opened_call caller (Loadable id) ToCommit) is commits }))
-commit_case image f entry caller (Create at) sound is commits phase = absurd (false≢true phase.2)
-commit_case image f entry caller (Info kind) sound is commits phase = absurd (false≢true phase.2)
-commit_case image f entry caller (State id) sound is commits phase = absurd (false≢true phase.2)
-commit_case image f entry caller (CpuInfo cpu kind) sound is commits phase = absurd (false≢true phase.2)
-commit_case image f entry caller Unknown sound is commits phase = absurd (false≢true phase.2)
+commit_case image f entry caller _ sound is commits phase = absurd (false≢true phase.2)
 
 create_case : (image : Image) (f : Facts) (entry : Entry) (caller : ℕ) (call : Call) (config : CellConfig) → f.call ≡ Some (opened_call caller call (ToCreate config)) → entry.act ≡ Commit → IsInPhase image (configs_of f.cells) f.cpu caller call (ToCreate config) → CommitCases image f entry
 create_case image f entry caller (Create at) config is commits phase =
@@ -141,13 +137,7 @@ create_case image f entry caller (Create at) config is commits phase =
       others = λ other held same. other_id (image.system.root ∷ configs_of f.cells) config other phase.1.unknown held (sym same);
       after = commit_after image f entry (opened_call caller (Create at) (ToCreate config)) is commits;
     }))
-create_case image f entry caller (Start id) config is commits phase = absurd phase.0
-create_case image f entry caller (Destroy id) config is commits phase = absurd phase.0
-create_case image f entry caller (Loadable id) config is commits phase = absurd phase.0
-create_case image f entry caller (Info kind) config is commits phase = absurd phase.0
-create_case image f entry caller (State id) config is commits phase = absurd phase.0
-create_case image f entry caller (CpuInfo cpu kind) config is commits phase = absurd phase.0
-create_case image f entry caller Unknown config is commits phase = absurd phase.0
+create_case image f entry caller _ config is commits phase = absurd phase.0
 
 phase_case : (image : Image) (f : Facts) (entry : Entry) (caller : ℕ) (call : Call) (phase : Phase) → IsSound image f → f.call ≡ Some (opened_call caller call phase) → entry.act ≡ Commit → IsInPhase image (configs_of f.cells) f.cpu caller call phase → Expects phase Commit → CommitCases image f entry
 phase_case image f entry caller call ToCommit sound is commits holds expects = commit_case image f entry caller call sound is commits holds

@@ -17,7 +17,7 @@ use Rattle.jh_check.proofs.Public.{accepted_to}
 use Rattle.jh_shape.specs.Pages.{pages_of}
 use Rattle.jh_comm.specs.declared.words.TheConstants.{STATE_RUNNING_LOCKED}
 use Rattle.jh_call.specs.declared.call.Call.{Call}
-use Rattle.jh_call.specs.declared.call.Call.TheVariants.{Create, Start, Loadable, Destroy, Info, State, CpuInfo, Unknown}
+use Rattle.jh_call.specs.declared.call.Call.TheVariants.{Create, Start, Loadable, Destroy}
 use Rattle.jh_call.specs.Calls.{is_management}
 use Rattle.jh_script.specs.declared.image.Image.{Image}
 use Rattle.jh_history.specs.declared.call.OpenCall.{OpenCall}
@@ -166,10 +166,7 @@ decision_of image f caller (Create at) manages sound = create_decision image f c
 decision_of image f caller (Start id) manages sound = id_decision image f id sound
 decision_of image f caller (Loadable id) manages sound = id_decision image f id sound
 decision_of image f caller (Destroy id) manages sound = destroy_decision image f id sound
-decision_of image f caller (Info kind) manages sound = both_ways false refl manages
-decision_of image f caller (State id) manages sound = both_ways false refl manages
-decision_of image f caller (CpuInfo cpu kind) manages sound = both_ways false refl manages
-decision_of image f caller Unknown manages sound = both_ways false refl manages
+decision_of image f caller _ manages sound = both_ways false refl manages
 
 abbrev refused_in : Act → Option ℤ
 refused_in (Decide refused) = refused

@@ -15,7 +15,7 @@ use Rattle.jh_cpu.specs.declared.cpu.Cpu.{Cpu}
 use Rattle.jh_cpu.specs.declared.cpu.Mode.TheVariants.{Running}
 use Rattle.jh_ivshmem.specs.Links.{pending_of}
 use Rattle.jh_call.specs.declared.call.Call.{Call}
-use Rattle.jh_call.specs.declared.call.Call.TheVariants.{Create, Start, Loadable, Destroy, Info, State, CpuInfo, Unknown}
+use Rattle.jh_call.specs.declared.call.Call.TheVariants.{Start, Loadable, Destroy}
 use Rattle.jh_script.specs.declared.image.Image.{Image}
 use Rattle.jh_script.specs.declared.op.Op.{Op}
 use Rattle.jh_script.specs.declared.op.Op.TheVariants.{Read as ReadOp, Write as WriteOp, Fetch as FetchOp, Await as AwaitOp, Irq as IrqOp, Hvc as HvcOp}
@@ -23,7 +23,7 @@ use Rattle.jh_script.specs.Operations.{IsWellFormed}
 use Rattle.jh_history.specs.declared.access.Access.TheVariants.{Read as ToRead}
 use Rattle.jh_history.specs.declared.call.OpenCall.{OpenCall}
 use Rattle.jh_history.specs.declared.call.Phase.{Phase}
-use Rattle.jh_history.specs.declared.call.Phase.TheVariants.{ToDecide, ToSettle, ToCreate, ToCommit, ToNote, ToNoted, ToFinish}
+use Rattle.jh_history.specs.declared.call.Phase.TheVariants.{ToDecide, ToSettle, ToCommit, ToNoted}
 use Rattle.jh_history.specs.declared.entry.Entry.{Entry}
 use Rattle.jh_history.specs.declared.entry.Settled.{Settled}
 use Rattle.jh_history.specs.declared.entry.Settled.TheVariants.{Agreed, Denied, Timeout}
@@ -426,27 +426,19 @@ tells_heard state reply over h =
     h
 
 pub named_of : (cells : List Live) (call : Call) (config : CellConfig) → named_cell cells call ≡ Some config → Contains (configs_of cells) config × (is_named call config.id ≡ true)
-named_of cells (Create at) config h = absurd (none-some config h)
 named_of cells (Start id) config h = let live = live_found cells id (find (has_id id) cells) config refl h in (live.0, eq-eqb id config.id (sym live.1))
 named_of cells (Loadable id) config h = let live = live_found cells id (find (has_id id) cells) config refl h in (live.0, eq-eqb id config.id (sym live.1))
 named_of cells (Destroy id) config h = let live = live_found cells id (find (has_id id) cells) config refl h in (live.0, eq-eqb id config.id (sym live.1))
-named_of cells (Info kind) config h = absurd (none-some config h)
-named_of cells (State id) config h = absurd (none-some config h)
-named_of cells (CpuInfo cpu kind) config h = absurd (none-some config h)
-named_of cells Unknown config h = absurd (none-some config h)
+named_of cells _ config h = absurd (none-some config h)
 
 live_by_id : (image : Image) (cells : List Live) (config : CellConfig) (id : ℕ) → AreSoundCells image.system (configs_of cells) → Contains (configs_of cells) config → config.id ≡ id → live_in cells id ≡ Some config
 live_by_id image cells config id sound held is = let P : ℕ → Type 0 = λ k. live_in cells k ≡ Some config in subst P is (found_by_id image cells config sound held)
 
 of_named : (image : Image) (cells : List Live) (call : Call) (config : CellConfig) → AreSoundCells image.system (configs_of cells) → Contains (configs_of cells) config → is_named call config.id ≡ true → named_cell cells call ≡ Some config
-of_named image cells (Create at) config sound held named = absurd (false≢true named)
 of_named image cells (Start id) config sound held named = live_by_id image cells config id sound held (sym (eqb-true id config.id named))
 of_named image cells (Loadable id) config sound held named = live_by_id image cells config id sound held (sym (eqb-true id config.id named))
 of_named image cells (Destroy id) config sound held named = live_by_id image cells config id sound held (sym (eqb-true id config.id named))
-of_named image cells (Info kind) config sound held named = absurd (false≢true named)
-of_named image cells (State id) config sound held named = absurd (false≢true named)
-of_named image cells (CpuInfo cpu kind) config sound held named = absurd (false≢true named)
-of_named image cells Unknown config sound held named = absurd (false≢true named)
+of_named image cells _ config sound held named = absurd (false≢true named)
 
 some_map : {X Y : Type 0} (g : X → Y) (o : Option X) → is_some (option_map g o) ≡ is_some o
 some_map g None = refl
@@ -507,12 +499,10 @@ phase_ready image f caller call ToDecide sound is opens h =
     decide_due image f (record { caller = caller; call = call; phase = ToDecide }) sound.cells opens.roots (some_if (any_below (λ i. keeps_decide image caller i (f.cpu i)) 16) (Decide (decision image f caller call)) h)
 phase_ready image f caller call (ToSettle waited) sound is opens h =
     settle_due image f (record { caller = caller; call = call; phase = ToSettle waited }) waited sound.cells is (sym (some_map (λ (how : Settled). Settle how) (settled_of f (is_idle_but image f caller) call waited)) ∙ h)
-phase_ready image f caller call (ToCreate config) sound is opens h = tt
 phase_ready image f caller call ToCommit sound is opens h = commit_due image f caller call sound.cells sound opens (some_if (any_below (λ i. keeps_commit image call i (f.cpu i)) 16) Commit h)
-phase_ready image f caller call (ToNote id about answer) sound is opens h = tt
 phase_ready image f caller call (ToNoted id about answer waited) sound is opens h =
     note_due image f (record { caller = caller; call = call; phase = ToNoted id about answer waited }) id about waited answer sound.cells is (sym (some_map (λ (how : Heard). Noted id how) (heard_of f (is_idle_but image f caller) id waited)) ∙ h)
-phase_ready image f caller call (ToFinish answer) sound is opens h = tt
+phase_ready image f caller call _ sound is opens h = tt
 
 ready_phase : (image : Image) (f : Facts) (caller : ℕ) (call : Call) (phase : Phase) → IsSound image f → f.call ≡ Some (record { caller = caller; call = call; phase = phase }) → IsOpen image (configs_of f.cells) f.cpu (record { caller = caller; call = call; phase = phase })
     → IsPhaseDue image f (record { caller = caller; call = call; phase = phase }) phase → is_some (phase_act image f (is_idle_but image f caller) caller call phase) ≡ true
@@ -520,12 +510,10 @@ ready_phase image f caller call ToDecide sound is opens h =
     if_some (any_below (λ i. keeps_decide image caller i (f.cpu i)) 16) (Decide (decision image f caller call)) (due_decide image f (record { caller = caller; call = call; phase = ToDecide }) opens.roots h)
 ready_phase image f caller call (ToSettle waited) sound is opens h =
     some_map (λ (how : Settled). Settle how) (settled_of f (is_idle_but image f caller) call waited) ∙ due_settle image f (record { caller = caller; call = call; phase = ToSettle waited }) waited sound.cells is h
-ready_phase image f caller call (ToCreate config) sound is opens h = refl
 ready_phase image f caller call ToCommit sound is opens h = if_some (any_below (λ i. keeps_commit image call i (f.cpu i)) 16) Commit (due_commit image f caller call sound.cells opens h)
-ready_phase image f caller call (ToNote id about answer) sound is opens h = refl
 ready_phase image f caller call (ToNoted id about answer waited) sound is opens h =
     some_map (λ (how : Heard). Noted id how) (heard_of f (is_idle_but image f caller) id waited) ∙ due_note image f (record { caller = caller; call = call; phase = ToNoted id about answer waited }) id about waited answer sound.cells is h
-ready_phase image f caller call (ToFinish answer) sound is opens h = refl
+ready_phase image f caller call _ sound is opens h = refl
 
 -- ---- a CPU
 

@@ -26,7 +26,7 @@ use Rattle.jh_history.specs.declared.access.Access.TheVariants.{Read as ToRead, 
 use Rattle.jh_history.specs.declared.access.Reach.{Reach}
 use Rattle.jh_history.specs.declared.entry.Entry.{Entry}
 use Rattle.jh_history.specs.declared.entry.Act.{Act}
-use Rattle.jh_history.specs.declared.entry.Act.TheVariants.{Read, Write, Fetch, Await, Irq, Hvc, Begin, Stop, Decide, Settle, Commit, Note, Noted, Finish}
+use Rattle.jh_history.specs.declared.entry.Act.TheVariants.{Read, Write, Fetch, Await, Irq, Hvc, Begin, Stop}
 use Rattle.jh_history.specs.Access.{place_in_cell, config_value, register_value, read_of, is_reached}
 use Rattle.jh_history.specs.Devices.{function_at}
 use Rattle.jh_history.specs.Facts.{Facts}
@@ -246,16 +246,7 @@ phase_ends image f id (Read width at got) h = absurd (false≢true h)
 phase_ends image f id (Write width at value ok) h = absurd (false≢true h)
 phase_ends image f id (Fetch at got) h = absurd (false≢true h)
 phase_ends image f id (Await width at value ok) h = absurd (false≢true h)
-phase_ends image f id (Irq device vector) h = tt
-phase_ends image f id (Hvc code a b answer) h = tt
-phase_ends image f id (Begin code a b) h = tt
-phase_ends image f id Stop h = tt
-phase_ends image f id (Decide refused) h = tt
-phase_ends image f id (Settle how) h = tt
-phase_ends image f id Commit h = tt
-phase_ends image f id (Note who) h = tt
-phase_ends image f id (Noted who how) h = tt
-phase_ends image f id (Finish answer) h = tt
+phase_ends image f id _ h = tt
 
 ends_made : (image : Image) (f : Facts) (entry : Entry) → IsAdmitted image → IsSound image f → IsMadeBy image f entry → EndsAsGranted image f (f.cpu entry.cpu).owner entry.act
 ends_made image f entry admitted sound (Stopping is) = stop_ends image f (f.cpu entry.cpu).owner entry.act is
@@ -304,20 +295,8 @@ small_by act None h is = absurd (none-some act is)
 small_by act (Some other) h is = subst IsSmallAct (same_Some other act is) h
 
 phase_small : (act : Act) → is_phase act ≡ true → IsSmallAct act
-phase_small (Read width at got) h = tt
 phase_small (Write width at value ok) h = absurd (false≢true h)
-phase_small (Fetch at got) h = tt
-phase_small (Await width at value ok) h = tt
-phase_small (Irq device vector) h = tt
-phase_small (Hvc code a b answer) h = tt
-phase_small (Begin code a b) h = tt
-phase_small Stop h = tt
-phase_small (Decide refused) h = tt
-phase_small (Settle how) h = tt
-phase_small Commit h = tt
-phase_small (Note who) h = tt
-phase_small (Noted who how) h = tt
-phase_small (Finish answer) h = tt
+phase_small _ h = tt
 
 -- what a plain operation comes to
 pub op_small_holds : (image : Image) (f : Facts) (id : ℕ) (op : Op) (act : Act) → IsWellFormed op → act_of image f id op ≡ Some act → IsSmallAct act

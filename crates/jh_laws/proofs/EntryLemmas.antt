@@ -16,7 +16,7 @@ use Rattle.jh_script.specs.declared.op.Op.TheVariants.{Read as ReadOp, Write as 
 use Rattle.jh_history.specs.declared.access.Access.TheVariants.{Read as ToRead}
 use Rattle.jh_history.specs.declared.entry.Entry.{Entry}
 use Rattle.jh_history.specs.declared.entry.Act.{Act}
-use Rattle.jh_history.specs.declared.entry.Act.TheVariants.{Read, Write, Fetch, Await, Irq, Hvc, Begin, Stop, Decide, Settle, Commit, Note, Noted, Finish}
+use Rattle.jh_history.specs.declared.entry.Act.TheVariants.{Await, Irq, Hvc, Begin, Decide, Settle, Commit, Note, Noted, Finish}
 use Rattle.jh_history.specs.Facts.{Facts}
 use Rattle.jh_history.specs.Lives.{is_on_board, program_ops, cell_in}
 use Rattle.jh_history.specs.Hypercalls.{seen_of}
@@ -65,14 +65,7 @@ phase_none Commit h = refl
 phase_none (Note id) h = refl
 phase_none (Noted id how) h = refl
 phase_none (Finish answer) h = refl
-phase_none (Begin code a b) h = absurd (false≢true h)
-phase_none (Read width at got) h = absurd (false≢true h)
-phase_none (Write width at value ok) h = absurd (false≢true h)
-phase_none (Fetch at got) h = absurd (false≢true h)
-phase_none (Await width at value ok) h = absurd (false≢true h)
-phase_none (Irq device vector) h = absurd (false≢true h)
-phase_none (Hvc code a b answer) h = absurd (false≢true h)
-phase_none Stop h = absurd (false≢true h)
+phase_none _ h = absurd (false≢true h)
 
 -- the operation of a live cell's program
 abbrev pub IsOperationOf : Image → Facts → ℕ → ℕ → Op → Type 0

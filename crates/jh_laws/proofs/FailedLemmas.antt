@@ -12,7 +12,7 @@ use Rattle.jh_history.specs.declared.call.OpenCall.{OpenCall}
 use Rattle.jh_history.specs.declared.entry.Entry.{Entry}
 use Rattle.jh_history.specs.declared.entry.Settled.{Settled}
 use Rattle.jh_history.specs.declared.entry.Act.{Act}
-use Rattle.jh_history.specs.declared.entry.Act.TheVariants.{Read, Write, Fetch, Await, Irq, Hvc, Begin, Stop, Decide, Settle, Commit, Note, Noted, Finish}
+use Rattle.jh_history.specs.declared.entry.Act.TheVariants.{Read, Write, Fetch, Await, Begin, Settle, Commit, Finish}
 use Rattle.jh_history.specs.Facts.{Facts}
 use Rattle.jh_history.specs.Calls.{is_named}
 use Rattle.jh_history.specs.Cpus.{acted, settled, finished, resumed_in, is_running, is_agreed}
@@ -43,23 +43,12 @@ use Rattle.jh_history.specs.Commits.{is_commit}
 -- a violation is no write that succeeds
 pub failing_of : (image : Image) (f : Facts) (entry : Entry) (act : Act) → is_violation act ≡ true → page_write_by image f entry act ≡ failing image f entry
 failing_of image f entry (Read width at None) h = refl
-failing_of image f entry (Read width at (Some got)) h = absurd (false≢true h)
 failing_of image f entry (Fetch at None) h = refl
-failing_of image f entry (Fetch at (Some got)) h = absurd (false≢true h)
 failing_of image f entry (Write width at value true) h = absurd (false≢true h)
 failing_of image f entry (Write width at value false) h = refl
 failing_of image f entry (Await width at value true) h = absurd (false≢true h)
 failing_of image f entry (Await width at value false) h = refl
-failing_of image f entry (Irq device vector) h = absurd (false≢true h)
-failing_of image f entry (Hvc code a b answer) h = absurd (false≢true h)
-failing_of image f entry (Begin code a b) h = absurd (false≢true h)
-failing_of image f entry Stop h = absurd (false≢true h)
-failing_of image f entry (Decide refused) h = absurd (false≢true h)
-failing_of image f entry (Settle how) h = absurd (false≢true h)
-failing_of image f entry Commit h = absurd (false≢true h)
-failing_of image f entry (Note id) h = absurd (false≢true h)
-failing_of image f entry (Noted id how) h = absurd (false≢true h)
-failing_of image f entry (Finish answer) h = absurd (false≢true h)
+failing_of image f entry _ h = absurd (false≢true h)
 
 -- ---- that it ends its CPU
 
@@ -113,16 +102,7 @@ acted_rest image call (Settle how) own i cpu other apart mode =
     let e = settled_failed how call cpu mode in (ap (λ (c : Cpu). c.mode) e, ap (λ (c : Cpu). c.asked) e)
 acted_rest image call (Finish answer) own i cpu other apart mode = finished_rest image own i cpu
 acted_rest image call Commit own i cpu other apart mode = absurd (false≢true (sym other))
-acted_rest image call (Read width at got) own i cpu other apart mode = let e = others_by image call (Read width at got) own i cpu refl apart in (ap (λ (c : Cpu). c.mode) e, ap (λ (c : Cpu). c.asked) e)
-acted_rest image call (Write width at value ok) own i cpu other apart mode = let e = others_by image call (Write width at value ok) own i cpu refl apart in (ap (λ (c : Cpu). c.mode) e, ap (λ (c : Cpu). c.asked) e)
-acted_rest image call (Fetch at got) own i cpu other apart mode = let e = others_by image call (Fetch at got) own i cpu refl apart in (ap (λ (c : Cpu). c.mode) e, ap (λ (c : Cpu). c.asked) e)
-acted_rest image call (Await width at value ok) own i cpu other apart mode = let e = others_by image call (Await width at value ok) own i cpu refl apart in (ap (λ (c : Cpu). c.mode) e, ap (λ (c : Cpu). c.asked) e)
-acted_rest image call (Irq device vector) own i cpu other apart mode = let e = others_by image call (Irq device vector) own i cpu refl apart in (ap (λ (c : Cpu). c.mode) e, ap (λ (c : Cpu). c.asked) e)
-acted_rest image call (Hvc code a b answer) own i cpu other apart mode = let e = others_by image call (Hvc code a b answer) own i cpu refl apart in (ap (λ (c : Cpu). c.mode) e, ap (λ (c : Cpu). c.asked) e)
-acted_rest image call Stop own i cpu other apart mode = let e = others_by image call Stop own i cpu refl apart in (ap (λ (c : Cpu). c.mode) e, ap (λ (c : Cpu). c.asked) e)
-acted_rest image call (Decide refused) own i cpu other apart mode = let e = others_by image call (Decide refused) own i cpu refl apart in (ap (λ (c : Cpu). c.mode) e, ap (λ (c : Cpu). c.asked) e)
-acted_rest image call (Note id) own i cpu other apart mode = let e = others_by image call (Note id) own i cpu refl apart in (ap (λ (c : Cpu). c.mode) e, ap (λ (c : Cpu). c.asked) e)
-acted_rest image call (Noted id how) own i cpu other apart mode = let e = others_by image call (Noted id how) own i cpu refl apart in (ap (λ (c : Cpu). c.mode) e, ap (λ (c : Cpu). c.asked) e)
+acted_rest image call act own i cpu other apart mode = let e = others_by image call act own i cpu refl apart in (ap (λ (c : Cpu). c.mode) e, ap (λ (c : Cpu). c.asked) e)
 
 failed_kept : (image : Image) (cpu : ℕ) → IsAdmitted image → (f : Facts) (entry : Entry) → IsSound image f → IsFailed cpu f → due_at image f entry.cpu ≡ Some entry → is_commit entry.act ≡ false → IsFailed cpu (after image f entry)
 failed_kept image cpu admitted f entry sound failed due other =
@@ -148,20 +128,7 @@ failed_rests image before middle rest first last admitted legal violates others 
 -- it writes no memory
 fails_quiet : (image : Image) (f : Facts) (cell : ℕ) (act : Act) → is_violation act ≡ true → byte_written image f cell act ≡ f.byte
 fails_quiet image f cell (Write width at value true) h = absurd (false≢true h)
-fails_quiet image f cell (Write width at value false) h = refl
-fails_quiet image f cell (Read width at got) h = refl
-fails_quiet image f cell (Fetch at got) h = refl
-fails_quiet image f cell (Await width at value ok) h = refl
-fails_quiet image f cell (Irq device vector) h = refl
-fails_quiet image f cell (Hvc code a b answer) h = refl
-fails_quiet image f cell (Begin code a b) h = refl
-fails_quiet image f cell Stop h = refl
-fails_quiet image f cell (Decide refused) h = refl
-fails_quiet image f cell (Settle how) h = refl
-fails_quiet image f cell Commit h = refl
-fails_quiet image f cell (Note id) h = refl
-fails_quiet image f cell (Noted id how) h = refl
-fails_quiet image f cell (Finish answer) h = refl
+fails_quiet image f cell _ h = refl
 
 -- it is no Commit
 fails_commits : (act : Act) → is_violation act ≡ true → is_commit act ≡ false

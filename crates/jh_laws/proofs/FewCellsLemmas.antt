@@ -21,7 +21,7 @@ use Rattle.jh_check.proofs.Public.{sound_set}
 use Rattle.jh_comm.specs.declared.words.TheConstants.{STATE_RUNNING, STATE_SHUT_DOWN, STATE_FAILED, MESSAGE_SHUTDOWN_REQUEST}
 use Rattle.jh_cpu.specs.declared.cpu.Cpu.{Cpu}
 use Rattle.jh_call.specs.declared.call.Call.{Call}
-use Rattle.jh_call.specs.declared.call.Call.TheVariants.{Create, Start, Loadable, Destroy, Info, State, CpuInfo, Unknown}
+use Rattle.jh_call.specs.declared.call.Call.TheVariants.{Create, Start, Loadable, Destroy}
 use Rattle.jh_script.specs.declared.image.Image.{Image}
 use Rattle.jh_history.specs.declared.place.Place.{Place}
 use Rattle.jh_history.specs.declared.access.Access.TheVariants.{Read as ToRead, Write as ToWrite}
@@ -32,9 +32,9 @@ use Rattle.jh_history.specs.declared.comm.PageChange.TheVariants.{State as NewSt
 use Rattle.jh_history.specs.declared.entry.Entry.{Entry}
 use Rattle.jh_history.specs.declared.entry.Settled.{Settled}
 use Rattle.jh_history.specs.declared.entry.Settled.TheVariants.{Agreed, Denied, Timeout}
-use Rattle.jh_history.specs.declared.entry.Heard.TheVariants.{Received, Down, Other, Timeout as Silent}
+use Rattle.jh_history.specs.declared.entry.Heard.TheVariants.{Timeout as Silent}
 use Rattle.jh_history.specs.declared.entry.Act.{Act}
-use Rattle.jh_history.specs.declared.entry.Act.TheVariants.{Read, Write, Fetch, Await, Irq, Hvc, Begin, Stop, Decide, Settle, Commit, Note, Noted, Finish}
+use Rattle.jh_history.specs.declared.entry.Act.TheVariants.{Read, Write, Fetch, Await, Begin, Decide, Settle, Commit, Note, Noted, Finish}
 use Rattle.jh_history.specs.Access.{places_from}
 use Rattle.jh_history.specs.Facts.{Facts}
 use Rattle.jh_history.specs.Lives.{is_on_board, live_in}
@@ -105,13 +105,7 @@ read_typed image f at config small h = from_typed image f at (bytes_at image f a
 
 coming_typed : (image : Image) (f : Facts) (call : Call) (config : CellConfig) → ((q : Place) → f.byte q < 256) → coming_by image f call ≡ Some config → IsTyped config
 coming_typed image f (Create at) config small h = read_typed image f at config small h
-coming_typed image f (Start id) config small h = absurd (none-some config h)
-coming_typed image f (Loadable id) config small h = absurd (none-some config h)
-coming_typed image f (Destroy id) config small h = absurd (none-some config h)
-coming_typed image f (Info kind) config small h = absurd (none-some config h)
-coming_typed image f (State id) config small h = absurd (none-some config h)
-coming_typed image f (CpuInfo cpu kind) config small h = absurd (none-some config h)
-coming_typed image f Unknown config small h = absurd (none-some config h)
+coming_typed image f _ config small h = absurd (none-some config h)
 
 coming_of_typed : (image : Image) (f : Facts) (call : Option OpenCall) (config : CellConfig) → ((q : Place) → f.byte q < 256) → option_and_then (λ (o : OpenCall). coming_by image f o.call) call ≡ Some config → IsTyped config
 coming_of_typed image f None config small h = absurd (none-some config h)
@@ -121,13 +115,7 @@ decided_typed : (call : Call) (coming : Option CellConfig) (refused : Option ℤ
 decided_typed call coming (Some number) h fits = fits
 decided_typed (Create at) (Some config) None h fits = h config refl
 decided_typed (Create at) None None h fits = tt
-decided_typed (Start id) coming None h fits = tt
-decided_typed (Loadable id) coming None h fits = tt
-decided_typed (Destroy id) coming None h fits = tt
-decided_typed (Info kind) coming None h fits = tt
-decided_typed (State id) coming None h fits = tt
-decided_typed (CpuInfo cpu kind) coming None h fits = tt
-decided_typed Unknown coming None h fits = tt
+decided_typed _ coming None h fits = tt
 
 settled_typed : (how : Settled) → IsTypedPhase (after_settle how)
 settled_typed Agreed = tt
@@ -145,23 +133,13 @@ telling_typed about answer None fits = fits
 telling_typed about answer (Some id) fits = fits
 
 created_typed : (at : ℕ) (phase : Phase) (cells : List Live) → IsTypedPhase phase → IsTypedPhase (after_commit (Create at) phase cells)
-created_typed at ToDecide cells h = zero_fits
-created_typed at (ToSettle waited) cells h = zero_fits
 created_typed at (ToCreate config) cells h = telling_typed config.id (pos config.id) (first_recipient config.id cells) (id_fits config.id h.id)
-created_typed at ToCommit cells h = zero_fits
-created_typed at (ToNote id about answer) cells h = zero_fits
-created_typed at (ToNoted id about answer waited) cells h = zero_fits
-created_typed at (ToFinish answer) cells h = zero_fits
+created_typed at _ cells h = zero_fits
 
 commit_typed : (call : Call) (phase : Phase) (cells : List Live) → IsTypedPhase phase → IsTypedPhase (after_commit call phase cells)
 commit_typed (Create at) phase cells h = created_typed at phase cells h
-commit_typed (Start id) phase cells h = zero_fits
-commit_typed (Loadable id) phase cells h = zero_fits
 commit_typed (Destroy id) phase cells h = telling_typed id (pos 0) (first_recipient id cells) zero_fits
-commit_typed (Info kind) phase cells h = zero_fits
-commit_typed (State id) phase cells h = zero_fits
-commit_typed (CpuInfo cpu kind) phase cells h = zero_fits
-commit_typed Unknown phase cells h = zero_fits
+commit_typed _ phase cells h = zero_fits
 
 note_typed : (phase : Phase) → IsTypedPhase phase → IsTypedPhase (after_note phase)
 note_typed ToDecide h = h
@@ -173,22 +151,13 @@ note_typed (ToNoted id about answer waited) h = h
 note_typed (ToFinish answer) h = h
 
 noted_typed : (phase : Phase) (cells : List Live) → IsTypedPhase phase → IsTypedPhase (after_noted phase cells)
-noted_typed ToDecide cells h = h
-noted_typed (ToSettle waited) cells h = h
-noted_typed (ToCreate config) cells h = h
-noted_typed ToCommit cells h = h
-noted_typed (ToNote id about answer) cells h = h
 noted_typed (ToNoted id about answer waited) cells h = telling_typed about answer (first_recipient about (listed_behind id cells)) h
-noted_typed (ToFinish answer) cells h = h
+noted_typed _ cells h = h
 
 counted_typed : (cell : ℕ) (call : Call) (phase : Phase) → IsTypedPhase phase → IsTypedPhase (counted cell call phase)
-counted_typed cell call ToDecide h = h
 counted_typed cell call (ToSettle waited) h = cond_both (is_named call cell) (ToSettle (counted_up waited)) (ToSettle waited) IsTypedPhase (λ _. tt) (λ _. tt)
-counted_typed cell call (ToCreate config) h = h
-counted_typed cell call ToCommit h = h
-counted_typed cell call (ToNote id about answer) h = h
 counted_typed cell call (ToNoted id about answer waited) h = cond_both (eqb cell id) (ToNoted id about answer (counted_up waited)) (ToNoted id about answer waited) IsTypedPhase (λ _. h) (λ _. h)
-counted_typed cell call (ToFinish answer) h = h
+counted_typed cell call _ h = h
 
 phase_typed : (cells : List Live) (coming : Option CellConfig) (cell : ℕ) (call : Call) (phase : Phase) (act : Act) → ((config : CellConfig) → coming ≡ Some config → IsTyped config) → FitsRefusal act → IsTypedPhase phase → IsTypedPhase (phase_after cells coming cell call phase act)
 phase_typed cells coming cell call phase (Decide refused) some fits h = decided_typed call coming refused some fits
@@ -196,15 +165,7 @@ phase_typed cells coming cell call phase (Settle how) some fits h = settled_type
 phase_typed cells coming cell call phase Commit some fits h = commit_typed call phase cells h
 phase_typed cells coming cell call phase (Note id) some fits h = note_typed phase h
 phase_typed cells coming cell call phase (Noted id how) some fits h = noted_typed phase cells h
-phase_typed cells coming cell call phase (Read width at got) some fits h = counted_typed cell call phase h
-phase_typed cells coming cell call phase (Write width at value ok) some fits h = counted_typed cell call phase h
-phase_typed cells coming cell call phase (Fetch at got) some fits h = counted_typed cell call phase h
-phase_typed cells coming cell call phase (Await width at value ok) some fits h = counted_typed cell call phase h
-phase_typed cells coming cell call phase (Irq device vector) some fits h = counted_typed cell call phase h
-phase_typed cells coming cell call phase (Hvc code a b answer) some fits h = counted_typed cell call phase h
-phase_typed cells coming cell call phase (Begin code a b) some fits h = counted_typed cell call phase h
-phase_typed cells coming cell call phase Stop some fits h = counted_typed cell call phase h
-phase_typed cells coming cell call phase (Finish answer) some fits h = counted_typed cell call phase h
+phase_typed cells coming cell call phase _ some fits h = counted_typed cell call phase h
 
 map_typed : (call : Option OpenCall) (g : OpenCall → Phase) → ((o : OpenCall) → call ≡ Some o → IsTypedPhase (g o)) → IsTypedCall (option_map (λ (o : OpenCall). record { caller = o.caller; call = o.call; phase = g o }) call)
 map_typed None g h = tt
@@ -216,18 +177,7 @@ typed_phase call o is h = let P : Option OpenCall → Type 0 = IsTypedCall in su
 call_typed : (cells : List Live) (coming : Option CellConfig) (call : Option OpenCall) (entry : Entry) (act : Act) → ((config : CellConfig) → coming ≡ Some config → IsTyped config) → FitsRefusal act → IsTypedCall call → IsTypedCall (call_by cells coming call entry act)
 call_typed cells coming call entry (Begin code a b) some fits h = tt
 call_typed cells coming call entry (Finish answer) some fits h = tt
-call_typed cells coming call entry (Decide refused) some fits h = map_typed call (λ o. phase_after cells coming entry.cell o.call o.phase (Decide refused)) (λ o is. phase_typed cells coming entry.cell o.call o.phase (Decide refused) some fits (typed_phase call o is h))
-call_typed cells coming call entry (Settle how) some fits h = map_typed call (λ o. phase_after cells coming entry.cell o.call o.phase (Settle how)) (λ o is. phase_typed cells coming entry.cell o.call o.phase (Settle how) some fits (typed_phase call o is h))
-call_typed cells coming call entry Commit some fits h = map_typed call (λ o. phase_after cells coming entry.cell o.call o.phase Commit) (λ o is. phase_typed cells coming entry.cell o.call o.phase Commit some fits (typed_phase call o is h))
-call_typed cells coming call entry (Note id) some fits h = map_typed call (λ o. phase_after cells coming entry.cell o.call o.phase (Note id)) (λ o is. phase_typed cells coming entry.cell o.call o.phase (Note id) some fits (typed_phase call o is h))
-call_typed cells coming call entry (Noted id how) some fits h = map_typed call (λ o. phase_after cells coming entry.cell o.call o.phase (Noted id how)) (λ o is. phase_typed cells coming entry.cell o.call o.phase (Noted id how) some fits (typed_phase call o is h))
-call_typed cells coming call entry (Read width at got) some fits h = map_typed call (λ o. phase_after cells coming entry.cell o.call o.phase (Read width at got)) (λ o is. phase_typed cells coming entry.cell o.call o.phase (Read width at got) some fits (typed_phase call o is h))
-call_typed cells coming call entry (Write width at value ok) some fits h = map_typed call (λ o. phase_after cells coming entry.cell o.call o.phase (Write width at value ok)) (λ o is. phase_typed cells coming entry.cell o.call o.phase (Write width at value ok) some fits (typed_phase call o is h))
-call_typed cells coming call entry (Fetch at got) some fits h = map_typed call (λ o. phase_after cells coming entry.cell o.call o.phase (Fetch at got)) (λ o is. phase_typed cells coming entry.cell o.call o.phase (Fetch at got) some fits (typed_phase call o is h))
-call_typed cells coming call entry (Await width at value ok) some fits h = map_typed call (λ o. phase_after cells coming entry.cell o.call o.phase (Await width at value ok)) (λ o is. phase_typed cells coming entry.cell o.call o.phase (Await width at value ok) some fits (typed_phase call o is h))
-call_typed cells coming call entry (Irq device vector) some fits h = map_typed call (λ o. phase_after cells coming entry.cell o.call o.phase (Irq device vector)) (λ o is. phase_typed cells coming entry.cell o.call o.phase (Irq device vector) some fits (typed_phase call o is h))
-call_typed cells coming call entry (Hvc code a b answer) some fits h = map_typed call (λ o. phase_after cells coming entry.cell o.call o.phase (Hvc code a b answer)) (λ o is. phase_typed cells coming entry.cell o.call o.phase (Hvc code a b answer) some fits (typed_phase call o is h))
-call_typed cells coming call entry Stop some fits h = map_typed call (λ o. phase_after cells coming entry.cell o.call o.phase Stop) (λ o is. phase_typed cells coming entry.cell o.call o.phase Stop some fits (typed_phase call o is h))
+call_typed cells coming call entry act some fits h = map_typed call (λ o. phase_after cells coming entry.cell o.call o.phase act) (λ o is. phase_typed cells coming entry.cell o.call o.phase act some fits (typed_phase call o is h))
 
 -- ---- the cells
 
@@ -240,13 +190,8 @@ joined_typed configs new h typed config held =
     ⊎_elim (λ old. h config old) (λ (is : new ≡ config). subst P is typed) (Contains-push_cases configs new config held)
 
 added_typed : (at : ℕ) (phase : Phase) (cells : List Live) → IsTypedPhase phase → AreTyped (configs_of cells) → AreTyped (configs_of (committed_cells (Create at) phase cells))
-added_typed at ToDecide cells typed h = h
-added_typed at (ToSettle waited) cells typed h = h
 added_typed at (ToCreate config) cells typed h = same_typed (configs_of (cells ++ (record { config = config; loadable = false }) ∷ [])) (configs_of cells ++ config ∷ []) (configs_joined cells config) (joined_typed (configs_of cells) config h typed)
-added_typed at ToCommit cells typed h = h
-added_typed at (ToNote id about answer) cells typed h = h
-added_typed at (ToNoted id about answer waited) cells typed h = h
-added_typed at (ToFinish answer) cells typed h = h
+added_typed at _ cells typed h = h
 
 committed_typed : (call : Call) (phase : Phase) (cells : List Live) → IsTypedPhase phase → AreTyped (configs_of cells) → AreTyped (configs_of (committed_cells call phase cells))
 committed_typed (Create at) phase cells typed h = added_typed at phase cells typed h
@@ -255,10 +200,7 @@ committed_typed (Loadable id) phase cells typed h = same_typed (configs_of (map 
 committed_typed (Destroy id) phase cells typed h =
     same_typed (configs_of (filter (is_other id) cells)) (filter (is_other_config id) (configs_of cells)) (configs_others id cells)
     (λ config held. h config (IsFound_from_filter (is_other_config id) (configs_of cells) config held).held)
-committed_typed (Info kind) phase cells typed h = h
-committed_typed (State id) phase cells typed h = h
-committed_typed (CpuInfo cpu kind) phase cells typed h = h
-committed_typed Unknown phase cells typed h = h
+committed_typed _ phase cells typed h = h
 
 commits_typed : (call : Option OpenCall) (cells : List Live) → IsTypedCall call → AreTyped (configs_of cells) → AreTyped (configs_of (cells_by call cells Commit))
 commits_typed None cells typed h = h
@@ -266,38 +208,13 @@ commits_typed (Some o) cells typed h = committed_typed o.call o.phase cells type
 
 cells_typed : (call : Option OpenCall) (cells : List Live) (act : Act) → IsTypedCall call → AreTyped (configs_of cells) → AreTyped (configs_of (cells_by call cells act))
 cells_typed call cells Commit typed h = commits_typed call cells typed h
-cells_typed call cells (Read width at got) typed h = h
-cells_typed call cells (Write width at value ok) typed h = h
-cells_typed call cells (Fetch at got) typed h = h
-cells_typed call cells (Await width at value ok) typed h = h
-cells_typed call cells (Irq device vector) typed h = h
-cells_typed call cells (Hvc code a b answer) typed h = h
-cells_typed call cells (Begin code a b) typed h = h
-cells_typed call cells Stop typed h = h
-cells_typed call cells (Decide refused) typed h = h
-cells_typed call cells (Settle how) typed h = h
-cells_typed call cells (Note id) typed h = h
-cells_typed call cells (Noted id how) typed h = h
-cells_typed call cells (Finish answer) typed h = h
+cells_typed call cells _ typed h = h
 
 -- ---- bytes
 
 written_small : (image : Image) (f : Facts) (cell : ℕ) (act : Act) (q : Place) → ((p : Place) → f.byte p < 256) → byte_written image f cell act q < 256
 written_small image f cell (Write width at value true) q small = write_small f.byte (devices_of image f cell) (reach image f cell ToWrite at width) value q small
-written_small image f cell (Write width at value false) q small = small q
-written_small image f cell (Read width at got) q small = small q
-written_small image f cell (Fetch at got) q small = small q
-written_small image f cell (Await width at value ok) q small = small q
-written_small image f cell (Irq device vector) q small = small q
-written_small image f cell (Hvc code a b answer) q small = small q
-written_small image f cell (Begin code a b) q small = small q
-written_small image f cell Stop q small = small q
-written_small image f cell (Decide refused) q small = small q
-written_small image f cell (Settle how) q small = small q
-written_small image f cell Commit q small = small q
-written_small image f cell (Note id) q small = small q
-written_small image f cell (Noted id how) q small = small q
-written_small image f cell (Finish answer) q small = small q
+written_small image f cell _ q small = small q
 
 failing_small : (image : Image) (f : Facts) (entry : Entry) (good : Bool) → MayWriteBytes (unless_good good (failing image f entry))
 failing_small image f entry true = tt
@@ -331,23 +248,14 @@ down_one None = tt
 down_one (Some c) = tt
 
 create_page : (window : ℕ) (cells : List Live) (at : ℕ) (phase : Phase) → IsTypedPhase phase → MayWriteBytes (committing window cells (Create at) phase)
-create_page window cells at ToDecide typed = tt
-create_page window cells at (ToSettle waited) typed = tt
 create_page window cells at (ToCreate config) typed = typed.console
-create_page window cells at ToCommit typed = tt
-create_page window cells at (ToNote id about answer) typed = tt
-create_page window cells at (ToNoted id about answer waited) typed = tt
-create_page window cells at (ToFinish answer) typed = tt
+create_page window cells at _ typed = tt
 
 commit_page : (window : ℕ) (cells : List Live) (call : Call) (phase : Phase) → IsTypedPhase phase → AreTyped (configs_of cells) → MayWriteBytes (committing window cells call phase)
 commit_page window cells (Create at) phase typed h = create_page window cells at phase typed
 commit_page window cells (Start id) phase typed h = fresh_one window cells id (find (has_id id) cells) refl h
 commit_page window cells (Loadable id) phase typed h = down_one (live_in cells id)
-commit_page window cells (Destroy id) phase typed h = tt
-commit_page window cells (Info kind) phase typed h = tt
-commit_page window cells (State id) phase typed h = tt
-commit_page window cells (CpuInfo cpu kind) phase typed h = tt
-commit_page window cells Unknown phase typed h = tt
+commit_page window cells _ phase typed h = tt
 
 commit_small : (window : ℕ) (cells : List Live) (call : Option OpenCall) → IsTypedCall call → AreTyped (configs_of cells) → MayWriteBytes (option_and_then (λ (o : OpenCall). committing window cells o.call o.phase) call)
 commit_small window cells None typed h = tt
@@ -359,21 +267,10 @@ page_write_small image f entry (Write width at value ok) typed h = failing_small
 page_write_small image f entry (Fetch at got) typed h = failing_small image f entry (is_some got)
 page_write_small image f entry (Await width at value ok) typed h = failing_small image f entry ok
 page_write_small image f entry (Decide None) typed h = asking_small f.cells f.call
-page_write_small image f entry (Decide (Some number)) typed h = tt
 page_write_small image f entry (Settle Timeout) typed h = timeout_small f.cells f.call
-page_write_small image f entry (Settle Agreed) typed h = tt
-page_write_small image f entry (Settle Denied) typed h = tt
 page_write_small image f entry Commit typed h = commit_small image.system.pci_mmconfig_base f.cells f.call typed h
-page_write_small image f entry (Note id) typed h = tt
 page_write_small image f entry (Noted id Silent) typed h = tt
-page_write_small image f entry (Noted id Received) typed h = tt
-page_write_small image f entry (Noted id Down) typed h = tt
-page_write_small image f entry (Noted id Other) typed h = tt
-page_write_small image f entry (Irq device vector) typed h = tt
-page_write_small image f entry (Hvc code a b answer) typed h = tt
-page_write_small image f entry (Begin code a b) typed h = tt
-page_write_small image f entry Stop typed h = tt
-page_write_small image f entry (Finish answer) typed h = tt
+page_write_small image f entry _ typed h = tt
 
 byte_small : (image : Image) (f : Facts) (entry : Entry) (q : Place) → IsTypedBoard f → byte_after image f entry q < 256
 byte_small image f entry q typed =
@@ -398,16 +295,7 @@ acted_owner image call (Begin code a b) own i cpu other = begun_owner image own 
 acted_owner image call (Settle how) own i cpu other = settle_owner call how cpu
 acted_owner image call Commit own i cpu other = absurd (both_ways true other refl)
 acted_owner image call (Finish answer) own i cpu other = finished_owner image own i cpu
-acted_owner image call (Read width at got) own i cpu other = one_owner (Read width at got) own i cpu
-acted_owner image call (Write width at value ok) own i cpu other = one_owner (Write width at value ok) own i cpu
-acted_owner image call (Fetch at got) own i cpu other = one_owner (Fetch at got) own i cpu
-acted_owner image call (Await width at value ok) own i cpu other = one_owner (Await width at value ok) own i cpu
-acted_owner image call (Irq device vector) own i cpu other = one_owner (Irq device vector) own i cpu
-acted_owner image call (Hvc code a b answer) own i cpu other = one_owner (Hvc code a b answer) own i cpu
-acted_owner image call Stop own i cpu other = one_owner Stop own i cpu
-acted_owner image call (Decide refused) own i cpu other = one_owner (Decide refused) own i cpu
-acted_owner image call (Note id) own i cpu other = one_owner (Note id) own i cpu
-acted_owner image call (Noted id how) own i cpu other = one_owner (Noted id how) own i cpu
+acted_owner image call act own i cpu other = one_owner act own i cpu
 
 cpus_after : (image : Image) (f : Facts) (entry : Entry) (i : ℕ) → (after image f entry).cpu i ≡ acted image f.call entry.act entry.cpu i (f.cpu i)
 unfolding after
@@ -435,19 +323,7 @@ root_kept image f entry other has = (has.0, has.1, ap (λ (c : Cpu). c.owner) (c
 
 root_by : (image : Image) (f : Facts) (entry : Entry) (act : Act) → entry.act ≡ act → IsSound image (after image f entry) → HasCpu image f.cpu → HasCpu image (after image f entry).cpu
 root_by image f entry Commit is sound has = root_commit image f entry f.call refl is sound has
-root_by image f entry (Read width at got) is sound has = root_kept image f entry (ap is_commit is) has
-root_by image f entry (Write width at value ok) is sound has = root_kept image f entry (ap is_commit is) has
-root_by image f entry (Fetch at got) is sound has = root_kept image f entry (ap is_commit is) has
-root_by image f entry (Await width at value ok) is sound has = root_kept image f entry (ap is_commit is) has
-root_by image f entry (Irq device vector) is sound has = root_kept image f entry (ap is_commit is) has
-root_by image f entry (Hvc code a b answer) is sound has = root_kept image f entry (ap is_commit is) has
-root_by image f entry (Begin code a b) is sound has = root_kept image f entry (ap is_commit is) has
-root_by image f entry Stop is sound has = root_kept image f entry (ap is_commit is) has
-root_by image f entry (Decide refused) is sound has = root_kept image f entry (ap is_commit is) has
-root_by image f entry (Settle how) is sound has = root_kept image f entry (ap is_commit is) has
-root_by image f entry (Note id) is sound has = root_kept image f entry (ap is_commit is) has
-root_by image f entry (Noted id how) is sound has = root_kept image f entry (ap is_commit is) has
-root_by image f entry (Finish answer) is sound has = root_kept image f entry (ap is_commit is) has
+root_by image f entry _ is sound has = root_kept image f entry (ap is_commit is) has
 
 -- ---- entry by entry
 

@@ -11,7 +11,7 @@ use Rattle.jh_cpu.specs.declared.cpu.Mode.{Mode}
 use Rattle.jh_cpu.specs.declared.cpu.Mode.TheVariants.{Running, Parked, Failed}
 use Rattle.jh_cpu.specs.Changes.{is_failed}
 use Rattle.jh_call.specs.declared.call.Call.{Call}
-use Rattle.jh_call.specs.declared.call.Call.TheVariants.{Create, Start, Loadable, Destroy, Info, State, CpuInfo, Unknown}
+use Rattle.jh_call.specs.declared.call.Call.TheVariants.{Info, State, CpuInfo, Unknown}
 use Rattle.jh_call.specs.declared.seen.CpuSeen.TheVariants.{Fine, Failed as FailedSeen}
 use Rattle.jh_call.specs.Calls.{decoded, is_management}
 use Rattle.jh_call.specs.Answers.{answer_of, info_of, cpu_answer}
@@ -22,7 +22,7 @@ use Rattle.jh_script.specs.declared.op.Op.TheVariants.{Read as ReadOp, Write as 
 use Rattle.jh_history.specs.declared.access.Access.TheVariants.{Read as ToRead}
 use Rattle.jh_history.specs.declared.entry.Entry.{Entry}
 use Rattle.jh_history.specs.declared.entry.Act.{Act}
-use Rattle.jh_history.specs.declared.entry.Act.TheVariants.{Read, Write, Fetch, Await, Irq, Hvc, Begin, Stop, Decide, Settle, Commit, Note, Noted, Finish}
+use Rattle.jh_history.specs.declared.entry.Act.TheVariants.{Await, Irq, Hvc, Begin, Stop}
 use Rattle.jh_history.specs.Facts.{Facts}
 use Rattle.jh_history.specs.Lives.{is_on_board, live_in}
 use Rattle.jh_history.specs.History.{facts}
@@ -107,14 +107,11 @@ managed_by : (image : Image) (cell : ℕ) (call : Call) → is_management call �
 managed_by image cell call manages fails own = both_ways (eqb cell image.system.root.id && is_management call) fails (and_from (eqb cell image.system.root.id) (is_management call) (eq-eqb cell image.system.root.id own) manages)
 
 answer_by : (image : Image) (f : Facts) (cell : ℕ) (call : Call) → AreSoundCells image.system (configs_of f.cells) → (eqb cell image.system.root.id && is_management call) ≡ false → IsAnswer image f cell call (answer_of call (seen_of image f cell call))
-answer_by image f cell (Create at) sound fails = (managed_by image cell (Create at) refl fails, refl)
-answer_by image f cell (Start id) sound fails = (managed_by image cell (Start id) refl fails, refl)
-answer_by image f cell (Loadable id) sound fails = (managed_by image cell (Loadable id) refl fails, refl)
-answer_by image f cell (Destroy id) sound fails = (managed_by image cell (Destroy id) refl fails, refl)
 answer_by image f cell (Info kind) sound fails = info_by image f cell kind (Info kind)
 answer_by image f cell (State id) sound fails = state_by image f cell id sound
 answer_by image f cell (CpuInfo cpu kind) sound fails = cpu_by image f cell cpu kind
 answer_by image f cell Unknown sound fails = refl
+answer_by image f cell call sound fails = (managed_by image cell call refl fails, refl)
 
 -- ---- the act
 
@@ -153,20 +150,9 @@ stop_answered : (image : Image) (f : Facts) (cell : ℕ) (act : Act) → Stop �
 stop_answered image f cell act is = let P : Act → Type 0 = IsAnswered image f cell in subst P is tt
 
 phase_answered : (image : Image) (f : Facts) (cell : ℕ) (act : Act) → is_phase act ≡ true → IsAnswered image f cell act
-phase_answered image f cell (Read width at got) h = tt
-phase_answered image f cell (Write width at value ok) h = tt
-phase_answered image f cell (Fetch at got) h = tt
-phase_answered image f cell (Await width at value ok) h = tt
-phase_answered image f cell (Irq device vector) h = tt
 phase_answered image f cell (Hvc code a b answer) h = absurd (false≢true h)
 phase_answered image f cell (Begin code a b) h = absurd (false≢true h)
-phase_answered image f cell Stop h = tt
-phase_answered image f cell (Decide refused) h = tt
-phase_answered image f cell (Settle how) h = tt
-phase_answered image f cell Commit h = tt
-phase_answered image f cell (Note who) h = tt
-phase_answered image f cell (Noted who how) h = tt
-phase_answered image f cell (Finish answer) h = tt
+phase_answered image f cell _ h = tt
 
 answered_made : (image : Image) (f : Facts) (entry : Entry) → AreSoundCells image.system (configs_of f.cells) → IsMadeBy image f entry → IsAnswered image f (f.cpu entry.cpu).owner entry.act
 answered_made image f entry sound (Stopping is) = stop_answered image f (f.cpu entry.cpu).owner entry.act is

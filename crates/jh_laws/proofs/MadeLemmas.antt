@@ -26,7 +26,7 @@ use Rattle.jh_script.specs.Operations.{IsWellFormed, is_width}
 use Rattle.jh_history.specs.declared.access.Access.TheVariants.{Read as ToRead, Write as ToWrite, Fetch as ToFetch}
 use Rattle.jh_history.specs.declared.entry.Entry.{Entry}
 use Rattle.jh_history.specs.declared.entry.Act.{Act}
-use Rattle.jh_history.specs.declared.entry.Act.TheVariants.{Read, Write, Fetch, Await, Irq, Hvc, Begin, Stop, Decide, Settle, Commit, Note, Noted, Finish}
+use Rattle.jh_history.specs.declared.entry.Act.TheVariants.{Read, Write, Fetch, Await, Irq}
 use Rattle.jh_history.specs.declared.access.Reach.{Reach}
 use Rattle.jh_history.specs.declared.access.Reach.TheVariants.{Memory, Subpage, Config, Window, Nothing}
 use Rattle.jh_history.specs.declared.call.OpenCall.{OpenCall}
@@ -217,16 +217,7 @@ changed_access image f cell (Fetch at None) state access = refl
 changed_access image f cell (Fetch at (Some got)) state access = refl
 changed_access image f cell (Await width at value true) state access = refl
 changed_access image f cell (Await width at value false) state access = refl
-changed_access image f cell (Irq device vector) state access = absurd access
-changed_access image f cell (Hvc code a b answer) state access = absurd access
-changed_access image f cell (Begin code a b) state access = absurd access
-changed_access image f cell Stop state access = absurd access
-changed_access image f cell (Decide refused) state access = absurd access
-changed_access image f cell (Settle how) state access = absurd access
-changed_access image f cell Commit state access = absurd access
-changed_access image f cell (Note id) state access = absurd access
-changed_access image f cell (Noted id how) state access = absurd access
-changed_access image f cell (Finish answer) state access = absurd access
+changed_access image f cell _ state access = absurd access
 
 -- so it is no phase of a call
 pub access_own : (image : Image) (f : Facts) (cell : ℕ) (act : Act) → IsAccess image f cell act → is_call act ≡ false
@@ -234,16 +225,7 @@ access_own image f cell (Read width at got) access = refl
 access_own image f cell (Write width at value ok) access = refl
 access_own image f cell (Fetch at got) access = refl
 access_own image f cell (Await width at value ok) access = refl
-access_own image f cell (Irq device vector) access = absurd access
-access_own image f cell (Hvc code a b answer) access = absurd access
-access_own image f cell (Begin code a b) access = absurd access
-access_own image f cell Stop access = absurd access
-access_own image f cell (Decide refused) access = absurd access
-access_own image f cell (Settle how) access = absurd access
-access_own image f cell Commit access = absurd access
-access_own image f cell (Note id) access = absurd access
-access_own image f cell (Noted id how) access = absurd access
-access_own image f cell (Finish answer) access = absurd access
+access_own image f cell _ access = absurd access
 
 roots_done : (image : Image) (b : Bool) (state : Cpu) → IsRoots image state → IsRoots image (done_by b state)
 roots_done image true state roots = record { owner = roots.owner; asked = roots.asked; stopped = roots.stopped }
@@ -310,20 +292,8 @@ unfolding changed_of
 none_acted image f cell (Write width at value true) bare =
     let found : Reach = reach image f cell ToWrite at width in
     ap (λ (es : List Endpoint). endpoints_put (devices_in image f.cells es cell) found value) bare ∙ put_none cell (list_in image f.cells cell) found value
-none_acted image f cell (Write width at value false) bare = bare
-none_acted image f cell (Read width at got) bare = bare
-none_acted image f cell (Fetch at got) bare = bare
-none_acted image f cell (Await width at value ok) bare = bare
 none_acted image f cell (Irq device vector) bare = ap (changed_of (is_device cell device) (taken vector)) bare
-none_acted image f cell (Hvc code a b answer) bare = bare
-none_acted image f cell (Begin code a b) bare = bare
-none_acted image f cell Stop bare = bare
-none_acted image f cell (Decide refused) bare = bare
-none_acted image f cell (Settle how) bare = bare
-none_acted image f cell Commit bare = bare
-none_acted image f cell (Note id) bare = bare
-none_acted image f cell (Noted id how) bare = bare
-none_acted image f cell (Finish answer) bare = bare
+none_acted image f cell _ bare = bare
 
 none_after : (image : Image) (f : Facts) (entry : Entry) → f.call ≡ None → f.endpoints ≡ [] → (after image f entry).endpoints ≡ []
 unfolding after

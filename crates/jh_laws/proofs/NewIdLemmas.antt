@@ -44,22 +44,15 @@ answers_telling answer a about None h = h
 answers_telling answer a about (Some id) h = h
 
 answers_counted : (answer : ℤ) (cell : ℕ) (call : Call) (phase : Phase) → Answers answer phase → Answers answer (counted cell call phase)
-answers_counted answer cell call ToDecide h = absurd h
-answers_counted answer cell call (ToSettle waited) h = absurd h
-answers_counted answer cell call (ToCreate config) h = absurd h
-answers_counted answer cell call ToCommit h = absurd h
 answers_counted answer cell call (ToNote id about a) h = h
 answers_counted answer cell call (ToNoted id about a waited) h =
     cond_both (eqb cell id) (ToNoted id about a (counted_up waited)) (ToNoted id about a waited) (Answers answer) (λ _. h) (λ _. h)
 answers_counted answer cell call (ToFinish a) h = h
+answers_counted answer cell call _ h = absurd h
 
 -- a phase behind the Commit that isn't the last leads on
 answers_next : (answer : ℤ) (cells : List Live) (coming : Option CellConfig) (entry : Entry) (caller : ℕ) (call : Call) (phase : Phase) (act : Act) → Answers answer phase → Expects phase act → is_finish act ≡ false
     → WillAnswer answer (call_by cells coming (Some (record { caller = caller; call = call; phase = phase })) entry act)
-answers_next answer cells coming entry caller call ToDecide act h e more = absurd h
-answers_next answer cells coming entry caller call (ToSettle waited) act h e more = absurd h
-answers_next answer cells coming entry caller call (ToCreate config) act h e more = absurd h
-answers_next answer cells coming entry caller call ToCommit act h e more = absurd h
 answers_next answer cells coming entry caller call (ToNote id about a) act h e more =
     let P : Act → Type 0 = λ x. WillAnswer answer (call_by cells coming (Some (record { caller = caller; call = call; phase = ToNote id about a })) entry x) in
     subst P (sym e) (record { caller = caller; call = call; phase = ToNoted id about a 0 }, refl, h)
@@ -68,6 +61,7 @@ answers_next answer cells coming entry caller call (ToNoted id about a waited) a
     let told : Option ℕ = first_recipient about (listed_behind id cells) in
     subst P (sym e.1) (record { caller = caller; call = call; phase = telling about a told }, refl, answers_telling answer a about told h)
 answers_next answer cells coming entry caller call (ToFinish a) act h e more = absurd (both_ways (is_finish act) more (ap is_finish e))
+answers_next answer cells coming entry caller call _ act h e more = absurd h
 
 call_behind : (image : Image) (f : Facts) (entry : Entry) (o : OpenCall) → f.call ≡ Some o → (after image f entry).call ≡ call_by f.cells (coming_of image f) (Some o) entry entry.act
 call_behind image f entry o is = after_call image f entry ∙ ap (λ (c : Option OpenCall). call_by f.cells (coming_of image f) c entry entry.act) is
@@ -127,13 +121,10 @@ answer_in (Finish answer) = answer
 answer_in _ = pos 0
 
 finishes_with : (phase : Phase) (answer a : ℤ) → Answers a phase → Expects phase (Finish answer) → answer ≡ a
-finishes_with ToDecide answer a h e = absurd h
-finishes_with (ToSettle waited) answer a h e = absurd h
-finishes_with (ToCreate config) answer a h e = absurd h
-finishes_with ToCommit answer a h e = absurd h
 finishes_with (ToNote id about b) answer a h e = absurd (not_same is_finish (Finish answer) (Note id) refl refl e)
 finishes_with (ToNoted id about b waited) answer a h e = absurd (not_same is_finish (Finish answer) (Noted id e.0) refl refl e.1)
 finishes_with (ToFinish b) answer a h e = ap answer_in e ∙ h
+finishes_with _ answer a h e = absurd h
 
 finish_is : (image : Image) (f : Facts) (entry : Entry) (answer a : ℤ) → IsSound image f → WillAnswer a f.call → due_at image f entry.cpu ≡ Some entry → entry.act ≡ Finish answer → answer ≡ a
 finish_is image f entry answer a sound will due act =

@@ -18,7 +18,7 @@ use Rattle.jh_check.specs.Clean.{IsClean, IsSection, IsGoodDevice, IsSameSection
 use Rattle.jh_check.proofs.Public.{may_join}
 use Rattle.jh_shape.specs.Laws.{IsTaken}
 use Rattle.jh_call.specs.declared.call.Call.{Call}
-use Rattle.jh_call.specs.declared.call.Call.TheVariants.{Create, Start, Loadable, Destroy, Info, State, CpuInfo, Unknown}
+use Rattle.jh_call.specs.declared.call.Call.TheVariants.{Create, Start, Destroy}
 use Rattle.jh_ivshmem.specs.declared.endpoint.Endpoint.{Endpoint}
 use Rattle.jh_ivshmem.specs.declared.spec.EndpointSpec.{EndpointSpec}
 use Rattle.jh_ivshmem.specs.declared.spec.EndpointWord.{EndpointWord}
@@ -31,10 +31,10 @@ use Rattle.jh_history.specs.declared.access.Access.TheVariants.{Write as ToWrite
 use Rattle.jh_history.specs.declared.comm.PageWrite.{PageWrite}
 use Rattle.jh_history.specs.declared.entry.Entry.{Entry}
 use Rattle.jh_history.specs.declared.entry.Act.{Act}
-use Rattle.jh_history.specs.declared.entry.Act.TheVariants.{Read, Write, Fetch, Await, Irq, Hvc, Begin, Stop, Decide, Settle, Commit, Note, Noted, Finish}
+use Rattle.jh_history.specs.declared.entry.Act.TheVariants.{Write, Commit}
 use Rattle.jh_history.specs.declared.call.OpenCall.{OpenCall}
 use Rattle.jh_history.specs.declared.call.Phase.{Phase}
-use Rattle.jh_history.specs.declared.call.Phase.TheVariants.{ToDecide, ToSettle, ToCreate, ToCommit, ToNote, ToNoted, ToFinish}
+use Rattle.jh_history.specs.declared.call.Phase.TheVariants.{ToCreate}
 use Rattle.jh_history.specs.Access.{with_endpoint_word_if}
 use Rattle.jh_history.specs.Commits.{cells_by, is_commit}
 use Rattle.jh_history.specs.Devices.{place_of_section, specs_of}
@@ -142,20 +142,7 @@ write_of_reach image f id at width value q sound small changed =
 
 written_by : (image : Image) (f : Facts) (id : ℕ) (act : Act) (q : Place) → IsSound image f → IsSmallAct act → byte_written image f id act q ≢ f.byte q → MayWriteBy image f id act q
 written_by image f id (Write width at value true) q sound small changed = write_of_reach image f id at width value q sound small.1 changed
-written_by image f id (Write width at value false) q sound small changed = absurd (changed refl)
-written_by image f id (Read width at got) q sound small changed = absurd (changed refl)
-written_by image f id (Fetch at got) q sound small changed = absurd (changed refl)
-written_by image f id (Await width at value ok) q sound small changed = absurd (changed refl)
-written_by image f id (Irq device vector) q sound small changed = absurd (changed refl)
-written_by image f id (Hvc code a b answer) q sound small changed = absurd (changed refl)
-written_by image f id (Begin code a b) q sound small changed = absurd (changed refl)
-written_by image f id Stop q sound small changed = absurd (changed refl)
-written_by image f id (Decide refused) q sound small changed = absurd (changed refl)
-written_by image f id (Settle how) q sound small changed = absurd (changed refl)
-written_by image f id Commit q sound small changed = absurd (changed refl)
-written_by image f id (Note who) q sound small changed = absurd (changed refl)
-written_by image f id (Noted who how) q sound small changed = absurd (changed refl)
-written_by image f id (Finish answer) q sound small changed = absurd (changed refl)
+written_by image f id _ q sound small changed = absurd (changed refl)
 
 -- the hypervisor writes into pages alone
 pub physical_kept : (write : Option PageWrite) (byte : Place → ℕ) (p : ℕ) → with_page_write write byte (Physical p) ≡ byte (Physical p)
@@ -340,19 +327,9 @@ call_changing image f entry spec caller (Create at) (ToCreate config) is commits
         ∙ configs_joined f.cells config,
   );
 }
-call_changing image f entry spec caller (Create at) ToDecide is commits phase held = absurd (nothing_in spec held)
-call_changing image f entry spec caller (Create at) (ToSettle waited) is commits phase held = absurd (nothing_in spec held)
-call_changing image f entry spec caller (Create at) ToCommit is commits phase held = absurd (nothing_in spec held)
-call_changing image f entry spec caller (Create at) (ToNote id about answer) is commits phase held = absurd (nothing_in spec held)
-call_changing image f entry spec caller (Create at) (ToNoted id about answer waited) is commits phase held = absurd (nothing_in spec held)
-call_changing image f entry spec caller (Create at) (ToFinish answer) is commits phase held = absurd (nothing_in spec held)
 call_changing image f entry spec caller (Start id) phase is commits sound held = live_changing image f entry spec id (find (has_id id) f.cells) refl held
 call_changing image f entry spec caller (Destroy id) phase is commits sound held = live_changing image f entry spec id (find (has_id id) f.cells) refl held
-call_changing image f entry spec caller (Loadable id) phase is commits sound held = absurd (nothing_in spec held)
-call_changing image f entry spec caller (Info kind) phase is commits sound held = absurd (nothing_in spec held)
-call_changing image f entry spec caller (State id) phase is commits sound held = absurd (nothing_in spec held)
-call_changing image f entry spec caller (CpuInfo cpu kind) phase is commits sound held = absurd (nothing_in spec held)
-call_changing image f entry spec caller Unknown phase is commits sound held = absurd (nothing_in spec held)
+call_changing image f entry spec caller _ phase is commits sound held = absurd (nothing_in spec held)
 
 changing_on : (image : Image) (f : Facts) (entry : Entry) (spec : EndpointSpec) (call : Option OpenCall) → f.call ≡ call → entry.act ≡ Commit → IsSoundCall image (configs_of f.cells) f.cpu call
     → Contains (option_map_or specs_of (changing_by f.cells call Commit) []) spec → IsChanging image f entry spec
@@ -362,19 +339,7 @@ changing_on image f entry spec (Some o) is commits sound held = call_changing im
 -- an act is a Commit or none
 pub commit_or : (act : Act) → (act ≡ Commit) ⊎ (is_commit act ≡ false)
 commit_or Commit = inl refl
-commit_or (Read width at got) = inr refl
-commit_or (Write width at value ok) = inr refl
-commit_or (Fetch at got) = inr refl
-commit_or (Await width at value ok) = inr refl
-commit_or (Irq device vector) = inr refl
-commit_or (Hvc code a b answer) = inr refl
-commit_or (Begin code a b) = inr refl
-commit_or Stop = inr refl
-commit_or (Decide refused) = inr refl
-commit_or (Settle how) = inr refl
-commit_or (Note who) = inr refl
-commit_or (Noted who how) = inr refl
-commit_or (Finish answer) = inr refl
+commit_or _ = inr refl
 
 pub changing_is : (image : Image) (f : Facts) (entry : Entry) (spec : EndpointSpec) → IsSound image f → Contains (specs_changing f entry.act) spec → IsChanging image f entry spec
 changing_is image f entry spec sound held =
@@ -433,19 +398,7 @@ endpoint_owner image f entry live number region place e value k sound held there
 -- the endpoint of a register that an act writes is there
 register_held : (image : Image) (f : Facts) (id : ℕ) (act : Act) (offset value : ℕ) (e : Endpoint) → PutsRegister image f id act offset value e → Contains f.endpoints e
 register_held image f id (Write width at value ok) offset put e puts = endpoint_held image f id puts.2.0 e puts.2.1.within.is.there
-register_held image f id (Read width at got) offset put e puts = absurd puts
-register_held image f id (Fetch at got) offset put e puts = absurd puts
-register_held image f id (Await width at value ok) offset put e puts = absurd puts
-register_held image f id (Irq device vector) offset put e puts = absurd puts
-register_held image f id (Hvc code a b answer) offset put e puts = absurd puts
-register_held image f id (Begin code a b) offset put e puts = absurd puts
-register_held image f id Stop offset put e puts = absurd puts
-register_held image f id (Decide refused) offset put e puts = absurd puts
-register_held image f id (Settle how) offset put e puts = absurd puts
-register_held image f id Commit offset put e puts = absurd puts
-register_held image f id (Note who) offset put e puts = absurd puts
-register_held image f id (Noted who how) offset put e puts = absurd puts
-register_held image f id (Finish answer) offset put e puts = absurd puts
+register_held image f id _ offset put e puts = absurd puts
 
 cleared_there : (image : Image) (f : Facts) (entry : Entry) (live : Live) (number : ℕ) (region : Region) (place : ℕ) → IsSound image f → IsHeld f.cells live number region place → IsInWords (specs_changing f entry.act) (Physical place)
     → WritesWordThere image f entry live.config number place

@@ -12,7 +12,7 @@ use Rattle.jh_check.specs.Refusals.{any_below}
 use Rattle.jh_check.proofs.Public.{below_of}
 use Rattle.jh_comm.specs.declared.words.TheConstants.{REPLY_REQUEST_APPROVED, REPLY_RECEIVED}
 use Rattle.jh_call.specs.declared.call.Call.{Call}
-use Rattle.jh_call.specs.declared.call.Call.TheVariants.{Create, Start, Loadable, Destroy, Info, State, CpuInfo, Unknown}
+use Rattle.jh_call.specs.declared.call.Call.TheVariants.{Start, Loadable, Destroy}
 use Rattle.jh_script.specs.declared.image.Image.{Image}
 use Rattle.jh_history.specs.declared.call.OpenCall.{OpenCall}
 use Rattle.jh_history.specs.declared.call.Phase.{Phase}
@@ -124,14 +124,10 @@ live_some cells config id held is =
     (some.0.config, ap (option_map (λ (l : Live). l.config)) some.1)
 
 named_some : (cells : List Live) (call : Call) → IsAboutLive (configs_of cells) call → (c : CellConfig) × (named_cell cells call ≡ Some c)
-named_some cells (Create at) about = absurd (both_ways false refl about.2)
 named_some cells (Start id) about = live_some cells about.0 id about.1 (sym (eqb-true id about.0.id about.2))
 named_some cells (Loadable id) about = live_some cells about.0 id about.1 (sym (eqb-true id about.0.id about.2))
 named_some cells (Destroy id) about = live_some cells about.0 id about.1 (sym (eqb-true id about.0.id about.2))
-named_some cells (Info kind) about = absurd (both_ways false refl about.2)
-named_some cells (State id) about = absurd (both_ways false refl about.2)
-named_some cells (CpuInfo cpu kind) about = absurd (both_ways false refl about.2)
-named_some cells Unknown about = absurd (both_ways false refl about.2)
+named_some cells _ about = absurd (both_ways false refl about.2)
 
 -- so its answer is waited for no longer
 settles : (f : Facts) (call : Call) (waited : ℕ) → IsAboutLive (configs_of f.cells) call → is_some (settled_of f true call waited) ≡ true

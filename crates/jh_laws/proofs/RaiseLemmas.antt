@@ -19,7 +19,7 @@ use Rattle.jh_history.specs.declared.access.Access.TheVariants.{Write as ToWrite
 use Rattle.jh_history.specs.declared.access.Reach.{Reach}
 use Rattle.jh_history.specs.declared.entry.Entry.{Entry}
 use Rattle.jh_history.specs.declared.entry.Act.{Act}
-use Rattle.jh_history.specs.declared.entry.Act.TheVariants.{Read, Write, Fetch, Await, Irq, Hvc, Begin, Stop, Decide, Settle, Commit, Note, Noted, Finish}
+use Rattle.jh_history.specs.declared.entry.Act.TheVariants.{Write, Irq, Commit}
 use Rattle.jh_history.specs.Devices.{number_at}
 use Rattle.jh_history.specs.Endpoints.{space_put, function_put, config_put, endpoints_put, endpoints_acted}
 use Rattle.jh_history.specs.Facts.{Facts}
@@ -128,21 +128,11 @@ abbrev ActCases : Act → Type 0
 ActCases act = IsStill act ⊎ IsWrite act ⊎ ((n : ℕ) × (v : ℕ) × (act ≡ Irq n v)) ⊎ (act ≡ Commit)
 
 act_cases : (act : Act) → ActCases act
-act_cases (Read width at got) = inl (record { acted = λ image f cell. refl; puts = λ image f id offset put e h. h; irq = refl; commits = refl })
-act_cases (Fetch at got) = inl (record { acted = λ image f cell. refl; puts = λ image f id offset put e h. h; irq = refl; commits = refl })
-act_cases (Await width at value ok) = inl (record { acted = λ image f cell. refl; puts = λ image f id offset put e h. h; irq = refl; commits = refl })
-act_cases (Hvc code a b answer) = inl (record { acted = λ image f cell. refl; puts = λ image f id offset put e h. h; irq = refl; commits = refl })
-act_cases (Begin code a b) = inl (record { acted = λ image f cell. refl; puts = λ image f id offset put e h. h; irq = refl; commits = refl })
-act_cases Stop = inl (record { acted = λ image f cell. refl; puts = λ image f id offset put e h. h; irq = refl; commits = refl })
-act_cases (Decide refused) = inl (record { acted = λ image f cell. refl; puts = λ image f id offset put e h. h; irq = refl; commits = refl })
-act_cases (Settle how) = inl (record { acted = λ image f cell. refl; puts = λ image f id offset put e h. h; irq = refl; commits = refl })
-act_cases (Note who) = inl (record { acted = λ image f cell. refl; puts = λ image f id offset put e h. h; irq = refl; commits = refl })
-act_cases (Noted who how) = inl (record { acted = λ image f cell. refl; puts = λ image f id offset put e h. h; irq = refl; commits = refl })
-act_cases (Finish answer) = inl (record { acted = λ image f cell. refl; puts = λ image f id offset put e h. h; irq = refl; commits = refl })
 act_cases (Write width at value false) = inl (record { acted = λ image f cell. refl; puts = λ image f id offset put e h. false≢true h.0; irq = refl; commits = refl })
 act_cases (Write width at value true) = inr (inl (record { width = width; at = at; value = value; is = refl }))
 act_cases (Irq device vector) = inr (inr (inl (device, vector, refl)))
 act_cases Commit = inr (inr (inr refl))
+act_cases _ = inl (record { acted = λ image f cell. refl; puts = λ image f id offset put e h. h; irq = refl; commits = refl })
 
 -- what calls a vector is a write of a register, or a Commit
 no_call : (image : Image) (f : Facts) (entry : Entry) (e : Endpoint) → is_commit entry.act ≡ false → ((offset value : ℕ) (bell : Endpoint) → PutsRegister image f entry.cell entry.act offset value bell → ⊥) → NoCall image f entry e

@@ -18,15 +18,15 @@ use Rattle.jh_check.specs.declared.verdict.NewCell.TheVariants.{Clean, Invalid, 
 use Rattle.jh_check.specs.Verdicts.{verdict_of}
 use Rattle.jh_shape.specs.Pages.{pages_of}
 use Rattle.jh_call.specs.declared.call.Call.{Call}
-use Rattle.jh_call.specs.declared.call.Call.TheVariants.{Create, Start, Loadable, Destroy, Info, State, CpuInfo, Unknown}
+use Rattle.jh_call.specs.declared.call.Call.TheVariants.{Create, Start, Loadable, Destroy}
 use Rattle.jh_script.specs.declared.image.Image.{Image}
 use Rattle.jh_history.specs.declared.call.Creation.{Creation}
 use Rattle.jh_history.specs.declared.call.Creation.TheVariants.{Refused, Accepted}
 use Rattle.jh_history.specs.declared.call.Phase.{Phase}
-use Rattle.jh_history.specs.declared.call.Phase.TheVariants.{ToDecide, ToSettle, ToCreate, ToCommit, ToNote, ToNoted, ToFinish}
+use Rattle.jh_history.specs.declared.call.Phase.TheVariants.{ToDecide, ToSettle, ToNoted}
 use Rattle.jh_history.specs.declared.entry.Entry.{Entry}
 use Rattle.jh_history.specs.declared.entry.Act.{Act}
-use Rattle.jh_history.specs.declared.entry.Act.TheVariants.{Read, Write, Fetch, Await, Irq, Hvc, Begin, Stop, Decide, Settle, Commit, Note, Noted, Finish}
+use Rattle.jh_history.specs.declared.entry.Act.TheVariants.{Decide}
 use Rattle.jh_history.specs.Facts.{Facts}
 use Rattle.jh_history.specs.Lives.{cell_of}
 use Rattle.jh_history.specs.Admitted.{pool_pages}
@@ -158,10 +158,7 @@ decision_fits image f caller (Create at) = refused_fits (creation_of image f cal
 decision_fits image f caller (Start id) = id_fits image f id
 decision_fits image f caller (Loadable id) = id_fits image f id
 decision_fits image f caller (Destroy id) = first_fits (id_refusal image f id) (list_any (is_other_locked f id) f.cells) (id_fits image f id)
-decision_fits image f caller (Info kind) = tt
-decision_fits image f caller (State id) = tt
-decision_fits image f caller (CpuInfo cpu kind) = tt
-decision_fits image f caller Unknown = tt
+decision_fits image f caller _ = tt
 
 -- ---- the entry
 
@@ -173,29 +170,14 @@ FitsRefusal _ = Unit {0}
 in_phase : (image : Image) (f : Facts) (caller : ℕ) (call : Call) (phase : Phase) (act : Act) → IsActIn image f caller call phase act → FitsRefusal act
 in_phase image f caller call ToDecide act is = subst FitsRefusal (sym is) (decision_fits image f caller call)
 in_phase image f caller call (ToSettle waited) act is = subst FitsRefusal (sym is.1) tt
-in_phase image f caller call (ToCreate config) act is = subst FitsRefusal (sym is) tt
-in_phase image f caller call ToCommit act is = subst FitsRefusal (sym is) tt
-in_phase image f caller call (ToNote id about answer) act is = subst FitsRefusal (sym is) tt
 in_phase image f caller call (ToNoted id about answer waited) act is = subst FitsRefusal (sym is.1) tt
-in_phase image f caller call (ToFinish answer) act is = subst FitsRefusal (sym is) tt
+in_phase image f caller call _ act is = subst FitsRefusal (sym is) tt
 
 by_act : (image : Image) (f : Facts) (entry : Entry) (act : Act) → entry.act ≡ act → IsSound image f → due_at image f entry.cpu ≡ Some entry → FitsRefusal entry.act
 by_act image f entry (Decide refused) is sound due =
     let of = later_open image f entry sound due (subst (λ (a : Act). IsLater a) (sym is) tt) in
     in_phase image f of.call.caller of.call.call of.call.phase entry.act of.phase
-by_act image f entry (Read width at got) is sound due = subst FitsRefusal (sym is) tt
-by_act image f entry (Write width at value ok) is sound due = subst FitsRefusal (sym is) tt
-by_act image f entry (Fetch at got) is sound due = subst FitsRefusal (sym is) tt
-by_act image f entry (Await width at value ok) is sound due = subst FitsRefusal (sym is) tt
-by_act image f entry (Irq device vector) is sound due = subst FitsRefusal (sym is) tt
-by_act image f entry (Hvc code a b answer) is sound due = subst FitsRefusal (sym is) tt
-by_act image f entry (Begin code a b) is sound due = subst FitsRefusal (sym is) tt
-by_act image f entry Stop is sound due = subst FitsRefusal (sym is) tt
-by_act image f entry (Settle how) is sound due = subst FitsRefusal (sym is) tt
-by_act image f entry Commit is sound due = subst FitsRefusal (sym is) tt
-by_act image f entry (Note id) is sound due = subst FitsRefusal (sym is) tt
-by_act image f entry (Noted id how) is sound due = subst FitsRefusal (sym is) tt
-by_act image f entry (Finish answer) is sound due = subst FitsRefusal (sym is) tt
+by_act image f entry _ is sound due = subst FitsRefusal (sym is) tt
 
 pub refusal_fits : (image : Image) (f : Facts) (entry : Entry) → IsSound image f → due_at image f entry.cpu ≡ Some entry → FitsRefusal entry.act
 refusal_fits image f entry sound due = by_act image f entry entry.act refl sound due

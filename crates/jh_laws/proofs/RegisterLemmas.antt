@@ -20,7 +20,7 @@ use Rattle.jh_history.specs.declared.device_change.DeviceChange.{DeviceChange}
 use Rattle.jh_history.specs.declared.device_change.DeviceChange.TheVariants.{Join, Reset, Leave}
 use Rattle.jh_history.specs.declared.entry.Entry.{Entry}
 use Rattle.jh_history.specs.declared.entry.Act.{Act}
-use Rattle.jh_history.specs.declared.entry.Act.TheVariants.{Read, Write, Fetch, Await, Irq, Hvc, Begin, Stop, Decide, Settle, Commit, Note, Noted, Finish}
+use Rattle.jh_history.specs.declared.entry.Act.TheVariants.{Write, Irq}
 use Rattle.jh_history.specs.Facts.{Facts}
 use Rattle.jh_history.specs.Devices.{Devices, InConfig, number_at, specs_of}
 use Rattle.jh_history.specs.Endpoints.{space_put, function_put, endpoints_put, endpoints_acted, endpoint_changed, endpoints_changed, endpoints_after, specs_changing, change_by}
@@ -190,20 +190,8 @@ put_fit devices Nothing value h = h
 
 acted_fit : (image : Image) (f : Facts) (cell : ℕ) (act : Act) → HaveRegisters f.endpoints → HaveRegisters (endpoints_acted image f cell act)
 acted_fit image f cell (Write width at value true) h = put_fit (devices_of image f cell) (reach image f cell ToWrite at width) value h
-acted_fit image f cell (Write width at value false) h = h
 acted_fit image f cell (Irq device vector) h = changed_fit (is_device cell device) (taken vector) (taken_fit vector) f.endpoints h
-acted_fit image f cell (Read width at got) h = h
-acted_fit image f cell (Fetch at got) h = h
-acted_fit image f cell (Await width at value ok) h = h
-acted_fit image f cell (Hvc code a b answer) h = h
-acted_fit image f cell (Begin code a b) h = h
-acted_fit image f cell Stop h = h
-acted_fit image f cell (Decide refused) h = h
-acted_fit image f cell (Settle how) h = h
-acted_fit image f cell Commit h = h
-acted_fit image f cell (Note id) h = h
-acted_fit image f cell (Noted id how) h = h
-acted_fit image f cell (Finish answer) h = h
+acted_fit image f cell _ h = h
 
 pub registers_after : (image : Image) (f : Facts) (entry : Entry) → HaveRegisters f.endpoints → HaveRegisters (endpoints_after image f entry)
 registers_after image f entry h = all_fit (change_by f.call) (specs_changing f entry.act) (endpoints_acted image f entry.cell entry.act) (acted_fit image f entry.cell entry.act h)

@@ -12,7 +12,7 @@ use Rattle.jh_cpu.specs.declared.cpu.Mode.{Mode}
 use Rattle.jh_cpu.specs.declared.cpu.Mode.TheVariants.{Running, Parked, Failed}
 use Rattle.jh_cpu.specs.Changes.{asked_of, stopped_of, resumed, moved, failed, lent, parked, restarted, returned}
 use Rattle.jh_call.specs.declared.call.Call.{Call}
-use Rattle.jh_call.specs.declared.call.Call.TheVariants.{Create, Start, Loadable, Destroy, Info, State, CpuInfo, Unknown}
+use Rattle.jh_call.specs.declared.call.Call.TheVariants.{Create, Start, Loadable, Destroy}
 use Rattle.jh_call.specs.Calls.{is_management}
 use Rattle.jh_script.specs.declared.image.Image.{Image}
 use Rattle.jh_script.specs.declared.op.Op.{Op}
@@ -23,7 +23,7 @@ use Rattle.jh_history.specs.declared.call.Phase.TheVariants.{ToDecide, ToSettle,
 use Rattle.jh_history.specs.declared.change.Change.{Change}
 use Rattle.jh_history.specs.declared.change.Change.TheVariants.{Stay, Step, Fail, Stop as Halt}
 use Rattle.jh_history.specs.declared.entry.Entry.{Entry}
-use Rattle.jh_history.specs.declared.entry.Settled.TheVariants.{Agreed, Denied, Timeout}
+use Rattle.jh_history.specs.declared.entry.Settled.TheVariants.{Agreed, Timeout}
 use Rattle.jh_history.specs.declared.entry.Act.{Act}
 use Rattle.jh_history.specs.declared.entry.Act.TheVariants.{Read, Write, Fetch, Await, Irq, Hvc, Begin, Stop, Decide, Settle, Commit, Note, Noted, Finish}
 use Rattle.jh_history.specs.Facts.{Facts}
@@ -79,52 +79,26 @@ own_by image call (Await width at value false) own cpu few a b c = absurd (false
 own_by image call (Irq device vector) own cpu few a b c = own_cpu Step own cpu ∙ moved_stepped cpu few
 own_by image call (Hvc code x y answer) own cpu few a b c = own_cpu Step own cpu ∙ moved_stepped cpu few
 own_by image call Stop own cpu few a b c = absurd (false≢true (sym b))
-own_by image call (Begin code x y) own cpu few a b c = absurd (false≢true (sym a))
-own_by image call (Decide refused) own cpu few a b c = absurd (false≢true (sym a))
-own_by image call (Settle how) own cpu few a b c = absurd (false≢true (sym a))
-own_by image call Commit own cpu few a b c = absurd (false≢true (sym a))
-own_by image call (Note id) own cpu few a b c = absurd (false≢true (sym a))
-own_by image call (Noted id how) own cpu few a b c = absurd (false≢true (sym a))
-own_by image call (Finish answer) own cpu few a b c = absurd (false≢true (sym a))
+own_by image call _ own cpu few a b c = absurd (false≢true (sym a))
 
 moved_ended : (cpu : Cpu) → cpu.position < 4096 → failed (moved cpu) ≡ ended cpu
 moved_ended cpu few = ap failed (moved_stepped cpu few)
 
 fails_by : (image : Image) (call : Option OpenCall) (act : Act) (own : ℕ) (cpu : Cpu) → cpu.position < 4096 → is_violation act ≡ true → acted image call act own own cpu ≡ ended cpu
 fails_by image call (Read width at None) own cpu few c = own_cpu Fail own cpu ∙ moved_ended cpu few
-fails_by image call (Read width at (Some got)) own cpu few c = absurd (false≢true c)
 fails_by image call (Fetch at None) own cpu few c = own_cpu Fail own cpu ∙ moved_ended cpu few
-fails_by image call (Fetch at (Some got)) own cpu few c = absurd (false≢true c)
 fails_by image call (Write width at value true) own cpu few c = absurd (false≢true c)
 fails_by image call (Write width at value false) own cpu few c = own_cpu Fail own cpu ∙ moved_ended cpu few
 fails_by image call (Await width at value true) own cpu few c = absurd (false≢true c)
 fails_by image call (Await width at value false) own cpu few c = own_cpu Fail own cpu ∙ moved_ended cpu few
-fails_by image call (Irq device vector) own cpu few c = absurd (false≢true c)
-fails_by image call (Hvc code x y answer) own cpu few c = absurd (false≢true c)
-fails_by image call Stop own cpu few c = absurd (false≢true c)
-fails_by image call (Begin code x y) own cpu few c = absurd (false≢true c)
-fails_by image call (Decide refused) own cpu few c = absurd (false≢true c)
-fails_by image call (Settle how) own cpu few c = absurd (false≢true c)
-fails_by image call Commit own cpu few c = absurd (false≢true c)
-fails_by image call (Note id) own cpu few c = absurd (false≢true c)
-fails_by image call (Noted id how) own cpu few c = absurd (false≢true c)
-fails_by image call (Finish answer) own cpu few c = absurd (false≢true c)
+fails_by image call _ own cpu few c = absurd (false≢true c)
 
 pub violation_own : (act : Act) → is_violation act ≡ true → (is_call act ≡ false) × (is_stop_act act ≡ false)
 violation_own (Read width at got) c = (refl, refl)
 violation_own (Fetch at got) c = (refl, refl)
 violation_own (Write width at value ok) c = (refl, refl)
 violation_own (Await width at value ok) c = (refl, refl)
-violation_own (Irq device vector) c = absurd (false≢true c)
-violation_own (Hvc code x y answer) c = absurd (false≢true c)
-violation_own Stop c = absurd (false≢true c)
-violation_own (Begin code x y) c = absurd (false≢true c)
-violation_own (Decide refused) c = absurd (false≢true c)
-violation_own (Settle how) c = absurd (false≢true c)
-violation_own Commit c = absurd (false≢true c)
-violation_own (Note id) c = absurd (false≢true c)
-violation_own (Noted id how) c = absurd (false≢true c)
-violation_own (Finish answer) c = absurd (false≢true c)
+violation_own _ c = absurd (false≢true c)
 
 -- the operation that the CPU was at
 position_by : (image : Image) (f : Facts) (entry : Entry) → IsAdmitted image → is_call entry.act ≡ false → is_stop_act entry.act ≡ false → IsMadeBy image f entry → (f.cpu entry.cpu).position < 4096
@@ -171,10 +145,7 @@ others_by image call Stop own i cpu a other = other_cpu Halt own i cpu other
 others_by image call (Decide refused) own i cpu a other = other_cpu Stay own i cpu other
 others_by image call (Note id) own i cpu a other = other_cpu Stay own i cpu other
 others_by image call (Noted id how) own i cpu a other = other_cpu Stay own i cpu other
-others_by image call (Begin code x y) own i cpu a other = absurd (false≢true (sym a))
-others_by image call (Settle how) own i cpu a other = absurd (false≢true (sym a))
-others_by image call Commit own i cpu a other = absurd (false≢true (sym a))
-others_by image call (Finish answer) own i cpu a other = absurd (false≢true (sym a))
+others_by image call _ own i cpu a other = absurd (false≢true (sym a))
 
 pub others_kept : (image : Image) (before : List Entry) (entry : Entry) (i : ℕ) → changes_others entry.act ≡ false → i ≢ entry.cpu → (facts image (before ++ entry ∷ [])).cpu i ≡ (facts image before).cpu i
 others_kept image before entry i a other = behind_cpu image before entry i ∙ others_by image (facts image before).call entry.act entry.cpu i ((facts image before).cpu i) a other
@@ -287,36 +258,11 @@ phase_begun image before rest entry call admitted legal is phase =
 settle_by : (image : Image) (call : Option OpenCall) (o : OpenCall) (act : Act) (own i : ℕ) (cpu : Cpu) → call ≡ Some o → is_agreement act ≡ true → HasAgreed o.call cpu (acted image call act own i cpu)
 settle_by image call o (Settle Agreed) own i cpu is agreed = let P : Option OpenCall → Type 0 = λ c. HasAgreed o.call cpu (acted image c (Settle Agreed) own i cpu) in subst P (sym is) (agrees o.call cpu)
 settle_by image call o (Settle Timeout) own i cpu is agreed = let P : Option OpenCall → Type 0 = λ c. HasAgreed o.call cpu (acted image c (Settle Timeout) own i cpu) in subst P (sym is) (agrees o.call cpu)
-settle_by image call o (Settle Denied) own i cpu is agreed = absurd (false≢true agreed)
-settle_by image call o (Decide refused) own i cpu is agreed = absurd (false≢true agreed)
-settle_by image call o Commit own i cpu is agreed = absurd (false≢true agreed)
-settle_by image call o (Note id) own i cpu is agreed = absurd (false≢true agreed)
-settle_by image call o (Noted id how) own i cpu is agreed = absurd (false≢true agreed)
-settle_by image call o (Finish answer) own i cpu is agreed = absurd (false≢true agreed)
-settle_by image call o (Begin code x y) own i cpu is agreed = absurd (false≢true agreed)
-settle_by image call o (Read width at got) own i cpu is agreed = absurd (false≢true agreed)
-settle_by image call o (Write width at value ok) own i cpu is agreed = absurd (false≢true agreed)
-settle_by image call o (Fetch at got) own i cpu is agreed = absurd (false≢true agreed)
-settle_by image call o (Await width at value ok) own i cpu is agreed = absurd (false≢true agreed)
-settle_by image call o (Irq device vector) own i cpu is agreed = absurd (false≢true agreed)
-settle_by image call o (Hvc code x y answer) own i cpu is agreed = absurd (false≢true agreed)
-settle_by image call o Stop own i cpu is agreed = absurd (false≢true agreed)
+settle_by image call o _ own i cpu is agreed = absurd (false≢true agreed)
 
 agreement_phase : (act : Act) → is_agreement act ≡ true → is_phase act ≡ true
 agreement_phase (Settle how) h = refl
-agreement_phase (Decide refused) h = refl
-agreement_phase Commit h = refl
-agreement_phase (Note id) h = refl
-agreement_phase (Noted id how) h = refl
-agreement_phase (Finish answer) h = refl
-agreement_phase (Begin code x y) h = h
-agreement_phase (Read width at got) h = h
-agreement_phase (Write width at value ok) h = h
-agreement_phase (Fetch at got) h = h
-agreement_phase (Await width at value ok) h = h
-agreement_phase (Irq device vector) h = h
-agreement_phase (Hvc code x y answer) h = h
-agreement_phase Stop h = h
+agreement_phase _ h = absurd (false≢true h)
 
 pub settle_cpus : (image : Image) (before rest : List Entry) (entry : Entry) (call : Call) (i : ℕ) → IsAdmitted image → IsLegal image (before ++ entry ∷ rest) → call_after before ≡ Some call → is_agreement entry.act ≡ true
     → HasAgreed call ((facts image before).cpu i) ((facts image (before ++ entry ∷ [])).cpu i)
@@ -354,10 +300,7 @@ commit_by image cells made cpu caller i (Create at) phase manages e h is = creat
 commit_by image cells made cpu caller i (Start id) phase manages e h is = owner_changed restarted id (cpu i)
 commit_by image cells made cpu caller i (Loadable id) phase manages e h is = owner_changed parked id (cpu i)
 commit_by image cells made cpu caller i (Destroy id) phase manages e h is = owner_changed (returned image.system.root.id (length (program_ops image (name_of image.system.root) i))) id (cpu i)
-commit_by image cells made cpu caller i (Info kind) phase manages e h is = both_ways false refl manages
-commit_by image cells made cpu caller i (State id) phase manages e h is = both_ways false refl manages
-commit_by image cells made cpu caller i (CpuInfo n kind) phase manages e h is = both_ways false refl manages
-commit_by image cells made cpu caller i Unknown phase manages e h is = both_ways false refl manages
+commit_by image cells made cpu caller i _ phase manages e h is = both_ways false refl manages
 
 pub commit_cpus : (image : Image) (before rest : List Entry) (entry : Entry) (call : Call) (i : ℕ) → IsAdmitted image → IsLegal image (before ++ entry ∷ rest) → call_after before ≡ Some call → entry.act ≡ Commit
     → HasCommitted image (configs_of (facts image before).cells) (configs_of (facts image (before ++ entry ∷ [])).cells) call i ((facts image before).cpu i) ((facts image (before ++ entry ∷ [])).cpu i)

@@ -13,7 +13,7 @@ use Rattle.jh_cellcfg.specs.declared.live.Live.{Live}
 use Rattle.jh_check.specs.Devices.{is_shmem}
 use Rattle.jh_cpu.specs.declared.cpu.Cpu.{Cpu}
 use Rattle.jh_call.specs.declared.call.Call.{Call}
-use Rattle.jh_call.specs.declared.call.Call.TheVariants.{Create, Start, Loadable, Destroy, Info, State, CpuInfo, Unknown}
+use Rattle.jh_call.specs.declared.call.Call.TheVariants.{Info, State, CpuInfo, Unknown}
 use Rattle.jh_call.specs.declared.seen.Seen.{Seen}
 use Rattle.jh_call.specs.declared.seen.CpuSeen.{CpuSeen}
 use Rattle.jh_call.specs.declared.seen.CpuSeen.TheVariants.{Absent, Foreign, Fine, Failed}
@@ -163,14 +163,11 @@ cpu_fits kind Fine = cond_both (eqb kind 0) (pos 0) EINVAL Fits (λ _. number_fi
 cpu_fits kind Failed = cond_both (eqb kind 0) (pos 2) EINVAL Fits (λ _. number_fits 2 (omega arith)) (λ _. invalid_fits)
 
 answer_fits : (call : Call) (seen : Seen) → IsFewSeen seen → Fits (answer_of call seen)
-answer_fits (Create at) seen few = permission_fits
-answer_fits (Start id) seen few = permission_fits
-answer_fits (Loadable id) seen few = permission_fits
-answer_fits (Destroy id) seen few = permission_fits
 answer_fits (Info kind) seen few = info_fits kind seen few
 answer_fits (State id) seen few = cond_both seen.root (state_answer seen.state) EPERM Fits (λ _. state_fits seen.state) (λ _. permission_fits)
 answer_fits (CpuInfo cpu kind) seen few = cpu_fits kind seen.cpu
 answer_fits Unknown seen few = unknown_fits
+answer_fits _ seen few = permission_fits
 
 few_seen : (image : Image) (f : Facts) (cell : ℕ) (call : Call) → IsSound image f → IsTypedBoard f → IsFewSeen (seen_of image f cell call)
 few_seen image f cell call sound typed =

@@ -21,7 +21,7 @@ use Rattle.jh_history.specs.declared.access.Reach.TheVariants.{Memory, Subpage, 
 use Rattle.jh_history.specs.declared.device_change.DeviceChange.TheVariants.{Join}
 use Rattle.jh_history.specs.declared.entry.Entry.{Entry}
 use Rattle.jh_history.specs.declared.entry.Act.{Act}
-use Rattle.jh_history.specs.declared.entry.Act.TheVariants.{Read, Write, Fetch, Await, Irq, Hvc, Begin, Stop, Decide, Settle, Commit, Note, Noted, Finish}
+use Rattle.jh_history.specs.declared.entry.Act.TheVariants.{Write, Irq, Commit}
 use Rattle.jh_history.specs.Admitted.{IsAdmitted}
 use Rattle.jh_history.specs.Devices.{Devices, specs_of, number_at}
 use Rattle.jh_history.specs.Due.{due_at, IsLegal}
@@ -76,20 +76,8 @@ none_put devices (Window register) value id n none = by_endpoint (endpoint_at de
 
 none_acted : (image : Image) (f : Facts) (cell : ℕ) (act : Act) (id n : ℕ) → endpoint_at id n f.endpoints ≡ None → endpoint_at id n (endpoints_acted image f cell act) ≡ None
 none_acted image f cell (Write width at value true) id n none = none_put (devices_of image f cell) (reach image f cell ToWrite at width) value id n none
-none_acted image f cell (Write width at value false) id n none = none
 none_acted image f cell (Irq device vector) id n none = none_changed id n (is_device cell device) (taken vector) f.endpoints (taken_spec vector) none
-none_acted image f cell (Read width at got) id n none = none
-none_acted image f cell (Fetch at got) id n none = none
-none_acted image f cell (Await width at value ok) id n none = none
-none_acted image f cell (Hvc code a b answer) id n none = none
-none_acted image f cell (Begin code a b) id n none = none
-none_acted image f cell Stop id n none = none
-none_acted image f cell (Decide refused) id n none = none
-none_acted image f cell (Settle how) id n none = none
-none_acted image f cell Commit id n none = none
-none_acted image f cell (Note who) id n none = none
-none_acted image f cell (Noted who how) id n none = none
-none_acted image f cell (Finish answer) id n none = none
+none_acted image f cell _ id n none = none
 
 -- behind an entry that is no Commit stands what its act leaves
 after_acted : (image : Image) (f : Facts) (entry : Entry) → is_commit entry.act ≡ false → endpoints_after image f entry ≡ endpoints_acted image f entry.cell entry.act

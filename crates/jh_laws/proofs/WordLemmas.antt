@@ -16,7 +16,7 @@ use Rattle.jh_history.specs.declared.place.Place.{Place}
 use Rattle.jh_history.specs.declared.place.Place.TheVariants.{Physical, Page}
 use Rattle.jh_history.specs.declared.call.OpenCall.{OpenCall}
 use Rattle.jh_history.specs.declared.entry.Act.{Act}
-use Rattle.jh_history.specs.declared.entry.Act.TheVariants.{Read, Write, Fetch, Await, Irq, Hvc, Begin, Stop, Decide, Settle, Commit, Note, Noted, Finish}
+use Rattle.jh_history.specs.declared.entry.Act.TheVariants.{Commit}
 use Rattle.jh_history.specs.Facts.{Facts}
 use Rattle.jh_history.specs.Devices.{specs_of}
 use Rattle.jh_history.specs.Places.{number_of, places_in_row, written}
@@ -186,20 +186,8 @@ state_put e bar offset value word is = put_with (((eqb bar 0) && (eqb offset 0x1
 
 -- a Commit alone changes the devices of a cell
 unchanged_by : (cells : List Live) (o : OpenCall) (act : Act) → is_commit act ≡ false → changing_at cells o act ≡ None
-unchanged_by cells o (Read width at got) other = refl
-unchanged_by cells o (Write width at value ok) other = refl
-unchanged_by cells o (Fetch at got) other = refl
-unchanged_by cells o (Await width at value ok) other = refl
-unchanged_by cells o (Irq device vector) other = refl
-unchanged_by cells o (Hvc code a b answer) other = refl
-unchanged_by cells o (Begin code a b) other = refl
-unchanged_by cells o Stop other = refl
-unchanged_by cells o (Decide refused) other = refl
-unchanged_by cells o (Settle how) other = refl
-unchanged_by cells o (Note id) other = refl
-unchanged_by cells o (Noted id how) other = refl
-unchanged_by cells o (Finish answer) other = refl
 unchanged_by cells o Commit other = absurd (false≢true (sym other))
+unchanged_by cells o _ other = refl
 
 unchanged_at : (cells : List Live) (call : Option OpenCall) (act : Act) → is_commit act ≡ false → changing_by cells call act ≡ None
 unchanged_at cells None act other = refl

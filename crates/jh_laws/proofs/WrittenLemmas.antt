@@ -22,7 +22,7 @@ use Rattle.jh_history.specs.declared.access.Access.TheVariants.{Write as ToWrite
 use Rattle.jh_history.specs.declared.comm.PageWrite.{PageWrite}
 use Rattle.jh_history.specs.declared.entry.Entry.{Entry}
 use Rattle.jh_history.specs.declared.entry.Act.{Act}
-use Rattle.jh_history.specs.declared.entry.Act.TheVariants.{Read, Write, Fetch, Await, Irq, Hvc, Begin, Stop, Decide, Settle, Commit, Note, Noted, Finish}
+use Rattle.jh_history.specs.declared.entry.Act.TheVariants.{Write, Commit}
 use Rattle.jh_history.specs.Access.{place_in_cell, with_endpoint_word_if}
 use Rattle.jh_history.specs.Endpoints.{specs_changing, with_words}
 use Rattle.jh_history.specs.Facts.{Facts}
@@ -186,19 +186,7 @@ write_quiet image f entry act w =
 puts_write : (image : Image) (cells : List Live) (id : ℕ) (act : Act) (place : Place) (byte : ℕ) → Puts image cells id act place byte → (w : IsWrite act) × IsByteBy image cells id w.at w.width w.value place byte
 puts_write image cells id (Write width at value true) place byte puts = (record { width = width; at = at; value = value; is = refl }, puts.1)
 puts_write image cells id (Write width at value false) place byte puts = absurd (false≢true puts.0)
-puts_write image cells id (Read width at got) place byte puts = absurd puts
-puts_write image cells id (Fetch at got) place byte puts = absurd puts
-puts_write image cells id (Await width at value ok) place byte puts = absurd puts
-puts_write image cells id (Irq device vector) place byte puts = absurd puts
-puts_write image cells id (Hvc code a b answer) place byte puts = absurd puts
-puts_write image cells id (Begin code a b) place byte puts = absurd puts
-puts_write image cells id Stop place byte puts = absurd puts
-puts_write image cells id (Decide refused) place byte puts = absurd puts
-puts_write image cells id (Settle how) place byte puts = absurd puts
-puts_write image cells id Commit place byte puts = absurd puts
-puts_write image cells id (Note who) place byte puts = absurd puts
-puts_write image cells id (Noted who how) place byte puts = absurd puts
-puts_write image cells id (Finish answer) place byte puts = absurd puts
+puts_write image cells id _ place byte puts = absurd puts
 
 put_by : (image : Image) (f : Facts) (entry : Entry) (place : Place) (byte : ℕ) → IsSound image f → Puts image f.cells entry.cell entry.act place byte → byte_after image f entry place ≡ byte
 put_by image f entry place byte sound puts =
@@ -219,19 +207,7 @@ pub record PutsBy (image : Image) (f : Facts) (id : ℕ) (act : Act) (offset put
 pub register_write : (image : Image) (f : Facts) (id : ℕ) (act : Act) (offset put : ℕ) (e : Endpoint) → PutsRegister image f id act offset put e → PutsBy image f id act offset put e
 register_write image f id (Write width at value true) offset put e puts = record { write = record { width = width; at = at; value = value; is = refl }; value = puts.1; number = puts.2.0; by = puts.2.1 }
 register_write image f id (Write width at value false) offset put e puts = absurd (false≢true puts.0)
-register_write image f id (Read width at got) offset put e puts = absurd puts
-register_write image f id (Fetch at got) offset put e puts = absurd puts
-register_write image f id (Await width at value ok) offset put e puts = absurd puts
-register_write image f id (Irq device vector) offset put e puts = absurd puts
-register_write image f id (Hvc code a b answer) offset put e puts = absurd puts
-register_write image f id (Begin code a b) offset put e puts = absurd puts
-register_write image f id Stop offset put e puts = absurd puts
-register_write image f id (Decide refused) offset put e puts = absurd puts
-register_write image f id (Settle how) offset put e puts = absurd puts
-register_write image f id Commit offset put e puts = absurd puts
-register_write image f id (Note who) offset put e puts = absurd puts
-register_write image f id (Noted who how) offset put e puts = absurd puts
-register_write image f id (Finish answer) offset put e puts = absurd puts
+register_write image f id _ offset put e puts = absurd puts
 
 put_word : (image : Image) (f : Facts) (entry : Entry) (spec : EndpointSpec) (value k : ℕ) (place : Place) (e : Endpoint) → IsSound image f → IsSmallAct entry.act → e.spec ≡ spec → PutsRegister image f entry.cell entry.act 0x10 value e → value ≢ e.state
     → IsByteAt (endpoint_word_of spec value) place k → byte_after image f entry place ≡ value / 256 ^ k % 256
@@ -271,20 +247,7 @@ word_by image f entry place byte sound small h =
 -- an entry that changes a page writes nothing itself
 quiet_act : (image : Image) (f : Facts) (entry : Entry) (act : Act) (write : PageWrite) → page_write_by image f entry act ≡ Some write → byte_written image f entry.cell act ≡ f.byte
 quiet_act image f entry (Write width at value true) write is = absurd (none-some write is)
-quiet_act image f entry (Write width at value false) write is = refl
-quiet_act image f entry (Read width at got) write is = refl
-quiet_act image f entry (Fetch at got) write is = refl
-quiet_act image f entry (Await width at value ok) write is = refl
-quiet_act image f entry (Irq device vector) write is = refl
-quiet_act image f entry (Hvc code a b answer) write is = refl
-quiet_act image f entry (Begin code a b) write is = refl
-quiet_act image f entry Stop write is = refl
-quiet_act image f entry (Decide refused) write is = refl
-quiet_act image f entry (Settle how) write is = refl
-quiet_act image f entry Commit write is = refl
-quiet_act image f entry (Note who) write is = refl
-quiet_act image f entry (Noted who how) write is = refl
-quiet_act image f entry (Finish answer) write is = refl
+quiet_act image f entry _ write is = refl
 
 page_puts : (byte : Place → ℕ) (write : PageWrite) (offset : ℕ) → offset < 4096 → with_page_write (Some write) byte (Page write.cell offset) ≡ page_after write.change (λ k. byte (Page write.cell k)) offset
 page_puts byte write offset within =
@@ -361,20 +324,7 @@ NoRegisterWord image f id act place = (value : ℕ) (e : Endpoint) → PutsRegis
 kept_act : (image : Image) (f : Facts) (id : ℕ) (act : Act) (place : Place) → IsSound image f → IsSmallAct act → ((byte : ℕ) → Puts image f.cells id act place byte → ⊥) → NoRegisterWord image f id act place → byte_written image f id act place ≡ f.byte place
 kept_act image f id (Write width at value true) place sound small none apart =
     write_kept image f id at width value place sound small.1 (λ byte h. none byte (refl, h)) (λ n e by other. apart value e (refl, refl, (n, by)) other)
-kept_act image f id (Write width at value false) place sound small none apart = refl
-kept_act image f id (Read width at got) place sound small none apart = refl
-kept_act image f id (Fetch at got) place sound small none apart = refl
-kept_act image f id (Await width at value ok) place sound small none apart = refl
-kept_act image f id (Irq device vector) place sound small none apart = refl
-kept_act image f id (Hvc code a b answer) place sound small none apart = refl
-kept_act image f id (Begin code a b) place sound small none apart = refl
-kept_act image f id Stop place sound small none apart = refl
-kept_act image f id (Decide refused) place sound small none apart = refl
-kept_act image f id (Settle how) place sound small none apart = refl
-kept_act image f id Commit place sound small none apart = refl
-kept_act image f id (Note who) place sound small none apart = refl
-kept_act image f id (Noted who how) place sound small none apart = refl
-kept_act image f id (Finish answer) place sound small none apart = refl
+kept_act image f id _ place sound small none apart = refl
 
 page_keeps : (byte : Place → ℕ) (write : Option PageWrite) (place : Place) → ((w : PageWrite) (offset : ℕ) → write ≡ Some w → offset < 4096 → place ≡ Page w.cell offset → ⊥) → with_page_write write byte place ≡ byte place
 page_keeps byte None place none = refl
