@@ -34,7 +34,7 @@ use Rattle.jh_history.specs.declared.entry.Act.{Act}
 use Rattle.jh_history.specs.declared.entry.Act.TheVariants.{Write, Commit}
 use Rattle.jh_history.specs.declared.call.OpenCall.{OpenCall}
 use Rattle.jh_history.specs.declared.call.Phase.{Phase}
-use Rattle.jh_history.specs.declared.call.Phase.TheVariants.{ToDecide, ToSettle, ToCreate, ToCommit, ToNote, ToNoted, ToFinish}
+use Rattle.jh_history.specs.declared.call.Phase.TheVariants.{ToCreate}
 use Rattle.jh_history.specs.Access.{with_endpoint_word_if}
 use Rattle.jh_history.specs.Commits.{cells_by, is_commit}
 use Rattle.jh_history.specs.Devices.{place_of_section, specs_of}
@@ -327,12 +327,6 @@ call_changing image f entry spec caller (Create at) (ToCreate config) is commits
         ∙ configs_joined f.cells config,
   );
 }
-call_changing image f entry spec caller (Create at) ToDecide is commits phase held = absurd (nothing_in spec held)
-call_changing image f entry spec caller (Create at) (ToSettle waited) is commits phase held = absurd (nothing_in spec held)
-call_changing image f entry spec caller (Create at) ToCommit is commits phase held = absurd (nothing_in spec held)
-call_changing image f entry spec caller (Create at) (ToNote id about answer) is commits phase held = absurd (nothing_in spec held)
-call_changing image f entry spec caller (Create at) (ToNoted id about answer waited) is commits phase held = absurd (nothing_in spec held)
-call_changing image f entry spec caller (Create at) (ToFinish answer) is commits phase held = absurd (nothing_in spec held)
 call_changing image f entry spec caller (Start id) phase is commits sound held = live_changing image f entry spec id (find (has_id id) f.cells) refl held
 call_changing image f entry spec caller (Destroy id) phase is commits sound held = live_changing image f entry spec id (find (has_id id) f.cells) refl held
 call_changing image f entry spec caller _ phase is commits sound held = absurd (nothing_in spec held)
