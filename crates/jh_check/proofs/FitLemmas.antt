@@ -9,7 +9,7 @@ use Rattle.jh_cellcfg.specs.declared.config.PciDevice.{PciDevice}
 use Rattle.jh_cellcfg.specs.declared.config.CellConfig.{CellConfig}
 use Rattle.jh_check.specs.declared.seats.Seat.{Seat}
 use Rattle.jh_check.specs.Devices.{are_linked, is_same_memory, are_same_memory, sections_of, fits, agrees_with_all}
-use Rattle.jh_check.specs.Private.Seats.{HasSeats, IsAt, seat_of}
+use Rattle.jh_check.specs.Private.Seats.{HasSeats, IsSeatOf, seat_of}
 use Rattle.jh_check.specs.Private.Fits.{IsSeated, is_like, LikeAt, AreLike, FitEachOther, AreSure}
 use Rattle.jh_check.proofs.SeatLemmas.{agrees_linked}
 
@@ -86,7 +86,7 @@ ids_differ run ids x y cx cy apart =
       ]
     ]
 
-like_is : (cells : List CellConfig) (regions : List Region) (device : PciDevice) (x : Seat) (c : CellConfig) (d : PciDevice) → LikeAt cells regions device x → IsAt cells x c d → is_like regions device c.memory_regions d x.id ≡ true
+like_is : (cells : List CellConfig) (regions : List Region) (device : PciDevice) (x : Seat) (c : CellConfig) (d : PciDevice) → LikeAt cells regions device x → IsSeatOf cells x c d → is_like regions device c.memory_regions d x.id ≡ true
 like_is cells regions device x c d like at =
     let P : CellConfig → Type 0 = λ cell. x.item < length cell.pci_devices → is_like regions device cell.memory_regions (get_or cell.pci_devices x.item d) x.id ≡ true in
     let there : P c = subst P at.cell_is (λ h. like c d at.among h) in
@@ -160,7 +160,7 @@ agrees_sure cells number cell device seats sure bound has known told own =
     let there = get_or cells x.cell c in
     let other = get_or there.pci_devices x.item d in
     let among : x.cell < length cells = omega arith in
-    let stands : IsAt cells x there other = record { among = among; cell_is = get_or_default cells x.cell there c among; within = within; device_is = get_or_default there.pci_devices x.item other d within } in
+    let stands : IsSeatOf cells x there other = record { among = among; cell_is = get_or_default cells x.cell there c among; within = within; device_is = get_or_default there.pci_devices x.item other d within } in
     let owner = own.owner in
     let apart : own.seat.cell ≢ x.cell = λ e. omega arith in
     let t = known device.bdf told own.seat x own.is cx own.bdf ex apart cell device there other own.sits stands in

@@ -8,7 +8,7 @@ use Rattle.jh_cellcfg.specs.declared.config.PciDevice.{PciDevice}
 use Rattle.jh_cellcfg.specs.declared.config.CellConfig.{CellConfig}
 use Rattle.jh_check.specs.declared.seats.Seat.{Seat}
 use Rattle.jh_check.specs.Devices.{is_shmem, are_linked, are_same_memory, sections_of, agrees_with, agrees_with_all}
-use Rattle.jh_check.specs.Private.Seats.{seat_of, HasSeats, IsAt, AgreesAt}
+use Rattle.jh_check.specs.Private.Seats.{seat_of, HasSeats, IsSeatOf, AgreesAt}
 use Rattle.jh_num.proofs.Public.{list_all_each}
 
 -- ---- side by side
@@ -38,7 +38,7 @@ seat_within seats bdf begin m n low high bound after before x cx is =
 -- ---- the device of a seat
 
 -- what holds of the seat's device and its cell holds of what stands at the seat
-pub holds_at : (cells : List CellConfig) (seat : Seat) (cell : CellConfig) (device : PciDevice) → IsAt cells seat cell device → (P : CellConfig → PciDevice → Type 0) → P cell device → (c : CellConfig) (d : PciDevice) → P (get_or cells seat.cell c) (get_or (get_or cells seat.cell c).pci_devices seat.item d)
+pub holds_at : (cells : List CellConfig) (seat : Seat) (cell : CellConfig) (device : PciDevice) → IsSeatOf cells seat cell device → (P : CellConfig → PciDevice → Type 0) → P cell device → (c : CellConfig) (d : PciDevice) → P (get_or cells seat.cell c) (get_or (get_or cells seat.cell c).pci_devices seat.item d)
 holds_at cells seat cell device at P p c d =
     let e : get_or cells seat.cell c ≡ cell = get_or_default cells seat.cell c cell at.among ∙ at.cell_is in
     let f : get_or cell.pci_devices seat.item d ≡ device = get_or_default cell.pci_devices seat.item d device at.within ∙ at.device_is in

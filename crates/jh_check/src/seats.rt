@@ -4,7 +4,7 @@ ghost use Rattle.jh_cellcfg.specs.declared.config.PciDevice.{PciDevice};
 ghost use Rattle.jh_cellcfg.specs.declared.config.CellConfig.{CellConfig};
 ghost use Rattle.jh_check.specs.Private.Cells.{cells_of};
 ghost use Rattle.jh_check.specs.declared.seats.Seat.{Seat};
-ghost use Rattle.jh_check.specs.Private.Seats.{HasSeatsOf, HasSeats, AreByBdf, IsAt};
+ghost use Rattle.jh_check.specs.Private.Seats.{HasSeatsOf, HasSeats, AreByBdf, IsSeatOf};
 
 use crate::setup::Setup;
 use jh_cellcfg::{CellConfig, PciDevice};
@@ -70,7 +70,7 @@ pub(crate) fn at_bdf(seats: &[Seat], bdf: u16) -> &[Seat]
 /// The device of the seat, with its cell. None, if the cells below that number have no device there.
 pub(crate) fn device_of<'a>(setup: &Setup<'a>, number: u32, seat: &Seat) -> Option<CellDevice<'a>>
     requires { number ≤ length (cells_of setup.now) }
-    ensures is { IfSome result (λ there. IsAt (cells_of setup.now) seat.now there.cell.now there.device.now) }
+    ensures is { IfSome result (λ there. IsSeatOf (cells_of setup.now) seat.now there.cell.now there.device.now) }
     ensures below { IfSome result (λ there. seat.now.cell < number) }
     ensures none { IfNone result ((c : CellConfig) → seat.now.cell < number → length (slice_index_or (cells_of setup.now) seat.now.cell c).pci_devices ≤ seat.now.item) }
 {

@@ -19,7 +19,7 @@ use Rattle.jh_history.specs.declared.access.Reach.TheVariants.{Subpage, Nothing}
 use Rattle.jh_history.specs.Places.{places_in_row}
 use Rattle.jh_history.specs.Access.{place_in_cell}
 use Rattle.jh_history.specs.Behind.{Asked, Behind, asked_by, is_write, by_region, without_region, region_or_window, unless_fetch, answer_behind, answer}
-use Rattle.jh_history.specs.Grants.{is_kept}
+use Rattle.jh_history.specs.Grants.{is_closed_to}
 
 -- ---- a region that has an access
 
@@ -72,8 +72,8 @@ kept_by kept id at n r false low pages =
 
 -- a cell is kept from one of the places of an access where one of its bytes is at a place that it is kept from
 pub kept_row : (image : Image) (cells : List Live) (id at n : ℕ) (r : Region) → r.virt_start ≤ at
-    → list_any (is_kept image cells id) (places_in_row (place_in_cell id r at) n) ≡ is_at_closed (λ p. is_kept image cells id (Physical p)) at n r
-kept_row image cells id at n r low = kept_by (is_kept image cells id) id at n r (is_comm r) low (λ k. refl)
+    → list_any (is_closed_to image cells id) (places_in_row (place_in_cell id r at) n) ≡ is_at_closed (λ p. is_closed_to image cells id (Physical p)) at n r
+kept_row image cells id at n r low = kept_by (is_closed_to image cells id) id at n r (is_comm r) low (λ k. refl)
 
 -- ---- what answers
 

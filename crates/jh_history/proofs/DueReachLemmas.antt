@@ -35,7 +35,7 @@ use Rattle.jh_history.specs.Access.{gives, region_of, place_in_cell, place_of, p
 use Rattle.jh_history.specs.Behind.{Asked, Windows, asked_by, is_write, in_window, asked_windows, by_region, by_device, without_region, region_or_window, unless_fetch, answer_behind, answer}
 use Rattle.jh_history.specs.Places.{places_in_row}
 use Rattle.jh_history.specs.Facts.{Facts}
-use Rattle.jh_history.specs.Grants.{is_kept, unless, granted, behind_of, behind_in, reach}
+use Rattle.jh_history.specs.Grants.{is_closed_to, unless, granted, behind_of, behind_in, reach}
 use Rattle.jh_history.specs.Lives.{regions_in}
 use Rattle.jh_shape.specs.Lives.{configs_of}
 use Rattle.jh_history.specs.Wants.{IsReachOfAct, IsReachOfEntry}
@@ -130,7 +130,7 @@ granted_by kept (Some q) p e = ap Some (unless_by (kept q) q p e)
 
 granted_cells : (image : Image) (f : Facts) (id : ℕ) (access : Access) (at : ℕ) (p : Place) → IsSound image f → granted image f id access at ≡ Some p → IsOfCells f.cells p
 granted_cells image f id access at p sound e =
-    place_of_cells image f id access at p sound (granted_by (is_kept image f.cells id) (place_of id (regions_in image f.cells id) access at) p e)
+    place_of_cells image f id access at p sound (granted_by (is_closed_to image f.cells id) (place_of id (regions_in image f.cells id) access at) p e)
 
 -- ---- a subpage region that has an access
 
@@ -197,7 +197,7 @@ answer_or_not lives false found all = tt
 behind_cells : (image : Image) (lives : List Live) (endpoints : List Endpoint) (id : ℕ) (access : Access) (at width : ℕ) → IsClean image.system (configs_of lives) → ReachesCells lives (behind_in image lives endpoints id access at width)
 unfolding answer
 behind_cells image lives endpoints id access at width clean =
-    let closed : ℕ → Bool = λ p. is_kept image lives id (Physical p) in
+    let closed : ℕ → Bool = λ p. is_closed_to image lives id (Physical p) in
     let wanted : Wanted = record { access = access; at = at; width = width } in
     let asked : Asked = asked_by (behind_of image lives endpoints id) wanted in
     answer_or_not lives (leb (at + width) ADDRESS_END) (answer_behind asked wanted)

@@ -22,7 +22,7 @@ use Rattle.jh_history.specs.Calls.{is_named, counted}
 use Rattle.jh_num.specs.Numbers.{counted_up}
 use Rattle.jh_history.specs.Cpus.{changed, is_running}
 use Rattle.jh_history.specs.Wants.{goes_on}
-use Rattle.jh_history.specs.Sound.{AreSoundCells, IsOwner, AreOwned, IsCalm, IsHalted, IsAsked, IsHalting, HasHalted, GoesOn, IsAboutLive, MayBeCreated, IsInPhase}
+use Rattle.jh_history.specs.Sound.{AreSoundCells, IsOwner, AreOwned, IsCalm, IsHalted, IsAsked, IsHalting, HaltsForCall, GoesOn, IsAboutLive, MayBeCreated, IsInPhase}
 
 -- ---- one CPU
 
@@ -74,7 +74,7 @@ halting_rests cpu h on =
     (λ (halted : IsHalted cpu). halted_rests cpu halted on)
     h
 
-pub come_rests : (phase : Phase) (cpu : Cpu) → HasHalted phase cpu → goes_on cpu ≡ true → ⊥
+pub come_rests : (phase : Phase) (cpu : Cpu) → HaltsForCall phase cpu → goes_on cpu ≡ true → ⊥
 come_rests ToDecide cpu h = halting_rests cpu h
 come_rests (ToSettle waited) cpu h = halted_rests cpu h
 come_rests (ToCreate config) cpu h = halted_rests cpu h
@@ -100,7 +100,7 @@ not_asked cpu is halted = absurd (both_ways cpu.asked halted.asked is)
 not_calm : (cpu : Cpu) {X : Type 0} → cpu.asked ≡ true → IsCalm cpu → X
 not_calm cpu is calm = absurd (both_ways cpu.asked calm.asked is)
 
-pub come_stopped : (phase : Phase) (cpu : Cpu) → cpu.asked ≡ true → HasHalted phase cpu → HasHalted phase (stopped_of cpu)
+pub come_stopped : (phase : Phase) (cpu : Cpu) → cpu.asked ≡ true → HaltsForCall phase cpu → HaltsForCall phase (stopped_of cpu)
 come_stopped ToDecide cpu is h = inr (stopped_halting cpu is h)
 come_stopped (ToSettle waited) cpu is h = not_asked cpu is h
 come_stopped (ToCreate config) cpu is h = not_asked cpu is h
@@ -133,13 +133,13 @@ goes_mild call (ToFinish answer) change cpu mild on h = mild_calm change cpu mil
 
 -- ---- counting
 
-pub come_counted : (cell : ℕ) (call : Call) (phase : Phase) (cpu : Cpu) → HasHalted phase cpu → HasHalted (counted cell call phase) cpu
+pub come_counted : (cell : ℕ) (call : Call) (phase : Phase) (cpu : Cpu) → HaltsForCall phase cpu → HaltsForCall (counted cell call phase) cpu
 come_counted cell call ToDecide cpu h = h
-come_counted cell call (ToSettle waited) cpu h = cond_both (is_named call cell) (ToSettle (counted_up waited)) (ToSettle waited) (λ (p : Phase). HasHalted p cpu) (λ _. h) (λ _. h)
+come_counted cell call (ToSettle waited) cpu h = cond_both (is_named call cell) (ToSettle (counted_up waited)) (ToSettle waited) (λ (p : Phase). HaltsForCall p cpu) (λ _. h) (λ _. h)
 come_counted cell call (ToCreate config) cpu h = h
 come_counted cell call ToCommit cpu h = h
 come_counted cell call (ToNote id about answer) cpu h = h
-come_counted cell call (ToNoted id about answer waited) cpu h = cond_both (eqb cell id) (ToNoted id about answer (counted_up waited)) (ToNoted id about answer waited) (λ (p : Phase). HasHalted p cpu) (λ _. h) (λ _. h)
+come_counted cell call (ToNoted id about answer waited) cpu h = cond_both (eqb cell id) (ToNoted id about answer (counted_up waited)) (ToNoted id about answer waited) (λ (p : Phase). HaltsForCall p cpu) (λ _. h) (λ _. h)
 come_counted cell call (ToFinish answer) cpu h = h
 
 pub goes_counted : (cell : ℕ) (call : Call) (phase : Phase) (cpu : Cpu) → GoesOn call phase cpu → GoesOn call (counted cell call phase) cpu

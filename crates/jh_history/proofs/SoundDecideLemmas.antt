@@ -32,11 +32,11 @@ use Rattle.jh_history.specs.Calls.{is_named, decided, after_settle}
 use Rattle.jh_history.specs.declared.reading.ReadCell.{ReadCell}
 use Rattle.jh_history.specs.declared.reading.ReadCell.TheVariants.{Reads, Refuses}
 use Rattle.jh_history.specs.Configs.{read_at, config_read}
-use Rattle.jh_history.specs.Cpus.{is_running, settled, is_agreed}
+use Rattle.jh_history.specs.Cpus.{is_running, settled, is_undenied}
 use Rattle.jh_history.specs.History.{coming_by}
 use Rattle.jh_history.specs.Phases.{keeps_decide, may_give, is_locked, is_other_locked, unless_refused, creation_by, creation_of, refused_by, id_refusal, first_refusal, decision}
 use Rattle.jh_shape.specs.Lives.{configs_of}
-use Rattle.jh_history.specs.Sound.{AreSoundCells, AreOwned, IsCalm, IsHalted, IsAsked, IsHalting, HasHalted, GoesOn, IsCaller, IsAboutLive, MayBeCreated, IsInPhase, IsOpen}
+use Rattle.jh_history.specs.Sound.{AreSoundCells, AreOwned, IsCalm, IsHalted, IsAsked, IsHalting, HaltsForCall, GoesOn, IsCaller, IsAboutLive, MayBeCreated, IsInPhase, IsOpen}
 use Rattle.jh_history.proofs.SoundCpusLemmas.{owned_kept, named_same, root_unnamed, running_mode}
 
 -- the board's CPUs are below 16
@@ -59,7 +59,7 @@ IsLate (ToNote id about answer) = Unit {0}
 IsLate (ToNoted id about answer waited) = Unit {0}
 IsLate (ToFinish answer) = Unit {0}
 
-late_come : (phase : Phase) (cpu : Cpu) → IsLate phase → IsHalted cpu → HasHalted phase cpu
+late_come : (phase : Phase) (cpu : Cpu) → IsLate phase → IsHalted cpu → HaltsForCall phase cpu
 late_come ToDecide cpu late h = absurd late
 late_come (ToSettle waited) cpu late h = h
 late_come (ToCreate config) cpu late h = h
@@ -282,7 +282,7 @@ open_agreed image configs cpu caller waited call sound owned opens =
 
 pub open_settled : (image : Image) (configs : List CellConfig) (cpu : ℕ → Cpu) (caller waited : ℕ) (call : Call) (how : Settled) → AreSoundCells image.system configs → AreOwned image configs cpu
     → IsOpen image configs cpu (record { caller = caller; call = call; phase = ToSettle waited })
-    → IsOpen image configs (λ i. settled (is_agreed how) call (cpu i)) (record { caller = caller; call = call; phase = after_settle how })
+    → IsOpen image configs (λ i. settled (is_undenied how) call (cpu i)) (record { caller = caller; call = call; phase = after_settle how })
 open_settled image configs cpu caller waited call Agreed sound owned opens = open_agreed image configs cpu caller waited call sound owned opens
 open_settled image configs cpu caller waited call Timeout sound owned opens = open_agreed image configs cpu caller waited call sound owned opens
 open_settled image configs cpu caller waited call Denied sound owned opens = record { caller = opens.caller; roots = opens.roots; cells = opens.cells; absent = opens.absent; phase = tt }

@@ -34,7 +34,7 @@ use Rattle.jh_history.specs.Admitted.{IsAdmitted}
 use Rattle.jh_history.specs.Bytes.{byte_after}
 use Rattle.jh_history.specs.Calls.{call_by, counted, decided, first_recipient, telling, listed_behind, is_named}
 use Rattle.jh_history.specs.Commits.{cells_by, is_other}
-use Rattle.jh_history.specs.Cpus.{acted, change_if, is_agreed}
+use Rattle.jh_history.specs.Cpus.{acted, change_if, is_undenied}
 use Rattle.jh_history.specs.History.{start, after, facts, coming_of, coming_by}
 use Rattle.jh_history.specs.Wants.{goes_on}
 use Rattle.jh_history.specs.Endpoints.{endpoints_after}
@@ -217,7 +217,7 @@ settle_sound image rest rest' cpu cells caller waited call coming cell act (Some
     subst P (same_Some (Settle how) act h)
     (record {
       cells = sound.cells;
-      cpus = owned_settled image (configs_of cells) cpu (is_agreed how) call sound.cpus;
+      cpus = owned_settled image (configs_of cells) cpu (is_undenied how) call sound.cpus;
       call = open_settled image (configs_of cells) cpu caller waited call how sound.cells sound.cpus sound.call;
     })
 

@@ -18,9 +18,9 @@ use Rattle.jh_history.specs.declared.change.Change.{Change}
 use Rattle.jh_history.specs.declared.change.Change.TheVariants.{Stop as Halt}
 use Rattle.jh_history.specs.Lives.{is_on_board, program_ops}
 use Rattle.jh_history.specs.Calls.{counted}
-use Rattle.jh_history.specs.Cpus.{changed, is_running, begun, finished, resumed_in}
+use Rattle.jh_history.specs.Cpus.{changed, is_running, asked_by_begin, finished, resumed_in}
 use Rattle.jh_history.specs.Wants.{goes_on}
-use Rattle.jh_history.specs.Sound.{AreOwned, IsCalm, IsHalting, HasHalted, GoesOn, IsCaller, IsOpen}
+use Rattle.jh_history.specs.Sound.{AreOwned, IsCalm, IsHalting, HaltsForCall, GoesOn, IsCaller, IsOpen}
 use Rattle.jh_history.proofs.SoundCpusLemmas.{IsMild, mild_calm, changed_owner, goes_running, running_mode, come_rests, come_stopped, goes_stopped, goes_mild, come_counted, goes_counted, owned_kept, phase_counted}
 
 -- one CPU changes
@@ -48,14 +48,14 @@ calm_one change own cpu mild calm i = at_each (λ k c. IsCalm c) change own cpu 
 
 -- where one is open, of another CPU than its caller
 pub open_one : (image : Image) (configs : List CellConfig) (cpu : ℕ → Cpu) (o : OpenCall) (change : Change) (own cell : ℕ) → IsOpen image configs cpu o → is_on_board image own ≡ true → own ≢ o.caller
-    → ((cpu own).owner ≡ image.system.root.id → HasHalted o.phase (changed change (cpu own)))
+    → ((cpu own).owner ≡ image.system.root.id → HaltsForCall o.phase (changed change (cpu own)))
     → ((cpu own).owner ≢ image.system.root.id → GoesOn o.call o.phase (changed change (cpu own)))
     → IsOpen image configs (one_changed change own cpu) (record { caller = o.caller; call = o.call; phase = counted cell o.call o.phase })
 open_one image configs cpu o change own cell opens on other come goes =
     let root : ℕ = image.system.root.id in
     let phase : Phase = counted cell o.call o.phase in
     let C : ℕ → Cpu → Type 0 = λ k c. k ≡ o.caller → IsCaller image o.caller o.call c in
-    let R : ℕ → Cpu → Type 0 = λ k c. is_on_board image k ≡ true → k ≢ o.caller → c.owner ≡ root → HasHalted phase c in
+    let R : ℕ → Cpu → Type 0 = λ k c. is_on_board image k ≡ true → k ≢ o.caller → c.owner ≡ root → HaltsForCall phase c in
     let G : ℕ → Cpu → Type 0 = λ k c. c.owner ≢ root → GoesOn o.call phase c in
     let A : ℕ → Cpu → Type 0 = λ k c. is_on_board image k ≡ false → IsCalm c in
     record {
@@ -88,32 +88,32 @@ open_mild image configs cpu o change own cell mild opens on other goes =
 
 -- ---- the beginning of a call
 
-pub begun_owner : (image : Image) (own i : ℕ) (cpu : Cpu) → (begun image own i cpu).owner ≡ cpu.owner
+pub begun_owner : (image : Image) (own i : ℕ) (cpu : Cpu) → (asked_by_begin image own i cpu).owner ≡ cpu.owner
 begun_owner image own i cpu =
     let same : Cpu → Type 0 = λ c. c.owner ≡ cpu.owner in
     cond_both (is_on_board image i && not (eqb i own) && eqb cpu.owner image.system.root.id && is_running cpu.mode) (asked_of cpu) cpu same (λ _. refl) (λ _. refl)
 
-pub owned_begun : (image : Image) (configs : List CellConfig) (cpu : ℕ → Cpu) (own : ℕ) → AreOwned image configs cpu → AreOwned image configs (λ i. begun image own i (cpu i))
-owned_begun image configs cpu own owned = owned_kept image configs cpu (λ i. begun image own i (cpu i)) (λ i. begun_owner image own i (cpu i)) owned
+pub owned_begun : (image : Image) (configs : List CellConfig) (cpu : ℕ → Cpu) (own : ℕ) → AreOwned image configs cpu → AreOwned image configs (λ i. asked_by_begin image own i (cpu i))
+owned_begun image configs cpu own owned = owned_kept image configs cpu (λ i. asked_by_begin image own i (cpu i)) (λ i. begun_owner image own i (cpu i)) owned
 
-begun_not : (image : Image) (own i : ℕ) (cpu : Cpu) → (is_on_board image i && not (eqb i own) && eqb cpu.owner image.system.root.id && is_running cpu.mode) ≡ false → begun image own i cpu ≡ cpu
+begun_not : (image : Image) (own i : ℕ) (cpu : Cpu) → (is_on_board image i && not (eqb i own) && eqb cpu.owner image.system.root.id && is_running cpu.mode) ≡ false → asked_by_begin image own i cpu ≡ cpu
 begun_not image own i cpu fails = rw fails refl
 
 -- the CPU that begins the call isn't asked, nor is one that isn't root's, or that the board lacks
-begun_own : (image : Image) (own : ℕ) (cpu : Cpu) → begun image own own cpu ≡ cpu
+begun_own : (image : Image) (own : ℕ) (cpu : Cpu) → asked_by_begin image own own cpu ≡ cpu
 begun_own image own cpu =
     begun_not image own own cpu
     (and_left (is_on_board image own && not (eqb own own) && eqb cpu.owner image.system.root.id) (is_running cpu.mode)
     (and_left (is_on_board image own && not (eqb own own)) (eqb cpu.owner image.system.root.id)
     (and_right (is_on_board image own) (not (eqb own own)) (ap not (same_number own)))))
 
-begun_cells : (image : Image) (own i : ℕ) (cpu : Cpu) → cpu.owner ≢ image.system.root.id → begun image own i cpu ≡ cpu
+begun_cells : (image : Image) (own i : ℕ) (cpu : Cpu) → cpu.owner ≢ image.system.root.id → asked_by_begin image own i cpu ≡ cpu
 begun_cells image own i cpu other =
     begun_not image own i cpu
     (and_left (is_on_board image i && not (eqb i own) && eqb cpu.owner image.system.root.id) (is_running cpu.mode)
     (and_right (is_on_board image i && not (eqb i own)) (eqb cpu.owner image.system.root.id) (ne_eqb cpu.owner image.system.root.id other)))
 
-begun_absent : (image : Image) (own i : ℕ) (cpu : Cpu) → is_on_board image i ≡ false → begun image own i cpu ≡ cpu
+begun_absent : (image : Image) (own i : ℕ) (cpu : Cpu) → is_on_board image i ≡ false → asked_by_begin image own i cpu ≡ cpu
 begun_absent image own i cpu off =
     begun_not image own i cpu
     (and_left (is_on_board image i && not (eqb i own) && eqb cpu.owner image.system.root.id) (is_running cpu.mode)
@@ -121,17 +121,17 @@ begun_absent image own i cpu off =
     (and_left (is_on_board image i) (not (eqb i own)) off)))
 
 -- another one of root's is asked where it runs
-begun_root : (image : Image) (own i : ℕ) (cpu : Cpu) (b : Bool) → is_running cpu.mode ≡ b → is_on_board image i ≡ true → i ≢ own → cpu.owner ≡ image.system.root.id → IsCalm cpu → IsHalting (begun image own i cpu)
+begun_root : (image : Image) (own i : ℕ) (cpu : Cpu) (b : Bool) → is_running cpu.mode ≡ b → is_on_board image i ≡ true → i ≢ own → cpu.owner ≡ image.system.root.id → IsCalm cpu → IsHalting (asked_by_begin image own i cpu)
 begun_root image own i cpu true runs on other is calm =
-    let asked : begun image own i cpu ≡ asked_of cpu = rw (on, ne_eqb i own other, eq-eqb cpu.owner image.system.root.id is, runs) refl in
+    let asked : asked_by_begin image own i cpu ≡ asked_of cpu = rw (on, ne_eqb i own other, eq-eqb cpu.owner image.system.root.id is, runs) refl in
     subst IsHalting (sym asked) (inl (record { asked = refl; stopped = calm.stopped; running = running_mode cpu runs }))
 begun_root image own i cpu false rests on other is calm =
-    let same : begun image own i cpu ≡ cpu = begun_not image own i cpu (and_right (is_on_board image i && not (eqb i own) && eqb cpu.owner image.system.root.id) (is_running cpu.mode) rests) in
+    let same : asked_by_begin image own i cpu ≡ cpu = begun_not image own i cpu (and_right (is_on_board image i && not (eqb i own) && eqb cpu.owner image.system.root.id) (is_running cpu.mode) rests) in
     subst IsHalting (sym same) (inr (record { asked = calm.asked; stopped = calm.stopped ∙ sym rests }))
 
 pub open_begun : (image : Image) (configs : List CellConfig) (cpu : ℕ → Cpu) (own code a b : ℕ) → ((i : ℕ) → IsCalm (cpu i)) → is_on_board image own ≡ true → (cpu own).owner ≡ image.system.root.id → goes_on (cpu own) ≡ true
     → slice_get (program_ops image (name_of image.system.root) own) (cpu own).position ≡ Some (HvcOp code a b) → is_management (decoded code a b) ≡ true
-    → IsOpen image configs (λ i. begun image own i (cpu i)) (record { caller = own; call = decoded code a b; phase = ToDecide })
+    → IsOpen image configs (λ i. asked_by_begin image own i (cpu i)) (record { caller = own; call = decoded code a b; phase = ToDecide })
 open_begun image configs cpu own code a b calm on root goes at management =
     let caller : IsCaller image own (decoded code a b) (cpu own) =
     record { board = on; owner = root; running = running_mode (cpu own) (goes_running (cpu own) goes); calm = calm own; code = code; a = a; b = b; at = at; asks = refl; management = management } in

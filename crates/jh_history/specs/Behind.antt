@@ -47,13 +47,13 @@ pub record Asked : Type 0 where
   pub region : Option Region
   pub windows : Windows
 
--- what a cell has behind memory: its regions, its devices, and the system's ECAM window; and the places that it is
--- kept from
+-- what a cell has behind memory: its regions, its devices, and the system's ECAM window; and the places that are
+-- closed to it
 pub record Behind : Type 0 where
   pub regions : List Region
   pub devices : Devices
   pub system : SystemConfig
-  pub kept : Place → Bool
+  pub closed : Place → Bool
 
 -- the first enabled window of the cell's devices that has the whole access
 abbrev pub window_of_access : Devices → ℕ → ℕ → Option TheWindow
@@ -64,7 +64,7 @@ abbrev pub asked_by : Behind → Wanted → Asked
 asked_by behind wanted =
     record {
       cell = behind.devices.cell;
-      region = find (takes_all (λ p. behind.kept (Physical p)) wanted.at wanted.width) behind.regions;
+      region = find (takes_all (λ p. behind.closed (Physical p)) wanted.at wanted.width) behind.regions;
       windows = record { start = ecam_start behind.system; end = ecam_end behind.system; device = window_of_access behind.devices wanted.at wanted.width };
     }
 

@@ -4,7 +4,7 @@ use Rattle.std.specs.Option.{option_map_or}
 use Rattle.jh_cellcfg.specs.declared.config.CellConfig.{CellConfig}
 use Rattle.jh_cellcfg.specs.declared.live.Live.{Live}
 use Rattle.jh_cellcfg.specs.Lives.{has_id}
-use Rattle.jh_shape.specs.Lives.{marked}
+use Rattle.jh_shape.specs.Lives.{marked, new_live}
 use Rattle.jh_call.specs.declared.call.Call.{Call}
 use Rattle.jh_call.specs.declared.call.Call.TheVariants.{Create, Start, Loadable, Destroy}
 use Rattle.jh_history.specs.declared.call.OpenCall.{OpenCall}
@@ -20,7 +20,7 @@ is_other id live = not (has_id id live)
 -- by the Commit of a create the new cell lives, last in order and not loadable; by a start the cell isn't loadable
 -- any more, by a set loadable it is, and by a destroy it doesn't live
 abbrev pub committed_cells : Call → Phase → List Live → List Live
-committed_cells (Create at) (ToCreate config) cells = cells ++ (record { config = config; loadable = false }) ∷ []
+committed_cells (Create at) (ToCreate config) cells = cells ++ new_live config ∷ []
 committed_cells (Start id) phase cells = map (marked id false) cells
 committed_cells (Loadable id) phase cells = map (marked id true) cells
 committed_cells (Destroy id) phase cells = filter (is_other id) cells

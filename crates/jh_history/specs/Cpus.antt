@@ -53,20 +53,20 @@ changed Fail cpu = failed (moved cpu)
 changed Halt cpu = stopped_of cpu
 
 -- at the Begin each running CPU of root is asked to stop, but the caller
-abbrev pub begun : Image → ℕ → ℕ → Cpu → Cpu
-begun image own i cpu =
+abbrev pub asked_by_begin : Image → ℕ → ℕ → Cpu → Cpu
+asked_by_begin image own i cpu =
     if is_on_board image i && not (i == own) && (cpu.owner == image.system.root.id) && is_running cpu.mode
     then asked_of cpu else cpu
 
 -- the call goes on after the Settle
-abbrev pub is_agreed : Settled → Bool
-is_agreed Agreed = true
-is_agreed Denied = false
-is_agreed Timeout = true
+abbrev pub is_undenied : Settled → Bool
+is_undenied Agreed = true
+is_undenied Denied = false
+is_undenied Timeout = true
 
 -- at a Settle that isn't denied each running CPU of the call's cell is asked to stop
 abbrev pub settled : Bool → Call → Cpu → Cpu
-settled agreed call cpu = if agreed && is_named call cpu.owner && is_running cpu.mode then asked_of cpu else cpu
+settled undenied call cpu = if undenied && is_named call cpu.owner && is_running cpu.mode then asked_of cpu else cpu
 
 -- where in root's program a failed CPU goes on: at its end
 abbrev pub end_in_root : Image → ℕ → ℕ
@@ -91,8 +91,8 @@ finished image own i cpu = let there = resumed_in image.system.root.id cpu in if
 
 -- CPU i after the act, which is CPU `own`'s; the call is the one that is open before it
 abbrev pub acted : Image → Option OpenCall → Act → ℕ → ℕ → Cpu → Cpu
-acted image call (Begin code a b) own i cpu = begun image own i cpu
-acted image call (Settle how) own i cpu = option_map_or (λ (o : OpenCall). settled (is_agreed how) o.call cpu) call cpu
+acted image call (Begin code a b) own i cpu = asked_by_begin image own i cpu
+acted image call (Settle how) own i cpu = option_map_or (λ (o : OpenCall). settled (is_undenied how) o.call cpu) call cpu
 acted image call Commit own i cpu = option_map_or (λ (o : OpenCall). committed image o.call o.phase i cpu) call cpu
 acted image call (Finish answer) own i cpu = finished image own i cpu
 acted image call act own i cpu = if i == own then changed (change_of act) cpu else cpu

@@ -15,24 +15,24 @@ use Rattle.jh_history.specs.Devices.{Devices, devices_in}
 use Rattle.jh_history.specs.Facts.{Facts}
 use Rattle.jh_history.specs.Lives.{regions_in}
 
--- the cell with the id is kept from the place: it is root, and a cell that lives besides it holds the place
+-- the place is closed to the cell with the id: it is root, and a cell that lives besides it holds the place
 -- for itself
-abbrev pub is_kept : Image → List Live → ℕ → Place → Bool
-is_kept image cells id (Physical p) = (id == image.system.root.id) && is_closed (map holder_of_live cells) p
-is_kept image cells id (Page cell offset) = false
+abbrev pub is_closed_to : Image → List Live → ℕ → Place → Bool
+is_closed_to image cells id (Physical p) = (id == image.system.root.id) && is_closed (map holder_of_live cells) p
+is_closed_to image cells id (Page cell offset) = false
 
--- the place, unless one is kept from it
+-- the place, unless it is closed
 abbrev pub unless : (Place → Bool) → Place → Option Place
-unless kept place = if kept place then None else Some place
+unless closed place = if closed place then None else Some place
 
--- what a cell with these regions, kept from such places, is granted at the address, with the right
+-- what a cell with these regions, to which such places are closed, is granted at the address, with the right
 abbrev pub granted_by : ℕ → List Region → (Place → Bool) → Access → ℕ → Option Place
-granted_by id regions kept access at = option_and_then (unless kept) (place_of id regions access at)
+granted_by id regions closed access at = option_and_then (unless closed) (place_of id regions access at)
 
 -- what the cell with the id is granted, where these cells live besides root: a cell besides root what its
 -- regions give, and root what its regions give at places that no other live cell closes to it
 abbrev pub granted_in : Image → List Live → ℕ → Access → ℕ → Option Place
-granted_in image cells id = granted_by id (regions_in image cells id) (is_kept image cells id)
+granted_in image cells id = granted_by id (regions_in image cells id) (is_closed_to image cells id)
 
 -- what the cell with the id is granted at the address, with the right, where these facts hold
 abbrev pub granted : Image → Facts → ℕ → Access → ℕ → Option Place
@@ -41,7 +41,7 @@ granted image facts id = granted_in image facts.cells id
 -- what the cell with the id has behind memory, where these cells live besides root, and all have these endpoints
 abbrev pub behind_of : Image → List Live → List Endpoint → ℕ → Behind
 behind_of image cells endpoints id =
-    record { regions = regions_in image cells id; devices = devices_in image cells endpoints id; system = image.system; kept = is_kept image cells id }
+    record { regions = regions_in image cells id; devices = devices_in image cells endpoints id; system = image.system; closed = is_closed_to image cells id }
 
 -- what answers the access of the cell with the id where no memory does, where these cells live besides root, and all
 -- have these endpoints

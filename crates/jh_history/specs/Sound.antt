@@ -96,9 +96,9 @@ pub record IsCaller (image : Image) (caller : ℕ) (call : Call) (cpu : Cpu) : T
   pub management : is_management call ≡ true
 
 -- how another CPU of root on the board stands in the phase: up to the Decide it is halting, from then on it is halted
-abbrev pub HasHalted : Phase → Cpu → Type 0
-HasHalted ToDecide cpu = IsHalting cpu
-HasHalted _ cpu = IsHalted cpu
+abbrev pub HaltsForCall : Phase → Cpu → Type 0
+HaltsForCall ToDecide cpu = IsHalting cpu
+HaltsForCall _ cpu = IsHalted cpu
 
 -- how a CPU of a cell stands in the phase: it is calm; but after a Settle that isn't denied, up to the Commit, a CPU of
 -- the cell that the call is about is halting
@@ -153,7 +153,7 @@ IsInPhase image configs cpu caller call (ToFinish answer) = Unit {0}
 -- the call is open, beside these cells and CPUs
 pub record IsOpen (image : Image) (configs : List CellConfig) (cpu : ℕ → Cpu) (o : OpenCall) : Type 0 where
   pub caller : IsCaller image o.caller o.call (cpu o.caller)
-  pub roots : (i : ℕ) → is_on_board image i ≡ true → i ≢ o.caller → (cpu i).owner ≡ image.system.root.id → HasHalted o.phase (cpu i)
+  pub roots : (i : ℕ) → is_on_board image i ≡ true → i ≢ o.caller → (cpu i).owner ≡ image.system.root.id → HaltsForCall o.phase (cpu i)
   pub cells : (i : ℕ) → (cpu i).owner ≢ image.system.root.id → GoesOn o.call o.phase (cpu i)
   pub absent : (i : ℕ) → is_on_board image i ≡ false → IsCalm (cpu i)
   pub phase : IsInPhase image configs cpu o.caller o.call o.phase

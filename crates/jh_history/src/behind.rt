@@ -149,7 +149,7 @@ fn region_or_window(
 }
 
 /// What answers the access of the cell with these devices where no memory does; `region` is the subpage region that has
-/// it, where one does, and the cell is kept from none of its bytes.
+/// it, where one does, and none of its bytes is closed to the cell.
 pub fn answer_behind(
     devices: &Devices,
     region: Option<Region>,

@@ -9,7 +9,7 @@ ghost use Rattle.jh_mmio.specs.Dispatch.{takes_all};
 ghost use Rattle.jh_history.specs.declared.place.Place.TheVariants.{Physical};
 ghost use Rattle.jh_script.specs.Operations.{IsWellFormed};
 ghost use Rattle.jh_history.specs.Access.{right_of, gives, region_of, memory_or_nothing, reach_by};
-ghost use Rattle.jh_history.specs.Grants.{granted_in, is_kept, behind_in, reach_in};
+ghost use Rattle.jh_history.specs.Grants.{granted_in, is_closed_to, behind_in, reach_in};
 ghost use Rattle.jh_history.specs.Devices.{list_in};
 ghost use Rattle.jh_shape.specs.Lives.{configs_of};
 ghost use Rattle.jh_history.specs.Places.{places_of_row, IsRow};
@@ -186,9 +186,9 @@ impl<'a> Grants for ImageGrants<'a> {
     }
 }
 
-/// Whether the cell is kept from the place.
-fn is_kept(image: &Image, cells: &PlainCells, cell: u32, place: Place) -> bool
-    ensures { result ≡ is_kept image.now cells.now cell place }
+/// Whether the place is closed to the cell.
+fn is_closed_to(image: &Image, cells: &PlainCells, cell: u32, place: Place) -> bool
+    ensures { result ≡ is_closed_to image.now cells.now cell place }
 {
     match place {
         Place::Physical(p) => cell == image.system.root.id && cells.closes(p),
@@ -196,28 +196,28 @@ fn is_kept(image: &Image, cells: &PlainCells, cell: u32, place: Place) -> bool
     }
 }
 
-/// Whether the cell is kept from a place of the row.
-fn is_row_kept(image: &Image, cells: &PlainCells, cell: u32, row: Row) -> bool
+/// Whether a place of the row is closed to the cell.
+fn is_row_closed(image: &Image, cells: &PlainCells, cell: u32, row: Row) -> bool
     requires { IsRow row }
-    ensures { result ≡ list_any (is_kept image.now cells.now cell) (places_of_row row) }
+    ensures { result ≡ list_any (is_closed_to image.now cells.now cell) (places_of_row row) }
 {
     for k in 0..row.count {
-        if is_kept(image, cells, cell, row.first.further(k)) {
+        if is_closed_to(image, cells, cell, row.first.further(k)) {
             return true;
         }
     }
     false
 }
 
-/// Whether the cell is kept from one of the places.
-fn are_kept(image: &Image, cells: &PlainCells, cell: u32, places: &Places) -> bool
-    ensures { result ≡ list_any (is_kept image.now cells.now cell) places.now }
+/// Whether one of the places is closed to the cell.
+fn are_closed(image: &Image, cells: &PlainCells, cell: u32, places: &Places) -> bool
+    ensures { result ≡ list_any (is_closed_to image.now cells.now cell) places.now }
 {
     let (low, high) = places.rows();
-    if is_row_kept(image, cells, cell, low) {
+    if is_row_closed(image, cells, cell, low) {
         return true;
     }
-    is_row_kept(image, cells, cell, high)
+    is_row_closed(image, cells, cell, high)
 }
 
 /// The places of memory that the cell's access reaches, where these cells live besides root; `None` where some byte
@@ -234,7 +234,7 @@ pub(crate) fn memory_in(
 {
     match memory(&ImageGrants { image, cells }, cell, wanted) {
         Some(places) => {
-            if are_kept(image, cells, cell, &places) {
+            if are_closed(image, cells, cell, &places) {
                 None
             } else {
                 Some(places)
@@ -244,29 +244,29 @@ pub(crate) fn memory_in(
     }
 }
 
-/// Whether the region is a subpage region that has the cell's whole access, and the cell is kept from none of its
-/// bytes.
+/// Whether the region is a subpage region that has the cell's whole access, and none of its bytes is
+/// closed to the cell.
 fn takes_all(image: &Image, cells: &PlainCells, cell: u32, region: &Region, wanted: &Wanted) -> bool
     requires some { 0 < wanted.now.width }
     requires few { wanted.now.width ≤ 8 }
     requires within { IsEmptyOrInRange region.now }
-    ensures takes { result ≡ takes_all (λ p. is_kept image.now cells.now cell (Physical p)) wanted.now.at wanted.now.width region.now }
+    ensures takes { result ≡ takes_all (λ p. is_closed_to image.now cells.now cell (Physical p)) wanted.now.at wanted.now.width region.now }
     ensures first { IsTrue result → IsTrue (has_address region.now wanted.now.at) }
 {
     if has_whole(region, wanted.at, wanted.width) {
         let places = places_in(cell, region, wanted.at, wanted.width);
-        !are_kept(image, cells, cell, &places)
+        !are_closed(image, cells, cell, &places)
     } else {
         false
     }
 }
 
-/// The subpage region of the cell that has the access, where the cell is kept from none of its bytes.
+/// The subpage region of the cell that has the access, where none of its bytes is closed to the cell.
 fn subpage_of(image: &Image, cells: &PlainCells, cell: u32, wanted: &Wanted) -> Option<Region>
     requires clean { IsClean image.now.system (configs_of cells.now) }
     requires some { 0 < wanted.now.width }
     requires few { wanted.now.width ≤ 8 }
-    ensures found { result ≡ find (takes_all (λ p. is_kept image.now cells.now cell (Physical p)) wanted.now.at wanted.now.width) (regions_in image.now cells.now cell) }
+    ensures found { result ≡ find (takes_all (λ p. is_closed_to image.now cells.now cell (Physical p)) wanted.now.at wanted.now.width) (regions_in image.now cells.now cell) }
     ensures within { IfSome result IsInRange }
     ensures first { IfSome result (λ (r : TheRegion). IsTrue (has_address r wanted.now.at)) }
 {

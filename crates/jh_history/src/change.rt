@@ -6,7 +6,7 @@ ghost use Rattle.jh_script.specs.declared.image.Image.{Image as TheImage};
 ghost use Rattle.jh_history.specs.declared.call.OpenCall.{OpenCall as TheOpenCall};
 ghost use Rattle.jh_history.specs.Admitted.{IsAdmitted};
 ghost use Rattle.jh_history.specs.Facts.{Facts};
-ghost use Rattle.jh_history.specs.Cpus.{change_if, change_of, changed, begun, is_agreed, settled, end_in_root, committed, finished, acted, cpu_after, is_running, ListsCpus};
+ghost use Rattle.jh_history.specs.Cpus.{change_if, change_of, changed, asked_by_begin, is_undenied, settled, end_in_root, committed, finished, acted, cpu_after, is_running, ListsCpus};
 
 use crate::call::{OpenCall, Phase};
 use crate::cells::{is_on_board, program_ops};
@@ -84,7 +84,7 @@ impl Change {
 
 /// At a Begin each running CPU of root is asked to stop, but the caller.
 fn begin(image: &Image, own: u8, i: u8, cpu: &mut Cpu)
-    ensures { cpu.new ≡ begun image.now own i cpu.old }
+    ensures { cpu.new ≡ asked_by_begin image.now own i cpu.old }
 {
     let is_other_of_root = i != own && cpu.owner == image.system.root.id;
     if is_on_board(image, i) && is_other_of_root && is_running(cpu.mode) {
@@ -93,8 +93,8 @@ fn begin(image: &Image, own: u8, i: u8, cpu: &mut Cpu)
 }
 
 /// Whether the call goes on.
-fn is_agreed(how: Settled) -> bool
-    ensures { result ≡ is_agreed how }
+fn is_undenied(how: Settled) -> bool
+    ensures { result ≡ is_undenied how }
 {
     match how {
         Settled::Agreed | Settled::Timeout => true,
@@ -103,10 +103,10 @@ fn is_agreed(how: Settled) -> bool
 }
 
 /// At a Settle that isn't denied each running CPU of the call's cell is asked to stop.
-fn settle(agreed: bool, call: &Call, cpu: &mut Cpu)
-    ensures { cpu.new ≡ settled agreed call.now cpu.old }
+fn settle(undenied: bool, call: &Call, cpu: &mut Cpu)
+    ensures { cpu.new ≡ settled undenied call.now cpu.old }
 {
-    if agreed && is_named(call, u64::from(cpu.owner)) && is_running(cpu.mode) {
+    if undenied && is_named(call, u64::from(cpu.owner)) && is_running(cpu.mode) {
         cpu.ask();
     }
 }
@@ -181,7 +181,7 @@ fn act_on(image: &Image, call: Option<&OpenCall>, entry: &Entry, i: u8, cpu: &mu
         Act::Begin { .. } => begin(image, entry.cpu, i, cpu),
         Act::Settle { how } => {
             if let Some(begun) = call {
-                settle(is_agreed(how), &begun.call, cpu);
+                settle(is_undenied(how), &begun.call, cpu);
             }
         }
         Act::Commit => {

@@ -3,7 +3,7 @@ ghost use Rattle.std.specs.Prelude.{◌≡◌, ℕ, ◌+◌, ◌<◌, [], ◌++�
 ghost use Rattle.jh_cellcfg.specs.declared.live.Live.{Live as TheLive};
 ghost use Rattle.jh_history.specs.declared.call.Phase.{Phase as ThePhase};
 ghost use Rattle.jh_shape.specs.Shapes.{is_closed, holder_of_live};
-ghost use Rattle.jh_shape.specs.Lives.{configs_of, with_marks, marked};
+ghost use Rattle.jh_shape.specs.Lives.{configs_of, with_marks, marked, new_live};
 ghost use Rattle.jh_history.specs.Commits.{is_other, committed_cells, created as created_in};
 
 use crate::boxed::BoxedCell;
@@ -100,7 +100,7 @@ impl PlainCells {
 
     /// Adds a cell that lives, as the last in order and not loadable.
     fn add(&mut self, config: CellConfig) -> Result<(), NoMemory>
-        ensures ok { OnOk result (self.new ≡ self.old ++ (record { config = config; loadable = false }) ∷ []) }
+        ensures ok { OnOk result (self.new ≡ self.old ++ new_live config ∷ []) }
         ensures err { OnErr result (self.new ≡ self.old) }
     {
         self.configs.reserve(1)?;

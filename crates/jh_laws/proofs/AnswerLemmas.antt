@@ -28,7 +28,7 @@ use Rattle.jh_history.specs.History.{after, facts, coming_of, coming_by}
 use Rattle.jh_history.specs.Due.{due_at, is_idle_but, IsLegal}
 use Rattle.jh_history.specs.Admitted.{IsAdmitted}
 use Rattle.jh_history.specs.Sound.{IsSound}
-use Rattle.jh_laws.specs.Ways.{is_phase, is_decide, call_after}
+use Rattle.jh_laws.specs.Ways.{is_phase, is_decide, begun_call}
 use Rattle.jh_laws.specs.Exchanges.{how_many, made_by_named, made_by_cell, IsSettledBy, IsHeardBy}
 use Rattle.jh_history.proofs.Public.{sound_after, after_call}
 use Rattle.jh_history.specs.Commits.{is_commit}
@@ -145,7 +145,7 @@ noted_call image f entry o id about answer opens caller phase act =
     ∙ ap (λ (p : Phase). Some (record { caller = o.caller; call = o.call; phase = after_note p })) phase
     ∙ ap (λ (k : ℕ). Some (record { caller = k; call = o.call; phase = ToNoted id about answer 0 })) caller
 
-pub settles_at : (image : Image) (before middle rest : List Entry) (decide settle : Entry) (call : Call) (how : Settled) → IsAdmitted image → IsLegal image (before ++ decide ∷ (middle ++ settle ∷ rest)) → call_after before ≡ Some call
+pub settles_at : (image : Image) (before middle rest : List Entry) (decide settle : Entry) (call : Call) (how : Settled) → IsAdmitted image → IsLegal image (before ++ decide ∷ (middle ++ settle ∷ rest)) → begun_call before ≡ Some call
     → decide.act ≡ Decide None → All (λ (e : Entry). e.cpu ≢ decide.cpu) middle → settle.cpu ≡ decide.cpu → settle.act ≡ Settle how
     → (config : CellConfig) × Contains (configs_of (facts image (before ++ decide ∷ middle)).cells) config × (is_named call config.id ≡ true)
     × IsSettledBy image (facts image (before ++ decide ∷ middle)) decide.cpu config (made_by_named call middle) how

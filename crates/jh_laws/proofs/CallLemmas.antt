@@ -35,8 +35,8 @@ use Rattle.jh_history.specs.Phases.{phase_act, settled_of, heard_of, decision, k
 use Rattle.jh_shape.specs.Lives.{configs_of}
 use Rattle.jh_history.specs.Due.{due_at, due, is_idle_but, IsLegal, IsLegalFrom}
 use Rattle.jh_history.proofs.Public.{facts_push, due_split, IsLegal_begin, come_rests, halting_rests, root_unnamed, IsNext, next_from_due, IsOutcomeOf, IsOfProgram, state_parts, IsOfCall, call_parts, coming_from_decision, sound_after, legal_sound, noted_act, settle_act, unless, after_call, call_open}
-use Rattle.jh_history.specs.Sound.{HasHalted, IsAboutLive, IsCreate, IsNews, IsOpen, IsSound}
-use Rattle.jh_laws.specs.Ways.{is_phase, is_decide, is_finish, is_agreement, call_begun, begun_by, begun, call_after, IsBegun, IsNoteOr, IsNoteOrEnd, IsBehindGo, IsBehindCommit, MayFollow}
+use Rattle.jh_history.specs.Sound.{HaltsForCall, IsAboutLive, IsCreate, IsNews, IsOpen, IsSound}
+use Rattle.jh_laws.specs.Ways.{is_phase, is_decide, is_finish, is_undenied_settle, call_begun, begun_by, begun, begun_call, IsBegun, IsNoteOr, IsNoteOrEnd, IsBehindGo, IsBehindCommit, MayFollow}
 use Rattle.jh_laws.proofs.LegalLemmas.{IsLegal_rest}
 use Rattle.jh_history.specs.Commits.{is_commit}
 
@@ -380,7 +380,7 @@ IsPast _ = Unit {0}
 abbrev IsSuspending : ℕ → Facts → Type 0
 IsSuspending caller f = (o : OpenCall) × (f.call ≡ Some o) × (o.caller ≡ caller) × IsPast o.phase
 
-halted_past : (phase : Phase) (cpu : Cpu) → IsPast phase → HasHalted phase cpu → cpu.asked ≡ false
+halted_past : (phase : Phase) (cpu : Cpu) → IsPast phase → HaltsForCall phase cpu → cpu.asked ≡ false
 halted_past ToDecide cpu past h = absurd past
 halted_past _ cpu past h = h.asked
 
@@ -389,7 +389,7 @@ pub past_other : (image : Image) (f : Facts) (o : OpenCall) (entry : Entry) → 
 past_other image f o entry sound is past due other root =
     let next = next_from_due image f entry due in
     let opens = call_open image f o sound is in
-    let come : HasHalted o.phase (f.cpu entry.cpu) = opens.roots entry.cpu next.board other (sym next.cell ∙ root) in
+    let come : HaltsForCall o.phase (f.cpu entry.cpu) = opens.roots entry.cpu next.board other (sym next.cell ∙ root) in
     ⊎_elim
     (λ made. other (sym made.0))
     (λ (beside : IsBeside image f o entry).
@@ -517,7 +517,7 @@ committing_stops image call f entry sound committing due named =
     beside.who)
     (entry_of_call image f o entry sound committing.1 due)
 
-agreement_settles : (act : Act) → is_agreement act ≡ true → (how : Settled) × (act ≡ Settle how) × (after_settle how ≡ ToCommit) × (is_phase act ≡ true)
+agreement_settles : (act : Act) → is_undenied_settle act ≡ true → (how : Settled) × (act ≡ Settle how) × (after_settle how ≡ ToCommit) × (is_phase act ≡ true)
 agreement_settles (Settle Agreed) h = (Agreed, refl, refl, refl)
 agreement_settles (Settle Timeout) h = (Timeout, refl, refl, refl)
 agreement_settles _ h = absurd (both_ways false refl h)
@@ -572,12 +572,12 @@ pub begun_of : (image : Image) (entries : List Entry) (o : OpenCall) → (facts 
 begun_of image entries o is = begun_some (begun entries) (facts image entries).call o is (begun_call image entries)
 
 -- it is that one
-pub call_of_open : (image : Image) (entries : List Entry) (o : OpenCall) → (facts image entries).call ≡ Some o → call_after entries ≡ Some o.call
+pub call_of_open : (image : Image) (entries : List Entry) (o : OpenCall) → (facts image entries).call ≡ Some o → begun_call entries ≡ Some o.call
 call_of_open image entries o is =
     let first = begun_of image entries o is in
     ap (option_map (λ (opening : Entry). call_begun opening.act)) first.1 ∙ ap (λ (call : Call). Some call) (sym first.3)
 
-pub same_call : (image : Image) (entries : List Entry) (o : OpenCall) (call : Call) → (facts image entries).call ≡ Some o → call_after entries ≡ Some call → o.call ≡ call
+pub same_call : (image : Image) (entries : List Entry) (o : OpenCall) (call : Call) → (facts image entries).call ≡ Some o → begun_call entries ≡ Some call → o.call ≡ call
 same_call image entries o call opens is = same_Some o.call call (sym (call_of_open image entries o opens) ∙ is)
 
 begin_none_by : (image : Image) (f : Facts) (entry : Entry) (code a b : ℕ) (call : Option OpenCall) → entry.act ≡ Begin code a b → IsSound image f → f.call ≡ call → due_at image f entry.cpu ≡ Some entry → f.call ≡ None
@@ -607,14 +607,14 @@ phases_own image before rest entry admitted legal phase =
 -- what may follow, by the call that was begun
 pub follows_call : (image : Image) (before middle rest : List Entry) (one next : Entry) → IsAdmitted image → IsLegal image (before ++ one ∷ (middle ++ next ∷ rest))
     → is_call one.act ≡ true → is_finish one.act ≡ false → All (λ (e : Entry). e.cpu ≢ one.cpu) middle → next.cpu ≡ one.cpu
-    → (k : Call) × (call_after (before ++ one ∷ []) ≡ Some k) × MayFollow k one.act next.act
+    → (k : Call) × (begun_call (before ++ one ∷ []) ≡ Some k) × MayFollow k one.act next.act
 follows_call image before middle rest one next admitted legal call more others own =
     let h = follows image before middle rest one next admitted legal call more others own in
     (h.0.call, call_of_open image (before ++ one ∷ []) h.0 (ap (λ (f : Facts). f.call) (facts_push image before one) ∙ h.1), h.2)
 
 -- from a Settle that isn't denied to the Commit the CPUs of the cell stop
 pub suspended_cells : (image : Image) (before middle rest : List Entry) (settle last : Entry) (call : Call) → IsAdmitted image → IsLegal image (before ++ settle ∷ (middle ++ last ∷ rest))
-    → call_after before ≡ Some call → is_agreement settle.act ≡ true → All (λ (e : Entry). is_commit e.act ≡ false) middle → is_named call last.cell ≡ true → last.act ≡ Stop
+    → begun_call before ≡ Some call → is_undenied_settle settle.act ≡ true → All (λ (e : Entry). is_commit e.act ≡ false) middle → is_named call last.cell ≡ true → last.act ≡ Stop
 suspended_cells image before middle rest settle last call admitted legal is agreed others named =
     let s = stretch image before middle rest settle last admitted legal in
     let f0 : Facts = facts image before in

@@ -22,13 +22,12 @@ use Rattle.jh_history.specs.Calls.{call_by, decided}
 use Rattle.jh_history.specs.Commits.{cells_by, committed_cells, is_other, is_commit}
 use Rattle.jh_history.specs.Configs.{config_read, read_at}
 use Rattle.jh_history.specs.History.{after, facts, coming_of, coming_by}
-use Rattle.jh_shape.specs.Lives.{configs_of, marked}
+use Rattle.jh_shape.specs.Lives.{configs_of, marked, new_live}
 use Rattle.jh_history.specs.Due.{due_at, is_idle_but, IsLegal}
 use Rattle.jh_history.specs.Admitted.{IsAdmitted}
 use Rattle.jh_history.proofs.Public.{facts_push, due_split, IsLegal_begin, sound_after, legal_sound, after_call, after_cells, uncommitted_cells, call_open}
 use Rattle.jh_history.specs.Sound.{IsInPhase, IsOpen, IsSound}
-use Rattle.jh_laws.specs.Ways.{is_phase, is_finish, call_after}
-use Rattle.jh_laws.specs.Creations.{new_live}
+use Rattle.jh_laws.specs.Ways.{is_phase, is_finish, begun_call}
 use Rattle.jh_laws.proofs.CallLemmas.{Expects, phase_expects, phase_of_due, phase_goes, call_counted, IsBeside, entry_of_call, along, stretch, same_call, past_from, not_same, IsPast}
 use Rattle.jh_laws.proofs.FactsLemmas.{facts_append}
 
@@ -44,7 +43,7 @@ pub record IsCommitOf (image : Image) (before : List Entry) (entry : Entry) (cal
   pub holds : IsInPhase image (configs_of (facts image before).cells) (facts image before).cpu entry.cpu call phase
   pub cells : (facts image (before ++ entry ∷ [])).cells ≡ committed_cells call phase (facts image before).cells
 
-pub commit_of : (image : Image) (before rest : List Entry) (entry : Entry) (call : Call) → IsAdmitted image → IsLegal image (before ++ entry ∷ rest) → call_after before ≡ Some call → entry.act ≡ Commit → IsCommitOf image before entry call
+pub commit_of : (image : Image) (before rest : List Entry) (entry : Entry) (call : Call) → IsAdmitted image → IsLegal image (before ++ entry ∷ rest) → begun_call before ≡ Some call → entry.act ≡ Commit → IsCommitOf image before entry call
 commit_of image before rest entry call admitted legal is act =
     let f : Facts = facts image before in
     let sound = legal_sound image before admitted (IsLegal_begin image before (entry ∷ rest) legal) in
@@ -150,7 +149,7 @@ made_cells behind made there up_to config same cells before =
 
 -- what the Decide read is what the Commit makes
 pub created_as_read : (image : Image) (before middle rest : List Entry) (decide commit : Entry) (at : ℕ) → IsAdmitted image → IsLegal image (before ++ decide ∷ (middle ++ commit ∷ rest))
-    → call_after before ≡ Some (Create at) → decide.act ≡ Decide None → All (λ (e : Entry). e.cpu ≢ decide.cpu) middle → commit.cpu ≡ decide.cpu
+    → begun_call before ≡ Some (Create at) → decide.act ≡ Decide None → All (λ (e : Entry). e.cpu ≢ decide.cpu) middle → commit.cpu ≡ decide.cpu
     → (config : CellConfig) × (config_read (read_at image (facts image before) at) ≡ Some config)
     × ((facts image (before ++ decide ∷ (middle ++ commit ∷ []))).cells ≡ (facts image (before ++ decide ∷ middle)).cells ++ new_live config ∷ [])
 created_as_read image before middle rest decide commit at admitted legal is act others own =

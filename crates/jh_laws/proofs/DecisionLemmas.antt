@@ -38,7 +38,7 @@ use Rattle.jh_shape.specs.Lives.{configs_of}
 use Rattle.jh_history.specs.Due.{due_at, is_idle_but, IsLegal}
 use Rattle.jh_history.proofs.Public.{due_split, IsLegal_begin, other_root, legal_sound, call_open}
 use Rattle.jh_history.specs.Sound.{AreSoundCells}
-use Rattle.jh_laws.specs.Ways.{is_phase, is_decide, call_after}
+use Rattle.jh_laws.specs.Ways.{is_phase, is_decide, begun_call}
 use Rattle.jh_laws.specs.Decisions.{IsLockedBy, NoneIsLocked, NoOtherIsLocked, LivesNot, IsIdDecision, IsDestroyDecision, IsReadRefusal, IsRefusedOf, IsCreateDecision, IsDecision}
 use Rattle.jh_laws.proofs.CallLemmas.{phase_expects, phase_of_due, same_call, not_same}
 use Rattle.jh_laws.proofs.HeldLemmas.{live_cell}
@@ -186,7 +186,7 @@ decide_says image f idle caller call (ToNoted id about answer waited) act is h =
     let e = phase_expects image f idle caller call (ToNoted id about answer waited) act h in absurd (not_same is_decide act (Noted id e.0) is refl e.1)
 decide_says image f idle caller call (ToFinish answer) act is h = absurd (not_same is_decide act (Finish answer) is refl (phase_expects image f idle caller call (ToFinish answer) act h))
 
-pub decides : (image : Image) (before rest : List Entry) (entry : Entry) (call : Call) (refused : Option ℤ) → IsAdmitted image → IsLegal image (before ++ entry ∷ rest) → call_after before ≡ Some call → entry.act ≡ Decide refused
+pub decides : (image : Image) (before rest : List Entry) (entry : Entry) (call : Call) (refused : Option ℤ) → IsAdmitted image → IsLegal image (before ++ entry ∷ rest) → begun_call before ≡ Some call → entry.act ≡ Decide refused
     → IsDecision image (facts image before) entry.cpu call refused
 decides image before rest entry call refused admitted legal is act =
     let f : Facts = facts image before in

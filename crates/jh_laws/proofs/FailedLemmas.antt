@@ -15,7 +15,7 @@ use Rattle.jh_history.specs.declared.entry.Act.{Act}
 use Rattle.jh_history.specs.declared.entry.Act.TheVariants.{Read, Write, Fetch, Await, Begin, Settle, Commit, Finish}
 use Rattle.jh_history.specs.Facts.{Facts}
 use Rattle.jh_history.specs.Calls.{is_named}
-use Rattle.jh_history.specs.Cpus.{acted, settled, finished, resumed_in, is_running, is_agreed}
+use Rattle.jh_history.specs.Cpus.{acted, settled, finished, resumed_in, is_running, is_undenied}
 use Rattle.jh_history.specs.Pages.{failing, page_write_by}
 use Rattle.jh_history.specs.declared.place.Place.{Place}
 use Rattle.jh_history.specs.declared.place.Place.TheVariants.{Physical}
@@ -79,11 +79,11 @@ not_made image f cpu entry admitted sound failed due own =
     not_ready image f cpu sound failed (ready_from_due image f cpu admitted sound (subst P own (ap (λ (o : Option Entry). is_some o) due)))
 
 -- an entry of another CPU than this, but a Commit, leaves it so
-settled_failed : (how : Settled) (call : Option OpenCall) (cpu : Cpu) → cpu.mode ≡ Failed → option_map_or (λ (o : OpenCall). settled (is_agreed how) o.call cpu) call cpu ≡ cpu
+settled_failed : (how : Settled) (call : Option OpenCall) (cpu : Cpu) → cpu.mode ≡ Failed → option_map_or (λ (o : OpenCall). settled (is_undenied how) o.call cpu) call cpu ≡ cpu
 settled_failed how None cpu mode = refl
 settled_failed how (Some o) cpu mode =
     let rests : is_running cpu.mode ≡ false = ap is_running mode in
-    ap (λ (b : Bool). cond b (asked_of cpu) cpu) (and_right (is_agreed how && is_named o.call cpu.owner) (is_running cpu.mode) rests)
+    ap (λ (b : Bool). cond b (asked_of cpu) cpu) (and_right (is_undenied how && is_named o.call cpu.owner) (is_running cpu.mode) rests)
 
 abbrev SameRest : Cpu → Cpu → Type 0
 SameRest one other = (one.mode ≡ other.mode) × (one.asked ≡ other.asked)

@@ -45,7 +45,7 @@ use Rattle.jh_history.specs.Calls.{is_named, counted, telling, first_recipient, 
 use Rattle.jh_num.specs.Numbers.{counted_up}
 use Rattle.jh_history.specs.Commits.{cells_by, committed_cells, is_other, is_commit}
 use Rattle.jh_history.specs.Configs.{bytes_at, read_whole, read_behind, read_from, read_at, config_read}
-use Rattle.jh_history.specs.Cpus.{acted, changed, change_of, settled, is_agreed, cpu_after}
+use Rattle.jh_history.specs.Cpus.{acted, changed, change_of, settled, is_undenied, cpu_after}
 use Rattle.jh_history.specs.History.{start, after, facts, coming_by, coming_of}
 use Rattle.jh_history.specs.Pages.{is_left, failing, unless_good, asking, committing, named_cell, page_write_by, on_page}
 use Rattle.jh_shape.specs.Lives.{configs_of, marked}
@@ -286,9 +286,9 @@ one_owner change own i cpu =
     let same : Cpu → Type 0 = λ c. c.owner ≡ cpu.owner in
     cond_both (eqb i own) (changed (change_of change) cpu) cpu same (λ _. changed_owner (change_of change) cpu) (λ _. refl)
 
-settle_owner : (call : Option OpenCall) (how : Settled) (cpu : Cpu) → (option_map_or (λ (o : OpenCall). settled (is_agreed how) o.call cpu) call cpu).owner ≡ cpu.owner
+settle_owner : (call : Option OpenCall) (how : Settled) (cpu : Cpu) → (option_map_or (λ (o : OpenCall). settled (is_undenied how) o.call cpu) call cpu).owner ≡ cpu.owner
 settle_owner None how cpu = refl
-settle_owner (Some o) how cpu = settled_owner (is_agreed how) o.call cpu
+settle_owner (Some o) how cpu = settled_owner (is_undenied how) o.call cpu
 
 acted_owner : (image : Image) (call : Option OpenCall) (act : Act) (own i : ℕ) (cpu : Cpu) → is_commit act ≡ false → (acted image call act own i cpu).owner ≡ cpu.owner
 acted_owner image call (Begin code a b) own i cpu other = begun_owner image own i cpu

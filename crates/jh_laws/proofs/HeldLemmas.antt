@@ -26,7 +26,7 @@ use Rattle.jh_history.specs.declared.access.Access.TheVariants.{Read as ToRead, 
 use Rattle.jh_history.specs.Access.{gives, right_of, region_of, place_in_cell, place_of}
 use Rattle.jh_history.specs.Facts.{Facts}
 use Rattle.jh_history.specs.Lives.{cell_in, live_in, regions_in}
-use Rattle.jh_history.specs.Grants.{is_kept, unless, granted_by, granted_in, granted}
+use Rattle.jh_history.specs.Grants.{is_closed_to, unless, granted_by, granted_in, granted}
 use Rattle.jh_shape.specs.Lives.{configs_of}
 use Rattle.jh_history.specs.Sound.{AreSoundCells}
 use Rattle.jh_laws.specs.Grants.{may, IsGiven}
@@ -180,18 +180,18 @@ place_given image cells cell access at place sound live e = place_by image cells
 
 -- ---- what is left to it
 
-pub left_free : (image : Image) (cells : List Live) (cell : CellConfig) (place : Place) → IsLeft image cells cell place → is_kept image cells cell.id place ≡ false
+pub left_free : (image : Image) (cells : List Live) (cell : CellConfig) (place : Place) → IsLeft image cells cell place → is_closed_to image cells cell.id place ≡ false
 left_free image cells cell (Page id offset) left = refl
 left_free image cells cell (Physical p) left =
-    false_from_ne_true (is_kept image cells cell.id (Physical p))
+    false_from_ne_true (is_closed_to image cells cell.id (Physical p))
     (λ kept.
     let parts = and_parts (eqb cell.id image.system.root.id) (is_closed (map holder_of_live cells) p) kept in
     left (eqb-true cell.id image.system.root.id parts.0) (taken_there cells p parts.1))
 
-pub free_left : (image : Image) (cells : List Live) (cell : CellConfig) (place : Place) → is_kept image cells cell.id place ≡ false → IsLeft image cells cell place
+pub free_left : (image : Image) (cells : List Live) (cell : CellConfig) (place : Place) → is_closed_to image cells cell.id place ≡ false → IsLeft image cells cell place
 free_left image cells cell (Page id offset) free = tt
 free_left image cells cell (Physical p) free = λ root taken.
-    both_ways (is_kept image cells cell.id (Physical p)) free
+    both_ways (is_closed_to image cells cell.id (Physical p)) free
     (and_from (eqb cell.id image.system.root.id) (is_closed (map holder_of_live cells) p) (eq-eqb cell.id image.system.root.id root) (taken_back cells p taken))
 
 -- ---- what is granted
@@ -202,9 +202,9 @@ regions_of_live image cells cell sound live = ap (λ (o : Option CellConfig). op
 granted_live : (image : Image) (cells : List Live) (cell : CellConfig) (access : Access) (at : ℕ) (place : Place) → AreSoundCells image.system (configs_of cells) → IsRootOrLive image cells cell → IsGiven cell access at place → IsLeft image cells cell place
     → granted_in image cells cell.id access at ≡ Some place
 granted_live image cells cell access at place sound live given left =
-    let free : is_kept image cells cell.id place ≡ false = left_free image cells cell place left in
-    ap (λ (rs : List Region). granted_by cell.id rs (is_kept image cells cell.id) access at) (regions_of_live image cells cell sound live)
-    ∙ ap (option_and_then (unless (is_kept image cells cell.id))) (given_place image cells cell access at place sound live given)
+    let free : is_closed_to image cells cell.id place ≡ false = left_free image cells cell place left in
+    ap (λ (rs : List Region). granted_by cell.id rs (is_closed_to image cells cell.id) access at) (regions_of_live image cells cell sound live)
+    ∙ ap (option_and_then (unless (is_closed_to image cells cell.id))) (given_place image cells cell access at place sound live given)
     ∙ ap (λ (b : Bool). cond b None (Some place)) free
 
 -- what the cell is granted is granted to it by the definition
@@ -224,10 +224,10 @@ unless_some kept p place h =
     unless_by false is e = (same_Some p place e, is)
 
 granted_at : (image : Image) (cells : List Live) (cell : CellConfig) (access : Access) (at : ℕ) (place : Place) (o : Option Place) → AreSoundCells image.system (configs_of cells) → IsRootOrLive image cells cell → place_of cell.id cell.memory_regions access at ≡ o
-    → option_and_then (unless (is_kept image cells cell.id)) o ≡ Some place → IsGrantedTo image cells cell.id access at place
+    → option_and_then (unless (is_closed_to image cells cell.id)) o ≡ Some place → IsGrantedTo image cells cell.id access at place
 granted_at image cells cell access at place None sound live is h = absurd (none-some place h)
 granted_at image cells cell access at place (Some p) sound live is h =
-    let same = unless_some (is_kept image cells cell.id) p place h in
+    let same = unless_some (is_closed_to image cells cell.id) p place h in
     record {
       cell = cell;
       live = live;
@@ -241,12 +241,12 @@ unfolding place_of
 no_regions id access at = refl
 
 to_granted : (image : Image) (cells : List Live) (id : ℕ) (access : Access) (at : ℕ) (place : Place) (o : Option CellConfig) → AreSoundCells image.system (configs_of cells) → cell_in image cells id ≡ o
-    → granted_by id (option_map_or (λ (c : CellConfig). c.memory_regions) o []) (is_kept image cells id) access at ≡ Some place → IsGrantedTo image cells id access at place
+    → granted_by id (option_map_or (λ (c : CellConfig). c.memory_regions) o []) (is_closed_to image cells id) access at ≡ Some place → IsGrantedTo image cells id access at place
 to_granted image cells id access at place None sound is h =
-    absurd (none-some place (sym (ap (option_and_then (unless (is_kept image cells id))) (no_regions id access at)) ∙ h))
+    absurd (none-some place (sym (ap (option_and_then (unless (is_closed_to image cells id))) (no_regions id access at)) ∙ h))
 to_granted image cells id access at place (Some cell) sound is h =
     let live = cell_live image cells id cell is in
-    let P : ℕ → Type 0 = λ k. granted_by k cell.memory_regions (is_kept image cells k) access at ≡ Some place → IsGrantedTo image cells k access at place in
+    let P : ℕ → Type 0 = λ k. granted_by k cell.memory_regions (is_closed_to image cells k) access at ≡ Some place → IsGrantedTo image cells k access at place in
     subst P live.1 (granted_at image cells cell access at place (place_of cell.id cell.memory_regions access at) sound live.0 refl) h
 
 pub to_granted_holds : (image : Image) (f : Facts) (id : ℕ) (access : Access) (at : ℕ) (place : Place) → AreSoundCells image.system (configs_of f.cells) → granted image f id access at ≡ Some place → IsGrantedTo image f.cells id access at place

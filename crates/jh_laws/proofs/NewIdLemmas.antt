@@ -25,7 +25,7 @@ use Rattle.jh_history.specs.History.{after, facts, coming_of}
 use Rattle.jh_shape.specs.Lives.{configs_of}
 use Rattle.jh_history.specs.Sound.{IsInPhase, IsSound}
 use Rattle.jh_history.proofs.Public.{facts_push, after_call, sound_after, call_open}
-use Rattle.jh_laws.specs.Ways.{is_phase, is_finish, call_after}
+use Rattle.jh_laws.specs.Ways.{is_phase, is_finish, begun_call}
 use Rattle.jh_laws.proofs.CallLemmas.{Expects, IsBeside, along, call_counted, entry_of_call, not_same, phase_expects, phase_of_due, same_call, stretch}
 
 -- the phase leads to the end with the answer
@@ -139,7 +139,7 @@ unfolding after
 cells_behind image before entry = ap (λ (f : Facts). f.cells) (facts_push image before entry)
 
 pub new_id : (image : Image) (before middle rest : List Entry) (commit last : Entry) (at : ℕ) (live : Live) (answer : ℤ) → IsAdmitted image → IsLegal image (before ++ commit ∷ (middle ++ last ∷ rest))
-    → call_after before ≡ Some (Create at) → commit.act ≡ Commit → (facts image (before ++ commit ∷ [])).cells ≡ (facts image before).cells ++ live ∷ []
+    → begun_call before ≡ Some (Create at) → commit.act ≡ Commit → (facts image (before ++ commit ∷ [])).cells ≡ (facts image before).cells ++ live ∷ []
     → All (λ (e : Entry). is_finish e.act ≡ false) middle → last.act ≡ Finish answer → answer ≡ pos live.config.id
 new_id image before middle rest commit last at live answer admitted legal is act made more ends =
     let s = stretch image before middle rest commit last admitted legal in

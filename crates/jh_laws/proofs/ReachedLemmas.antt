@@ -32,7 +32,7 @@ use Rattle.jh_history.specs.Places.{further, places_in_row}
 use Rattle.jh_history.specs.Access.{place_in_cell, places_from, memory_or_nothing, reach_by, or_behind}
 use Rattle.jh_history.specs.Behind.{Asked, Windows, ecam_start, ecam_end, is_write, by_device, asked_windows, window_of_access, region_or_window, answer_behind}
 use Rattle.jh_history.specs.Facts.{Facts}
-use Rattle.jh_history.specs.Grants.{is_kept, granted, behind_of, behind_in, reach, devices_of}
+use Rattle.jh_history.specs.Grants.{is_closed_to, granted, behind_of, behind_in, reach, devices_of}
 use Rattle.jh_history.specs.Lives.{cell_in, regions_in}
 use Rattle.jh_shape.specs.Lives.{configs_of}
 use Rattle.jh_history.specs.Sound.{AreSoundCells, IsSound}
@@ -94,7 +94,7 @@ memory_cases g at width = elim (cases_lt ADDRESS_END (at + width)) [
 -- ---- a subpage region that has the access
 
 abbrev kept_of : Image → List Live → ℕ → ℕ → Bool
-kept_of image cells id p = is_kept image cells id (Physical p)
+kept_of image cells id p = is_closed_to image cells id (Physical p)
 
 row_free : (kept : Place → Bool) (p : Place) (n : ℕ) → ((k : ℕ) → k < n → kept (further p k) ≡ false) → list_any kept (places_in_row p n) ≡ false
 row_free kept p zero each = refl
@@ -113,14 +113,14 @@ free_row kept p (suc n) (suc k) lt none =
 pub has_takes : (image : Image) (cells : List Live) (id at width : ℕ) (r : Region) → AreSoundCells image.system (configs_of cells) → 0 < width → HasAccess image cells id at width r
     → Contains (regions_in image cells id) r × (takes_all (kept_of image cells id) at width r ≡ true)
 has_takes image cells id at width r sound some h =
-    let kept : Place → Bool = is_kept image cells id in
+    let kept : Place → Bool = is_closed_to image cells id in
     let low : r.virt_start ≤ at = h.first in
     let high : at + width ≤ r.virt_start + r.size = h.last in
     let size : has_size r ≡ true = lt-ltb 0 r.size (omega arith) in
     let lies : lies_between r.virt_start (virt_end r) at width ≡ true = lies_from r.virt_start (virt_end r) at width low high in
     let free : list_any kept (places_in_row (place_in_cell id r at) width) ≡ false = row_free kept (place_in_cell id r at) width
     (λ k lt.
-    let P : ℕ → Type 0 = λ i. is_kept image cells i (place_in_cell i r (at + k)) ≡ false in
+    let P : ℕ → Type 0 = λ i. is_closed_to image cells i (place_in_cell i r (at + k)) ≡ false in
     ap kept (sym (place_in_cell_further id r at k low)) ∙ subst P h.named (left_free image cells h.cell (place_in_cell h.cell.id r (at + k)) (h.left k lt))) in
     let open_is : is_at_closed (kept_of image cells id) at width r ≡ false = sym (kept_row image cells id at width r low) ∙ free in
     let C : List Region → Type 0 = λ rs. Contains rs r in
@@ -135,7 +135,7 @@ has_of_cell : (image : Image) (cells : List Live) (id at width : ℕ) (r : Regio
     → takes_all (kept_of image cells id) at width r ≡ true → HasAccess image cells id at width r
 has_of_cell image cells id at width r None some is held takes = let lt : held.0 < 0 = held.1 in absurd (omega arith)
 has_of_cell image cells id at width r (Some cell) some is held takes =
-    let kept : Place → Bool = is_kept image cells id in
+    let kept : Place → Bool = is_closed_to image cells id in
     let live = cell_live image cells id cell is in
     let whole = and_parts (has_size r && not (is_page_mapped r)) (lies_between r.virt_start (virt_end r) at width && not (is_at_closed (kept_of image cells id) at width r)) takes in
     let lies = and_parts (lies_between r.virt_start (virt_end r) at width) (not (is_at_closed (kept_of image cells id) at width r)) whole.1 in
@@ -150,7 +150,7 @@ has_of_cell image cells id at width r (Some cell) some is held takes =
       first = parts.0;
       last = parts.1;
       left = λ k lt.
-          let P : ℕ → Type 0 = λ i. is_kept image cells i (place_in_cell i r (at + k)) ≡ false in
+          let P : ℕ → Type 0 = λ i. is_closed_to image cells i (place_in_cell i r (at + k)) ≡ false in
           free_left image cells cell (place_in_cell cell.id r (at + k))
           (subst P (sym live.1) (ap kept (place_in_cell_further id r at k parts.0) ∙ free_row kept (place_in_cell id r at) width k lt free));
     }

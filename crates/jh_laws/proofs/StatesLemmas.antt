@@ -31,16 +31,16 @@ use Rattle.jh_history.specs.Lives.{is_on_board, program_ops, cell_in}
 use Rattle.jh_history.specs.Admitted.{IsAdmitted}
 use Rattle.jh_history.specs.Calls.{is_named, is_call}
 use Rattle.jh_history.specs.Commits.{cells_by, committed_cells, is_commit}
-use Rattle.jh_history.specs.Cpus.{acted, changed, change_if, begun as begun_cpu, settled, committed, finished, resumed_in, is_running}
+use Rattle.jh_history.specs.Cpus.{acted, changed, change_if, asked_by_begin, settled, committed, finished, resumed_in, is_running}
 use Rattle.jh_history.specs.History.{facts}
 use Rattle.jh_shape.specs.Lives.{configs_of}
 use Rattle.jh_history.specs.Due.{is_idle_but, IsLegal}
 use Rattle.jh_history.proofs.Public.{facts_push, due_split, IsLegal_begin, configs_joined, legal_sound, after_cells, call_open, few_operations}
 use Rattle.jh_history.specs.Sound.{IsCaller, IsInPhase}
-use Rattle.jh_laws.specs.Ways.{is_phase, is_agreement, call_after}
+use Rattle.jh_laws.specs.Ways.{is_phase, is_undenied_settle, begun_call}
 use Rattle.jh_laws.specs.Moves.{stepped, ended}
 use Rattle.jh_laws.specs.Outcomes.{is_violation}
-use Rattle.jh_laws.specs.States.{changes_others, is_stop_act, HasBegun, HasAgreed, HasCommitted, HasFinished}
+use Rattle.jh_laws.specs.States.{changes_others, is_stop_act, HasBegun, HasSettled, HasCommitted, HasFinished}
 use Rattle.jh_laws.proofs.CallLemmas.{Expects, phase_expects, phase_of_due, same_call, not_same, IsMadeBy, Stopping, Running as Runs, Calling, made_by, phase_call}
 use Rattle.jh_laws.proofs.FactsLemmas.{cpu_after_holds}
 
@@ -160,7 +160,7 @@ not_running Failed other = refl
 asked_if : (b : Bool) (cpu : Cpu) → b ≡ false → cond b (asked_of cpu) cpu ≡ cpu
 asked_if b cpu fails = ap (λ (x : Bool). cond x (asked_of cpu) cpu) fails
 
-pub begins : (image : Image) (own i : ℕ) (cpu : Cpu) → HasBegun image own i cpu (begun_cpu image own i cpu)
+pub begins : (image : Image) (own i : ℕ) (cpu : Cpu) → HasBegun image own i cpu (asked_by_begin image own i cpu)
 begins image own i cpu =
     let a : Bool = is_on_board image i in
     let b : Bool = not (eqb i own) in
@@ -219,7 +219,7 @@ finish_cpus image before rest entry answer i admitted legal act =
 
 -- ---- the Settle and the Commit
 
-agrees : (call : Call) (cpu : Cpu) → HasAgreed call cpu (settled true call cpu)
+agrees : (call : Call) (cpu : Cpu) → HasSettled call cpu (settled true call cpu)
 agrees call cpu = record {
   asked = λ named runs. rw (named, runs) refl;
   foreign = λ other. asked_if (is_named call cpu.owner && is_running cpu.mode) cpu (and_left (is_named call cpu.owner) (is_running cpu.mode) other);
@@ -234,7 +234,7 @@ pub record IsPhaseBegun (image : Image) (before : List Entry) (entry : Entry) (c
   pub holds : IsInPhase image (configs_of (facts image before).cells) (facts image before).cpu entry.cpu call phase
   pub manages : is_management call ≡ true
 
-phase_begun : (image : Image) (before rest : List Entry) (entry : Entry) (call : Call) → IsAdmitted image → IsLegal image (before ++ entry ∷ rest) → call_after before ≡ Some call → is_phase entry.act ≡ true → IsPhaseBegun image before entry call
+phase_begun : (image : Image) (before rest : List Entry) (entry : Entry) (call : Call) → IsAdmitted image → IsLegal image (before ++ entry ∷ rest) → begun_call before ≡ Some call → is_phase entry.act ≡ true → IsPhaseBegun image before entry call
 phase_begun image before rest entry call admitted legal is phase =
     let f : Facts = facts image before in
     let sound = legal_sound image before admitted (IsLegal_begin image before (entry ∷ rest) legal) in
@@ -255,21 +255,21 @@ phase_begun image before rest entry call admitted legal is phase =
       manages = subst M same opens.caller.management;
     }
 
-settle_by : (image : Image) (call : Option OpenCall) (o : OpenCall) (act : Act) (own i : ℕ) (cpu : Cpu) → call ≡ Some o → is_agreement act ≡ true → HasAgreed o.call cpu (acted image call act own i cpu)
-settle_by image call o (Settle Agreed) own i cpu is agreed = let P : Option OpenCall → Type 0 = λ c. HasAgreed o.call cpu (acted image c (Settle Agreed) own i cpu) in subst P (sym is) (agrees o.call cpu)
-settle_by image call o (Settle Timeout) own i cpu is agreed = let P : Option OpenCall → Type 0 = λ c. HasAgreed o.call cpu (acted image c (Settle Timeout) own i cpu) in subst P (sym is) (agrees o.call cpu)
+settle_by : (image : Image) (call : Option OpenCall) (o : OpenCall) (act : Act) (own i : ℕ) (cpu : Cpu) → call ≡ Some o → is_undenied_settle act ≡ true → HasSettled o.call cpu (acted image call act own i cpu)
+settle_by image call o (Settle Agreed) own i cpu is agreed = let P : Option OpenCall → Type 0 = λ c. HasSettled o.call cpu (acted image c (Settle Agreed) own i cpu) in subst P (sym is) (agrees o.call cpu)
+settle_by image call o (Settle Timeout) own i cpu is agreed = let P : Option OpenCall → Type 0 = λ c. HasSettled o.call cpu (acted image c (Settle Timeout) own i cpu) in subst P (sym is) (agrees o.call cpu)
 settle_by image call o _ own i cpu is agreed = absurd (false≢true agreed)
 
-agreement_phase : (act : Act) → is_agreement act ≡ true → is_phase act ≡ true
+agreement_phase : (act : Act) → is_undenied_settle act ≡ true → is_phase act ≡ true
 agreement_phase (Settle how) h = refl
 agreement_phase _ h = absurd (false≢true h)
 
-pub settle_cpus : (image : Image) (before rest : List Entry) (entry : Entry) (call : Call) (i : ℕ) → IsAdmitted image → IsLegal image (before ++ entry ∷ rest) → call_after before ≡ Some call → is_agreement entry.act ≡ true
-    → HasAgreed call ((facts image before).cpu i) ((facts image (before ++ entry ∷ [])).cpu i)
+pub settle_cpus : (image : Image) (before rest : List Entry) (entry : Entry) (call : Call) (i : ℕ) → IsAdmitted image → IsLegal image (before ++ entry ∷ rest) → begun_call before ≡ Some call → is_undenied_settle entry.act ≡ true
+    → HasSettled call ((facts image before).cpu i) ((facts image (before ++ entry ∷ [])).cpu i)
 settle_cpus image before rest entry call i admitted legal is agreed =
     let f : Facts = facts image before in
     let of = phase_begun image before rest entry call admitted legal is (agreement_phase entry.act agreed) in
-    let P : Cpu → Type 0 = HasAgreed call (f.cpu i) in
+    let P : Cpu → Type 0 = HasSettled call (f.cpu i) in
     subst P (sym (behind_cpu image before entry i)) (settle_by image f.call (record { caller = entry.cpu; call = call; phase = of.phase }) entry.act entry.cpu i (f.cpu i) of.opens agreed)
 
 created_cpus : (image : Image) (cells made : List Live) (cpu : ℕ → Cpu) (caller at i : ℕ) (phase : Phase) → Expects phase Commit → IsInPhase image (configs_of cells) cpu caller (Create at) phase → made ≡ committed_cells (Create at) phase cells
@@ -302,7 +302,7 @@ commit_by image cells made cpu caller i (Loadable id) phase manages e h is = own
 commit_by image cells made cpu caller i (Destroy id) phase manages e h is = owner_changed (returned image.system.root.id (length (program_ops image (name_of image.system.root) i))) id (cpu i)
 commit_by image cells made cpu caller i _ phase manages e h is = both_ways false refl manages
 
-pub commit_cpus : (image : Image) (before rest : List Entry) (entry : Entry) (call : Call) (i : ℕ) → IsAdmitted image → IsLegal image (before ++ entry ∷ rest) → call_after before ≡ Some call → entry.act ≡ Commit
+pub commit_cpus : (image : Image) (before rest : List Entry) (entry : Entry) (call : Call) (i : ℕ) → IsAdmitted image → IsLegal image (before ++ entry ∷ rest) → begun_call before ≡ Some call → entry.act ≡ Commit
     → HasCommitted image (configs_of (facts image before).cells) (configs_of (facts image (before ++ entry ∷ [])).cells) call i ((facts image before).cpu i) ((facts image (before ++ entry ∷ [])).cpu i)
 commit_cpus image before rest entry call i admitted legal is act =
     let f : Facts = facts image before in

@@ -7,10 +7,6 @@ use Rattle.jh_history.specs.declared.entry.Act.TheVariants.{Commit}
 use Rattle.jh_history.specs.Configs.{config_read, read_at}
 use Rattle.jh_laws.specs.Moments.{AdmittedSpan, call_at_first, facts_at_first, facts_past_first, facts_at_last, facts_past_last}
 
--- the live cell of the configuration as it is just created: not loadable
-abbrev pub new_live : CellConfig → Live
-new_live config = record { config = config; loadable = false }
-
 -- the first entry is the Commit of a create, by which the live cell comes behind the others
 pub record IsMadeByFirst (s : AdmittedSpan) (live : Live) : Type 0 where
   pub at : ℕ

@@ -13,7 +13,7 @@ use Rattle.jh_shape.specs.Lives.{configs_of}
 use Rattle.jh_history.specs.Due.{IsLegal}
 use Rattle.jh_history.specs.Admitted.{IsAdmitted}
 use Rattle.jh_history.specs.Commits.{is_commit}
-use Rattle.jh_laws.specs.Ways.{is_finish, call_after}
+use Rattle.jh_laws.specs.Ways.{is_finish, begun_call}
 
 -- a legal journal of an image that a board may be opened with
 pub record AdmittedJournal : Type 0 where
@@ -111,15 +111,15 @@ state_behind m cpu = (facts_behind m).cpu cpu
 
 -- the call that was begun before the entry, and hasn't ended
 abbrev pub call_before : AdmittedMoment → Option Call
-call_before m = call_after m.before
+call_before m = begun_call m.before
 
 -- the call that was begun before the first entry, and hasn't ended
 abbrev pub call_at_first : AdmittedSpan → Option Call
-call_at_first s = call_after s.before
+call_at_first s = begun_call s.before
 
 -- the call that was begun up to the first entry, by it or before it, and hasn't ended
 abbrev pub call_past_first : AdmittedSpan → Option Call
-call_past_first s = call_after (s.before ++ s.first ∷ [])
+call_past_first s = begun_call (s.before ++ s.first ∷ [])
 
 -- ---- what is between
 

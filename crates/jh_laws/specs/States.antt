@@ -37,7 +37,7 @@ pub record HasBegun (image : Image) (own i : ℕ) (before behind : Cpu) : Type 0
 
 -- at a Settle that isn't denied a running CPU of the cell that the call is about is asked to stop, and every other CPU
 -- stays as it is
-pub record HasAgreed (call : Call) (before behind : Cpu) : Type 0 where
+pub record HasSettled (call : Call) (before behind : Cpu) : Type 0 where
   pub asked : is_named call before.owner ≡ true → before.mode ≡ Running → behind ≡ asked_of before
   pub foreign : is_named call before.owner ≡ false → behind ≡ before
   pub rests : before.mode ≢ Running → behind ≡ before

@@ -11,7 +11,7 @@ use Rattle.jh_history.specs.declared.entry.Settled.TheVariants.{Agreed, Denied, 
 use Rattle.jh_history.specs.declared.entry.Heard.{Heard}
 use Rattle.jh_history.specs.declared.entry.Act.{Act}
 use Rattle.jh_history.specs.declared.entry.Act.TheVariants.{Begin, Decide, Settle, Commit, Note, Noted, Finish}
-use Rattle.jh_history.specs.Cpus.{is_agreed}
+use Rattle.jh_history.specs.Cpus.{is_undenied}
 
 -- ---- acts
 
@@ -36,9 +36,9 @@ is_finish (Finish answer) = true
 is_finish _ = false
 
 -- the act is a Settle after which the call goes on
-abbrev pub is_agreement : Act → Bool
-is_agreement (Settle how) = is_agreed how
-is_agreement _ = false
+abbrev pub is_undenied_settle : Act → Bool
+is_undenied_settle (Settle how) = is_undenied how
+is_undenied_settle _ = false
 
 -- the call that the act begins
 abbrev pub call_begun : Act → Call
@@ -58,8 +58,8 @@ abbrev pub begun : List Entry → Option Entry
 begun entries = fold (λ (b : Option Entry) (entry : Entry). begun_by b entry entry.act) None entries
 
 -- the call that is open after the entries: the one that was begun last, where no end follows
-abbrev pub call_after : List Entry → Option Call
-call_after entries = option_map (λ (opening : Entry). call_begun opening.act) (begun entries)
+abbrev pub begun_call : List Entry → Option Call
+begun_call entries = option_map (λ (opening : Entry). call_begun opening.act) (begun entries)
 
 -- the call that is open is the one that was begun, by its CPU
 abbrev pub IsBegun : Option Entry → Option OpenCall → Type 0

@@ -12,7 +12,7 @@ ghost use Rattle.jh_laws.specs.Moments.{AdmittedJournal, AdmittedMoment, Admitte
 ghost use Rattle.jh_laws.specs.Creations.{IsMadeByFirst};
 ghost use Rattle.jh_laws.specs.Decisions.{IsDecision};
 ghost use Rattle.jh_laws.specs.Exchanges.{IsSettledAtLast, IsHeardAtLast};
-ghost use Rattle.jh_laws.specs.Ways.{is_phase, is_decide, is_agreement, is_finish, begun, IsBegun, MayFollow};
+ghost use Rattle.jh_laws.specs.Ways.{is_phase, is_decide, is_undenied_settle, is_finish, begun, IsBegun, MayFollow};
 
 /// The call that is open is the last that was begun and not ended, and its CPU is the caller. None begins while
 /// another is open, and each of its phases is an entry of its caller.
@@ -40,7 +40,7 @@ pub fn a_create_answers_the_new_cells_id()
 pub fn suspended_cpus_make_no_entry()
     ensures roots { (s : AdmittedSpan) → is_decide s.first.act ≡ true → NoneFinishesBetween s →
         s.last.cell ≡ s.image.system.root.id → s.last.cpu ≡ s.first.cpu }
-    ensures cells { (s : AdmittedSpan) (call : TheCall) → call_at_first s ≡ Some call → is_agreement s.first.act ≡ true →
+    ensures cells { (s : AdmittedSpan) (call : TheCall) → call_at_first s ≡ Some call → is_undenied_settle s.first.act ≡ true →
         NoneCommitsBetween s → is_named call s.last.cell ≡ true → s.last.act ≡ Stop }
 {}
 

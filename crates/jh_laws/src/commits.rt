@@ -2,13 +2,13 @@
 ghost use Rattle.std.specs.Prelude.{◌≡◌, ℕ, [], ◌∷◌, ◌++◌, map, filter, Some, None, true, false};
 ghost use Rattle.jh_cellcfg.specs.declared.config.CellConfig.{CellConfig as TheConfig};
 ghost use Rattle.jh_call.specs.declared.call.Call.TheVariants.{Create, Start, Loadable, Destroy};
-ghost use Rattle.jh_shape.specs.Lives.{marked};
+ghost use Rattle.jh_shape.specs.Lives.{marked, new_live};
 ghost use Rattle.jh_script.specs.declared.image.Image.{Image as TheImage};
 ghost use Rattle.jh_history.specs.declared.entry.Act.TheVariants.{Decide, Commit};
 ghost use Rattle.jh_history.specs.History.{facts};
 ghost use Rattle.jh_history.specs.Commits.{is_commit, is_other};
 ghost use Rattle.jh_laws.specs.Moments.{AdmittedMoment, AdmittedSpan, facts_before, facts_behind, call_before, call_at_first, IsCpusNext};
-ghost use Rattle.jh_laws.specs.Creations.{new_live, IsMadeAsRead};
+ghost use Rattle.jh_laws.specs.Creations.{IsMadeAsRead};
 
 /// Root lives alone at opening. The Commit of a create adds its cell behind the others, not loadable; that of a
 /// destroy takes its cell out; that of a set loadable makes its cell loadable, and that of a start makes it not

@@ -8,7 +8,7 @@ ghost use Rattle.jh_script.specs.declared.op.Op.{Op as TheOp};
 ghost use Rattle.jh_history.specs.Lives.{is_on_board};
 ghost use Rattle.jh_history.specs.declared.entry.Act.TheVariants.{Begin, Stop, Commit, Finish};
 ghost use Rattle.jh_laws.specs.Moments.{AdmittedJournal, AdmittedMoment, AdmittedSpan, facts_of, facts_before, facts_behind, state_before, state_behind, cells_before, cells_behind, call_before, NoneCommitsBetween};
-ghost use Rattle.jh_laws.specs.Ways.{is_agreement};
+ghost use Rattle.jh_laws.specs.Ways.{is_undenied_settle};
 ghost use Rattle.jh_history.specs.Due.{due};
 ghost use Rattle.jh_history.specs.Pages.{page_write_by, failing};
 ghost use Rattle.jh_history.specs.declared.place.Place.TheVariants.{Physical};
@@ -19,7 +19,7 @@ ghost use Rattle.jh_laws.specs.Held.{IsRootOrLive};
 ghost use Rattle.jh_laws.specs.Operations.{op_of, op_before};
 ghost use Rattle.jh_laws.specs.Moves.{stepped, ended};
 ghost use Rattle.jh_laws.specs.Outcomes.{is_violation};
-ghost use Rattle.jh_laws.specs.States.{changes_others, is_stop_act, HasBegun, HasAgreed, HasCommitted, HasFinished};
+ghost use Rattle.jh_laws.specs.States.{changes_others, is_stop_act, HasBegun, HasSettled, HasCommitted, HasFinished};
 
 /// An entry of a program moves its CPU by one operation, and a violation fails it, too. A stop stops it. No other
 /// CPU changes, unless the entry begins, agrees, commits or ends a call.
@@ -41,7 +41,7 @@ pub fn calls_change_cpus()
     ensures begin { (m : AdmittedMoment) (code a b cpu : ℕ) → m.entry.act ≡ Begin code a b →
         HasBegun m.image m.entry.cpu cpu (state_before m cpu) (state_behind m cpu) }
     ensures settle { (m : AdmittedMoment) (call : TheCall) (cpu : ℕ) → call_before m ≡ Some call →
-        is_agreement m.entry.act ≡ true → HasAgreed call (state_before m cpu) (state_behind m cpu) }
+        is_undenied_settle m.entry.act ≡ true → HasSettled call (state_before m cpu) (state_behind m cpu) }
     ensures commit { (m : AdmittedMoment) (call : TheCall) (cpu : ℕ) → call_before m ≡ Some call → m.entry.act ≡ Commit →
         HasCommitted m.image (cells_before m) (cells_behind m) call cpu (state_before m cpu) (state_behind m cpu) }
     ensures finish { (m : AdmittedMoment) (answer : ℤ) (cpu : ℕ) → m.entry.act ≡ Finish answer →

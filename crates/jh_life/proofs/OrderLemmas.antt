@@ -7,8 +7,7 @@ use Rattle.jh_num.proofs.Public.{filter_all}
 use Rattle.jh_cellcfg.specs.declared.config.CellConfig.{CellConfig}
 use Rattle.jh_cellcfg.specs.declared.live.Live.{Live}
 use Rattle.jh_cellcfg.specs.Lives.{has_id}
-use Rattle.jh_life.specs.Lives.{new_live}
-use Rattle.jh_shape.specs.Lives.{configs_of, marked}
+use Rattle.jh_shape.specs.Lives.{configs_of, marked, new_live}
 use Rattle.jh_shape.proofs.Public.{configs_marked}
 use Rattle.jh_life.specs.Changes.{CellChange, Created, Dropped, Marked, without, after, is_left_alone, lasting}
 

@@ -5,10 +5,6 @@ use Rattle.jh_cellcfg.specs.declared.live.Live.{Live}
 use Rattle.jh_shape.specs.Lives.{configs_of}
 use Rattle.jh_life.specs.CellsView.{CellsView}
 
--- the live cell of the configuration as it is just created: not loadable
-abbrev pub new_live : CellConfig → Live
-new_live config = record { config = config; loadable = false }
-
 -- which of these live cells are loadable
 abbrev pub marks_of : List Live → List Bool
 marks_of lives = map (λ (live : Live). live.loadable) lives

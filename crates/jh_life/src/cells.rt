@@ -5,8 +5,8 @@ ghost use Rattle.jh_cellcfg.specs.declared.live.Live.{Live};
 ghost use Rattle.jh_check.specs.Refusals.{is_known, AreTwo};
 ghost use Rattle.jh_num.specs.Bits.{has_bit};
 ghost use Rattle.jh_shape.specs.Pages.{pages_of};
-ghost use Rattle.jh_life.specs.Lives.{new_live, has_config_id, marks_of, numbered_cells, is_loadable_at, number_with_id};
-ghost use Rattle.jh_shape.specs.Lives.{configs_of};
+ghost use Rattle.jh_life.specs.Lives.{has_config_id, marks_of, numbered_cells, is_loadable_at, number_with_id};
+ghost use Rattle.jh_shape.specs.Lives.{configs_of, new_live};
 ghost use Rattle.jh_life.specs.Verdict.{verdict_of_create};
 
 use crate::copy::copy_of_system;

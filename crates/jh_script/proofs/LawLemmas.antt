@@ -11,7 +11,7 @@ use Rattle.jh_script.specs.declared.fault.ScriptFault.TheVariants as faults
 use Rattle.jh_script.specs.declared.fault.ScheduleFault.{ScheduleFault}
 use Rattle.jh_script.specs.declared.fault.ScheduleFault.TheVariants as refusals
 use Rattle.jh_script.specs.Laws.{IsGood, IsProgram, IsFirstBad, HasTooMany, HasOneMoreBlank, IsSchedule, IsFirstRefused, HasTooManyItems}
-use Rattle.jh_script.specs.Programs.{lines_of, line_number, first_fault, ops_of, unless, program_of}
+use Rattle.jh_script.specs.Programs.{lines_of, line_number, first_fault, ops_of_lines, unless, program_of}
 use Rattle.jh_script.specs.Schedules.{items_of, first_refusal, cpus_of, schedule_of}
 use Rattle.jh_script.proofs.ProgramLemmas.{op_room, good_item, refused_item, full_of}
 use Rattle.jh_script.specs.Limits.{most_ops, most_items}
@@ -32,7 +32,7 @@ record BadAt (n room : ℕ) (lines : List Line) (bad : Line) (number : ℕ) : Ty
   rest : List Line
   lines_are : lines ≡ before ++ bad ∷ rest
   good : AllByRecursion IsGood before
-  few : length (ops_of before) ≤ room
+  few : length (ops_of_lines before) ≤ room
   number_is : number ≡ min (n + length before + 1) (2 ^ 32 - 1)
 
 record LongAt (room : ℕ) (lines : List Line) : Type 0 where
@@ -41,10 +41,10 @@ record LongAt (room : ℕ) (lines : List Line) : Type 0 where
   rest : List Line
   lines_are : lines ≡ before ++ Operation op ∷ rest
   good : AllByRecursion IsGood before
-  full : length (ops_of before) ≡ room
+  full : length (ops_of_lines before) ≡ room
 
 abbrev FaultOf : ℕ → ℕ → List Line → Option ScriptFault → Type 0
-FaultOf n room lines None = AllByRecursion IsGood lines × (length (ops_of lines) ≤ room)
+FaultOf n room lines None = AllByRecursion IsGood lines × (length (ops_of_lines lines) ≤ room)
 FaultOf n room lines (Some (faults.Syntax number)) = BadAt n room lines Syntax number
 FaultOf n room lines (Some faults.TooLong) = LongAt room lines
 FaultOf n room lines (Some (faults.Width number)) = BadAt n room lines Width number
@@ -53,7 +53,7 @@ FaultOf n room lines (Some faults.NoMemory) = ⊥
 -- a good line before the others, which has k operations
 record Goes (line : Line) (k : ℕ) : Type 0 where
   good : IsGood line
-  costs : (more : List Line) → length (ops_of (line ∷ more)) ≡ k + length (ops_of more)
+  costs : (more : List Line) → length (ops_of_lines (line ∷ more)) ≡ k + length (ops_of_lines more)
 
 bad_later : (n room left k : ℕ) (line bad : Line) (more : List Line) (number : ℕ) → Goes line k → room ≡ k + left → BadAt (line_number n) left more bad number → BadAt n room (line ∷ more) bad number
 bad_later n room left k line bad more number g split h = record {
@@ -80,11 +80,11 @@ later n room left k line more g split (Some (faults.Width number)) h = bad_later
 later n room left k line more g split (Some faults.NoMemory) h = absurd h
 
 blank_goes : Goes Blank 0
-unfolding ops_of
+unfolding ops_of_lines
 blank_goes = record { good = tt; costs = λ more. omega arith }
 
 op_goes : (op : Op) → Goes (Operation op) 1
-unfolding ops_of
+unfolding ops_of_lines
 op_goes op = record { good = tt; costs = λ more. omega arith }
 
 some_room : (room : ℕ) → eqb room 0 ≡ false → room ≡ 1 + (room - 1)
@@ -94,12 +94,12 @@ some_room room e =
 
 op_first : (n room : ℕ) (op : Op) (more : List Line) → FaultOf (line_number n) (room - 1) more (first_fault (line_number n) (room - 1) more)
     → (t : Bool) → eqb room 0 ≡ t → FaultOf n room (Operation op ∷ more) (cond t (Some faults.TooLong) (first_fault (line_number n) (room - 1) more))
-unfolding ops_of
+unfolding ops_of_lines
 op_first n room op more h true e = record { before = []; op = op; rest = more; lines_are = refl; good = tt; full = sym (eqb-true room 0 e) }
 op_first n room op more h false e = later n room (room - 1) 1 (Operation op) more (op_goes op) (some_room room e) (first_fault (line_number n) (room - 1) more) h
 
 fault_of : (lines : List Line) (n room : ℕ) → FaultOf n room lines (first_fault n room lines)
-unfolding first_fault ops_of
+unfolding first_fault ops_of_lines
 fault_of [] n room = (tt, omega arith)
 fault_of (Blank ∷ more) n room = later n room room 0 Blank more blank_goes (omega arith) (first_fault (line_number n) room more) (fault_of more (line_number n) room)
 fault_of (Operation op ∷ more) n room = op_first n room op more (fault_of more (line_number n) (room - 1)) (eqb room 0) refl
@@ -107,47 +107,47 @@ fault_of (Syntax ∷ more) n room = record { before = []; rest = more; lines_are
 fault_of (Width ∷ more) n room = record { before = []; rest = more; lines_are = refl; good = tt; few = omega arith; number_is = omega arith }
 
 -- a good beginning comes to what stands behind it
-behind_good : (before lines : List Line) (n room : ℕ) → AllByRecursion IsGood before → length (ops_of before) ≤ room → n ≤ 2 ^ 32 - 1 → first_fault n room (before ++ lines) ≡ first_fault (min (n + length before) (2 ^ 32 - 1)) (room - length (ops_of before)) lines
-unfolding first_fault ops_of
+behind_good : (before lines : List Line) (n room : ℕ) → AllByRecursion IsGood before → length (ops_of_lines before) ≤ room → n ≤ 2 ^ 32 - 1 → first_fault n room (before ++ lines) ≡ first_fault (min (n + length before) (2 ^ 32 - 1)) (room - length (ops_of_lines before)) lines
+unfolding first_fault ops_of_lines
 behind_good [] lines n room good few small =
     let same : min (n + 0) (2 ^ 32 - 1) ≡ n = omega arith in
     let left : room - 0 ≡ room = omega arith in
     ap (λ k. first_fault k room lines) (sym same) ∙ ap (λ k. first_fault (min (n + 0) (2 ^ 32 - 1)) k lines) (sym left)
 behind_good (Blank ∷ before) lines n room good few small =
     let same : min (line_number n + length before) (2 ^ 32 - 1) ≡ min (n + length (Blank ∷ before)) (2 ^ 32 - 1) = omega arith in
-    behind_good before lines (line_number n) room good.1 few (omega arith) ∙ ap (λ k. first_fault k (room - length (ops_of before)) lines) same
+    behind_good before lines (line_number n) room good.1 few (omega arith) ∙ ap (λ k. first_fault k (room - length (ops_of_lines before)) lines) same
 behind_good (Operation op ∷ before) lines n room good few small =
     let same : min (line_number n + length before) (2 ^ 32 - 1) ≡ min (n + length (Operation op ∷ before)) (2 ^ 32 - 1) = omega arith in
-    let left : room - 1 - length (ops_of before) ≡ room - length (ops_of (Operation op ∷ before)) = omega arith in
+    let left : room - 1 - length (ops_of_lines before) ≡ room - length (ops_of_lines (Operation op ∷ before)) = omega arith in
     op_room n room op (before ++ lines) (omega arith)
     ∙ behind_good before lines (line_number n) (room - 1) good.1 (omega arith) (omega arith)
-    ∙ ap (λ k. first_fault k (room - 1 - length (ops_of before)) lines) same ∙ ap (λ k. first_fault (min (n + length (Operation op ∷ before)) (2 ^ 32 - 1)) k lines) left
+    ∙ ap (λ k. first_fault k (room - 1 - length (ops_of_lines before)) lines) same ∙ ap (λ k. first_fault (min (n + length (Operation op ∷ before)) (2 ^ 32 - 1)) k lines) left
 behind_good (Syntax ∷ before) lines n room good few small = absurd good.0
 behind_good (Width ∷ before) lines n room good few small = absurd good.0
 
-at_good : (before lines : List Line) (text : List ℕ) → lines_of text ≡ before ++ lines → AllByRecursion IsGood before → length (ops_of before) ≤ most_ops → first_fault 0 most_ops (lines_of text) ≡ first_fault (min (length before) (2 ^ 32 - 1)) (most_ops - length (ops_of before)) lines
+at_good : (before lines : List Line) (text : List ℕ) → lines_of text ≡ before ++ lines → AllByRecursion IsGood before → length (ops_of_lines before) ≤ most_ops → first_fault 0 most_ops (lines_of text) ≡ first_fault (min (length before) (2 ^ 32 - 1)) (most_ops - length (ops_of_lines before)) lines
 at_good before lines text e good few =
     let same : min (0 + length before) (2 ^ 32 - 1) ≡ min (length before) (2 ^ 32 - 1) = omega arith in
-    ap (first_fault 0 most_ops) e ∙ behind_good before lines 0 most_ops good few (omega arith) ∙ ap (λ k. first_fault k (most_ops - length (ops_of before)) lines) same
+    ap (first_fault 0 most_ops) e ∙ behind_good before lines 0 most_ops good few (omega arith) ∙ ap (λ k. first_fault k (most_ops - length (ops_of_lines before)) lines) same
 
 told : (text : List ℕ) (f : Option ScriptFault) → first_fault 0 most_ops (lines_of text) ≡ f → FaultOf 0 most_ops (lines_of text) f
 told text f e = subst (FaultOf 0 most_ops (lines_of text)) e (fault_of (lines_of text) 0 most_ops)
 
-answers : (text : List ℕ) (f : Option ScriptFault) → first_fault 0 most_ops (lines_of text) ≡ f → program_of text ≡ unless f (ops_of (lines_of text))
+answers : (text : List ℕ) (f : Option ScriptFault) → first_fault 0 most_ops (lines_of text) ≡ f → program_of text ≡ unless f (ops_of_lines (lines_of text))
 unfolding program_of
-answers text f e = ap (λ x. unless x (ops_of (lines_of text))) e
+answers text f e = ap (λ x. unless x (ops_of_lines (lines_of text))) e
 
 pub program_to : (text : List ℕ) (ops : List Op) → program_of text ≡ Ok ops → IsProgram text ops
 unfolding program_of
 program_to text ops e =
-    let parts = unless_ok (first_fault 0 most_ops (lines_of text)) (ops_of (lines_of text)) ops e in
+    let parts = unless_ok (first_fault 0 most_ops (lines_of text)) (ops_of_lines (lines_of text)) ops e in
     let h = told text None parts.0 in
     record { good = h.0; few = omega (arith, h.1, ap length parts.1); are = sym parts.1 }
 
 pub program_from : (text : List ℕ) (ops : List Op) → IsProgram text ops → program_of text ≡ Ok ops
 unfolding first_fault
 program_from text ops p =
-    let few : length (ops_of (lines_of text)) ≤ most_ops = omega (arith, p.few, ap length p.are) in
+    let few : length (ops_of_lines (lines_of text)) ≤ most_ops = omega (arith, p.few, ap length p.are) in
     answers text None (at_good (lines_of text) [] text (sym (append-nil (lines_of text))) p.good few) ∙ ap Ok (sym p.are)
 
 bad_is : (text : List ℕ) (bad : Line) (number : ℕ) → BadAt 0 most_ops (lines_of text) bad number → IsFirstBad text bad number
@@ -162,11 +162,11 @@ bad_is text bad number h = record {
 
 pub syntax_to : (text : List ℕ) (number : ℕ) → program_of text ≡ Err (faults.Syntax number) → IsFirstBad text Syntax number
 unfolding program_of
-syntax_to text number e = bad_is text Syntax number (told text (Some (faults.Syntax number)) (unless_err (first_fault 0 most_ops (lines_of text)) (ops_of (lines_of text)) (faults.Syntax number) e))
+syntax_to text number e = bad_is text Syntax number (told text (Some (faults.Syntax number)) (unless_err (first_fault 0 most_ops (lines_of text)) (ops_of_lines (lines_of text)) (faults.Syntax number) e))
 
 pub width_to : (text : List ℕ) (number : ℕ) → program_of text ≡ Err (faults.Width number) → IsFirstBad text Width number
 unfolding program_of
-width_to text number e = bad_is text Width number (told text (Some (faults.Width number)) (unless_err (first_fault 0 most_ops (lines_of text)) (ops_of (lines_of text)) (faults.Width number) e))
+width_to text number e = bad_is text Width number (told text (Some (faults.Width number)) (unless_err (first_fault 0 most_ops (lines_of text)) (ops_of_lines (lines_of text)) (faults.Width number) e))
 
 capped : (k number : ℕ) → number ≡ min (k + 1) (2 ^ 32 - 1) → line_number (min k (2 ^ 32 - 1)) ≡ number
 capped k number e = omega arith
@@ -184,7 +184,7 @@ width_from text number b =
 pub too_long_to : (text : List ℕ) → program_of text ≡ Err faults.TooLong → HasTooMany text
 unfolding program_of
 too_long_to text e =
-    let h = told text (Some faults.TooLong) (unless_err (first_fault 0 most_ops (lines_of text)) (ops_of (lines_of text)) faults.TooLong e) in
+    let h = told text (Some faults.TooLong) (unless_err (first_fault 0 most_ops (lines_of text)) (ops_of_lines (lines_of text)) faults.TooLong e) in
     record { before = h.before; op = h.op; rest = h.rest; lines = h.lines_are; good = h.good; full = h.full }
 
 no_room : (n room : ℕ) (op : Op) (more : List Line) → room ≡ 0 → first_fault n room (Operation op ∷ more) ≡ Some faults.TooLong
@@ -195,7 +195,7 @@ pub too_long_from : (text : List ℕ) → HasTooMany text → program_of text �
 too_long_from text h =
     let full = h.full in
     answers text (Some faults.TooLong) (at_good h.before (Operation h.op ∷ h.rest) text h.lines h.good (omega arith)
-    ∙ no_room (min (length h.before) (2 ^ 32 - 1)) (most_ops - length (ops_of h.before)) h.op h.rest (omega arith))
+    ∙ no_room (min (length h.before) (2 ^ 32 - 1)) (most_ops - length (ops_of_lines h.before)) h.op h.rest (omega arith))
 
 -- ---- schedules
 
@@ -341,8 +341,8 @@ good_insert : (before after : List Line) → AllByRecursion IsGood (before ++ af
 good_insert [] after good = (tt, good)
 good_insert (line ∷ before) after good = (good.0, good_insert before after good.1)
 
-ops_skip : (before after : List Line) → ops_of (before ++ Blank ∷ after) ≡ ops_of (before ++ after)
-unfolding ops_of
+ops_skip : (before after : List Line) → ops_of_lines (before ++ Blank ∷ after) ≡ ops_of_lines (before ++ after)
+unfolding ops_of_lines
 ops_skip [] after = refl
 ops_skip (Blank ∷ before) after = ops_skip before after
 ops_skip (Operation op ∷ before) after = ap (λ ops. op ∷ ops) (ops_skip before after)
@@ -355,7 +355,7 @@ without_blank text other more ops h =
     program_from other ops (record {
       good = subst (AllByRecursion IsGood) (sym more.others) (good_skip more.before more.after (subst (AllByRecursion IsGood) more.lines p.good));
       few = p.few;
-      are = p.are ∙ ap ops_of more.lines ∙ ops_skip more.before more.after ∙ ap ops_of (sym more.others);
+      are = p.are ∙ ap ops_of_lines more.lines ∙ ops_skip more.before more.after ∙ ap ops_of_lines (sym more.others);
     })
 
 pub with_blank : (text other : List ℕ) → HasOneMoreBlank text other → (ops : List Op) → program_of other ≡ Ok ops → program_of text ≡ Ok ops
@@ -364,5 +364,5 @@ with_blank text other more ops h =
     program_from text ops (record {
       good = subst (AllByRecursion IsGood) (sym more.lines) (good_insert more.before more.after (subst (AllByRecursion IsGood) more.others p.good));
       few = p.few;
-      are = p.are ∙ ap ops_of more.others ∙ sym (ops_skip more.before more.after) ∙ ap ops_of (sym more.lines);
+      are = p.are ∙ ap ops_of_lines more.others ∙ sym (ops_skip more.before more.after) ∙ ap ops_of_lines (sym more.lines);
     })

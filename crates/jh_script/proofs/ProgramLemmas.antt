@@ -9,7 +9,7 @@ use Rattle.jh_script.specs.declared.fault.ScriptFault.{ScriptFault}
 use Rattle.jh_script.specs.declared.fault.ScriptFault.TheVariants as faults
 use Rattle.jh_script.specs.declared.fault.ScheduleFault.{ScheduleFault}
 use Rattle.jh_script.specs.declared.fault.ScheduleFault.TheVariants as refusals
-use Rattle.jh_script.specs.Programs.{lines_of, line_number, first_fault, ops_of, unless, program_of}
+use Rattle.jh_script.specs.Programs.{lines_of, line_number, first_fault, ops_of_lines, unless, program_of}
 use Rattle.jh_script.specs.Schedules.{items_of, first_refusal, cpus_of, schedule_of}
 use Rattle.jh_script.specs.Limits.{most_ops, most_items}
 
@@ -20,7 +20,7 @@ program_fault text = first_fault 0 most_ops (lines_of text)
 
 refused : (text : List ℕ) (fault : ScriptFault) → program_fault text ≡ Some fault → program_of text ≡ Err fault
 unfolding program_of
-refused text fault e = ap (λ x. unless x (ops_of (lines_of text))) e
+refused text fault e = ap (λ x. unless x (ops_of_lines (lines_of text))) e
 
 pub program_too_long : (text : List ℕ) (n : ℕ) (ops : List Op) (lines more : List Line) (op : Op) → program_fault text ≡ first_fault n (most_ops - length ops) lines → lines ≡ Operation op ∷ more → length ops ≡ most_ops → program_of text ≡ Err faults.TooLong
 unfolding first_fault
@@ -38,19 +38,19 @@ unfolding first_fault
 program_width text n next room lines more h e number =
     refused text (faults.Width next) (h ∙ ap (first_fault n room) e ∙ ap (λ k. Some (faults.Width k)) (sym number))
 
-pub program_done : (text : List ℕ) (n room : ℕ) (ops : List Op) (lines : List Line) → program_fault text ≡ first_fault n room lines → ops_of (lines_of text) ≡ ops ++ ops_of lines → lines ≡ [] → program_of text ≡ Ok ops
-unfolding program_of first_fault ops_of
+pub program_done : (text : List ℕ) (n room : ℕ) (ops : List Op) (lines : List Line) → program_fault text ≡ first_fault n room lines → ops_of_lines (lines_of text) ≡ ops ++ ops_of_lines lines → lines ≡ [] → program_of text ≡ Ok ops
+unfolding program_of first_fault ops_of_lines
 program_done text n room ops lines h found e =
-    ap (λ x. unless x (ops_of (lines_of text))) (h ∙ ap (first_fault n room) e)
-    ∙ ap Ok (found ∙ ap (λ x. ops ++ ops_of x) e ∙ append-nil ops)
+    ap (λ x. unless x (ops_of_lines (lines_of text))) (h ∙ ap (first_fault n room) e)
+    ∙ ap Ok (found ∙ ap (λ x. ops ++ ops_of_lines x) e ∙ append-nil ops)
 
 pub blank_fault : (text : List ℕ) (n next room : ℕ) (lines more : List Line) → program_fault text ≡ first_fault n room lines → lines ≡ Blank ∷ more → next ≡ line_number n → program_fault text ≡ first_fault next room more
 unfolding first_fault
 blank_fault text n next room lines more h e number = h ∙ ap (first_fault n room) e ∙ ap (λ k. first_fault k room more) (sym number)
 
-pub blank_ops : (text : List ℕ) (ops : List Op) (lines more : List Line) → ops_of (lines_of text) ≡ ops ++ ops_of lines → lines ≡ Blank ∷ more → ops_of (lines_of text) ≡ ops ++ ops_of more
-unfolding ops_of
-blank_ops text ops lines more found e = found ∙ ap (λ x. ops ++ ops_of x) e
+pub blank_ops : (text : List ℕ) (ops : List Op) (lines more : List Line) → ops_of_lines (lines_of text) ≡ ops ++ ops_of_lines lines → lines ≡ Blank ∷ more → ops_of_lines (lines_of text) ≡ ops ++ ops_of_lines more
+unfolding ops_of_lines
+blank_ops text ops lines more found e = found ∙ ap (λ x. ops ++ ops_of_lines x) e
 
 pub op_room : (n room : ℕ) (op : Op) (more : List Line) → 0 < room → first_fault n room (Operation op ∷ more) ≡ first_fault (line_number n) (room - 1) more
 unfolding first_fault
@@ -62,10 +62,10 @@ op_fault text n next ops pushed lines more op h e number few push =
     h ∙ ap (first_fault n (most_ops - length ops)) e ∙ op_room n (most_ops - length ops) op more (omega arith)
     ∙ ap (λ k. first_fault k (most_ops - length ops - 1) more) (sym number) ∙ ap (λ room. first_fault next room more) left
 
-pub op_ops : (text : List ℕ) (ops pushed : List Op) (lines more : List Line) (op : Op) → ops_of (lines_of text) ≡ ops ++ ops_of lines → lines ≡ Operation op ∷ more → pushed ≡ ops ++ op ∷ [] → ops_of (lines_of text) ≡ pushed ++ ops_of more
-unfolding ops_of
+pub op_ops : (text : List ℕ) (ops pushed : List Op) (lines more : List Line) (op : Op) → ops_of_lines (lines_of text) ≡ ops ++ ops_of_lines lines → lines ≡ Operation op ∷ more → pushed ≡ ops ++ op ∷ [] → ops_of_lines (lines_of text) ≡ pushed ++ ops_of_lines more
+unfolding ops_of_lines
 op_ops text ops pushed lines more op found e push =
-    found ∙ ap (λ x. ops ++ ops_of x) e ∙ sym (append_assoc ops (op ∷ []) (ops_of more)) ∙ ap (λ x. x ++ ops_of more) (sym push)
+    found ∙ ap (λ x. ops ++ ops_of_lines x) e ∙ sym (append_assoc ops (op ∷ []) (ops_of_lines more)) ∙ ap (λ x. x ++ ops_of_lines more) (sym push)
 
 -- ---- schedules
 

@@ -4,7 +4,7 @@ use Rattle.std.specs.List.{AllByRecursion}
 use Rattle.jh_script.specs.declared.op.Op.{Op}
 use Rattle.jh_script.specs.declared.line.Line.{Line}
 use Rattle.jh_script.specs.declared.line.Line.TheVariants.{Blank, Operation, Syntax, Width}
-use Rattle.jh_script.specs.Programs.{lines_of, ops_of}
+use Rattle.jh_script.specs.Programs.{lines_of, ops_of_lines}
 use Rattle.jh_script.specs.Schedules.{items_of}
 use Rattle.jh_script.specs.Limits.{most_ops, most_items}
 
@@ -19,7 +19,7 @@ IsGood Width = ⊥
 pub record IsProgram (text : List ℕ) (ops : List Op) : Type 0 where
   pub good : AllByRecursion IsGood (lines_of text)
   pub few : length ops ≤ most_ops
-  pub are : ops ≡ ops_of (lines_of text)
+  pub are : ops ≡ ops_of_lines (lines_of text)
 
 -- the line with this number is the first that has a fault, and those before it have not too many operations; lines
 -- count from 1, and numbers end at 2 ^ 32 - 1
@@ -28,7 +28,7 @@ pub record IsFirstBad (text : List ℕ) (bad : Line) (number : ℕ) : Type 0 whe
   pub rest : List Line
   pub lines : lines_of text ≡ before ++ bad ∷ rest
   pub good : AllByRecursion IsGood before
-  pub few : length (ops_of before) ≤ most_ops
+  pub few : length (ops_of_lines before) ≤ most_ops
   pub number_is : number ≡ min (length before + 1) (2 ^ 32 - 1)
 
 -- behind lines that have as many operations as a program may, and no fault, there is one more operation
@@ -38,7 +38,7 @@ pub record HasTooMany (text : List ℕ) : Type 0 where
   pub rest : List Line
   pub lines : lines_of text ≡ before ++ Operation op ∷ rest
   pub good : AllByRecursion IsGood before
-  pub full : length (ops_of before) ≡ most_ops
+  pub full : length (ops_of_lines before) ≡ most_ops
 
 -- the text has the lines of the other, and among them one more, which is blank or a comment
 pub record HasOneMoreBlank (text other : List ℕ) : Type 0 where

@@ -27,12 +27,12 @@ first_fault before room (Syntax ∷ more) = Some (faults.Syntax (line_number bef
 first_fault before room (Width ∷ more) = Some (faults.Width (line_number before))
 
 -- the operations of the lines, in order
-unfoldable pub ops_of : List Line → List Op
-ops_of [] = []
-ops_of (Blank ∷ more) = ops_of more
-ops_of (Operation op ∷ more) = op ∷ ops_of more
-ops_of (Syntax ∷ more) = ops_of more
-ops_of (Width ∷ more) = ops_of more
+unfoldable pub ops_of_lines : List Line → List Op
+ops_of_lines [] = []
+ops_of_lines (Blank ∷ more) = ops_of_lines more
+ops_of_lines (Operation op ∷ more) = op ∷ ops_of_lines more
+ops_of_lines (Syntax ∷ more) = ops_of_lines more
+ops_of_lines (Width ∷ more) = ops_of_lines more
 
 -- what is made, or the fault where there is one
 abbrev pub unless : {X F : Type 0} → Option F → X → Result X F
@@ -41,4 +41,4 @@ unless (Some fault) x = Err fault
 
 -- the operations of the text, or its first fault
 unfoldable pub program_of : List ℕ → Result (List Op) ScriptFault
-program_of text = unless (first_fault 0 most_ops (lines_of text)) (ops_of (lines_of text))
+program_of text = unless (first_fault 0 most_ops (lines_of text)) (ops_of_lines (lines_of text))

@@ -1,5 +1,5 @@
 -- The live cells' configurations and marks.
-use Rattle.std.specs.Prelude.{ℕ, Bool, List, [], ◌∷◌, map, if◌then◌else◌}
+use Rattle.std.specs.Prelude.{ℕ, Bool, false, List, [], ◌∷◌, map, if◌then◌else◌}
 use Rattle.jh_cellcfg.specs.declared.config.CellConfig.{CellConfig}
 use Rattle.jh_cellcfg.specs.declared.live.Live.{Live}
 use Rattle.jh_cellcfg.specs.Lives.{has_id}
@@ -17,3 +17,7 @@ with_marks (config ∷ configs) (mark ∷ marks) = record { config = config; loa
 -- the cell, loadable or not where it is the one with the id
 abbrev pub marked : ℕ → Bool → Live → Live
 marked id loadable live = if has_id id live then record live { loadable = loadable } else live
+
+-- the live cell of the configuration as it is just created: not loadable
+abbrev pub new_live : CellConfig → Live
+new_live config = record { config = config; loadable = false }

@@ -20,7 +20,7 @@ use Rattle.jh_spec.specs.Faults.{◌>>=◌, member_told, all_listed}
 use Rattle.jh_syscfg.specs.Layout.{system_of}
 use Rattle.jh_spec.specs.Json.{told_or, number_told, number_below, list_told, has_only}
 use Rattle.jh_spec.specs.Fields.{u8_at, u16_at, u32_at, u64_at, u32_told, words_at, words_told, region_names, irqchip_names, device_names, console_names, region_members, irqchip_members, device_members, console_members, region_told, irqchip_told, device_told, console_told}
-use Rattle.jh_spec.specs.Cells.{cell_name, cpu_set_size, cpu_set_in, regions_in, irqchips_in, devices_in, console_at, region_at, cell_names, system_names, identity_told, lists_told, settings_told, cell_of, cell_told, root_of, root_in, root_told, platform_told, system_told}
+use Rattle.jh_spec.specs.Cells.{cell_name, cpu_set_size, cpu_set_in, regions_in, irqchips_in, devices_in, console_at, region_at, cell_names, system_names, identity_told, lists_told, settings_told, cell_made_of, cell_told, root_of, root_in, root_told, platform_told, system_told}
 use Rattle.jh_spec.specs.Laws.{IsNumberOf, AreWordsOf, IsRegionOf, IsIrqchipOf, IsDeviceOf, IsConsoleOf, IsCellOf, IsSystemOf}
 
 -- ---- one number
@@ -251,7 +251,7 @@ cell_fields names d x h =
     let identity = identity_fields d s1.0 s1.1 in
     let lists = lists_fields d s2.0 s2.1 in
     let settings = settings_fields d s3.0 s3.1 in
-    subst (IsCellOf d) (same_Ok (cell_of s1.0 s2.0 s3.0) x s4.2) (record {
+    subst (IsCellOf d) (same_Ok (cell_made_of s1.0 s2.0 s3.0) x s4.2) (record {
       name = identity.name;
       id = identity.id;
       flags = identity.flags;

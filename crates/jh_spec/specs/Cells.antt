@@ -132,8 +132,8 @@ settings_told d = do
   })
 
 -- the cell that its members make, without cache regions, port ranges, capabilities and stream ids
-abbrev pub cell_of : Identity → Lists → Settings → CellConfig
-cell_of identity lists settings = record {
+abbrev pub cell_made_of : Identity → Lists → Settings → CellConfig
+cell_made_of identity lists settings = record {
   name = identity.name;
   id = identity.id;
   flags = identity.flags;
@@ -158,7 +158,7 @@ cell_told names d = do
   lists ← lists_told d
   settings ← settings_told d
   _ ← all_listed names d
-  Ok (cell_of identity lists settings)
+  Ok (cell_made_of identity lists settings)
 
 -- ---- a system's members
 

@@ -5,7 +5,7 @@ use Rattle.jh_cellcfg.specs.declared.config.PciDevice.{PciDevice}
 use Rattle.jh_cellcfg.specs.declared.config.CellConfig.{CellConfig}
 use Rattle.jh_check.specs.declared.seats.Seat.{Seat}
 use Rattle.jh_check.specs.Devices.{are_same_memory, sections_of, fits}
-use Rattle.jh_check.specs.Private.Seats.{IsAt}
+use Rattle.jh_check.specs.Private.Seats.{IsSeatOf}
 
 -- the seat is that of the device, which is of the cell of that number
 pub record IsSeated (cells : List CellConfig) (seats : List Seat) (number : ℕ) (cell : CellConfig) (device : PciDevice) : Type 0 where
@@ -13,7 +13,7 @@ pub record IsSeated (cells : List CellConfig) (seats : List Seat) (number : ℕ)
   pub is : Contains seats seat
   pub owner : seat.cell ≡ number
   pub bdf : seat.bdf ≡ device.bdf
-  pub sits : IsAt cells seat cell device
+  pub sits : IsSeatOf cells seat cell device
 
 -- the other device has that number among its peers, and as many peers and the same memory as the one
 abbrev pub is_like : List Region → PciDevice → List Region → PciDevice → ℕ → Bool
@@ -35,7 +35,7 @@ pub record AreLike (cells : List CellConfig) (regions : List Region) (device : P
 -- the devices of the two seats fit each other
 abbrev pub FitAt : List CellConfig → Seat → Seat → Type 0
 FitAt cells x y =
-    (c : CellConfig) (d : PciDevice) (e : CellConfig) (f : PciDevice) → IsAt cells x c d → IsAt cells y e f → fits c.memory_regions d e.memory_regions f ≡ true
+    (c : CellConfig) (d : PciDevice) (e : CellConfig) (f : PciDevice) → IsSeatOf cells x c d → IsSeatOf cells y e f → fits c.memory_regions d e.memory_regions f ≡ true
 
 -- the devices of all seats of different cells fit each other
 abbrev pub FitEachOther : List CellConfig → List Seat → Type 0

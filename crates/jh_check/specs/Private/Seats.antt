@@ -26,7 +26,7 @@ abbrev pub AreByBdf : List Seat → Type 0
 AreByBdf seats = IsNonDecreasingBy (λ (seat : Seat). seat.bdf) seats
 
 -- the seat is that of the device, which is of the cell
-pub record IsAt (cells : List CellConfig) (seat : Seat) (cell : CellConfig) (device : PciDevice) : Type 0 where
+pub record IsSeatOf (cells : List CellConfig) (seat : Seat) (cell : CellConfig) (device : PciDevice) : Type 0 where
   pub among : seat.cell < length cells
   pub cell_is : slice_index_or cells seat.cell cell ≡ cell
   pub within : seat.item < length cell.pci_devices

@@ -5,12 +5,12 @@ use Rattle.std.proofs.lemmas.List.{drop_more}
 use Rattle.jh_cellcfg.specs.declared.region.Region.{Region}
 use Rattle.jh_mmio.specs.Dispatch.{takes_all}
 use Rattle.jh_history.specs.declared.place.Place.TheVariants.{Physical}
-use Rattle.jh_history.specs.Grants.{is_kept}
+use Rattle.jh_history.specs.Grants.{is_closed_to}
 use Rattle.jh_history.proofs.cells.subpage_of.Goals as goal
 
 pub returns-then-takes_all-clause-found : goal.returns-then-takes_all-clause-found
 returns-then-takes_all-clause-found c =
-    let p : Region → Bool = takes_all (λ q. is_kept c.args.image.now c.args.cells.now c.args.cell (Physical q)) c.args.wanted.now.at c.args.wanted.now.width in
+    let p : Region → Bool = takes_all (λ q. is_closed_to c.args.image.now c.args.cells.now c.args.cell (Physical q)) c.args.wanted.now.at c.args.wanted.now.width in
     let xs : List Region = c.regions_in-regions.result.now in
     let i : ℕ = c.loop-region.region-index in
     let past : Region = record { phys_start = 0; virt_start = 0; size = 0; flags = 0 } in
