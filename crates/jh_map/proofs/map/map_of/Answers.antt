@@ -1,5 +1,5 @@
 -- Each region's runs stand behind those of the regions that precede it.
-use Rattle.std.proofs.Common.{◌<◌, ◌+◌, List, ◌++◌, take, sym, ap, ◌∙◌, subst}
+use Rattle.std.proofs.Common.{◌+◌, List, ◌++◌, take, sym, ap, ◌∙◌, subst}
 use Rattle.std.specs.Prelude.{All}
 use Rattle.std.specs.List.Sorted.{IsPermutation, IsNonDecreasingBy}
 use Rattle.std.proofs.lemmas.List.{take_all}
