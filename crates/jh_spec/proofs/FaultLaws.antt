@@ -208,14 +208,14 @@ made (Err (Member m)) f found is = is
 made (Err Json) f found is = absurd is
 made (Err NoMemory) f found is = absurd is
 
-first_is : {X : Type 0} {r : Result X JsonFault} (members : List (List ℕ × Bool)) (other : Option (List ℕ)) → IsBlamed r (blamed members other) → IsBlamed r (option_or (first_at_fault members) other)
-first_is {r = r} members other is = subst (IsBlamed r) (sym (first_blamed members other)) is
+first_is : {X : Type 0} (r : Result X JsonFault) (members : List (List ℕ × Bool)) (other : Option (List ℕ)) → IsBlamed r (blamed members other) → IsBlamed r (option_or (first_at_fault members) other)
+first_is r members other is = subst (IsBlamed r) (sym (first_blamed members other)) is
 
 kind_blamed : (kind : Option Kind) (d : Data) → IsBlamed (told_by kind d) (blame kind d)
 unfolding IsBlamed
 kind_blamed None d = refl
-kind_blamed (Some Cell) d = made (cell_told names_with_kind d) CellSpec (blame (Some Cell) d) (first_is (cell_members d) (unlisted names_with_kind d) (cell_blamed names_with_kind d))
-kind_blamed (Some System) d = made (system_told d) SystemSpec (blame (Some System) d) (first_is (system_members d) (unlisted (codes "kind" ∷ system_names) d) (system_blamed d))
+kind_blamed (Some Cell) d = made (cell_told names_with_kind d) CellSpec (blame (Some Cell) d) (first_is (cell_told names_with_kind d) (cell_members d) (unlisted names_with_kind d) (cell_blamed names_with_kind d))
+kind_blamed (Some System) d = made (system_told d) SystemSpec (blame (Some System) d) (first_is (system_told d) (system_members d) (unlisted (codes "kind" ∷ system_names) d) (system_blamed d))
 
 -- ---- the laws
 
