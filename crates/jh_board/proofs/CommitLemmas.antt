@@ -1,9 +1,9 @@
 -- The words of devices are held, and what is held has all that a Commit needs for the devices of its cell.
-use Rattle.std.proofs.Common.{◌≡◌, ◌⊎◌, ℕ, ◌+◌, ◌*◌, ◌^◌, ◌<◌, List, ◌∷◌, Option, Some, None, refl, sym, ◌∙◌, ap, subst, inl, inr, ⊎_elim, arith, Bool}
+use Rattle.std.proofs.Common.{◌≡◌, ◌⊎◌, ℕ, ◌+◌, ◌*◌, ◌^◌, ◌<◌, List, ◌∷◌, Option, Some, None, refl, sym, ◌∙◌, ap, subst, inl, inr, ⊎_elim, arith}
 use Rattle.std.specs.Prelude.{All, Contains, IfSome, option_map, find}
 use Rattle.std.proofs.lemmas.Option.{none-some, same_Some}
 use Rattle.std.proofs.lemmas.List.Elements.{All-contains, All-map, All-weaker}
-use Rattle.jh_num.proofs.Public.{Contains_cases, IsFound_from_find}
+use Rattle.jh_num.proofs.Public.{Contains_cases}
 use Rattle.jh_cellcfg.specs.declared.config.CellConfig.{CellConfig}
 use Rattle.jh_cellcfg.specs.declared.live.Live.{Live}
 use Rattle.jh_cellcfg.specs.Lives.{has_id}
@@ -37,6 +37,7 @@ use Rattle.jh_board.specs.Private.Steps.{devices_held, endpoint_word_after, MayP
 use Rattle.jh_board.proofs.ActedLemmas.{word_acted}
 use Rattle.jh_board.proofs.AfterLemmas.{if_some, IsComing, created_phase, ready_coming}
 use Rattle.jh_board.proofs.KeptLemmas.{KeepsPages, words_kept}
+use Rattle.jh_board.proofs.ListLemmas.{All_from_find}
 
 -- ---- words that are held
 
@@ -137,10 +138,6 @@ changed_by cells (Some o) config h = changed_cell cells o o.call config refl h
 config_has : (Q : CellConfig → Type 0) (o : Option Live) (config : CellConfig) → option_map (λ (live : Live). live.config) o ≡ Some config → ((live : Live) → o ≡ Some live → Q live.config) → Q config
 config_has Q None config is h = absurd (none-some config is)
 config_has Q (Some live) config is h = subst Q (same_Some live.config config is) (h live refl)
-
--- an element that is found has what all elements have
-All_from_find : {X : Type 0} (p : X → Bool) (Q : X → Type 0) (xs : List X) (x : X) → find p xs ≡ Some x → All Q xs → Q x
-All_from_find p Q xs x e all = All-contains Q xs x all (IsFound_from_find p xs x e).held
 
 live_words : (held : Held) (cells : List Live) (id : ℕ) (config : CellConfig) → All (λ (live : Live). HoldsWordsOf held live.config) cells → live_in cells id ≡ Some config → HoldsWordsOf held config
 live_words held cells id config all lives =

@@ -1,4 +1,4 @@
-mod PagesLemmas
+mod ListLemmas
 mod BytesLemmas
 mod PieceLemmas
 mod MeansLemmas

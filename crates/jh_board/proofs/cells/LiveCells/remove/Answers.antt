@@ -5,7 +5,8 @@ use Rattle.jh_cellcfg.specs.declared.region.Region.{Region}
 use Rattle.jh_cellcfg.specs.Regions.{AreInRange}
 use Rattle.jh_life.specs.Changes.{without}
 use Rattle.jh_board.specs.Private.Closed.{all_regions, count_regions}
-use Rattle.jh_board.proofs.CellsLemmas.{cell_at, removed_none, All_removed, lists_removed, lists_len, regions_left}
+use Rattle.jh_board.proofs.CellsLemmas.{cell_at, removed_none, lists_removed, lists_len, regions_left}
+use Rattle.jh_board.proofs.ListLemmas.{All_removed}
 use Rattle.jh_board.proofs.cells.LiveCells.remove.Goals as goal
 
 pub returns-in_default-clause-lives : goal.returns-in_default-clause-lives
