@@ -12,7 +12,7 @@ use Rattle.jh_ivshmem.specs.Specs.{endpoint_word_of}
 use Rattle.jh_script.specs.declared.image.Image.{Image}
 use Rattle.jh_history.specs.declared.call.OpenCall.{OpenCall}
 use Rattle.jh_history.specs.declared.call.Phase.{Phase}
-use Rattle.jh_history.specs.declared.call.Phase.TheVariants.{ToDecide, ToSettle, ToCreate, ToCommit, ToNote, ToNoted, ToFinish}
+use Rattle.jh_history.specs.declared.call.Phase.TheVariants.{ToCreate}
 use Rattle.jh_history.specs.declared.place.Place.{Place}
 use Rattle.jh_history.specs.declared.place.Place.TheVariants.{Physical, Page}
 use Rattle.jh_history.specs.Devices.{specs_of}
@@ -48,13 +48,8 @@ ready_for_kept old new config index cells spare pages h = record {
 }
 
 ready_in_kept : (old new : Held) (phase : Phase) → new.index ≡ old.index → new.cells ≡ old.cells → old.endpoints.spare ≤ new.endpoints.spare → KeepsPages old.memory new.memory → IsReadyIn old phase → IsReadyIn new phase
-ready_in_kept old new ToDecide index cells spare pages h = tt
-ready_in_kept old new (ToSettle waited) index cells spare pages h = tt
 ready_in_kept old new (ToCreate config) index cells spare pages h = ready_for_kept old new config index cells spare pages h
-ready_in_kept old new ToCommit index cells spare pages h = tt
-ready_in_kept old new (ToNote id about answer) index cells spare pages h = tt
-ready_in_kept old new (ToNoted id about answer waited) index cells spare pages h = tt
-ready_in_kept old new (ToFinish answer) index cells spare pages h = tt
+ready_in_kept old new phase index cells spare pages h = tt
 
 pub ready_kept : (old new : Held) (call : Option OpenCall) → new.index ≡ old.index → new.cells ≡ old.cells → old.endpoints.spare ≤ new.endpoints.spare → KeepsPages old.memory new.memory → IsReadyToGoOn old call → IsReadyToGoOn new call
 ready_kept old new None index cells spare pages h = tt

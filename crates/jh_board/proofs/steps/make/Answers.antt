@@ -22,9 +22,12 @@ use Rattle.jh_board.specs.Means.{Means}
 use Rattle.jh_board.specs.Pages.{byte_of, HoldsComm}
 use Rattle.jh_board.specs.Private.Steps.{MayJoinCells, devices_held, endpoints_acted_by}
 use Rattle.jh_board.proofs.ActedLemmas.{entry_bytes, entry_devices}
-use Rattle.jh_board.proofs.AfterLemmas.{if_some, on_err, may_write, page_held, created_is, may_join, join_kept, Means_made}
+use Rattle.jh_board.proofs.AfterLemmas.{Means_made}
+use Rattle.jh_board.proofs.AnswerLemmas.{if_some, on_err}
+use Rattle.jh_board.proofs.ComingLemmas.{created_is, may_join, join_kept}
 use Rattle.jh_board.proofs.CommitLemmas.{same_devices, may_write_endpoint_word, may_commit}
 use Rattle.jh_board.proofs.KeptLemmas.{comms_kept, ready_kept, Means_kept}
+use Rattle.jh_board.proofs.WrittenLemmas.{may_write, page_held}
 use Rattle.jh_board.proofs.steps.make.Goals as goal
 
 pub make_bytes-requires : goal.make_bytes-requires
