@@ -52,7 +52,7 @@ pub record IsWritten (image : Image) (old mid : Held) (f : Facts) (entry : Entry
   pub cells : mid.cells ≡ old.cells
   pub programs : mid.programs ≡ old.programs
   pub call : mid.call ≡ old.call
-  pub index : mid.index ≡ old.index
+  pub coming_regions : mid.coming_regions ≡ old.coming_regions
 
 pub Means_made : (image : Image) (old mid new : Held) (f : Facts) (entry : Entry) (coming : Option CellConfig) → IsPrepared image old f entry coming → IsWritten image old mid f entry → IsCalled image mid new entry coming
     → Means image new (after image f entry)
@@ -88,5 +88,5 @@ Means_made image old mid new f entry coming prepared written called =
       root_words = words_kept old.memory new.memory (specs_of image.system.root) pages means.root_words;
       named = all_made NamesCpu f.call f.cells act means.named (rw call at called.named);
       programs = subst G living (called.programs f.call f.cells (subst F (sym written.programs) means.programs) living);
-      ready = subst S after_call (called.ready (subst R (sym after_call) (ready_written old mid f.cells (coming_of image f) f.call entry act written.index written.cells written.spare written.pages prepared.ready)));
+      ready = subst S after_call (called.ready (subst R (sym after_call) (ready_written old mid f.cells (coming_of image f) f.call entry act written.coming_regions written.cells written.spare written.pages prepared.ready)));
     }

@@ -45,7 +45,7 @@ free_same image held f g config first second free = λ other. let P : Option Ope
 
 -- the cell that comes may join those that live
 pub may_join : (image : Image) (held : Held) (f : Facts) (o : OpenCall) (config : CellConfig) → Means image held f → f.call ≡ Some o → o.phase ≡ ToCreate config → MayLive image f.cells config
-    → (NamesCpu config → length f.cells < 15) → MayJoinCells held.cells held.index config
+    → (NamesCpu config → length f.cells < 15) → MayJoinCells held.cells held.coming_regions config
 may_join image held f o config means is phase may few =
     let ready = ready_coming held f.call o config means.ready is phase in
     record {
@@ -53,11 +53,11 @@ may_join image held f o config means is phase may few =
       few = λ named. rw means.cells (few named);
       unknown = rw (means.cells, means.system) may.unknown;
       within = may.within;
-      index = ready.index;
-      cells = ready.cells;
       regions = ready.regions;
+      spare_cells = ready.spare_cells;
+      spare_regions = ready.spare_regions;
     }
 
 -- so it may where devices have changed
-pub join_kept : (old new : Held) (act : Act) → new.call ≡ old.call → new.cells ≡ old.cells → new.index ≡ old.index → IfSome (created_by old.call act) (MayJoinCells old.cells old.index) → IfSome (created_by new.call act) (MayJoinCells new.cells new.index)
-join_kept old new act call cells index h = rw (call, cells, index) h
+pub join_kept : (old new : Held) (act : Act) → new.call ≡ old.call → new.cells ≡ old.cells → new.coming_regions ≡ old.coming_regions → IfSome (created_by old.call act) (MayJoinCells old.cells old.coming_regions) → IfSome (created_by new.call act) (MayJoinCells new.cells new.coming_regions)
+join_kept old new act call cells regions h = rw (call, cells, regions) h

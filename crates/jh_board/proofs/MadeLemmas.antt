@@ -43,9 +43,9 @@ pub nothing_made : (call : Option OpenCall) (cells : List Live) (act : Act) → 
 nothing_made call cells Commit other = absurd (true≢false other)
 nothing_made call cells act other = (none_made call act (λ o. refl), refl)
 
--- the live cells and the index stay as they are, where no cell comes and none changes
+-- the live cells and the regions of the one that comes stay as they are, where no cell comes and none changes
 abbrev pub KeepsCells : Held → Held → Option CellConfig → CellsChange → Type 0
-KeepsCells old new made change = made ≡ None → change ≡ Keep → (new.cells ≡ old.cells) × (new.index ≡ old.index)
+KeepsCells old new made change = made ≡ None → change ≡ Keep → (new.cells ≡ old.cells) × (new.coming_regions ≡ old.coming_regions)
 
 ready_committed_call : (held : Held) (cells : List Live) (coming : Option CellConfig) (call : Option OpenCall) (entry : Entry) → IsReadyToGoOn held (call_by cells coming call entry Commit)
 ready_committed_call held cells coming None entry = tt
@@ -65,14 +65,14 @@ not_changing cells (Some o) act h = h o
 abbrev pub KeepsRoom : Held → Held → Option CellConfig → Type 0
 KeepsRoom old new changing = changing ≡ None → new.endpoints.spare ≡ old.endpoints.spare
 
-ready_room : (old new : Held) (call changed : Option OpenCall) (cells : List Live) (act : Act) → new.index ≡ old.index → new.cells ≡ old.cells → KeepsRoom old new (changing_by cells call act) → KeepsPages old.memory new.memory
+ready_room : (old new : Held) (call changed : Option OpenCall) (cells : List Live) (act : Act) → new.coming_regions ≡ old.coming_regions → new.cells ≡ old.cells → KeepsRoom old new (changing_by cells call act) → KeepsPages old.memory new.memory
     → ((o : OpenCall) → changing_at cells o act ≡ None) → IsReadyToGoOn old changed → IsReadyToGoOn new changed
-ready_room old new call changed cells act index same room pages none h =
+ready_room old new call changed cells act regions same room pages none h =
     let kept : new.endpoints.spare ≡ old.endpoints.spare = room (not_changing cells call act none) in
-    ready_kept old new changed index same (omega arith) pages h
+    ready_kept old new changed regions same (omega arith) pages h
 
 -- so it does after what the act does to memory and to devices
-pub ready_written : (old new : Held) (cells : List Live) (coming : Option CellConfig) (call : Option OpenCall) (entry : Entry) (act : Act) → new.index ≡ old.index → new.cells ≡ old.cells
+pub ready_written : (old new : Held) (cells : List Live) (coming : Option CellConfig) (call : Option OpenCall) (entry : Entry) (act : Act) → new.coming_regions ≡ old.coming_regions → new.cells ≡ old.cells
     → KeepsRoom old new (changing_by cells call act) → KeepsPages old.memory new.memory → IsReadyToGoOn old (call_by cells coming call entry act) → IsReadyToGoOn new (call_by cells coming call entry act)
-ready_written old new cells coming call entry Commit index same room pages h = ready_committed_call new cells coming call entry
-ready_written old new cells coming call entry act index same room pages h = ready_room old new call (call_by cells coming call entry act) cells act index same room pages (λ o. refl) h
+ready_written old new cells coming call entry Commit regions same room pages h = ready_committed_call new cells coming call entry
+ready_written old new cells coming call entry act regions same room pages h = ready_room old new call (call_by cells coming call entry act) cells act regions same room pages (λ o. refl) h
