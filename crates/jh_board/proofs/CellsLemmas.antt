@@ -36,14 +36,15 @@ index_by id n lives true lt is = record { within = grind arith; found = is }
 index_by id n lives false past is = is ∙ slice_get_past lives n (grind arith)
 
 -- what the first place among the configurations tells
-pub index_found : (lives : List Live) (id : ℕ) (r : Option ℕ) → r ≡ position (has_config_id id) (configs_of lives) → IsIndexOf lives id r
-index_found lives id r is =
+pub index_found : (lives : List Live) (list : List CellConfig) (id : ℕ) (r : Option ℕ) → list ≡ configs_of lives → r ≡ position (has_config_id id) list → IsIndexOf lives id r
+index_found lives list id r own is =
     let n = position_or_len (has_id id) lives in
     let e = position_map id lives in
     let len : length (configs_of lives) ≡ length lives = length-map lives (λ (l : Live). l.config) in
     let same : position (has_config_id id) (configs_of lives) ≡ cond (nat_lt n (length lives)) (Some n) None
     = ap (λ m. cond (nat_lt m (length (configs_of lives))) (Some m) None) e ∙ ap (λ l. cond (nat_lt n l) (Some n) None) len in
-    subst (IsIndexOf lives id) (sym (is ∙ same)) (index_by id n lives (nat_lt n (length lives)) refl (find_at (has_id id) lives))
+    let here : r ≡ position (has_config_id id) (configs_of lives) = is ∙ ap (λ (cs : List CellConfig). position (has_config_id id) cs) own in
+    subst (IsIndexOf lives id) (sym (here ∙ same)) (index_by id n lives (nat_lt n (length lives)) refl (find_at (has_id id) lives))
 
 pub index_few : (lives : List Live) (id : ℕ) (r : Option ℕ) → IsIndexOf lives id r → length lives ≤ 15 → IfSome r (λ k. k < 15)
 index_few lives id None is few = tt

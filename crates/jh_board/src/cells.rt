@@ -61,10 +61,12 @@ fn position_of(cells: &[CellConfig], id: u64) -> Option<usize>
 }
 
 /// The index of the cell with the id.
+#[tactic(auto, using(crate::proofs::CellsLemmas::index_found, crate::proofs::CellsLemmas::index_few))]
 fn index_of(cells: &Cells, id: u64) -> Option<usize>
     ensures found { IsIndexOf cells.now.lives id result }
     ensures few { IfSome result (λ index. index < 15) }
 {
+    live_cells_differ(cells);
     position_of(cells.list(), id)
 }
 
