@@ -1,10 +1,10 @@
 -- The endpoints of a cell's devices, one device after another.
 use Rattle.std.proofs.Common.{◌≡◌, ℕ, zero, suc, ◌+◌, ◌<◌, ◌≤◌, ◌^◌, Bool, true, false, cond, List, [], ◌∷◌, ◌++◌, length, take, drop, get_or, Option, Some, refl, sym, ◌∙◌, ap, subst, arith}
-use Rattle.std.specs.Prelude.{All, AllPairs, Contains, slice_get}
+use Rattle.std.specs.Prelude.{All, AllPairs, slice_get}
 use Rattle.std.specs.List.{AllByRecursion}
 use Rattle.std.proofs.lemmas.Option.{slice_get-get_or}
-use Rattle.std.proofs.lemmas.List.{take_all, length-append, get_or_append_left}
-use Rattle.std.proofs.lemmas.List.Elements.{All-contains, All-from_recursion, recursion_from_All}
+use Rattle.std.proofs.lemmas.List.{take_all, length-append}
+use Rattle.std.proofs.lemmas.List.Elements.{All-contains, All-from_recursion, recursion_from_All, Contains-append_left}
 use Rattle.std.proofs.lemmas.List.Sums.{fold-append}
 use Rattle.jh_num.specs.declared.address.TheConstants.{ADDRESS_END}
 use Rattle.jh_cellcfg.specs.declared.config.CellConfig.{CellConfig}
@@ -183,20 +183,13 @@ may_join_next config list n may lt =
     let before = specs_before config n in
     let P : List EndpointSpec → Type 0 = AllPairs AreEndpointsApart in
     let apart : AllPairs AreEndpointsApart (before ++ specs_rest config n) = subst P (specs_around config n lt) (may.apart refl) in
-    All_from_held (MayJoinThem (endpoints_changed Join before list)) (specs_at config n) (λ spec held.
+    All_from_held (MayJoinThem (endpoints_changed Join before list)) (specs_at config n) (λ spec there.
     let Q : EndpointSpec → Type 0 = λ other. AreEndpointsApart other spec in
-    let new : All (λ (e : Endpoint). Q e.spec) list = All-contains (MayJoinThem list) (specs_at config n) spec (all_at (MayJoinThem list) config n lt (may.new refl)) held in
+    let new : All (λ (e : Endpoint). Q e.spec) list = All-contains (MayJoinThem list) (specs_at config n) spec (all_at (MayJoinThem list) config n lt (may.new refl)) there in
     All-from_recursion (λ (e : Endpoint). Q e.spec) (endpoints_changed Join before list)
     (joining_have Q before list
-    (recursion_from_All Q before (All_from_held Q before (λ other earlier. pair_apart AreEndpointsApart before (specs_rest config n) other spec apart earlier (left_held (specs_at config n) (specs_from config (suc n) (drop (suc n) config.pci_devices)) spec held))))
+    (recursion_from_All Q before (All_from_held Q before (λ other earlier. pair_apart AreEndpointsApart before (specs_rest config n) other spec apart earlier (Contains-append_left (specs_at config n) (specs_from config (suc n) (drop (suc n) config.pci_devices)) spec there))))
     (recursion_from_All (λ (e : Endpoint). Q e.spec) list new)))
-  where
-    left_held : (xs ys : List EndpointSpec) (x : EndpointSpec) → Contains xs x → Contains (xs ++ ys) x
-    left_held xs ys x h =
-        let more = length-append xs ys in
-        let low : h.0 < length xs = h.1 in
-        let within : h.0 < length (xs ++ ys) = omega arith in
-        (h.0, within, get_or_append_left xs ys x h.0 low ∙ h.2)
 
 -- ---- what a change leaves
 
