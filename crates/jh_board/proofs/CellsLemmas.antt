@@ -18,8 +18,8 @@ use Rattle.jh_cellcfg.specs.Lives.{has_id}
 use Rattle.jh_cellcfg.specs.Regions.{IsEmptyOrInRange, AreInRange}
 use Rattle.jh_shape.specs.Pages.{tables_of, pages_of, root_claims, cell_claims}
 use Rattle.jh_shape.proofs.Public.{tables_le}
-use Rattle.jh_life.specs.Lives.{has_config_id, new_live}
-use Rattle.jh_shape.specs.Lives.{configs_of, marked}
+use Rattle.jh_life.specs.Lives.{has_config_id}
+use Rattle.jh_shape.specs.Lives.{configs_of, marked, new_live}
 use Rattle.jh_history.specs.Commits.{is_other}
 use Rattle.jh_history.specs.Lives.{live_in}
 use Rattle.jh_history.proofs.Public.{All_from_held}

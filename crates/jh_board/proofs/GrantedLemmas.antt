@@ -18,7 +18,7 @@ use Rattle.jh_history.specs.declared.access.Reach.{Reach}
 use Rattle.jh_history.specs.declared.access.Reach.TheVariants.{Memory, Nothing}
 use Rattle.jh_history.specs.Places.{places_in_row}
 use Rattle.jh_history.specs.Access.{places_from, place_of, memory_or_nothing, reach_by}
-use Rattle.jh_history.specs.Grants.{is_kept, unless, granted_in}
+use Rattle.jh_history.specs.Grants.{is_closed_to, unless, granted_in}
 use Rattle.jh_history.specs.Lives.{live_in, regions_in}
 use Rattle.jh_history.proofs.Public.{unless_kept}
 use Rattle.jh_board.specs.Private.Closed.{is_closed_by, live_regions}
@@ -26,7 +26,7 @@ use Rattle.jh_board.specs.Private.Closed.{is_closed_by, live_regions}
 -- ---- which places root is kept from
 
 abbrev kept_from : Image → List Live → Place → Bool
-kept_from image lives = is_kept image lives image.system.root.id
+kept_from image lives = is_closed_to image lives image.system.root.id
 
 kept_closed : (image : Image) (lives : List Live) (p : ℕ) → kept_from image lives (Physical p) ≡ is_closed_by lives p
 kept_closed image lives p = let own : eqb image.system.root.id image.system.root.id ≡ true = eq-eqb image.system.root.id image.system.root.id refl in rw own refl
@@ -72,25 +72,25 @@ pub kept_pages : (image : Image) (lives : List Live) (cell offset n : ℕ) → f
 kept_pages image lives cell offset zero = refl
 kept_pages image lives cell offset (suc n) = kept_pages image lives cell (offset + 1) n
 
-kept_other : (image : Image) (lives : List Live) (id : ℕ) (p : Place) → eqb id image.system.root.id ≡ false → is_kept image lives id p ≡ false
+kept_other : (image : Image) (lives : List Live) (id : ℕ) (p : Place) → eqb id image.system.root.id ≡ false → is_closed_to image lives id p ≡ false
 kept_other image lives id (Physical p) other = rw other refl
 kept_other image lives id (Page cell offset) other = refl
 
-kept_none : (image : Image) (lives : List Live) (id : ℕ) (places : List Place) → eqb id image.system.root.id ≡ false → false ≡ list_any (is_kept image lives id) places
+kept_none : (image : Image) (lives : List Live) (id : ℕ) (places : List Place) → eqb id image.system.root.id ≡ false → false ≡ list_any (is_closed_to image lives id) places
 kept_none image lives id [] other = refl
 kept_none image lives id (p ∷ ps) other = rw (kept_other image lives id p other) (kept_none image lives id ps other)
 
-pub kept_others : (image : Image) (lives : List Live) (id : ℕ) (places : List Place) → (id ≡ image.system.root.id → ⊥) → false ≡ list_any (is_kept image lives id) places
+pub kept_others : (image : Image) (lives : List Live) (id : ℕ) (places : List Place) → (id ≡ image.system.root.id → ⊥) → false ≡ list_any (is_closed_to image lives id) places
 kept_others image lives id places other = kept_none image lives id places (ne_eqb id image.system.root.id other)
 
 -- the places of two runs
 pub kept_runs : (image : Image) (lives : List Live) (id : ℕ) (low high places : List Place) (a b : Bool) → id ≡ image.system.root.id → places ≡ low ++ high
-    → a ≡ list_any (kept_from image lives) low → b ≡ list_any (kept_from image lives) high → (a || b) ≡ list_any (is_kept image lives id) places
+    → a ≡ list_any (kept_from image lives) low → b ≡ list_any (kept_from image lives) high → (a || b) ≡ list_any (is_closed_to image lives id) places
 kept_runs image lives id low high places a b own is first second =
     ap (λ x. x || b) first ∙ ap (λ x. list_any (kept_from image lives) low || x) second
     ∙ sym (list_any-append (kept_from image lives) low high)
     ∙ ap (λ (ps : List Place). list_any (kept_from image lives) ps) (sym is)
-    ∙ ap (λ (k : ℕ). list_any (is_kept image lives k) places) (sym own)
+    ∙ ap (λ (k : ℕ). list_any (is_closed_to image lives k) places) (sym own)
 
 -- ---- what is reached
 
@@ -126,22 +126,22 @@ places_open kept place at (suc n) = open_step kept (place at) (places_from place
 
 -- the places of a row that root is granted: none where one of them is kept
 row_open_all : (image : Image) (lives : List Live) (id : ℕ) (access : Access) (at n : ℕ) (found : Option (List Place)) → found ≡ places_from (place_of id (regions_in image lives id) access) at n
-    → option_and_then (open_all (is_kept image lives id)) found ≡ places_from (granted_in image lives id access) at n
+    → option_and_then (open_all (is_closed_to image lives id)) found ≡ places_from (granted_in image lives id access) at n
 row_open_all image lives id access at n found is =
-    ap (option_and_then (open_all (is_kept image lives id))) is ∙ sym (places_open (is_kept image lives id) (place_of id (regions_in image lives id) access) at n)
+    ap (option_and_then (open_all (is_closed_to image lives id))) is ∙ sym (places_open (is_closed_to image lives id) (place_of id (regions_in image lives id) access) at n)
 
 pub row_kept : (image : Image) (lives : List Live) (id : ℕ) (access : Access) (at n : ℕ) (row : List Place) (b : Bool) → Some row ≡ places_from (place_of id (regions_in image lives id) access) at n
-    → b ≡ list_any (is_kept image lives id) row → b ≡ true → None ≡ places_from (granted_in image lives id access) at n
+    → b ≡ list_any (is_closed_to image lives id) row → b ≡ true → None ≡ places_from (granted_in image lives id access) at n
 row_kept image lives id access at n row b is kept shut =
-    let e : list_any (is_kept image lives id) row ≡ true = sym kept ∙ shut in
-    let none : open_all (is_kept image lives id) row ≡ None = rw e refl in
+    let e : list_any (is_closed_to image lives id) row ≡ true = sym kept ∙ shut in
+    let none : open_all (is_closed_to image lives id) row ≡ None = rw e refl in
     sym none ∙ row_open_all image lives id access at n (Some row) is
 
 pub row_granted : (image : Image) (lives : List Live) (id : ℕ) (access : Access) (at n : ℕ) (row : List Place) (b : Bool) → Some row ≡ places_from (place_of id (regions_in image lives id) access) at n
-    → b ≡ list_any (is_kept image lives id) row → b ≡ false → Some row ≡ places_from (granted_in image lives id access) at n
+    → b ≡ list_any (is_closed_to image lives id) row → b ≡ false → Some row ≡ places_from (granted_in image lives id access) at n
 row_granted image lives id access at n row b is kept free =
-    let e : list_any (is_kept image lives id) row ≡ false = sym kept ∙ free in
-    let whole : open_all (is_kept image lives id) row ≡ Some row = rw e refl in
+    let e : list_any (is_closed_to image lives id) row ≡ false = sym kept ∙ free in
+    let whole : open_all (is_closed_to image lives id) row ≡ Some row = rw e refl in
     sym whole ∙ row_open_all image lives id access at n (Some row) is
 
 pub row_lacking : (image : Image) (lives : List Live) (id : ℕ) (access : Access) (at n : ℕ) → None ≡ places_from (place_of id (regions_in image lives id) access) at n → None ≡ places_from (granted_in image lives id access) at n
@@ -159,28 +159,28 @@ reach_by_open kept place at width = elim (nat_le (at + width) ADDRESS_END) as (�
 ]
 
 pub reach_granted : (image : Image) (lives : List Live) (id : ℕ) (access : Access) (at width : ℕ)
-    → reach_by (granted_in image lives id access) at width ≡ unless_kept (is_kept image lives id) (reach_by (place_of id (regions_in image lives id) access) at width)
-reach_granted image lives id access at width = reach_by_open (is_kept image lives id) (place_of id (regions_in image lives id) access) at width
+    → reach_by (granted_in image lives id access) at width ≡ unless_kept (is_closed_to image lives id) (reach_by (place_of id (regions_in image lives id) access) at width)
+reach_granted image lives id access at width = reach_by_open (is_closed_to image lives id) (place_of id (regions_in image lives id) access) at width
 
 abbrev pub reach_of : Image → List Live → ℕ → Access → ℕ → ℕ → Reach
 reach_of image lives id access at width = reach_by (place_of id (regions_in image lives id) access) at width
 
 pub reach_shut : (image : Image) (lives : List Live) (id : ℕ) (access : Access) (at width : ℕ) (found : Reach) (places : List Place) (b : Bool) → found ≡ reach_of image lives id access at width → found ≡ Memory places
-    → b ≡ list_any (is_kept image lives id) places → b ≡ true → Nothing ≡ reach_by (granted_in image lives id access) at width
+    → b ≡ list_any (is_closed_to image lives id) places → b ≡ true → Nothing ≡ reach_by (granted_in image lives id access) at width
 reach_shut image lives id access at width found places b same is kept shut =
-    let e : list_any (is_kept image lives id) places ≡ true = sym kept ∙ shut in
-    let all : unless_kept (is_kept image lives id) (Memory places) ≡ Nothing = rw e refl in
-    sym (reach_granted image lives id access at width ∙ ap (unless_kept (is_kept image lives id)) (sym same ∙ is) ∙ all)
+    let e : list_any (is_closed_to image lives id) places ≡ true = sym kept ∙ shut in
+    let all : unless_kept (is_closed_to image lives id) (Memory places) ≡ Nothing = rw e refl in
+    sym (reach_granted image lives id access at width ∙ ap (unless_kept (is_closed_to image lives id)) (sym same ∙ is) ∙ all)
 
 pub reach_free : (image : Image) (lives : List Live) (id : ℕ) (access : Access) (at width : ℕ) (found : Reach) (places : List Place) (b : Bool) → found ≡ reach_of image lives id access at width → found ≡ Memory places
-    → b ≡ list_any (is_kept image lives id) places → b ≡ false → Memory places ≡ reach_by (granted_in image lives id access) at width
+    → b ≡ list_any (is_closed_to image lives id) places → b ≡ false → Memory places ≡ reach_by (granted_in image lives id access) at width
 reach_free image lives id access at width found places b same is kept free =
-    let e : list_any (is_kept image lives id) places ≡ false = sym kept ∙ free in
-    let all : unless_kept (is_kept image lives id) (Memory places) ≡ Memory places = rw e refl in
-    sym (reach_granted image lives id access at width ∙ ap (unless_kept (is_kept image lives id)) (sym same ∙ is) ∙ all)
+    let e : list_any (is_closed_to image lives id) places ≡ false = sym kept ∙ free in
+    let all : unless_kept (is_closed_to image lives id) (Memory places) ≡ Memory places = rw e refl in
+    sym (reach_granted image lives id access at width ∙ ap (unless_kept (is_closed_to image lives id)) (sym same ∙ is) ∙ all)
 
 pub reach_nothing : (image : Image) (lives : List Live) (id : ℕ) (access : Access) (at width : ℕ) (found : Reach) → found ≡ reach_of image lives id access at width → found ≡ Nothing → Nothing ≡ reach_by (granted_in image lives id access) at width
-reach_nothing image lives id access at width found same is = sym (reach_granted image lives id access at width ∙ ap (unless_kept (is_kept image lives id)) (sym same ∙ is))
+reach_nothing image lives id access at width found same is = sym (reach_granted image lives id access at width ∙ ap (unless_kept (is_closed_to image lives id)) (sym same ∙ is))
 
 -- the regions of root, and of a cell that lives besides it
 pub regions_root : (image : Image) (lives : List Live) (id : ℕ) → id ≡ image.system.root.id → regions_in image lives id ≡ image.system.root.memory_regions
@@ -191,11 +191,11 @@ regions_live image lives id other = ap (λ (b : Bool). option_map_or (λ (c : Ce
 
 -- the first run decides, or the second
 pub kept_low : (image : Image) (lives : List Live) (id : ℕ) (low high places : List Place) (a : Bool) → id ≡ image.system.root.id → places ≡ low ++ high
-    → a ≡ list_any (kept_from image lives) low → a ≡ true → a ≡ list_any (is_kept image lives id) places
+    → a ≡ list_any (kept_from image lives) low → a ≡ true → a ≡ list_any (is_closed_to image lives id) places
 kept_low image lives id low high places a own is first yes_low =
     let b = list_any (kept_from image lives) high in
     yes_low ∙ sym (or_left a b yes_low) ∙ kept_runs image lives id low high places a b own is first refl
 
 pub kept_high : (image : Image) (lives : List Live) (id : ℕ) (low high places : List Place) (a b : Bool) → id ≡ image.system.root.id → places ≡ low ++ high
-    → a ≡ list_any (kept_from image lives) low → a ≡ false → b ≡ list_any (kept_from image lives) high → b ≡ list_any (is_kept image lives id) places
+    → a ≡ list_any (kept_from image lives) low → a ≡ false → b ≡ list_any (kept_from image lives) high → b ≡ list_any (is_closed_to image lives id) places
 kept_high image lives id low high places a b own is first no_low second = sym (ap (λ x. x || b) no_low) ∙ kept_runs image lives id low high places a b own is first second

@@ -30,7 +30,7 @@ use Rattle.jh_history.specs.Lives.{cell_in, regions_in}
 use Rattle.jh_shape.specs.Lives.{configs_of}
 use Rattle.jh_history.proofs.Public.{numbered_cell, gives_from}
 use Rattle.jh_board.specs.Private.Closed.{is_closed_by}
-use Rattle.jh_board.specs.Maps.{is_kept_at, is_right, is_mapped_at, place_of_run, grant_of_map}
+use Rattle.jh_board.specs.Maps.{is_closed_at, is_right, is_mapped_at, place_of_run, grant_of_map}
 
 -- ---- regions of live cells
 
@@ -179,10 +179,10 @@ told_is leads single kept id regions runs access at page apart is = told_by lead
 
 -- ---- what is closed to a cell
 
-pub kept_root : (image : Image) (lives : List Live) (id place : ℕ) (b : Bool) → id ≡ image.system.root.id → b ≡ is_closed_by lives place → b ≡ is_kept_at image lives id place
+pub kept_root : (image : Image) (lives : List Live) (id place : ℕ) (b : Bool) → id ≡ image.system.root.id → b ≡ is_closed_by lives place → b ≡ is_closed_at image lives id place
 kept_root image lives id place b e is = is ∙ sym (second_of (eqb id image.system.root.id) (is_closed_by lives place) (eq-eqb id image.system.root.id e))
 
-pub kept_other : (image : Image) (lives : List Live) (id place : ℕ) (ranges : List Range) → ranges ≡ [] → (id ≡ image.system.root.id → ⊥) → has_byte ranges place ≡ is_kept_at image lives id place
+pub kept_other : (image : Image) (lives : List Live) (id place : ℕ) (ranges : List Range) → ranges ≡ [] → (id ≡ image.system.root.id → ⊥) → has_byte ranges place ≡ is_closed_at image lives id place
 kept_other image lives id place ranges none ne = ap (λ rs. has_byte rs place) none ∙ sym (and_left (eqb id image.system.root.id) (is_closed_by lives place) (ne_eqb id image.system.root.id ne))
 
 pub map_of_kept : (closed kept : ℕ → Bool) (regions : List Region) (map : Result (List Run) NoMemory) → ((p : ℕ) → closed p ≡ kept p) → IfOk map (IsMap closed regions) → IfOk map (IsMap kept regions)

@@ -11,7 +11,7 @@ use Rattle.jh_history.specs.declared.access.Access.TheVariants.{Read}
 use Rattle.jh_history.specs.Access.{reach_by, memory_read}
 use Rattle.jh_history.specs.Admitted.{IsAdmitted}
 use Rattle.jh_history.specs.Facts.{Facts}
-use Rattle.jh_history.specs.Grants.{granted_in, granted, is_kept}
+use Rattle.jh_history.specs.Grants.{granted_in, granted, is_closed_to}
 use Rattle.jh_history.specs.Lives.{regions_in}
 use Rattle.jh_history.proofs.Public.{within, same_function, read_one, granted_beyond}
 use Rattle.jh_board.specs.declared.held.Held.{Held}
@@ -24,7 +24,7 @@ root_within image lives admitted = let own : eqb image.system.root.id image.syst
 -- root is granted nothing past the addresses
 pub root_beyond : (image : Image) (lives : List Live) (at : ℕ) → IsAdmitted image → ADDRESS_END ≤ at → granted_in image lives image.system.root.id Read at ≡ None
 root_beyond image lives at admitted le =
-    let id = image.system.root.id in granted_beyond id (regions_in image lives id) (is_kept image lives id) at (root_within image lives admitted) le
+    let id = image.system.root.id in granted_beyond id (regions_in image lives id) (is_closed_to image lives id) at (root_within image lives admitted) le
 
 -- the byte that root reads at the address, where it may
 abbrev pub read_held : Image → Held → ℕ → Option ℕ

@@ -13,7 +13,7 @@ use Rattle.jh_history.specs.declared.place.Place.{Place}
 use Rattle.jh_history.specs.declared.place.Place.TheVariants.{Physical, Page}
 use Rattle.jh_history.specs.Admitted.{IsAdmitted}
 use Rattle.jh_history.specs.Due.{IsLegal}
-use Rattle.jh_history.specs.Grants.{is_kept}
+use Rattle.jh_history.specs.Grants.{is_closed_to}
 use Rattle.jh_history.specs.History.{facts}
 use Rattle.jh_history.specs.Lives.{cell_in, regions_in}
 use Rattle.jh_shape.specs.Lives.{configs_of}
@@ -23,12 +23,12 @@ abbrev pub all_cells : Image → List Live → List CellConfig
 all_cells image lives = image.system.root ∷ configs_of lives
 
 -- the cell with the id is kept from the physical place
-abbrev pub is_kept_at : Image → List Live → ℕ → ℕ → Bool
-is_kept_at image lives id place = is_kept image lives id (Physical place)
+abbrev pub is_closed_at : Image → List Live → ℕ → ℕ → Bool
+is_closed_at image lives id place = is_closed_to image lives id (Physical place)
 
 -- the map of the live cell with the id: that of its regions, to which the places are closed that it is kept from
 abbrev pub IsMapIn : Image → List Live → ℕ → List Run → Type 0
-IsMapIn image lives id = IsMap (is_kept_at image lives id) (regions_in image lives id)
+IsMapIn image lives id = IsMap (is_closed_at image lives id) (regions_in image lives id)
 
 -- what is told of a cell with the id: its map, or nothing where no live cell has the id
 abbrev pub IsMapOrNone : Image → List Live → ℕ → Option (List Run) → Type 0

@@ -10,7 +10,7 @@ ghost use Rattle.jh_history.specs.declared.place.Place.{Place as ThePlace};
 ghost use Rattle.jh_history.specs.declared.place.Place.TheVariants.{Physical};
 ghost use Rattle.jh_history.specs.declared.access.Access.TheVariants.{Read};
 ghost use Rattle.jh_history.specs.Access.{memory_or_nothing, places_from, reach_by};
-ghost use Rattle.jh_history.specs.Grants.{granted_in, is_kept, behind_in, reach_in};
+ghost use Rattle.jh_history.specs.Grants.{granted_in, is_closed_to, behind_in, reach_in};
 ghost use Rattle.jh_history.specs.Devices.{list_in};
 ghost use Rattle.jh_history.specs.Lives.{regions_in};
 ghost use Rattle.jh_history.specs.Places.{number_of, places_in_row, places_of_row, IsRow};
@@ -56,9 +56,9 @@ impl<'a> Grants for Granted<'a> {
 }
 
 /// Whether root is kept from one of so many places in a row.
-fn keeps_row(cells: &LiveCells, first: Place, count: u16) -> bool
+fn closes_row(cells: &LiveCells, first: Place, count: u16) -> bool
     requires { number_of first + count < 2 ^ 64 }
-    ensures { (i : TheImage) → result ≡ list_any (is_kept i cells.now.lives i.system.root.id) (places_in_row first count) }
+    ensures { (i : TheImage) → result ≡ list_any (is_closed_to i cells.now.lives i.system.root.id) (places_in_row first count) }
 {
     match first {
         Place::Physical(start) => cells.closes(Range {
@@ -70,22 +70,22 @@ fn keeps_row(cells: &LiveCells, first: Place, count: u16) -> bool
 }
 
 /// Whether root is kept from a place of the row.
-fn keeps_any_of(cells: &LiveCells, row: Row) -> bool
+fn closes_any_of(cells: &LiveCells, row: Row) -> bool
     requires { IsRow row }
-    ensures { (i : TheImage) → result ≡ list_any (is_kept i cells.now.lives i.system.root.id) (places_of_row row) }
+    ensures { (i : TheImage) → result ≡ list_any (is_closed_to i cells.now.lives i.system.root.id) (places_of_row row) }
 {
-    keeps_row(cells, row.first, u16::from(row.count))
+    closes_row(cells, row.first, u16::from(row.count))
 }
 
-/// Whether the cell is kept from one of the places: it is root, and another cell takes the place.
-fn keeps(image: &IndexedImage, cells: &LiveCells, cell: u32, places: &Places) -> bool
-    ensures { result ≡ list_any (is_kept image.now cells.now.lives cell) places.now }
+/// Whether one of the places is closed to the cell: it is root, and another cell takes the place.
+fn closes_any(image: &IndexedImage, cells: &LiveCells, cell: u32, places: &Places) -> bool
+    ensures { result ≡ list_any (is_closed_to image.now cells.now.lives cell) places.now }
 {
     if cell != image.root() {
         return false;
     }
     let (low, high) = places.rows();
-    keeps_any_of(cells, low) || keeps_any_of(cells, high)
+    closes_any_of(cells, low) || closes_any_of(cells, high)
 }
 
 /// The places of memory that the cell's access reaches, where these cells live besides root; `None` where some byte
@@ -97,7 +97,7 @@ pub fn memory(image: &IndexedImage, cells: &LiveCells, cell: u32, wanted: &Wante
     let granted = Granted { image, cells };
     match jh_history::memory(&granted, cell, wanted) {
         Some(places) => {
-            if keeps(image, cells, cell, &places) {
+            if closes_any(image, cells, cell, &places) {
                 None
             } else {
                 Some(places)
@@ -118,7 +118,7 @@ pub fn row_of_root(image: &IndexedImage, cells: &LiveCells, at: u64, count: u16)
     let granted = Granted { image, cells };
     match first_of_row(&granted, image.root(), Access::Read, at, count) {
         Some(first) => {
-            if keeps_row(cells, first, count) {
+            if closes_row(cells, first, count) {
                 None
             } else {
                 Some(first)
@@ -143,18 +143,18 @@ fn whole(image: &IndexedImage, cells: &LiveCells, cell: u32, wanted: &Wanted) ->
     }
 }
 
-/// The subpage region of the cell that has the whole access, where the cell is kept from none of the access's bytes.
+/// The subpage region of the cell that has the whole access, where none of the access's bytes is closed to it.
 fn open_whole(image: &IndexedImage, cells: &LiveCells, cell: u32, wanted: &Wanted) -> Option<Region>
     requires some { 0 < wanted.now.width }
     requires few { wanted.now.width ≤ 8 }
-    ensures found { result ≡ find (takes_all (λ p. is_kept image.now cells.now.lives cell (Physical p)) wanted.now.at wanted.now.width) (regions_in image.now cells.now.lives cell) }
+    ensures found { result ≡ find (takes_all (λ p. is_closed_to image.now cells.now.lives cell (Physical p)) wanted.now.at wanted.now.width) (regions_in image.now cells.now.lives cell) }
     ensures within { IfSome result IsInRange }
     ensures first { IfSome result (λ (r : TheRegion). IsTrue (has_address r wanted.now.at)) }
 {
     match whole(image, cells, cell, wanted) {
         Some(region) => {
             let places = places_in(cell, &region, wanted.at, wanted.width);
-            if keeps(image, cells, cell, &places) {
+            if closes_any(image, cells, cell, &places) {
                 None
             } else {
                 Some(region)

@@ -5,7 +5,7 @@ ghost use Rattle.jh_check.specs.Clean.{IsClean};
 ghost use Rattle.jh_map.specs.Maps.{IsMap};
 ghost use Rattle.jh_history.specs.Lives.{cell_in, regions_in};
 ghost use Rattle.jh_shape.specs.Lives.{configs_of};
-ghost use Rattle.jh_board.specs.Maps.{all_cells, is_kept_at, IsMapOrNone};
+ghost use Rattle.jh_board.specs.Maps.{all_cells, is_closed_at, IsMapOrNone};
 
 use crate::cells::LiveCells;
 use crate::indexed::IndexedImage;
@@ -65,7 +65,7 @@ fn map_with(
 ) -> Result<Seq<Run>, NoMemory>
     requires within { AreInRange regions.now }
     requires apart { AllPairs SharesNoAddress regions.now }
-    ensures { IfOk result (IsMap (is_kept_at image.now cells.now.lives id) regions.now) }
+    ensures { IfOk result (IsMap (is_closed_at image.now cells.now.lives id) regions.now) }
 {
     if id == image.root() {
         jh_map::map_of(alloc, regions, cells.closed())

@@ -26,7 +26,7 @@ use Rattle.jh_history.specs.Access.{endpoint_word_of_reach}
 use Rattle.jh_history.specs.Devices.{Devices, devices_in, specs_of}
 use Rattle.jh_history.specs.Endpoints.{endpoints_put, change_by, changing_by, MayChange}
 use Rattle.jh_history.specs.Places.{written}
-use Rattle.jh_shape.specs.Lives.{configs_of, marked}
+use Rattle.jh_shape.specs.Lives.{configs_of, marked, new_live}
 use Rattle.jh_history.specs.Calls.{call_by}
 use Rattle.jh_history.specs.Commits.{is_other}
 use Rattle.jh_history.specs.DueFacts.{NamesCpu}
@@ -142,7 +142,7 @@ pub record IsSameButDevices (old new : Held) : Type 0 where
 
 -- the cells with the one that comes, last and not loadable
 abbrev pub joined_cells : List Live → CellConfig → List Live
-joined_cells cells config = cells ++ (record { config = config; loadable = false }) ∷ []
+joined_cells cells config = cells ++ new_live config ∷ []
 
 -- the cell with the configuration may join those that live: its regions were found, and there is room for it and for
 -- them; where it names a CPU, fewer than 15 live

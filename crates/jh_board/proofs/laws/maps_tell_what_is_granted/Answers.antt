@@ -1,6 +1,6 @@
 -- The regions of what is sound share no address.
 use Rattle.std.proofs.Common.{refl}
-use Rattle.jh_history.specs.Grants.{is_kept}
+use Rattle.jh_history.specs.Grants.{is_closed_to}
 use Rattle.jh_history.specs.History.{facts}
 use Rattle.jh_history.specs.Lives.{regions_in}
 use Rattle.jh_board.proofs.RegionMapLemmas.{regions_apart, told_is}
@@ -10,4 +10,4 @@ pub returns : goal.returns
 returns c m access at =
     let lives = (facts m.image m.entries).cells in
     let sound = c.legal_journals_are_sound.ensures.legal m.image m.entries m.admitted m.legal in
-    told_is c.maps_tell_each_address.ensures.place c.maps_tell_each_address.ensures.single (is_kept m.image lives m.id) m.id (regions_in m.image lives m.id) m.runs access at (λ k. refl) (regions_apart m.image lives m.id sound.cells.clean) m.is
+    told_is c.maps_tell_each_address.ensures.place c.maps_tell_each_address.ensures.single (is_closed_to m.image lives m.id) m.id (regions_in m.image lives m.id) m.runs access at (λ k. refl) (regions_apart m.image lives m.id sound.cells.clean) m.is
