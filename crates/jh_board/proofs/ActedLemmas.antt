@@ -9,7 +9,7 @@ use Rattle.jh_history.specs.declared.access.Access.TheVariants.{Write as ToWrite
 use Rattle.jh_history.specs.declared.access.Reach.{Reach}
 use Rattle.jh_history.specs.declared.access.Reach.TheVariants.{Memory, Subpage, Config, Window, Nothing}
 use Rattle.jh_history.specs.declared.entry.Act.{Act}
-use Rattle.jh_history.specs.declared.entry.Act.TheVariants.{Read, Write, Fetch, Await, Irq, Hvc, Begin, Stop, Decide, Settle, Commit, Note, Noted, Finish}
+use Rattle.jh_history.specs.declared.entry.Act.TheVariants.{Write, Irq}
 use Rattle.jh_history.specs.declared.comm.PageWrite.{PageWrite}
 use Rattle.jh_history.specs.declared.entry.Entry.{Entry}
 use Rattle.jh_history.specs.declared.place.Place.{Place}
@@ -43,20 +43,8 @@ write_acted image f cell width at value false found is = refl
 -- the bytes after what the act writes itself
 pub bytes_acted : (image : Image) (f : Facts) (cell : ℕ) (act : Act) (found : Reach) → IsReachOfAct image f cell act found
     → byte_written image f cell act ≡ with_endpoint_word_if (endpoint_word_after (devices_of image f cell) act found) (memory_after f.byte act found)
-bytes_acted image f cell (Read width at got) found is = refl
 bytes_acted image f cell (Write width at value ok) found is = write_acted image f cell width at value ok found is
-bytes_acted image f cell (Fetch at got) found is = refl
-bytes_acted image f cell (Await width at value ok) found is = refl
-bytes_acted image f cell (Irq device vector) found is = refl
-bytes_acted image f cell (Hvc code a b answer) found is = refl
-bytes_acted image f cell (Begin code a b) found is = refl
-bytes_acted image f cell Stop found is = refl
-bytes_acted image f cell (Decide refused) found is = refl
-bytes_acted image f cell (Settle how) found is = refl
-bytes_acted image f cell Commit found is = refl
-bytes_acted image f cell (Note id) found is = refl
-bytes_acted image f cell (Noted id how) found is = refl
-bytes_acted image f cell (Finish answer) found is = refl
+bytes_acted image f cell act found is = refl
 
 -- ---- devices
 
@@ -68,20 +56,9 @@ devices_written image f cell width at value false found is = refl
 -- the endpoints after what the act does to them itself
 pub devices_acted : (image : Image) (f : Facts) (cell : ℕ) (act : Act) (found : Reach) → IsReachOfAct image f cell act found → IsNextOf cell f.endpoints act
     → endpoints_acted image f cell act ≡ endpoints_acted_by (devices_of image f cell) act found
-devices_acted image f cell (Read width at got) found is next = refl
 devices_acted image f cell (Write width at value ok) found is next = devices_written image f cell width at value ok found is
-devices_acted image f cell (Fetch at got) found is next = refl
-devices_acted image f cell (Await width at value ok) found is next = refl
 devices_acted image f cell (Irq device vector) found is next = ap (λ (o : Option (ℕ × ℕ)). taken_of cell o f.endpoints) (sym next)
-devices_acted image f cell (Hvc code a b answer) found is next = refl
-devices_acted image f cell (Begin code a b) found is next = refl
-devices_acted image f cell Stop found is next = refl
-devices_acted image f cell (Decide refused) found is next = refl
-devices_acted image f cell (Settle how) found is next = refl
-devices_acted image f cell Commit found is next = refl
-devices_acted image f cell (Note id) found is next = refl
-devices_acted image f cell (Noted id how) found is next = refl
-devices_acted image f cell (Finish answer) found is next = refl
+devices_acted image f cell act found is next = refl
 
 -- ---- the word that a write writes
 
@@ -91,40 +68,17 @@ word_written P devices width at value false found h = tt
 
 -- what each word has that a write writes
 pub word_acted : (P : EndpointWord → Type 0) (devices : Devices) (act : Act) (found : Reach) → ((value : ℕ) → IfSome (endpoint_word_of_reach devices found value) P) → IfSome (endpoint_word_after devices act found) P
-word_acted P devices (Read width at got) found h = tt
 word_acted P devices (Write width at value ok) found h = word_written P devices width at value ok found (h value)
-word_acted P devices (Fetch at got) found h = tt
-word_acted P devices (Await width at value ok) found h = tt
-word_acted P devices (Irq device vector) found h = tt
-word_acted P devices (Hvc code a b answer) found h = tt
-word_acted P devices (Begin code a b) found h = tt
-word_acted P devices Stop found h = tt
-word_acted P devices (Decide refused) found h = tt
-word_acted P devices (Settle how) found h = tt
-word_acted P devices Commit found h = tt
-word_acted P devices (Note id) found h = tt
-word_acted P devices (Noted id how) found h = tt
-word_acted P devices (Finish answer) found h = tt
+word_acted P devices act found h = tt
 
 -- ---- any other act
 
 -- neither a word of a state table nor an endpoint changes by an act that is neither a write nor an interrupt
 pub other_acts : (devices : Devices) (act : Act) (found : Reach) → ((width at value : ℕ) (ok : Bool) → act ≡ Write width at value ok → ⊥) → ((device vector : ℕ) → act ≡ Irq device vector → ⊥)
     → (endpoint_word_after devices act found ≡ None) × (endpoints_acted_by devices act found ≡ devices.endpoints)
-other_acts devices (Read width at got) found write irq = (refl, refl)
 other_acts devices (Write width at value ok) found write irq = absurd (write width at value ok refl)
-other_acts devices (Fetch at got) found write irq = (refl, refl)
-other_acts devices (Await width at value ok) found write irq = (refl, refl)
 other_acts devices (Irq device vector) found write irq = absurd (irq device vector refl)
-other_acts devices (Hvc code a b answer) found write irq = (refl, refl)
-other_acts devices (Begin code a b) found write irq = (refl, refl)
-other_acts devices Stop found write irq = (refl, refl)
-other_acts devices (Decide refused) found write irq = (refl, refl)
-other_acts devices (Settle how) found write irq = (refl, refl)
-other_acts devices Commit found write irq = (refl, refl)
-other_acts devices (Note id) found write irq = (refl, refl)
-other_acts devices (Noted id how) found write irq = (refl, refl)
-other_acts devices (Finish answer) found write irq = (refl, refl)
+other_acts devices act found write irq = (refl, refl)
 
 -- ---- an entry
 

@@ -1,5 +1,5 @@
 -- Bytes of memory at places.
-use Rattle.std.proofs.Common.{◌≡◌, ℕ, zero, suc, ◌+◌, ◌-◌, ◌/◌, ◌%◌, ◌<◌, ◌≤◌, List, [], ◌∷◌, ◌++◌, sym, ◌∙◌, ap, subst, arith, inl, inr}
+use Rattle.std.proofs.Common.{◌≡◌, ℕ, zero, suc, ◌+◌, ◌-◌, ◌/◌, ◌%◌, ◌<◌, ◌≤◌, List, [], ◌++◌, sym, ◌∙◌, ap, subst, arith, inl, inr}
 use Rattle.std.specs.Prelude.{All, IsSome}
 use Rattle.std.specs.List.{AllByRecursion}
 use Rattle.std.proofs.lemmas.Bool.{cases_eq}
@@ -53,13 +53,6 @@ at_place Q p (suc count) (suc k) lt all = let e : k + 1 ≡ suc k = omega arith 
 
 pub All_at_place : (Q : Place → Type 0) (p : Place) (count k : ℕ) → k < count → All Q (places_in_row p count) → Q (further p k)
 All_at_place Q p count k lt all = at_place Q p count k lt (recursion_from_All Q (places_in_row p count) all)
-
-pub All_high : (Q : Place → Type 0) (xs ys : List Place) → All Q (xs ++ ys) → All Q ys
-All_high Q xs ys all = All-from_recursion Q ys (high_of xs (recursion_from_All Q (xs ++ ys) all))
-  where
-    high_of : (zs : List Place) → AllByRecursion Q (zs ++ ys) → AllByRecursion Q ys
-    high_of [] h = h
-    high_of (z ∷ zs) h = high_of zs h.1
 
 -- one byte of a write
 pub over_more : (old new : MemoryView) (p at : Place) (byte k n rest : ℕ) (places : List Place) (q : Place) → k < n → at ≡ further p k → byte ≡ rest % 256 → byte_of new q ≡ with_byte (byte_of old) at byte q

@@ -1,16 +1,16 @@
 -- The cells that live: by their ids and indexes, with one less or one more, their regions, and the pages that
 -- root and they take.
-use Rattle.std.proofs.Common.{◌≡◌, ℕ, zero, suc, ◌+◌, ◌*◌, ◌^◌, ◌<◌, ◌≤◌, Bool, true, false, cond, not, List, [], ◌∷◌, ◌++◌, length, get_or, map, remove, position, sum_by, Option, Some, None, refl, sym, ap, subst, ◌∙◌, arith}
+use Rattle.std.proofs.Common.{◌≡◌, ℕ, ◌+◌, ◌*◌, ◌^◌, ◌<◌, ◌≤◌, Bool, true, false, cond, not, List, [], ◌∷◌, ◌++◌, length, get_or, map, remove, position, sum_by, Option, Some, None, refl, sym, ap, subst, ◌∙◌, arith}
 use Rattle.std.specs.Prelude.{All, IfSome, filter, slice_get, option_map, nat_lt}
 use Rattle.std.specs.Option.{option_map_or}
-use Rattle.std.specs.List.{find, position_or_len, Contains, AllByRecursion}
+use Rattle.std.specs.List.{find, position_or_len, Contains}
 use Rattle.std.proofs.lemmas.Bool.{eqb-true}
 use Rattle.std.proofs.lemmas.Option.{none-some, same_Some, slice_get-map, slice_get-get_or, slice_get_past}
 use Rattle.std.proofs.lemmas.List.{length-map, map-append, get_or-map}
-use Rattle.std.proofs.lemmas.List.Folds.{find_at}
+use Rattle.std.proofs.lemmas.List.Folds.{find_at, map_fixed}
 use Rattle.std.proofs.lemmas.List.Sums.{sum_by-append, sum_by-remove}
-use Rattle.std.proofs.lemmas.List.Elements.{All-contains, All-from_recursion, recursion_from_All}
-use Rattle.jh_num.proofs.Public.{IsFound_from_find, find_None, Contains_head, Contains_tail}
+use Rattle.std.proofs.lemmas.List.Elements.{All-contains}
+use Rattle.jh_num.proofs.Public.{IsFound_from_find, filter_all, find_None, map_remove}
 use Rattle.jh_cellcfg.specs.declared.config.CellConfig.{CellConfig}
 use Rattle.jh_cellcfg.specs.declared.region.Region.{Region}
 use Rattle.jh_cellcfg.specs.declared.live.Live.{Live}
@@ -22,6 +22,7 @@ use Rattle.jh_life.specs.Lives.{has_config_id}
 use Rattle.jh_shape.specs.Lives.{configs_of, marked, new_live}
 use Rattle.jh_history.specs.Commits.{is_other}
 use Rattle.jh_history.specs.Lives.{live_in}
+use Rattle.jh_history.proofs.Public.{All_from_held}
 use Rattle.jh_board.specs.Private.Closed.{IsIndexOf, live_regions, all_regions, count_regions}
 
 -- ---- the index of a cell
@@ -35,14 +36,15 @@ index_by id n lives true lt is = record { within = grind arith; found = is }
 index_by id n lives false past is = is ∙ slice_get_past lives n (grind arith)
 
 -- what the first place among the configurations tells
-pub index_found : (lives : List Live) (id : ℕ) (r : Option ℕ) → r ≡ position (has_config_id id) (configs_of lives) → IsIndexOf lives id r
-index_found lives id r is =
+pub index_found : (lives : List Live) (list : List CellConfig) (id : ℕ) (r : Option ℕ) → list ≡ configs_of lives → r ≡ position (has_config_id id) list → IsIndexOf lives id r
+index_found lives list id r own is =
     let n = position_or_len (has_id id) lives in
     let e = position_map id lives in
     let len : length (configs_of lives) ≡ length lives = length-map lives (λ (l : Live). l.config) in
     let same : position (has_config_id id) (configs_of lives) ≡ cond (nat_lt n (length lives)) (Some n) None
     = ap (λ m. cond (nat_lt m (length (configs_of lives))) (Some m) None) e ∙ ap (λ l. cond (nat_lt n l) (Some n) None) len in
-    subst (IsIndexOf lives id) (sym (is ∙ same)) (index_by id n lives (nat_lt n (length lives)) refl (find_at (has_id id) lives))
+    let here : r ≡ position (has_config_id id) (configs_of lives) = is ∙ ap (λ (cs : List CellConfig). position (has_config_id id) cs) own in
+    subst (IsIndexOf lives id) (sym (here ∙ same)) (index_by id n lives (nat_lt n (length lives)) refl (find_at (has_id id) lives))
 
 pub index_few : (lives : List Live) (id : ℕ) (r : Option ℕ) → IsIndexOf lives id r → length lives ≤ 15 → IfSome r (λ k. k < 15)
 index_few lives id None is few = tt
@@ -92,36 +94,13 @@ cell_at lives id k is = cell_by lives id k (slice_get lives k) refl is.found is.
 
 -- ---- a cell that doesn't live
 
-filter_all : {X : Type 0} (p : X → Bool) (xs : List X) → ((x : X) → Contains xs x → p x ≡ true) → xs ≡ filter p xs
-filter_all p [] h = refl
-filter_all p (x ∷ xs) h = rw (h x (Contains_head x xs)) (ap (λ l. x ∷ l) (filter_all p xs (λ y k. h y (Contains_tail x xs y k))))
-
-map_all : {X : Type 0} (f : X → X) (xs : List X) → ((x : X) → Contains xs x → f x ≡ x) → xs ≡ map f xs
-map_all f [] h = refl
-map_all f (x ∷ xs) h = ap (λ y. y ∷ xs) (sym (h x (Contains_head x xs))) ∙ ap (λ l. f x ∷ l) (map_all f xs (λ y k. h y (Contains_tail x xs y k)))
-
 pub removed_none : (lives : List Live) (id : ℕ) → IsIndexOf lives id None → lives ≡ filter (is_other id) lives
-removed_none lives id is = filter_all (is_other id) lives (λ x k. ap not (find_None (has_id id) lives x is k))
+removed_none lives id is = sym (filter_all (is_other id) lives (λ x k. ap not (find_None (has_id id) lives x is k)))
 
 pub marked_none : (lives : List Live) (id : ℕ) (on : Bool) → IsIndexOf lives id None → lives ≡ map (marked id on) lives
-marked_none lives id on is = map_all (marked id on) lives (λ x k. rw (find_None (has_id id) lives x is k) refl)
+marked_none lives id on is = sym (map_fixed (marked id on) lives (All_from_held (λ x. marked id on x ≡ x) lives (λ x k. rw (find_None (has_id id) lives x is k) refl)))
 
 -- ---- one cell less, and one more
-
-map_remove : {X Y : Type 0} (f : X → Y) (xs : List X) (k : ℕ) → map f (remove xs k) ≡ remove (map f xs) k
-map_remove f [] zero = refl
-map_remove f [] (suc k) = refl
-map_remove f (x ∷ xs) zero = refl
-map_remove f (x ∷ xs) (suc k) = ap (λ l. f x ∷ l) (map_remove f xs k)
-
-removed : {X : Type 0} (Q : X → Type 0) (xs : List X) (k : ℕ) → AllByRecursion Q xs → AllByRecursion Q (remove xs k)
-removed Q [] zero all = tt
-removed Q [] (suc k) all = tt
-removed Q (x ∷ xs) zero all = all.1
-removed Q (x ∷ xs) (suc k) all = (all.0, removed Q xs k all.1)
-
-pub All_removed : {X : Type 0} (Q : X → Type 0) (xs : List X) (k : ℕ) → All Q xs → All Q (remove xs k)
-All_removed Q xs k all = All-from_recursion Q (remove xs k) (removed Q xs k (recursion_from_All Q xs all))
 
 configs_removed : (lives new : List Live) (k n : ℕ) → new ≡ remove lives n → n ≡ k → configs_of new ≡ remove (configs_of lives) k
 configs_removed lives new k n is same =

@@ -1,9 +1,9 @@
 -- The words of devices are held, and what is held has all that a Commit needs for the devices of its cell.
-use Rattle.std.proofs.Common.{◌≡◌, ◌⊎◌, ℕ, ◌+◌, ◌*◌, ◌^◌, ◌<◌, List, ◌∷◌, Option, Some, None, refl, sym, ◌∙◌, ap, subst, inl, inr, ⊎_elim, arith, Bool}
+use Rattle.std.proofs.Common.{◌≡◌, ◌⊎◌, ℕ, ◌+◌, ◌*◌, ◌^◌, ◌<◌, List, ◌∷◌, Option, Some, None, refl, sym, ◌∙◌, ap, subst, inl, inr, ⊎_elim, arith}
 use Rattle.std.specs.Prelude.{All, Contains, IfSome, option_map, find}
 use Rattle.std.proofs.lemmas.Option.{none-some, same_Some}
 use Rattle.std.proofs.lemmas.List.Elements.{All-contains, All-map, All-weaker}
-use Rattle.jh_num.proofs.Public.{Contains_cases, IsFound_from_find}
+use Rattle.jh_num.proofs.Public.{Contains_cases}
 use Rattle.jh_cellcfg.specs.declared.config.CellConfig.{CellConfig}
 use Rattle.jh_cellcfg.specs.declared.live.Live.{Live}
 use Rattle.jh_cellcfg.specs.Lives.{has_id}
@@ -12,18 +12,18 @@ use Rattle.jh_ivshmem.specs.declared.spec.EndpointSpec.{EndpointSpec}
 use Rattle.jh_ivshmem.specs.declared.spec.EndpointWord.{EndpointWord}
 use Rattle.jh_ivshmem.specs.Specs.{IsInItsLimits, endpoint_word_of}
 use Rattle.jh_call.specs.declared.call.Call.{Call}
-use Rattle.jh_call.specs.declared.call.Call.TheVariants.{Create, Start, Loadable, Destroy, Info, State, CpuInfo, Unknown}
+use Rattle.jh_call.specs.declared.call.Call.TheVariants.{Create, Start, Destroy}
 use Rattle.jh_script.specs.declared.image.Image.{Image}
 use Rattle.jh_history.specs.declared.access.Reach.{Reach}
 use Rattle.jh_history.specs.declared.call.OpenCall.{OpenCall}
 use Rattle.jh_history.specs.declared.device_change.DeviceChange.TheVariants.{Join, Reset, Leave}
 use Rattle.jh_history.specs.declared.entry.Act.{Act}
-use Rattle.jh_history.specs.declared.entry.Act.TheVariants.{Read, Write, Fetch, Await, Irq, Hvc, Begin, Stop, Decide, Settle, Commit, Note, Noted, Finish}
+use Rattle.jh_history.specs.declared.entry.Act.TheVariants.{Commit}
 use Rattle.jh_history.specs.declared.place.Place.TheVariants.{Physical}
 use Rattle.jh_history.specs.Access.{endpoint_word_of_reach}
 use Rattle.jh_history.specs.Devices.{Devices, devices_in, specs_of}
 use Rattle.jh_history.specs.DueFacts.{IsWordOf}
-use Rattle.jh_history.specs.Endpoints.{device_change, changing, changing_at, changing_by, change_by, MayChange}
+use Rattle.jh_history.specs.Endpoints.{device_change, changing, changing_by, change_by, MayChange}
 use Rattle.jh_history.specs.Facts.{Facts}
 use Rattle.jh_history.specs.Grants.{devices_of}
 use Rattle.jh_history.specs.Lives.{live_in}
@@ -35,8 +35,10 @@ use Rattle.jh_board.specs.Means.{Means, HoldsWordsOf}
 use Rattle.jh_board.specs.Pages.{MemoryView, HoldsPlace, HoldsEndpointWord, HoldsWordOf}
 use Rattle.jh_board.specs.Private.Steps.{devices_held, endpoint_word_after, MayPut, MayWriteEndpointWord, MayCommitDevices, MayCommit}
 use Rattle.jh_board.proofs.ActedLemmas.{word_acted}
-use Rattle.jh_board.proofs.AfterLemmas.{if_some, IsComing, created_phase, ready_coming}
+use Rattle.jh_board.proofs.AnswerLemmas.{if_some}
+use Rattle.jh_board.proofs.ComingLemmas.{IsComing, created_phase, ready_coming}
 use Rattle.jh_board.proofs.KeptLemmas.{KeepsPages, words_kept}
+use Rattle.jh_board.proofs.ListLemmas.{All_from_find}
 
 -- ---- words that are held
 
@@ -86,26 +88,10 @@ may_write_endpoint_word image held mid f id act found means sound cells endpoint
 
 -- ---- the devices that a Commit changes
 
-open_commits : (cells : List Live) (o : OpenCall) (act : Act) (config : CellConfig) → changing_at cells o act ≡ Some config → act ≡ Commit
-open_commits cells o (Read width at got) config h = absurd (none-some config h)
-open_commits cells o (Write width at value ok) config h = absurd (none-some config h)
-open_commits cells o (Fetch at got) config h = absurd (none-some config h)
-open_commits cells o (Await width at value ok) config h = absurd (none-some config h)
-open_commits cells o (Irq device vector) config h = absurd (none-some config h)
-open_commits cells o (Hvc code a b answer) config h = absurd (none-some config h)
-open_commits cells o (Begin code a b) config h = absurd (none-some config h)
-open_commits cells o Stop config h = absurd (none-some config h)
-open_commits cells o (Decide refused) config h = absurd (none-some config h)
-open_commits cells o (Settle how) config h = absurd (none-some config h)
-open_commits cells o Commit config h = refl
-open_commits cells o (Note id) config h = absurd (none-some config h)
-open_commits cells o (Noted id how) config h = absurd (none-some config h)
-open_commits cells o (Finish answer) config h = absurd (none-some config h)
-
--- it is a Commit
+-- an act that changes devices so is a Commit
 commits : (cells : List Live) (call : Option OpenCall) (act : Act) (config : CellConfig) → changing_by cells call act ≡ Some config → act ≡ Commit
-commits cells None act config h = absurd (none-some config h)
-commits cells (Some o) act config h = open_commits cells o act config h
+commits cells (Some o) Commit config h = refl
+commits cells call act config h = absurd (none-some config h)
 
 -- the cell lives, and its devices don't join
 record IsOfLive (cells : List Live) (call : Option OpenCall) (config : CellConfig) : Type 0 where
@@ -123,12 +109,8 @@ leave_joins h = cc
 changed_cell : (cells : List Live) (o : OpenCall) (call : Call) (config : CellConfig) → o.call ≡ call → changing cells call o.phase ≡ Some config → IsComing (Some o) config ⊎ IsOfLive cells (Some o) config
 changed_cell cells o (Create at) config is h = inl (record { begun = o; is = refl; phase = created_phase (Create at) o.phase config h })
 changed_cell cells o (Start id) config is h = inr (record { id = id; lives = h; stays = λ joins. reset_joins (ap device_change (sym is) ∙ joins) })
-changed_cell cells o (Loadable id) config is h = absurd (none-some config h)
 changed_cell cells o (Destroy id) config is h = inr (record { id = id; lives = h; stays = λ joins. leave_joins (ap device_change (sym is) ∙ joins) })
-changed_cell cells o (Info kind) config is h = absurd (none-some config h)
-changed_cell cells o (State id) config is h = absurd (none-some config h)
-changed_cell cells o (CpuInfo cpu kind) config is h = absurd (none-some config h)
-changed_cell cells o Unknown config is h = absurd (none-some config h)
+changed_cell cells o call config is h = absurd (none-some config h)
 
 changed_by : (cells : List Live) (call : Option OpenCall) (config : CellConfig) → changing_by cells call Commit ≡ Some config → IsComing call config ⊎ IsOfLive cells call config
 changed_by cells None config h = absurd (none-some config h)
@@ -137,10 +119,6 @@ changed_by cells (Some o) config h = changed_cell cells o o.call config refl h
 config_has : (Q : CellConfig → Type 0) (o : Option Live) (config : CellConfig) → option_map (λ (live : Live). live.config) o ≡ Some config → ((live : Live) → o ≡ Some live → Q live.config) → Q config
 config_has Q None config is h = absurd (none-some config is)
 config_has Q (Some live) config is h = subst Q (same_Some live.config config is) (h live refl)
-
--- an element that is found has what all elements have
-All_from_find : {X : Type 0} (p : X → Bool) (Q : X → Type 0) (xs : List X) (x : X) → find p xs ≡ Some x → All Q xs → Q x
-All_from_find p Q xs x e all = All-contains Q xs x all (IsFound_from_find p xs x e).held
 
 live_words : (held : Held) (cells : List Live) (id : ℕ) (config : CellConfig) → All (λ (live : Live). HoldsWordsOf held live.config) cells → live_in cells id ≡ Some config → HoldsWordsOf held config
 live_words held cells id config all lives =

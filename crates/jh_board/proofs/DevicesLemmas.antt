@@ -1,10 +1,10 @@
 -- The endpoints of a cell's devices, one device after another.
 use Rattle.std.proofs.Common.{◌≡◌, ℕ, zero, suc, ◌+◌, ◌<◌, ◌≤◌, ◌^◌, Bool, true, false, cond, List, [], ◌∷◌, ◌++◌, length, take, drop, get_or, Option, Some, refl, sym, ◌∙◌, ap, subst, arith}
-use Rattle.std.specs.Prelude.{All, AllPairs, Contains, slice_get}
+use Rattle.std.specs.Prelude.{All, AllPairs, slice_get}
 use Rattle.std.specs.List.{AllByRecursion}
 use Rattle.std.proofs.lemmas.Option.{slice_get-get_or}
-use Rattle.std.proofs.lemmas.List.{take_all, length-append, get_or_append_left, get_or-append-add, get_or_default}
-use Rattle.std.proofs.lemmas.List.Elements.{All-contains, All-from_recursion, recursion_from_All}
+use Rattle.std.proofs.lemmas.List.{take_all, length-append}
+use Rattle.std.proofs.lemmas.List.Elements.{All-contains, All-from_recursion, recursion_from_All, Contains-append_left}
 use Rattle.std.proofs.lemmas.List.Sums.{fold-append}
 use Rattle.jh_num.specs.declared.address.TheConstants.{ADDRESS_END}
 use Rattle.jh_cellcfg.specs.declared.config.CellConfig.{CellConfig}
@@ -23,6 +23,7 @@ use Rattle.jh_history.specs.declared.place.Place.{Place}
 use Rattle.jh_history.specs.Devices.{is_endpoint, section_at, place_of_section, spec_of, specs_from, specs_of, specs_by, specs_at}
 use Rattle.jh_history.specs.Endpoints.{HasGoodDevices, MayJoinThem, MayChange, endpoint_changed, endpoints_changed, with_words}
 use Rattle.jh_history.proofs.Public.{same_function, kind_from, All_from_held}
+use Rattle.jh_board.proofs.ListLemmas.{All_left, All_right, pair_apart}
 
 -- ---- one device after another
 
@@ -99,23 +100,11 @@ specs_around config n lt =
 
 -- ---- what all endpoints have
 
-all_left : {X : Type 0} (P : X → Type 0) (xs ys : List X) → All P (xs ++ ys) → All P xs
-all_left P xs ys all k d below =
-    let more = length-append xs ys in
-    let within : k < length (xs ++ ys) = omega arith in
-    subst P (get_or_append_left xs ys d k below) (all k d within)
-
-all_right : {X : Type 0} (P : X → Type 0) (xs ys : List X) → All P (xs ++ ys) → All P ys
-all_right P xs ys all k d below =
-    let more = length-append xs ys in
-    let within : length xs + k < length (xs ++ ys) = omega arith in
-    subst P (get_or-append-add xs ys k d) (all (length xs + k) d within)
-
 pub all_at : (P : EndpointSpec → Type 0) (config : CellConfig) (n : ℕ) → n < length config.pci_devices → All P (specs_of config) → All P (specs_at config n)
 all_at P config n lt all =
     let Q : List EndpointSpec → Type 0 = All P in
-    all_left P (specs_at config n) (specs_from config (suc n) (drop (suc n) config.pci_devices))
-    (all_right P (specs_before config n) (specs_rest config n) (subst Q (specs_around config n lt) all))
+    All_left P (specs_at config n) (specs_from config (suc n) (drop (suc n) config.pci_devices))
+    (All_right P (specs_before config n) (specs_rest config n) (subst Q (specs_around config n lt) all))
 
 -- how many there are up to a device
 pub specs_count : (config : CellConfig) (n : ℕ) → n < length config.pci_devices → length (specs_before config n) + length (specs_at config n) ≤ length (specs_of config)
@@ -188,41 +177,19 @@ joining_have : (Q : EndpointSpec → Type 0) (specs : List EndpointSpec) (list :
 joining_have Q [] list own all = all
 joining_have Q (spec ∷ specs) list own all = joining_have Q specs (joined spec list) own.1 (joined_have Q spec list own.0 all)
 
-pair_apart : {X : Type 0} (R : X → X → Type 0) (xs ys : List X) (a b : X) → AllPairs R (xs ++ ys) → Contains xs a → Contains ys b → R a b
-pair_apart {X} R xs ys a b apart first later =
-    let more = length-append xs ys in
-    let i = first.0 in
-    let j = length xs + later.0 in
-    let low : i < length xs = first.1 in
-    let high : later.0 < length ys = later.1 in
-    let before : i < j = omega arith in
-    let within : j < length (xs ++ ys) = omega arith in
-    let own : get_or (xs ++ ys) i a ≡ a = get_or_append_left xs ys a i low ∙ first.2 in
-    let other : get_or (xs ++ ys) j a ≡ b = get_or-append-add xs ys later.0 a ∙ get_or_default ys later.0 a b high ∙ later.2 in
-    let P : X → Type 0 = λ x. R x (get_or (xs ++ ys) j a) in
-    let Q : X → Type 0 = λ y. R a y in
-    subst Q other (subst P own (apart i j a before within))
-
 -- the endpoints of a device may join where all may, and those of the devices before have
 pub may_join_next : (config : CellConfig) (list : List Endpoint) (n : ℕ) → MayChange Join list config → n < length config.pci_devices → All (MayJoinThem (endpoints_changed Join (specs_before config n) list)) (specs_at config n)
 may_join_next config list n may lt =
     let before = specs_before config n in
     let P : List EndpointSpec → Type 0 = AllPairs AreEndpointsApart in
     let apart : AllPairs AreEndpointsApart (before ++ specs_rest config n) = subst P (specs_around config n lt) (may.apart refl) in
-    All_from_held (MayJoinThem (endpoints_changed Join before list)) (specs_at config n) (λ spec held.
+    All_from_held (MayJoinThem (endpoints_changed Join before list)) (specs_at config n) (λ spec there.
     let Q : EndpointSpec → Type 0 = λ other. AreEndpointsApart other spec in
-    let new : All (λ (e : Endpoint). Q e.spec) list = All-contains (MayJoinThem list) (specs_at config n) spec (all_at (MayJoinThem list) config n lt (may.new refl)) held in
+    let new : All (λ (e : Endpoint). Q e.spec) list = All-contains (MayJoinThem list) (specs_at config n) spec (all_at (MayJoinThem list) config n lt (may.new refl)) there in
     All-from_recursion (λ (e : Endpoint). Q e.spec) (endpoints_changed Join before list)
     (joining_have Q before list
-    (recursion_from_All Q before (All_from_held Q before (λ other earlier. pair_apart AreEndpointsApart before (specs_rest config n) other spec apart earlier (left_held (specs_at config n) (specs_from config (suc n) (drop (suc n) config.pci_devices)) spec held))))
+    (recursion_from_All Q before (All_from_held Q before (λ other earlier. pair_apart AreEndpointsApart before (specs_rest config n) other spec apart earlier (Contains-append_left (specs_at config n) (specs_from config (suc n) (drop (suc n) config.pci_devices)) spec there))))
     (recursion_from_All (λ (e : Endpoint). Q e.spec) list new)))
-  where
-    left_held : (xs ys : List EndpointSpec) (x : EndpointSpec) → Contains xs x → Contains (xs ++ ys) x
-    left_held xs ys x h =
-        let more = length-append xs ys in
-        let low : h.0 < length xs = h.1 in
-        let within : h.0 < length (xs ++ ys) = omega arith in
-        (h.0, within, get_or_append_left xs ys x h.0 low ∙ h.2)
 
 -- ---- what a change leaves
 

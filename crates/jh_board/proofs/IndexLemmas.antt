@@ -118,6 +118,6 @@ pub sized_in_range : (at : ℕ) (o : Option Region) → IfSome o IsEmptyOrInRang
 sized_in_range at None within has = tt
 sized_in_range at (Some r) within has = within (has_some r at has)
 
-pub held_in_range : (image : Image) (o : Option Region) → IsAdmitted image → IfSome o (Contains image.system.root.memory_regions) → IfSome o IsEmptyOrInRange
-held_in_range image None admitted own = tt
-held_in_range image (Some r) admitted own = All-contains IsEmptyOrInRange image.system.root.memory_regions r (within image admitted) own
+pub own_in_range : (image : Image) (o : Option Region) → IsAdmitted image → IfSome o (Contains image.system.root.memory_regions) → IfSome o IsEmptyOrInRange
+own_in_range image None admitted own = tt
+own_in_range image (Some r) admitted own = All-contains IsEmptyOrInRange image.system.root.memory_regions r (within image admitted) own

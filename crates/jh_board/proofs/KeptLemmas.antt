@@ -1,6 +1,6 @@
 -- What a board holds still stands for the facts where each byte, the CPUs, cells, programs, endpoints and call are
--- as they were, its pages stay held, and it is ready to go on: its index and its room may change. It stays ready
--- where its pages, its index, the cells and their room stay, and the room for endpoints doesn't shrink.
+-- as they were, its pages stay held, and it is ready to go on: the regions of the cell that comes and its room may change. It stays
+-- ready where its pages, those regions, the cells and their room stay, and the room for endpoints doesn't shrink.
 use Rattle.std.proofs.Common.{◌≡◌, ℕ, ◌<◌, ◌≤◌, List, Option, Some, None, ◌∙◌, sym, ap, subst, arith}
 use Rattle.std.specs.Prelude.{slice_get, All}
 use Rattle.std.proofs.lemmas.List.Elements.{All-weaker}
@@ -12,7 +12,7 @@ use Rattle.jh_ivshmem.specs.Specs.{endpoint_word_of}
 use Rattle.jh_script.specs.declared.image.Image.{Image}
 use Rattle.jh_history.specs.declared.call.OpenCall.{OpenCall}
 use Rattle.jh_history.specs.declared.call.Phase.{Phase}
-use Rattle.jh_history.specs.declared.call.Phase.TheVariants.{ToDecide, ToSettle, ToCreate, ToCommit, ToNote, ToNoted, ToFinish}
+use Rattle.jh_history.specs.declared.call.Phase.TheVariants.{ToCreate}
 use Rattle.jh_history.specs.declared.place.Place.{Place}
 use Rattle.jh_history.specs.declared.place.Place.TheVariants.{Physical, Page}
 use Rattle.jh_history.specs.Devices.{specs_of}
@@ -37,28 +37,23 @@ pub words_kept : (old new : MemoryView) (specs : List EndpointSpec) → KeepsPag
 words_kept old new specs pages h =
     All-weaker (HoldsWordOf old) (HoldsWordOf new) (λ spec word. All-weaker (HoldsPlace old) (HoldsPlace new) pages (places_in_row (Physical (endpoint_word_of spec 0).place) 4) word) specs h
 
-pub ready_for_kept : (old new : Held) (config : CellConfig) → new.index ≡ old.index → new.cells ≡ old.cells → old.endpoints.spare ≤ new.endpoints.spare → KeepsPages old.memory new.memory → IsReadyFor old config → IsReadyFor new config
-ready_for_kept old new config index cells spare pages h = record {
-  index = index ∙ h.index;
-  cells = rw cells h.cells;
-  regions = rw cells h.regions;
+pub ready_for_kept : (old new : Held) (config : CellConfig) → new.coming_regions ≡ old.coming_regions → new.cells ≡ old.cells → old.endpoints.spare ≤ new.endpoints.spare → KeepsPages old.memory new.memory → IsReadyFor old config → IsReadyFor new config
+ready_for_kept old new config regions cells spare pages h = record {
+  regions = regions ∙ h.regions;
+  spare_cells = rw cells h.spare_cells;
+  spare_regions = rw cells h.spare_regions;
   page = comms_kept old.memory new.memory config.id pages h.page;
   endpoints = let room = h.endpoints in omega arith;
   words = words_kept old.memory new.memory (specs_of config) pages h.words;
 }
 
-ready_in_kept : (old new : Held) (phase : Phase) → new.index ≡ old.index → new.cells ≡ old.cells → old.endpoints.spare ≤ new.endpoints.spare → KeepsPages old.memory new.memory → IsReadyIn old phase → IsReadyIn new phase
-ready_in_kept old new ToDecide index cells spare pages h = tt
-ready_in_kept old new (ToSettle waited) index cells spare pages h = tt
-ready_in_kept old new (ToCreate config) index cells spare pages h = ready_for_kept old new config index cells spare pages h
-ready_in_kept old new ToCommit index cells spare pages h = tt
-ready_in_kept old new (ToNote id about answer) index cells spare pages h = tt
-ready_in_kept old new (ToNoted id about answer waited) index cells spare pages h = tt
-ready_in_kept old new (ToFinish answer) index cells spare pages h = tt
+ready_in_kept : (old new : Held) (phase : Phase) → new.coming_regions ≡ old.coming_regions → new.cells ≡ old.cells → old.endpoints.spare ≤ new.endpoints.spare → KeepsPages old.memory new.memory → IsReadyIn old phase → IsReadyIn new phase
+ready_in_kept old new (ToCreate config) regions cells spare pages h = ready_for_kept old new config regions cells spare pages h
+ready_in_kept old new phase regions cells spare pages h = tt
 
-pub ready_kept : (old new : Held) (call : Option OpenCall) → new.index ≡ old.index → new.cells ≡ old.cells → old.endpoints.spare ≤ new.endpoints.spare → KeepsPages old.memory new.memory → IsReadyToGoOn old call → IsReadyToGoOn new call
-ready_kept old new None index cells spare pages h = tt
-ready_kept old new (Some o) index cells spare pages h = ready_in_kept old new o.phase index cells spare pages h
+pub ready_kept : (old new : Held) (call : Option OpenCall) → new.coming_regions ≡ old.coming_regions → new.cells ≡ old.cells → old.endpoints.spare ≤ new.endpoints.spare → KeepsPages old.memory new.memory → IsReadyToGoOn old call → IsReadyToGoOn new call
+ready_kept old new None regions cells spare pages h = tt
+ready_kept old new (Some o) regions cells spare pages h = ready_in_kept old new o.phase regions cells spare pages h
 
 pub pages_kept : (old new : Held) (cells : List Live) → KeepsPages old.memory new.memory → All (HoldsPageOf old) cells → All (HoldsPageOf new) cells
 pages_kept old new cells pages h = All-weaker (HoldsPageOf old) (HoldsPageOf new) (λ live. comms_kept old.memory new.memory live.config.id pages) cells h

@@ -1,4 +1,4 @@
-mod PagesLemmas
+mod ListLemmas
 mod BytesLemmas
 mod PieceLemmas
 mod MeansLemmas
@@ -10,6 +10,10 @@ mod GrantedLemmas
 mod ReadyLemmas
 mod KeptLemmas
 mod MadeLemmas
+mod AnswerLemmas
+mod ComingLemmas
+mod WrittenLemmas
+mod EachCellLemmas
 mod AfterLemmas
 mod RootReadLemmas
 mod RegionMapLemmas

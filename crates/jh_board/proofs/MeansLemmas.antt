@@ -1,8 +1,6 @@
 -- What a board holds, by the facts.
-use Rattle.std.proofs.Common.{◌≡◌, ℕ, ◌<◌, List, [], Some, None, ◌∙◌, ap}
+use Rattle.std.proofs.Common.{◌≡◌, ℕ, List, [], Some, None, ◌∙◌, ap}
 use Rattle.std.specs.Prelude.{slice_get, replicate, fold}
-use Rattle.std.proofs.lemmas.Option.{slice_get-get_or}
-use Rattle.std.proofs.lemmas.List.{length-replicate, get_or-replicate}
 use Rattle.std.proofs.lemmas.List.Elements.{All-from_recursion}
 use Rattle.jh_cellcfg.specs.declared.live.Live.{Live}
 use Rattle.jh_script.specs.declared.image.Image.{Image}
@@ -18,10 +16,7 @@ use Rattle.jh_board.specs.Indexed.{AreProgramIndices}
 use Rattle.jh_board.specs.Pages.{byte_of, comm_byte, MemoryView}
 use Rattle.jh_num.specs.Pages.{paged_byte}
 use Rattle.jh_board.specs.Means.{Means, HoldsPageOf, HoldsWordsOf}
-
--- an element of equal elements
-pub slice_get_replicate : {X : Type 0} (n i : ℕ) (x : X) → i < n → slice_get (replicate n x) i ≡ Some x
-slice_get_replicate n i x lt = slice_get-get_or (replicate n x) i x (rw (length-replicate n x) lt) ∙ ap Some (get_or-replicate n i x x lt)
+use Rattle.jh_board.proofs.ListLemmas.{slice_get_replicate}
 
 -- what is held at opening
 pub Means_opened : (image : Image) (held : Held) (cpu : Cpu) → ((q : Place) → byte_of held.memory q ≡ (start image).byte q) → held.cpus ≡ replicate 16 cpu → ((i : ℕ) → cpu ≡ (start image).cpu i)

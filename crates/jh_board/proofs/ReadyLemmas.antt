@@ -6,13 +6,13 @@ use Rattle.std.proofs.lemmas.Option.{none-some, same_Some}
 use Rattle.jh_cellcfg.specs.declared.config.CellConfig.{CellConfig}
 use Rattle.jh_cellcfg.specs.declared.live.Live.{Live}
 use Rattle.jh_call.specs.declared.call.Call.{Call}
-use Rattle.jh_call.specs.declared.call.Call.TheVariants.{Create, Start, Loadable, Destroy, Info, State, CpuInfo, Unknown}
+use Rattle.jh_call.specs.declared.call.Call.TheVariants.{Create, Destroy}
 use Rattle.jh_history.specs.declared.call.OpenCall.{OpenCall}
 use Rattle.jh_history.specs.declared.call.Phase.{Phase}
-use Rattle.jh_history.specs.declared.call.Phase.TheVariants.{ToDecide, ToSettle, ToCreate, ToCommit, ToNote, ToNoted, ToFinish}
+use Rattle.jh_history.specs.declared.call.Phase.TheVariants.{ToDecide, ToCreate}
 use Rattle.jh_history.specs.declared.entry.Entry.{Entry}
 use Rattle.jh_history.specs.declared.entry.Act.{Act}
-use Rattle.jh_history.specs.declared.entry.Act.TheVariants.{Read, Write, Fetch, Await, Irq, Hvc, Begin, Stop, Decide, Settle, Commit, Note, Noted, Finish}
+use Rattle.jh_history.specs.declared.entry.Act.TheVariants.{Decide}
 use Rattle.jh_script.specs.declared.image.Image.{Image}
 use Rattle.jh_history.specs.declared.call.Creation.{Creation}
 use Rattle.jh_history.specs.declared.call.Creation.TheVariants.{Refused, Accepted}
@@ -32,52 +32,19 @@ ready_telling : (held : Held) (about : ℕ) (answer : ℤ) (o : Option ℕ) → 
 ready_telling held about answer None = tt
 ready_telling held about answer (Some id) = tt
 
-ready_created : (held : Held) (at : ℕ) (cells : List Live) (phase : Phase) → IsReadyIn held (after_commit (Create at) phase cells)
-ready_created held at cells ToDecide = tt
-ready_created held at cells (ToSettle waited) = tt
-ready_created held at cells (ToCreate config) = ready_telling held config.id (pos config.id) (first_recipient config.id cells)
-ready_created held at cells ToCommit = tt
-ready_created held at cells (ToNote id about answer) = tt
-ready_created held at cells (ToNoted id about answer waited) = tt
-ready_created held at cells (ToFinish answer) = tt
-
 pub ready_committed : (held : Held) (call : Call) (cells : List Live) (phase : Phase) → IsReadyIn held (after_commit call phase cells)
-ready_committed held (Create at) cells phase = ready_created held at cells phase
-ready_committed held (Start id) cells phase = tt
-ready_committed held (Loadable id) cells phase = tt
+ready_committed held (Create at) cells (ToCreate config) = ready_telling held config.id (pos config.id) (first_recipient config.id cells)
 ready_committed held (Destroy id) cells phase = ready_telling held id (pos 0) (first_recipient id cells)
-ready_committed held (Info kind) cells phase = tt
-ready_committed held (State id) cells phase = tt
-ready_committed held (CpuInfo cpu kind) cells phase = tt
-ready_committed held Unknown cells phase = tt
+ready_committed held call cells phase = tt
 
 -- an act that goes on is a Decide
 pub going_decides : (act : Act) → decides_to_go_on act ≡ true → act ≡ Decide None
-going_decides (Read width at got) h = absurd (both_ways false refl h)
-going_decides (Write width at value ok) h = absurd (both_ways false refl h)
-going_decides (Fetch at got) h = absurd (both_ways false refl h)
-going_decides (Await width at value ok) h = absurd (both_ways false refl h)
-going_decides (Irq device vector) h = absurd (both_ways false refl h)
-going_decides (Hvc code a b answer) h = absurd (both_ways false refl h)
-going_decides (Begin code a b) h = absurd (both_ways false refl h)
-going_decides Stop h = absurd (both_ways false refl h)
 going_decides (Decide None) h = refl
-going_decides (Decide (Some refused)) h = absurd (both_ways false refl h)
-going_decides (Settle how) h = absurd (both_ways false refl h)
-going_decides Commit h = absurd (both_ways false refl h)
-going_decides (Note id) h = absurd (both_ways false refl h)
-going_decides (Noted id how) h = absurd (both_ways false refl h)
-going_decides (Finish answer) h = absurd (both_ways false refl h)
+going_decides act h = absurd (both_ways false refl h)
 
 pub create_at : (call : Call) (at : ℕ) → create_of call ≡ Some at → call ≡ Create at
 create_at (Create a) at h = ap Create (same_Some a at h)
-create_at (Start id) at h = absurd (none-some at h)
-create_at (Loadable id) at h = absurd (none-some at h)
-create_at (Destroy id) at h = absurd (none-some at h)
-create_at (Info kind) at h = absurd (none-some at h)
-create_at (State id) at h = absurd (none-some at h)
-create_at (CpuInfo cpu kind) at h = absurd (none-some at h)
-create_at Unknown at h = absurd (none-some at h)
+create_at call at h = absurd (none-some at h)
 
 -- ---- a create that goes on
 

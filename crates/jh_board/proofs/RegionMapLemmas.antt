@@ -135,8 +135,8 @@ second_of false b e = absurd (both_ways false refl e)
 pub told_by : RunsLead → RunsAreSingle → (kept : Place → Bool) (id : ℕ) (regions : List Region) (runs : List Run) (access : Access) (at : ℕ) → ((k : ℕ) → kept (Page id k) ≡ false) → AllPairs SharesNoAddress regions → IsMap (λ p. kept (Physical p)) regions runs
     → (o : Option Region) → find (gives access at) regions ≡ o → grant_of_map id runs access at ≡ option_and_then (unless kept) (option_map (λ (r : Region). place_in_cell id r at) o)
 told_by leads single kept id regions runs access at page apart is None e =
-    ap (option_map (place_of_run id at)) (find_nothing (is_mapped_at access at) runs (λ run held. false_from_ne_true (is_mapped_at access at run) (λ h.
-    let own = All-contains (IsRunIn (λ p. kept (Physical p)) regions) runs run is.own held in
+    ap (option_map (place_of_run id at)) (find_nothing (is_mapped_at access at) runs (λ run there. false_from_ne_true (is_mapped_at access at run) (λ h.
+    let own = All-contains (IsRunIn (λ p. kept (Physical p)) regions) runs run is.own there in
     both_ways (gives access at own.region) (find_None (gives access at) regions own.region e own.held) (told_gives (λ p. kept (Physical p)) access at own.region run own.of h))))
 told_by leads single kept id regions runs access at page apart is (Some r) e = ⊎_elim granted not_granted (cases_Bool (is_granted closed r at))
   where
@@ -157,14 +157,14 @@ told_by leads single kept id regions runs access at page apart is (Some r) e = �
         let told = is.whole r at found.held h in
         let here = gives_told closed access at r told.run told.of told.has found.passes in
         let only = find_unique (is_mapped_at access at) runs told.run told.held here
-        (λ other held passes. single closed regions runs other told.run at is held told.held (told_in access at other passes) told.has) in
+        (λ other there passes. single closed regions runs other told.run at is there told.held (told_in access at other passes) told.has) in
         ap (option_map (place_of_run id at)) only ∙ ap Some (place_is leads closed id at r told.run told.of told.has)
         ∙ sym (open_as kept id (byte_in r at) (place_in r at) (is_comm r) page (sym as_left ∙ h))
 
     not_granted : is_granted closed r at ≡ false → grant_of_map id runs access at ≡ unless kept (place_in_cell id r at)
     not_granted h =
-        ap (option_map (place_of_run id at)) (find_nothing (is_mapped_at access at) runs (λ run held. false_from_ne_true (is_mapped_at access at run) (λ told.
-        let own = All-contains (IsRunIn closed regions) runs run is.own held in
+        ap (option_map (place_of_run id at)) (find_nothing (is_mapped_at access at) runs (λ run there. false_from_ne_true (is_mapped_at access at run) (λ told.
+        let own = All-contains (IsRunIn closed regions) runs run is.own there in
         let own_granted = own.of.each at (told_in access at run told) in
         let same = same_region regions own.region r at apart own.held found.held (granted_has closed own.region at own_granted) has in
         let P : Region → Type 0 = λ x. is_granted closed x at ≡ true in

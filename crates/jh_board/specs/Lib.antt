@@ -1,4 +1,5 @@
 pub mod Pages
+pub mod LiveView
 pub mod Means
 pub mod BoardView
 pub mod Turns

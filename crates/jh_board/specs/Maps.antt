@@ -8,9 +8,13 @@ use Rattle.jh_map.specs.Maps.{IsMap}
 use Rattle.jh_script.specs.declared.image.Image.{Image}
 use Rattle.jh_history.specs.declared.access.Access.{Access}
 use Rattle.jh_history.specs.declared.access.Access.TheVariants.{Read, Write, Fetch}
+use Rattle.jh_history.specs.declared.entry.Entry.{Entry}
 use Rattle.jh_history.specs.declared.place.Place.{Place}
 use Rattle.jh_history.specs.declared.place.Place.TheVariants.{Physical, Page}
+use Rattle.jh_history.specs.Admitted.{IsAdmitted}
+use Rattle.jh_history.specs.Due.{IsLegal}
 use Rattle.jh_history.specs.Grants.{is_closed_to}
+use Rattle.jh_history.specs.History.{facts}
 use Rattle.jh_history.specs.Lives.{cell_in, regions_in}
 use Rattle.jh_shape.specs.Lives.{configs_of}
 
@@ -18,11 +22,11 @@ use Rattle.jh_shape.specs.Lives.{configs_of}
 abbrev pub all_cells : Image → List Live → List CellConfig
 all_cells image lives = image.system.root ∷ configs_of lives
 
--- the cell with the id is kept from the physical place
+-- the physical place is closed to the cell with the id
 abbrev pub is_closed_at : Image → List Live → ℕ → ℕ → Bool
 is_closed_at image lives id place = is_closed_to image lives id (Physical place)
 
--- the map of the live cell with the id: that of its regions, to which the places are closed that it is kept from
+-- the map of the live cell with the id: that of its regions, with the places that are closed to it
 abbrev pub IsMapIn : Image → List Live → ℕ → List Run → Type 0
 IsMapIn image lives id = IsMap (is_closed_at image lives id) (regions_in image lives id)
 
@@ -30,6 +34,16 @@ IsMapIn image lives id = IsMap (is_closed_at image lives id) (regions_in image l
 abbrev pub IsMapOrNone : Image → List Live → ℕ → Option (List Run) → Type 0
 IsMapOrNone image lives id None = cell_in image lives id ≡ None
 IsMapOrNone image lives id (Some runs) = IsSome (cell_in image lives id) × IsMapIn image lives id runs
+
+-- a legal journal of an admitted image, and the map of the cell with the id after it
+pub record AdmittedMap : Type 0 where
+  pub image : Image
+  pub entries : List Entry
+  pub admitted : IsAdmitted image
+  pub legal : IsLegal image entries
+  pub id : ℕ
+  pub runs : List Run
+  pub is : IsMapIn image (facts image entries).cells id runs
 
 -- ---- what a map tells of grants
 

@@ -22,12 +22,12 @@ HoldsPageOf held live = HoldsComm held.memory.comms live.config.id
 abbrev pub HoldsWordsOf : Held → CellConfig → Type 0
 HoldsWordsOf held config = All (HoldsWordOf held.memory) (specs_of config)
 
--- what is held has all that the cell takes when it comes: the index of its regions, room for it, its page, and for its
+-- what is held has all that the cell takes when it comes: its regions, room for it and for them, its page, and for its
 -- devices room among the endpoints and the pages of their words
 pub record IsReadyFor (held : Held) (config : CellConfig) : Type 0 where
-  pub index : held.index ≡ Some config.memory_regions
-  pub cells : 0 < held.cells.cells
-  pub regions : length config.memory_regions ≤ held.cells.regions
+  pub regions : held.coming_regions ≡ Some config.memory_regions
+  pub spare_cells : 0 < held.cells.spare_cells
+  pub spare_regions : length config.memory_regions ≤ held.cells.spare_regions
   pub page : HoldsComm held.memory.comms config.id
   pub endpoints : length (specs_of config) ≤ held.endpoints.spare
   pub words : HoldsWordsOf held config

@@ -5,7 +5,6 @@ pub mod IsCellRegions
 pub mod IsIndexed
 pub mod FoundCreation
 pub mod KeptCells
-pub mod LiveView
 pub mod Pages
 pub mod StateView
 pub mod Steps

@@ -135,7 +135,7 @@ fn held_at_opening(alloc: Global, image: &Image) -> Result<Held, NoMemory>
         programs: opening_programs(image),
         endpoints,
         call: None,
-        index: None,
+        coming_regions: None,
         alloc,
     })
 }

@@ -17,7 +17,7 @@ use std::marker::Model;
 /// of regions.
 #[derive(Drop)]
 pub struct CellRegions {
-    index: RegionIndex,
+    by_address: RegionIndex,
     /// The places that the cell takes from root while it isn't loadable.
     taken: ByteSet,
     /// The places that the cell takes even while it is loadable, where they aren't those that it takes while it isn't.
@@ -31,7 +31,7 @@ impl Model for CellRegions {
 
     ghost Value = { List TheRegion };
 
-    ghost view = { λ s. s.index };
+    ghost view = { λ s. s.by_address };
 
     ghost invariant = { IsCellRegions };
 }
@@ -98,17 +98,21 @@ impl CellRegions {
         requires { AllPairs SharesNoAddress regions.now }
         ensures { IfOk result (λ cell. cell ≡ regions.now) }
     {
-        let index = RegionIndex::new(alloc, regions)?;
+        let by_address = RegionIndex::new(alloc, regions)?;
         let taken = taken_places(alloc, regions, false)?;
         let kept = kept_places(alloc, regions)?;
-        Ok(CellRegions { index, taken, kept })
+        Ok(CellRegions {
+            by_address,
+            taken,
+            kept,
+        })
     }
 
     /// The regions by their addresses.
     pub fn by_address(&self) -> &RegionIndex
         ensures { result.now ≡ self.now }
     {
-        &self.index
+        &self.by_address
     }
 
     /// The places that the cell, loadable or not, takes from root.

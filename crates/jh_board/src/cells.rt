@@ -27,18 +27,18 @@ use std::marker::Model;
 pub struct LiveCells {
     cells: Cells,
     /// The regions of each cell, in the order of the cells.
-    indexes: Vec<CellRegions>,
+    regions: Vec<CellRegions>,
     /// The places that the cells close to root.
     closed: ByteSet,
     /// How many regions the cells have together.
-    regions: usize,
+    region_count: usize,
     /// How many pages root and the cells use.
     used: u32,
 }
 
 impl Model for LiveCells {
     ghost use Rattle.std.specs.Prelude.{◌+◌, ◌-◌, ◌^◌, min, vec_len, vec_capacity};
-    ghost use Rattle.jh_board.specs.Private.LiveView.{LiveView};
+    ghost use Rattle.jh_board.specs.LiveView.{LiveView};
     ghost use Rattle.jh_board.specs.Private.KeptCells.{FitsItsCells};
 
     ghost Value = { LiveView };
@@ -46,26 +46,21 @@ impl Model for LiveCells {
     ghost view = { λ s. record {
       system = s.cells.system;
       lives = s.cells.lives;
-      cells = min s.cells.spare (vec_capacity s.indexes - vec_len s.indexes);
-      regions = min s.closed.room (2 ^ 64 - 1) - (s.regions + 1);
+      spare_cells = min s.cells.spare (vec_capacity s.regions - vec_len s.regions);
+      spare_regions = min s.closed.room (2 ^ 64 - 1) - (s.region_count + 1);
     } };
 
     ghost invariant = { FitsItsCells };
 }
 
-/// The index of the first configuration with the id.
-fn position_of(cells: &[CellConfig], id: u64) -> Option<usize>
-    ensures { result ≡ position (has_config_id id) cells.now }
-{
-    cells.iter().position(|cell| u64::from(cell.id) == id)
-}
-
 /// The index of the cell with the id.
+#[tactic(auto, using(crate::proofs::CellsLemmas::index_found, crate::proofs::CellsLemmas::index_few))]
 fn index_of(cells: &Cells, id: u64) -> Option<usize>
     ensures found { IsIndexOf cells.now.lives id result }
     ensures few { IfSome result (λ index. index < 15) }
 {
-    position_of(cells.list(), id)
+    live_cells_differ(cells);
+    cells.index_of(id)
 }
 
 /// The pages that root and the cells use.
@@ -88,9 +83,9 @@ impl LiveCells {
         let used = count_pages(&cells);
         Ok(LiveCells {
             cells,
-            indexes: Vec::new(alloc),
+            regions: Vec::new(alloc),
             closed,
-            regions: 0,
+            region_count: 0,
             used,
         })
     }
@@ -141,7 +136,7 @@ impl LiveCells {
         ensures within { IfSome result IsEmptyOrInRange }
     {
         match index_of(&self.cells, id) {
-            Some(index) => self.indexes[index].by_address().at(at),
+            Some(index) => self.regions[index].by_address().at(at),
             None => None,
         }
     }
@@ -154,7 +149,7 @@ impl LiveCells {
         ensures first { IfSome result (λ (r : TheRegion). IsTrue (has_address r at)) }
     {
         match index_of(&self.cells, id) {
-            Some(index) => self.indexes[index].by_address().subpage(at, width),
+            Some(index) => self.regions[index].by_address().subpage(at, width),
             None => None,
         }
     }
@@ -176,44 +171,44 @@ impl LiveCells {
     /// Makes ready for a new cell: room for it, and what is found once of its regions. No cell changes.
     pub fn prepare(&mut self, alloc: Global, new: &CellConfig) -> Result<CellRegions, NoMemory>
         requires apart { AllPairs SharesNoAddress new.now.memory_regions }
-        ensures index { IfOk result (λ index. index ≡ new.now.memory_regions) }
-        ensures cells { OnOk result (0 < self.new.cells) }
-        ensures regions { OnOk result (length new.now.memory_regions ≤ self.new.regions) }
+        ensures regions { IfOk result (λ regions. regions ≡ new.now.memory_regions) }
+        ensures spare_cells { OnOk result (0 < self.new.spare_cells) }
+        ensures spare_regions { OnOk result (length new.now.memory_regions ≤ self.new.spare_regions) }
         ensures system { self.new.system ≡ self.old.system }
         ensures lives { self.new.lives ≡ self.old.lives }
     {
-        let index = CellRegions::new(alloc, new.memory_regions.as_slice())?;
+        let regions = CellRegions::new(alloc, new.memory_regions.as_slice())?;
         self.cells.reserve()?;
-        self.indexes.reserve(1)?;
-        let Some(regions) = self.regions.checked_add(new.memory_regions.len()) else {
+        self.regions.reserve(1)?;
+        let Some(count) = self.region_count.checked_add(new.memory_regions.len()) else {
             return Err(NoMemory);
         };
-        let Some(room) = regions.checked_add(1) else {
+        let Some(room) = count.checked_add(1) else {
             return Err(NoMemory);
         };
         self.closed.reserve(room)?;
-        Ok(index)
+        Ok(regions)
     }
 
-    /// A new cell lives, as the last, and isn't loadable. It takes no memory.
-    pub fn add(&mut self, new: CellConfig, index: CellRegions)
+    /// A new cell, whose regions are these, lives, as the last, and isn't loadable. It takes no memory.
+    pub fn add(&mut self, new: CellConfig, regions: CellRegions)
         requires few { length self.old.lives < 15 }
         requires unknown { is_known (self.old.system.root ∷ configs_of self.old.lives) new ≡ false }
         requires within { AreInRange new.memory_regions }
-        requires index { index ≡ new.memory_regions }
-        requires cells { 0 < self.old.cells }
-        requires regions { length new.memory_regions ≤ self.old.regions }
+        requires regions { regions ≡ new.memory_regions }
+        requires spare_cells { 0 < self.old.spare_cells }
+        requires spare_regions { length new.memory_regions ≤ self.old.spare_regions }
         ensures system { self.new.system ≡ self.old.system }
         ensures lives { self.new.lives ≡ self.old.lives ++ new_live new ∷ [] }
     {
-        close_cell(&mut self.closed, &index, false);
-        self.regions += new.memory_regions.len();
+        close_cell(&mut self.closed, &regions, false);
+        self.region_count += new.memory_regions.len();
         match self.cells.add(new) {
             Ok(()) => (),
             // there is room, since the cell was made ready
             Err(_) => unreachable!(),
         }
-        self.indexes.push_reserved(index);
+        self.regions.push_reserved(regions);
         self.used = count_pages(&self.cells);
     }
 
@@ -226,13 +221,13 @@ impl LiveCells {
             return;
         };
         a_cell_is_dropped_by_its_id(&self.cells);
-        self.regions -= self.cells.list()[index].memory_regions.len();
+        self.region_count -= self.cells.list()[index].memory_regions.len();
         self.cells.drop_cell(index as u32 + 1);
-        // its index goes with it
-        let _ = self.indexes.remove(index);
+        // its regions go with it
+        let _ = self.regions.remove(index);
         close_again(
             &mut self.closed,
-            self.indexes.as_slice(),
+            self.regions.as_slice(),
             self.cells.loadable(),
         );
         self.used = count_pages(&self.cells);
@@ -252,7 +247,7 @@ impl LiveCells {
         self.cells.set_loadable(index as u32 + 1, on);
         close_again(
             &mut self.closed,
-            self.indexes.as_slice(),
+            self.regions.as_slice(),
             self.cells.loadable(),
         );
     }

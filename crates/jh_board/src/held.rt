@@ -22,6 +22,6 @@ pub struct Held {
     pub endpoints: Endpoints,
     pub call: Option<OpenCall>,
     /// The regions of the cell that a create is about to make.
-    pub index: Option<CellRegions>,
+    pub coming_regions: Option<CellRegions>,
     pub alloc: Global,
 }

@@ -151,10 +151,10 @@ fn make_ready(held: &mut Held, config: &CellConfig) -> Result<(), NoMemory>
     ensures ready { OnOk result (IsReadyFor held.new config.now) }
     ensures means { (i : Image) (f : Facts) → NeedsNothingYet f (Some config.now) → Means i held.old f → Means i held.new f }
 {
-    let index = held.cells.prepare(held.alloc, config)?;
+    let regions = held.cells.prepare(held.alloc, config)?;
     held.memory.hold_page(config.id)?;
     prepare_devices(&mut held.memory, &mut held.endpoints, config)?;
-    held.index = Some(index);
+    held.coming_regions = Some(regions);
     Ok(())
 }
 
@@ -266,24 +266,24 @@ fn make_commit(held: &mut Held, act: &Act)
     }
 }
 
-/// The cells after the entry: the one that it creates joins them, with its index.
+/// The cells after the entry: the one that it creates joins them, with its regions.
 fn make_cells(
     cells: &mut LiveCells,
-    index: &mut Option<CellRegions>,
+    regions: &mut Option<CellRegions>,
     created: Option<BoxedCell>,
     change: CellsChange,
 )
-    requires { IfSome created (MayJoinCells cells.old index.old) }
+    requires { IfSome created (MayJoinCells cells.old regions.old) }
     ensures system { cells.new.system ≡ cells.old.system }
     ensures lives { cells.new.lives ≡ option_map_or (joined_cells cells.old.lives) created (changed_cells change cells.old.lives) }
     ensures named { IfSome created NamesCpu }
-    ensures kept { created ≡ None → change ≡ CellsChange.Keep → (cells.new ≡ cells.old) × (index.new ≡ index.old) }
+    ensures kept { created ≡ None → change ≡ CellsChange.Keep → (cells.new ≡ cells.old) × (regions.new ≡ regions.old) }
 {
     match created {
-        Some(config) => match index.take() {
-            Some(index) => {
+        Some(config) => match regions.take() {
+            Some(regions) => {
                 sound_cells_name_a_cpu(config.get());
-                cells.add(config.into_inner(), index);
+                cells.add(config.into_inner(), regions);
             }
             // it was made ready when the create was decided
             None => unreachable!(),
@@ -306,7 +306,7 @@ fn make_page(memory: &mut Memory, write: Option<PageWrite>)
 /// The open call after the entry, and the live cells. Most entries are none of the call's own, and change no more of it
 /// than that they are counted.
 fn make_call(held: &mut Held, entry: &Entry, coming: Option<BoxedCell>)
-    requires { IfSome (created_by held.old.call entry.now.act) (MayJoinCells held.old.cells held.old.index) }
+    requires { IfSome (created_by held.old.call entry.now.act) (MayJoinCells held.old.cells held.old.coming_regions) }
     ensures memory { held.new.memory ≡ held.old.memory }
     ensures cpus { held.new.cpus ≡ held.old.cpus }
     ensures endpoints { held.new.endpoints ≡ held.old.endpoints }
@@ -325,7 +325,7 @@ fn make_call(held: &mut Held, entry: &Entry, coming: Option<BoxedCell>)
     let begun = held.call.take();
     let Called { call, created } = call_after(held.cells.list(), coming, begun, entry);
     held.call = call;
-    make_cells(&mut held.cells, &mut held.index, created, change);
+    make_cells(&mut held.cells, &mut held.coming_regions, created, change);
 }
 
 /// Whether the act is a Commit. No other act changes which cells live.

@@ -6,6 +6,6 @@ use Rattle.jh_board.specs.declared.cell_regions.CellRegions.TheInside.{Inside}
 -- the ranges of a cell's regions have what it takes from root: while it isn't loadable, and while it is, where these
 -- are kept; where they aren't, both are the same
 pub record IsCellRegions (s : Inside) : Type 0 where
-  pub taken : AreTaken false s.index s.taken.ranges
-  pub kept : IfSome s.kept (λ kept. AreTaken true s.index kept.ranges)
-  pub same : IfNone s.kept ((place : ℕ) → is_taken true s.index place ≡ is_taken false s.index place)
+  pub taken : AreTaken false s.by_address s.taken.ranges
+  pub kept : IfSome s.kept (λ kept. AreTaken true s.by_address kept.ranges)
+  pub same : IfNone s.kept ((place : ℕ) → is_taken true s.by_address place ≡ is_taken false s.by_address place)

@@ -10,10 +10,10 @@ use Rattle.jh_board.specs.declared.cells.LiveCells.TheInside.{Inside}
 -- what is kept beside the live cells is theirs: their regions, what they close to root, and how many pages all cells
 -- take
 pub record FitsItsCells (s : Inside) : Type 0 where
-  pub indexes : s.indexes.items ≡ all_regions s.cells.lives
-  pub within : All AreInRange s.indexes.items
+  pub regions : s.regions.items ≡ all_regions s.cells.lives
+  pub within : All AreInRange s.regions.items
   pub closed : (place : ℕ) → has_byte s.closed.ranges place ≡ is_closed_by s.cells.lives place
-  pub few : length s.closed.ranges ≤ s.regions
-  pub regions : s.regions ≡ count_regions s.indexes.items
-  pub room : s.regions < s.closed.room
+  pub few : length s.closed.ranges ≤ s.region_count
+  pub region_count : s.region_count ≡ count_regions s.regions.items
+  pub room : s.region_count < s.closed.room
   pub used : s.used ≡ pages_of s.cells.system.root.memory_regions (configs_of s.cells.lives)

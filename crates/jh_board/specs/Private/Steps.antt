@@ -37,7 +37,7 @@ use Rattle.jh_history.specs.Sound.{IsSound}
 use Rattle.jh_board.specs.declared.steps.CellsChange.{CellsChange}
 use Rattle.jh_board.specs.declared.steps.CellsChange.TheVariants.{Keep, Mark, Remove}
 use Rattle.jh_board.specs.declared.held.Held.{Held}
-use Rattle.jh_board.specs.Private.LiveView.{LiveView}
+use Rattle.jh_board.specs.LiveView.{LiveView}
 use Rattle.jh_board.specs.Means.{Means, HoldsWordsOf, IsReadyToGoOn, IsReadyFor}
 use Rattle.jh_board.specs.Pages.{MemoryView, HoldsPlace, HoldsEndpointWord}
 use Rattle.jh_board.specs.Private.Pages.{MayHold}
@@ -135,7 +135,7 @@ pub record IsSameButDevices (old new : Held) : Type 0 where
   pub cells : new.cells ≡ old.cells
   pub programs : new.programs ≡ old.programs
   pub call : new.call ≡ old.call
-  pub index : new.index ≡ old.index
+  pub coming_regions : new.coming_regions ≡ old.coming_regions
   pub pages : (q : Place) → HoldsPlace old.memory q → HoldsPlace new.memory q
 
 -- ---- the cell that comes
@@ -144,16 +144,16 @@ pub record IsSameButDevices (old new : Held) : Type 0 where
 abbrev pub joined_cells : List Live → CellConfig → List Live
 joined_cells cells config = cells ++ new_live config ∷ []
 
--- the cell with the configuration may join those that live, whose index and room are there; where it names a CPU,
--- fewer than 15 live
+-- the cell with the configuration may join those that live: its regions were found, and there is room for it and for
+-- them; where it names a CPU, fewer than 15 live
 pub record MayJoinCells (live : LiveView) (found : Option (List Region)) (config : CellConfig) : Type 0 where
   pub cpus : IsSoundBitmap config.cpu_set
   pub few : NamesCpu config → length live.lives < 15
   pub unknown : is_known (live.system.root ∷ configs_of live.lives) config ≡ false
   pub within : AreInRange config.memory_regions
-  pub index : found ≡ Some config.memory_regions
-  pub cells : 0 < live.cells
-  pub regions : length config.memory_regions ≤ live.regions
+  pub regions : found ≡ Some config.memory_regions
+  pub spare_cells : 0 < live.spare_cells
+  pub spare_regions : length config.memory_regions ≤ live.spare_regions
 
 -- ---- an entry, and the call that goes on by it
 

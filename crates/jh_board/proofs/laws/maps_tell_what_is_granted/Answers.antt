@@ -7,7 +7,8 @@ use Rattle.jh_board.proofs.RegionMapLemmas.{regions_apart, told_is}
 use Rattle.jh_board.proofs.laws.maps_tell_what_is_granted.Goals as goal
 
 pub returns : goal.returns
-returns c image entries id runs admitted legal is access at =
-    let lives = (facts image entries).cells in
-    let sound = c.legal_journals_are_sound.ensures.legal image entries admitted legal in
-    told_is c.maps_tell_each_address.ensures.place c.maps_tell_each_address.ensures.single (is_closed_to image lives id) id (regions_in image lives id) runs access at (λ k. refl) (regions_apart image lives id sound.cells.clean) is
+returns c m access at =
+    let lives = (facts m.image m.entries).cells in
+    let sound = c.legal_journals_are_sound.ensures.legal m.image m.entries m.admitted m.legal in
+    let single = λ closed regions runs one other at is. c.maps_tell_each_address.ensures.single (record { closed = closed; regions = regions; runs = runs; is = is }) one other at in
+    told_is c.maps_tell_each_address.ensures.place single (is_closed_to m.image lives m.id) m.id (regions_in m.image lives m.id) m.runs access at (λ k. refl) (regions_apart m.image lives m.id sound.cells.clean) m.is

@@ -17,14 +17,17 @@ use Rattle.jh_shape.specs.Lives.{configs_of}
 use Rattle.jh_board.specs.declared.held.Held.{Held}
 use Rattle.jh_board.specs.declared.indexed.ProgramIndex.{ProgramIndex}
 use Rattle.jh_board.specs.Indexed.{AreProgramIndices}
-use Rattle.jh_board.specs.Private.LiveView.{LiveView}
+use Rattle.jh_board.specs.LiveView.{LiveView}
 use Rattle.jh_board.specs.Means.{Means}
 use Rattle.jh_board.specs.Pages.{byte_of, HoldsComm}
 use Rattle.jh_board.specs.Private.Steps.{MayJoinCells, devices_held, endpoints_acted_by}
 use Rattle.jh_board.proofs.ActedLemmas.{entry_bytes, entry_devices}
-use Rattle.jh_board.proofs.AfterLemmas.{if_some, on_err, may_write, page_held, created_is, may_join, join_kept, Means_made}
+use Rattle.jh_board.proofs.AfterLemmas.{Means_made}
+use Rattle.jh_board.proofs.AnswerLemmas.{if_some, on_err}
+use Rattle.jh_board.proofs.ComingLemmas.{created_is, may_join, join_kept}
 use Rattle.jh_board.proofs.CommitLemmas.{same_devices, may_write_endpoint_word, may_commit}
 use Rattle.jh_board.proofs.KeptLemmas.{comms_kept, ready_kept, Means_kept}
+use Rattle.jh_board.proofs.WrittenLemmas.{may_write, page_held}
 use Rattle.jh_board.proofs.steps.make.Goals as goal
 
 pub make_bytes-requires : goal.make_bytes-requires
@@ -41,7 +44,7 @@ pub returns-in_err-make_bytes-clause-err : goal.returns-in_err-make_bytes-clause
 returns-in_err-make_bytes-clause-err c =
     let image = c.args.image.now in
     let held : Held = c.prepare.new.held in
-    let mid : Held = record { memory = c.make_bytes.new.memory; cpus = held.cpus; cells = held.cells; programs = held.programs; endpoints = held.endpoints; call = held.call; index = held.index; alloc = held.alloc } in
+    let mid : Held = record { memory = c.make_bytes.new.memory; cpus = held.cpus; cells = held.cells; programs = held.programs; endpoints = held.endpoints; call = held.call; coming_regions = held.coming_regions; alloc = held.alloc } in
     on_err c.from_residual-in_err-make_bytes.result ((f : Facts) → Means image c.args.held.now f → Means image mid f) (λ f old.
     let means = c.prepare.ensures.means f old in
     Means_kept image held mid f c.in_err-make_bytes.ensures.err c.make_bytes.ensures.held refl refl refl refl refl refl (ready_kept held mid f.call refl refl (omega arith) c.make_bytes.ensures.held means.ready) means)
@@ -54,7 +57,7 @@ make_devices-requires c =
     let sound = c.requires.next.sound in
     let held : Held = c.prepare.new.held in
     let means = c.prepare.ensures.means f c.requires.next.means in
-    let mid : Held = record { memory = c.make_bytes.new.memory; cpus = held.cpus; cells = held.cells; programs = held.programs; endpoints = held.endpoints; call = held.call; index = held.index; alloc = held.alloc } in
+    let mid : Held = record { memory = c.make_bytes.new.memory; cpus = held.cpus; cells = held.cells; programs = held.programs; endpoints = held.endpoints; call = held.call; coming_regions = held.coming_regions; alloc = held.alloc } in
     may_write_endpoint_word image held mid f entry.cell entry.act c.args.reach.now means sound refl refl c.make_bytes.ensures.held
     (λ value. c.devices_may_change.ensures.word image f entry.cell value c.args.reach.now sound)
 
@@ -105,8 +108,8 @@ make_call-requires c =
     let means = c.prepare.ensures.means f c.requires.next.means in
     let acted = c.make_devices.ensures.others in
     let changed = c.make_commit.ensures.others in
-    join_kept held c.make_commit.new.held entry.act (changed.call ∙ acted.call) (changed.cells ∙ acted.cells) (changed.index ∙ acted.index)
-    (if_some (created_by held.call entry.act) (MayJoinCells held.cells held.index) (λ config made.
+    join_kept held c.make_commit.new.held entry.act (changed.call ∙ acted.call) (changed.cells ∙ acted.cells) (changed.coming_regions ∙ acted.coming_regions)
+    (if_some (created_by held.call entry.act) (MayJoinCells held.cells held.coming_regions) (λ config made.
     let coming = created_is held.call entry.act config made in
     let is : f.call ≡ Some coming.begun = sym means.call ∙ coming.is in
     may_join image held f coming.begun config means is coming.phase
@@ -125,7 +128,7 @@ returns-clause-ok c = λ f old due.
     let acted = c.make_devices.ensures in
     let changed = c.make_commit.ensures in
     let last : Held = c.make_commit.new.held in
-    let mid : Held = record { memory = c.make_page.new.memory; cpus = c.cpus_after.new.cpus; cells = last.cells; programs = last.programs; endpoints = last.endpoints; call = last.call; index = last.index; alloc = last.alloc } in
+    let mid : Held = record { memory = c.make_page.new.memory; cpus = c.cpus_after.new.cpus; cells = last.cells; programs = last.programs; endpoints = last.endpoints; call = last.call; coming_regions = last.coming_regions; alloc = last.alloc } in
     let call = changed.others.call ∙ acted.others.call ∙ means.call in
     let cells = ap (λ (v : LiveView). v.lives) (changed.others.cells ∙ acted.others.cells) ∙ means.cells in
     let acted_call = sym (acted.others.call ∙ means.call) in
@@ -140,7 +143,7 @@ returns-clause-ok c = λ f old due.
     let P : List Endpoint → Type 0 = λ list. IsNextOf entry.cell list entry.act in
     let next = subst P (sym known.means.endpoints ∙ old.endpoints) (c.devices_may_change.ensures.interrupt image known.facts entry (record { sound = known.sound; due = known.due })) in
     let called : Held = c.make_call.new.held in
-    let new : Held = record { memory = called.memory; cpus = called.cpus; cells = called.cells; programs = c.renew_programs.new.programs; endpoints = called.endpoints; call = called.call; index = called.index; alloc = called.alloc } in
+    let new : Held = record { memory = called.memory; cpus = called.cpus; cells = called.cells; programs = c.renew_programs.new.programs; endpoints = called.endpoints; call = called.call; coming_regions = called.coming_regions; alloc = called.alloc } in
     let F : List Live → List ProgramIndex → Type 0 = AreProgramIndices image in
     Means_made image held mid new f entry c.in_ok-coming.coming (c.in_ok-coming.ensures.ok f old due) (record {
       bytes = entry_bytes image f entry c.args.reach.now devices c.page_write-write.result (byte_of held.memory) (byte_of c.make_bytes.new.memory) (byte_of c.make_devices.new.held.memory) (byte_of last.memory) (byte_of c.make_page.new.memory)
@@ -154,7 +157,7 @@ returns-clause-ok c = λ f old due.
       cells = changed.others.cells ∙ acted.others.cells;
       programs = changed.others.programs ∙ acted.others.programs;
       call = changed.others.call ∙ acted.others.call;
-      index = changed.others.index ∙ acted.others.index;
+      coming_regions = changed.others.coming_regions ∙ acted.others.coming_regions;
     }) (record {
       memory = c.make_call.ensures.memory;
       cpus = c.make_call.ensures.cpus;

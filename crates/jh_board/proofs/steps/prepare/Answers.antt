@@ -3,7 +3,7 @@ use Rattle.std.proofs.Common.{Option, subst}
 use Rattle.jh_cellcfg.specs.declared.config.CellConfig.{CellConfig}
 use Rattle.jh_board.specs.Means.{IsReadyFor}
 use Rattle.jh_board.specs.Private.Steps.{NeedsNothingYet, IsRead, WillBeReady}
-use Rattle.jh_board.proofs.AfterLemmas.{free_same}
+use Rattle.jh_board.proofs.ComingLemmas.{free_same}
 use Rattle.jh_board.proofs.steps.prepare.Goals as goal
 
 pub returns-in_err-make_ready-in-Some-clause-means : goal.returns-in_err-make_ready-in-Some-clause-means

@@ -1,38 +1,26 @@
 -- The journal is still legal, and what the board holds stands for it.
-use Rattle.std.proofs.Common.{◌≡◌, ℕ, List, Option, Some, None, Result, Ok, Err, length, refl, ap, sym, subst}
-use Rattle.std.specs.Prelude.{IsTrue, IsSome, IfOk, IfErr, OnErr}
+use Rattle.std.proofs.Common.{◌≡◌, ℕ, List, Option, Result, Ok, Err, length, refl, ap, sym, subst}
+use Rattle.std.specs.Prelude.{IsTrue, IsSome, IfErr, OnErr}
 use Rattle.jh_script.specs.declared.image.Image.{Image}
 use Rattle.jh_history.specs.declared.entry.Entry.{Entry}
 use Rattle.jh_history.specs.Due.{due}
 use Rattle.jh_history.specs.Lives.{is_on_board}
 use Rattle.jh_board.specs.BoardView.{BoardView}
-use Rattle.jh_board.specs.Turns.{MakesDue, RefusesTurn}
-use Rattle.jh_board.specs.Private.Advances.{Advances}
+use Rattle.jh_board.specs.Turns.{RefusesTurn}
+use Rattle.jh_board.specs.Private.Advances.{board_with}
 use Rattle.jh_board.specs.declared.turn.TurnFault.{TurnFault}
 use Rattle.jh_board.specs.declared.turn.TurnFault.TheVariants.{Full, NoMemory}
 use Rattle.jh_board.proofs.board.Board.make_due.Goals as goal
-
--- what a board with these entries is
-abbrev board : Image → ℕ → List Entry → BoardView
-board image limit entries = record { image = image; limit = limit; entries = entries }
-
-made_due : (image : Image) (limit : ℕ) (old new : List Entry) (cpu : ℕ) (made : Option Entry) → Advances image limit old cpu made new → MakesDue (board image limit old) cpu made (board image limit new)
-made_due image limit old new cpu None h = (h.0, ap (board image limit) h.1)
-made_due image limit old new cpu (Some entry) h = (h.0, h.1, ap (board image limit) h.2)
-
-makes : (image : Image) (limit : ℕ) (old new : List Entry) (cpu : ℕ) (r : Result (Option Entry) TurnFault) → IfOk r (λ made. Advances image limit old cpu made new) → IfOk r (λ made. MakesDue (board image limit old) cpu made (board image limit new))
-makes image limit old new cpu (Ok made) h = made_due image limit old new cpu made h
-makes image limit old new cpu (Err fault) h = tt
 
 -- why nothing is made
 abbrev IsFull : Image → ℕ → List Entry → ℕ → Result (Option Entry) TurnFault → Type 0
 IsFull image limit old cpu r = r ≡ Err Full → IsSome (due image old cpu) × (length old ≡ limit)
 
 refuses : (image : Image) (limit : ℕ) (old new : List Entry) (cpu : ℕ) (r : Result (Option Entry) TurnFault) → IsFull image limit old cpu r → OnErr r (new ≡ old)
-    → IfErr r (λ fault. RefusesTurn (board image limit old) cpu fault (board image limit new))
+    → IfErr r (λ fault. RefusesTurn (board_with image limit old) cpu fault (board_with image limit new))
 refuses image limit old new cpu (Ok made) full same = tt
-refuses image limit old new cpu (Err Full) full same = ((full refl).0, (full refl).1, ap (board image limit) same)
-refuses image limit old new cpu (Err NoMemory) full same = ap (board image limit) same
+refuses image limit old new cpu (Err Full) full same = ((full refl).0, (full refl).1, ap (board_with image limit) same)
+refuses image limit old new cpu (Err NoMemory) full same = ap (board_with image limit) same
 
 pub advance-requires-clause-cpu : goal.advance-requires-clause-cpu
 advance-requires-clause-cpu c =
@@ -49,8 +37,7 @@ invariant_of-self c = record {
 }
 
 pub returns-clause-ok : goal.returns-clause-ok
-returns-clause-ok c =
-    rw (← c.self.view_is) (makes c.self.inside.image c.self.inside.limit c.self.inside.journal.entries c.advance.new.journal.entries c.args.cpu c.advance.result c.advance.ensures.ok)
+returns-clause-ok c = rw (← c.self.view_is) c.advance.ensures.ok
 
 pub returns-clause-err : goal.returns-clause-err
 returns-clause-err c =

@@ -18,8 +18,8 @@ returns-in_default-clause-lives c = rw (← c.self.view_is) (marked_none c.self.
 pub close_again-requires-clause-few : goal.close_again-requires-clause-few
 close_again-requires-clause-few c =
     let few = c.live_cells_differ.ensures.few in
-    let lists = lists_len c.self.inside.cells.lives c.self.inside.indexes.items c.self.invariant.indexes in
-    let old = c.self.inside.indexes.ok.0 in
+    let lists = lists_len c.self.inside.cells.lives c.self.inside.regions.items c.self.invariant.regions in
+    let old = c.self.inside.regions.ok.0 in
     let len = c.as_slice.ensures.len in
     omega arith
 
@@ -28,8 +28,8 @@ close_again-requires-clause-within c = subst (λ (l : List (List Region)). All A
 
 pub close_again-requires-clause-room : goal.close_again-requires-clause-room
 close_again-requires-clause-room c =
-    let same : count_regions c.as_slice.result.now ≡ count_regions c.self.inside.indexes.items = ap (λ (l : List (List Region)). count_regions l) c.as_slice.ensures.value in
-    let count = c.self.invariant.regions in
+    let same : count_regions c.as_slice.result.now ≡ count_regions c.self.inside.regions.items = ap (λ (l : List (List Region)). count_regions l) c.as_slice.ensures.value in
+    let count = c.self.invariant.region_count in
     let room = c.self.invariant.room in
     omega arith
 
@@ -38,18 +38,18 @@ invariant_of-self c =
     let old = c.self.invariant in
     let new = c.set_loadable.new.self.lives in
     let configs : configs_of new ≡ configs_of c.self.inside.cells.lives = c.set_loadable.ensures.list in
-    let indexes : c.self.inside.indexes.items ≡ all_regions new = old.indexes ∙ ap (λ (cs : List CellConfig). map (λ (x : CellConfig). x.memory_regions) cs) (sym configs) in
-    let same : count_regions c.as_slice.result.now ≡ count_regions c.self.inside.indexes.items = ap (λ (l : List (List Region)). count_regions l) c.as_slice.ensures.value in
-    let count = old.regions in
+    let regions : c.self.inside.regions.items ≡ all_regions new = old.regions ∙ ap (λ (cs : List CellConfig). map (λ (x : CellConfig). x.memory_regions) cs) (sym configs) in
+    let same : count_regions c.as_slice.result.now ≡ count_regions c.self.inside.regions.items = ap (λ (l : List (List Region)). count_regions l) c.as_slice.ensures.value in
+    let count = old.region_count in
     let few = c.close_again.ensures.few in
     let room = c.close_again.ensures.room in
     let was = old.room in
     record {
-      indexes = indexes;
+      regions = regions;
       within = old.within;
-      closed = λ place. c.close_again.ensures.bytes new (sym (c.as_slice.ensures.value ∙ indexes)) c.loadable.ensures place;
+      closed = λ place. c.close_again.ensures.bytes new (sym (c.as_slice.ensures.value ∙ regions)) c.loadable.ensures place;
       few = omega arith;
-      regions = omega arith;
+      region_count = omega arith;
       room = omega arith;
       used = old.used
           ∙ ap (λ (cs : List CellConfig). pages_of c.self.inside.cells.system.root.memory_regions cs) (sym configs)

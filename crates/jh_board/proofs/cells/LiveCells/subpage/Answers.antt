@@ -16,10 +16,10 @@ index c = subst (IsIndexOf c.self.inside.cells.lives c.args.id) c.in-Some.is c.i
 own : (c : After-subpage) → c.by_address.result.now ≡ get_or (all_regions c.self.inside.cells.lives) c.in-Some.index c.by_address.result.now
 own c =
     let P : List Region → Type 0 = λ r. r ≡ get_or (all_regions c.self.inside.cells.lives) c.in-Some.index r in
-    subst P (sym c.by_address.ensures) (c.index.ensures ∙ ap (λ (l : List (List Region)). get_or l c.in-Some.index c.index.result.now) c.self.invariant.indexes)
+    subst P (sym c.by_address.ensures) (c.index.ensures ∙ ap (λ (l : List (List Region)). get_or l c.in-Some.index c.index.result.now) c.self.invariant.regions)
 
 within : (c : After-subpage) → All AreInRange (all_regions c.self.inside.cells.lives)
-within c = subst (λ (l : List (List Region)). All AreInRange l) c.self.invariant.indexes c.self.invariant.within
+within c = subst (λ (l : List (List Region)). All AreInRange l) c.self.invariant.regions c.self.invariant.within
 
 pub returns-in-Some-clause-found : goal.returns-in-Some-clause-found
 returns-in-Some-clause-found c =

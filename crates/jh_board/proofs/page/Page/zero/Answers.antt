@@ -1,5 +1,5 @@
 -- A new page is zeros.
-use Rattle.jh_board.proofs.PagesLemmas.{get_or_same}
+use Rattle.jh_num.proofs.Public.{get_or_same}
 use Rattle.jh_board.proofs.page.Page.zero.Goals as goal
 
 pub returns : goal.returns

@@ -3,9 +3,9 @@ use Rattle.std.specs.Prelude.{ℕ, List}
 use Rattle.jh_cellcfg.specs.declared.config.SystemConfig.{SystemConfig}
 use Rattle.jh_cellcfg.specs.declared.live.Live.{Live}
 
--- the system; the cells, in order of creation; and for how many cells and regions more there is room
+-- the system; the cells, in order of creation; and for how many more cells, and regions of such, there is room
 pub record LiveView : Type 0 where
   pub system : SystemConfig
   pub lives : List Live
-  pub cells : ℕ
-  pub regions : ℕ
+  pub spare_cells : ℕ
+  pub spare_regions : ℕ
