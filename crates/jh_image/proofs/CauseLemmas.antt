@@ -28,7 +28,7 @@ use Rattle.jh_image.specs.Preloads.{IsFaultless}
 use Rattle.jh_image.specs.Files.{Contents, HasBytes, IsOversize, Lists, SpellsSystem, IsPreloadOf, IsProgramOf}
 use Rattle.jh_image.specs.Images.{SoFar, Stage, nothing, with_listing, with_system, IsNextPreload, IsComplete, IsNextProgram, IsNextFile, the_board, the_system, a_preload, a_program, ReadsNext, reads_board, reads_system, reads_preload, reads_program, IsImage}
 use Rattle.jh_image.specs.Causes.{cannot_be_read, is_too_large, is_no_object, has_bad_member, is_no_system, has_findings, HasCause, by_file, by_board, by_system, by_pool, by_preload, by_program, IsCauseOf}
-use Rattle.jh_image.specs.Laws.{AreKnown}
+use Rattle.jh_image.specs.Laws.{AreKnown, IsCertainCause}
 use Rattle.jh_image.proofs.OneLemmas.{OneSpelling, bytes_one, text_one, listing_told, spelled_one, preload_one}
 use Rattle.jh_image.proofs.ReadLemmas.{same_preload, same_program, no_preload, one_so_far, one_listing, complete_preload, complete_program, IsLast, last_one, read_for, image_last}
 
@@ -281,13 +281,13 @@ module _ (spelling : OneSpelling) (faultless : SpellingsAreFaultless) (contents 
 -- ---- two stops, and a stop beside an image
 
 pub causes_one : OneSpelling → SpellingsAreFaultless → (contents : Contents) (board file other : List ℕ) (cause more : ImageCause) → AreKnown contents
-    → IsCauseOf contents board file cause → cause ≢ ReadFault → IsCauseOf contents board other more → more ≢ ReadFault → (cause ≡ more) × (file ≡ other)
-causes_one spelling faultless contents board file other cause more told h ne k ne_too =
-    let one = stopped spelling faultless contents told board file cause h ne in
-    let two = stopped spelling faultless contents told board other more k ne_too in
-    let same : h.stage ≡ k.stage = last_one contents board told spelling h.stage k.stage h.read k.read
-    (last_at spelling faultless contents told board h.stage file cause one) (last_at spelling faultless contents told board k.stage other more two) in
-    let both = stop_one spelling faultless contents told board h.stage k.stage file other cause more one two same in
+    → IsCertainCause contents board file cause → IsCertainCause contents board other more → (cause ≡ more) × (file ≡ other)
+causes_one spelling faultless contents board file other cause more told h k =
+    let one = stopped spelling faultless contents told board file cause h.stops h.read in
+    let two = stopped spelling faultless contents told board other more k.stops k.read in
+    let same : h.stops.stage ≡ k.stops.stage = last_one contents board told spelling h.stops.stage k.stops.stage h.stops.read k.stops.read
+    (last_at spelling faultless contents told board h.stops.stage file cause one) (last_at spelling faultless contents told board k.stops.stage other more two) in
+    let both = stop_one spelling faultless contents told board h.stops.stage k.stops.stage file other cause more one two same in
     (both.same_cause, both.same_file)
 
 pub unrefused : OneSpelling → SpellingsAreFaultless → (contents : Contents) (board file : List ℕ) (image : Image) (cause : ImageCause) → AreKnown contents → IsImage contents board image → IsCauseOf contents board file cause → cause ≡ ReadFault
