@@ -16,6 +16,7 @@ pub fn boards_make_one_image()
     ensures { (contents : Contents) (board : List ℕ) (one other : TheImage) → AreKnown contents → IsImage contents board one → IsImage contents board other → one ≡ other }
 {
     one_system_spelling();
+    system_has_no_fault();
 }
 
 /// Where files tell what they hold and a board makes an image, nothing stops its reading but a file that can't be
