@@ -38,7 +38,7 @@ use Rattle.jh_image.specs.Causes.{IsCauseOf}
 use Rattle.jh_image.specs.Images.{IsImage}
 use Rattle.jh_image.specs.Laws.{AreKnown}
 use Rattle.jh_image.proofs.Public.{SpellingsAreFaultless}
-use Rattle.jh_run.specs.Maps.{Maps}
+use Rattle.jh_run.specs.Maps.{IsMappedBoard}
 use Rattle.jh_run.specs.Soak.{soak_board}
 use Rattle.jh_cli.specs.declared.status.Status.{Status}
 use Rattle.jh_cli.specs.declared.status.Status.TheVariants.{Good, Found, ReadFault, WriteFault, NoMemory, Full}
@@ -52,7 +52,7 @@ use Rattle.jh_cli.specs.Pack.{IsSpecFile, SpecRefusal, spec_file, Packs, packed}
 use Rattle.jh_cli.specs.Boards.{stopped, EndsAtBoard}
 use Rattle.jh_cli.specs.Play.{AreCpus, IsSchedule, ScheduleRefusal, schedule_file, IsPlayed, played_status, PlaysBy, Plays}
 use Rattle.jh_cli.specs.Run.{Runs}
-use Rattle.jh_cli.specs.Map.{map_reply, IsMapped, MapsBy, MapsOf}
+use Rattle.jh_cli.specs.Map.{map_reply, IsMapped, MapsBy, Maps}
 use Rattle.jh_cli.specs.Soak.{AreRounds, Soaks}
 use Rattle.jh_cli.specs.Audit.{IsJournalFile, JournalRefusal, journal_file, IsAudited, AuditsBy, Audits, verdict_status}
 use Rattle.jh_cli.specs.Outcome.{Outcome, Sent}
@@ -270,7 +270,7 @@ audit_unrefused unrefused no_bad not_long contents board journal reply good (inr
 abbrev IsMapOf : Image → List ℕ → Status → Type 0
 IsMapOf image cpus status = status ≡ played_status (items image max_entries cpus []).full
 
-mapped_status : (image : Image) (cpus : List ℕ) (found : Option (List ℕ)) → Maps image max_entries cpus found → IsMapOf image cpus (map_reply found).status
+mapped_status : (image : Image) (cpus : List ℕ) (found : Option (List ℕ)) → IsMappedBoard image max_entries cpus found → IsMapOf image cpus (map_reply found).status
 mapped_status image cpus (Some text) is = ap played_status (sym is.0)
 mapped_status image cpus None is = ap played_status (sym is.0)
 
@@ -284,7 +284,7 @@ maps_unrefused contents schedule image cpus reply held h =
     reads_unrefused (IsMapOf image cpus) contents schedule (schedule_file image) (IsMapped image) cpus reply (schedule_sound image cpus) held
     (λ bytes other form form_other is. mapped_unrefused image cpus other reply (one_schedule image bytes cpus other form form_other) is) h
 
-map_unrefused : OneImage → BoardsAreUnrefused → (contents : Contents) (board schedule : List ℕ) (reply : Reply) (good : AreGoodToPlay contents board schedule) → MapsOf contents board schedule reply
+map_unrefused : OneImage → BoardsAreUnrefused → (contents : Contents) (board schedule : List ℕ) (reply : Reply) (good : AreGoodToPlay contents board schedule) → Maps contents board schedule reply
     → IsAnswered (IsMapOf good.image good.items) reply
 map_unrefused one_image unrefused contents board schedule reply good (inl ends) = board_unrefused unrefused (IsMapOf good.image good.items) contents board good.image reply good.known good.is ends
 map_unrefused one_image unrefused contents board schedule reply good (inr (image, is, admitted, maps)) =

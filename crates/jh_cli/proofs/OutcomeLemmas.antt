@@ -9,7 +9,7 @@ use Rattle.jh_image.specs.declared.fault.ImageCause.{ImageCause}
 use Rattle.jh_image.specs.declared.fault.ImageCause.TheVariants.{ReadFault as CantBeRead}
 use Rattle.jh_image.specs.Laws.{AreKnown, IsCertainCause}
 use Rattle.jh_image.proofs.Public.{OneSpelling, SpellingsAreFaultless}
-use Rattle.jh_run.specs.Maps.{IsMapsText, Maps}
+use Rattle.jh_run.specs.Maps.{IsMapsText, IsMappedBoard}
 use Rattle.jh_text.specs.Faults.{max_entries}
 use Rattle.jh_text.proofs.Public.{OneJournal, NoBadLine, NotLong, NotBoth, OneLine}
 use Rattle.jh_cli.specs.declared.status.Status.TheVariants.{Good, ReadFault}
@@ -66,7 +66,7 @@ abbrev pub OneMaps : Type 0
 OneMaps = (image : Image) (entries : List Entry) (one other : List ℕ) → IsMapsText image entries one → IsMapsText image entries other → one ≡ other
 
 -- the limit stops the items or it doesn't
-same_found : OneMaps → (image : Image) (cpus : List ℕ) (one other : Option (List ℕ)) → Maps image max_entries cpus one → Maps image max_entries cpus other → one ≡ other
+same_found : OneMaps → (image : Image) (cpus : List ℕ) (one other : Option (List ℕ)) → IsMappedBoard image max_entries cpus one → IsMappedBoard image max_entries cpus other → one ≡ other
 same_found one_maps image cpus None None h k = refl
 same_found one_maps image cpus None (Some text) h k = absurd (false≢true (sym k.0 ∙ h.0))
 same_found one_maps image cpus (Some text) None h k = absurd (false≢true (sym h.0 ∙ k.0))

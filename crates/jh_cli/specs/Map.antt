@@ -1,7 +1,7 @@
 -- What `map` ends with.
 use Rattle.std.specs.Prelude.{◌≡◌, ℕ, List, [], Option, Some, None}
 use Rattle.jh_script.specs.declared.image.Image.{Image}
-use Rattle.jh_run.specs.Maps.{Maps}
+use Rattle.jh_run.specs.Maps.{IsMappedBoard}
 use Rattle.jh_image.specs.Files.{Contents}
 use Rattle.jh_text.specs.Faults.{max_entries}
 use Rattle.jh_cli.specs.Reading.{Reply, Reads}
@@ -16,7 +16,7 @@ map_reply None = record { status = Full; text = [] }
 
 -- the reply to a map of the image after the items alone: the maps, or that the limit stopped an item
 abbrev pub IsMapped : Image → List ℕ → Reply → Type 0
-IsMapped image cpus reply = (found : Option (List ℕ)) × Maps image max_entries cpus found × (reply ≡ map_reply found)
+IsMapped image cpus reply = (found : Option (List ℕ)) × IsMappedBoard image max_entries cpus found × (reply ≡ map_reply found)
 
 -- what a map of the image after the schedule ends with
 abbrev pub MapsBy : Contents → List ℕ → Image → Reply → Type 0
@@ -24,5 +24,5 @@ MapsBy contents schedule image = Reads contents schedule (schedule_file image) (
 
 -- what a map of the board after the schedule ends with: the board's files are read, then the schedule's, and the first
 -- that stops the call ends it
-abbrev pub MapsOf : Contents → List ℕ → List ℕ → Reply → Type 0
-MapsOf contents board schedule = Opens contents board (MapsBy contents schedule)
+abbrev pub Maps : Contents → List ℕ → List ℕ → Reply → Type 0
+Maps contents board schedule = Opens contents board (MapsBy contents schedule)

@@ -9,7 +9,7 @@ use Rattle.jh_cli.specs.Check.{Checks}
 use Rattle.jh_cli.specs.Pack.{Packs}
 use Rattle.jh_cli.specs.Play.{Plays}
 use Rattle.jh_cli.specs.Run.{Runs}
-use Rattle.jh_cli.specs.Map.{MapsOf}
+use Rattle.jh_cli.specs.Map.{Maps}
 use Rattle.jh_cli.specs.Audit.{Audits}
 use Rattle.jh_cli.specs.Soak.{Soaks}
 use Rattle.jh_cli.specs.declared.status.Status.{Status}
@@ -22,7 +22,7 @@ Outcome contents (Some (CheckOf system cells)) reply = Checks contents system ce
 Outcome contents (Some (PackOf spec)) reply = Packs contents spec reply
 Outcome contents (Some (PlayOf board schedule)) reply = Plays contents board schedule reply
 Outcome contents (Some (RunOf board)) reply = Runs contents board reply
-Outcome contents (Some (MapOf board schedule)) reply = MapsOf contents board schedule reply
+Outcome contents (Some (MapOf board schedule)) reply = Maps contents board schedule reply
 Outcome contents (Some (AuditOf board journal)) reply = Audits contents board journal reply
 Outcome contents (Some (SoakOf rounds)) reply = Soaks rounds reply
 

@@ -3,7 +3,7 @@ ghost use Rattle.std.specs.Prelude.{All, IsTrue, IfOk, ◌∷◌, []};
 ghost use Rattle.jh_history.specs.Admitted.{IsAdmitted};
 ghost use Rattle.jh_history.specs.Lives.{is_on_board};
 ghost use Rattle.jh_cli.specs.Order.{AsksIn, AsksBoardAnd};
-ghost use Rattle.jh_cli.specs.Map.{IsMapped, MapsBy, MapsOf};
+ghost use Rattle.jh_cli.specs.Map.{IsMapped, MapsBy, Maps};
 ghost use Rattle.jh_cli.specs.Reading.{IsCountedFault};
 ghost use Rattle.jh_cli.specs.Private.Endings.{reply_of, OnEnding};
 
@@ -59,7 +59,7 @@ pub fn map<F: Files>(
     board: &str,
     name: &str,
 ) -> Result<Ending, CallFault>
-    ensures ends { OnEnding result (MapsOf (F.contents files.old) board.now name.now) }
+    ensures ends { OnEnding result (Maps (F.contents files.old) board.now name.now) }
     ensures counted { OnEnding result (IsCountedFault (F.faults files.old) (F.faults files.new) (F.failed files.new)) }
     ensures asked { OnEnding result (AsksBoardAnd F.Files files.old files.new (F.contents files.old) board.now (name.now ∷ [])) }
 {

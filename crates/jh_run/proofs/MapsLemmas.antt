@@ -15,7 +15,7 @@ use Rattle.jh_script.specs.declared.image.Image.{Image}
 use Rattle.jh_history.specs.Lives.{live_in, cell_in, regions_in}
 use Rattle.jh_shape.specs.Lives.{configs_of}
 use Rattle.jh_text.specs.Maps.{map_text}
-use Rattle.jh_board.specs.Maps.{all_cells, is_kept_at, IsMapIn}
+use Rattle.jh_board.specs.Maps.{all_cells, is_closed_at, IsMapIn}
 use Rattle.jh_run.specs.Maps.{AreMaps}
 
 -- ---- a live cell is found by its id
@@ -55,6 +55,6 @@ MapsLaw = (closed : ℕ → Bool) (regions : List Region) (one other : List Run)
 pub one_text : MapsLaw → (image : Image) (lives : List Live) (cells : List CellConfig) (one other : List ℕ) → AreMaps image lives cells one → AreMaps image lives cells other → one ≡ other
 one_text law image lives [] one other e f = e ∙ sym f
 one_text law image lives (cell ∷ cells) one other (runs, rest, is, e, more) (runs', rest', is', e', more') =
-    let same : runs ≡ runs' = law (is_kept_at image lives cell.id) (regions_in image lives cell.id) runs runs' is is' in
+    let same : runs ≡ runs' = law (is_closed_at image lives cell.id) (regions_in image lives cell.id) runs runs' is is' in
     let ends : rest ≡ rest' = one_text law image lives cells rest rest' more more' in
     e ∙ (λ i. map_text cell (same i) ++ ends i) ∙ sym e'
