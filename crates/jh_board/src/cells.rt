@@ -1,5 +1,5 @@
 //! The cells that live besides root, with what is found once of each.
-ghost use Rattle.std.specs.Prelude.{◌≡◌, ◌↔◌, ℕ, ◌+◌, ◌<◌, ◌≤◌, ◌&&◌, Bool, find, [], ◌∷◌, ◌++◌, AllPairs, IfOk, IfSome, IsTrue, OnOk, false, filter, length, map, position};
+ghost use Rattle.std.specs.Prelude.{◌≡◌, ◌↔◌, ℕ, ◌+◌, ◌<◌, ◌≤◌, ◌&&◌, Bool, find, [], ◌∷◌, ◌++◌, AllPairs, IfOk, IfSome, IsTrue, OnOk, false, filter, length, map};
 ghost use Rattle.std.specs.Option.{option_copied};
 ghost use Rattle.jh_num.specs.Bytes.{in_range, has_byte};
 ghost use Rattle.jh_cellcfg.specs.declared.region.Region.{Region as TheRegion};
@@ -8,7 +8,6 @@ ghost use Rattle.jh_mmio.specs.Dispatch.{takes_all, unless_closed};
 ghost use Rattle.jh_check.specs.Refusals.{is_known};
 ghost use Rattle.jh_shape.specs.Pages.{pages_of};
 ghost use Rattle.jh_mmio.specs.Index.{IsRegionAt};
-ghost use Rattle.jh_life.specs.Lives.{has_config_id};
 ghost use Rattle.jh_shape.specs.Lives.{configs_of, marked, new_live};
 ghost use Rattle.jh_history.specs.Commits.{is_other};
 ghost use Rattle.jh_history.specs.Lives.{live_in};

@@ -7,8 +7,7 @@ use Rattle.jh_history.specs.declared.entry.Entry.{Entry}
 use Rattle.jh_history.specs.Items.{items}
 use Rattle.jh_image.specs.declared.fault.ImageCause.{ImageCause}
 use Rattle.jh_image.specs.declared.fault.ImageCause.TheVariants.{ReadFault as CantBeRead}
-use Rattle.jh_image.specs.Causes.{IsCauseOf}
-use Rattle.jh_image.specs.Laws.{AreKnown}
+use Rattle.jh_image.specs.Laws.{AreKnown, IsCertainCause}
 use Rattle.jh_image.proofs.Public.{OneSpelling, SpellingsAreFaultless}
 use Rattle.jh_run.specs.Maps.{IsMapsText, IsMappedBoard}
 use Rattle.jh_text.specs.Faults.{max_entries}
@@ -33,8 +32,8 @@ use Rattle.jh_cli.proofs.OneLemmas.{OneCell, IsRead, one_reading, system_words, 
 -- ---- boards
 
 abbrev pub OneCause : Type 0
-OneCause = (contents : Contents) (board file other : List ℕ) (cause more : ImageCause) → AreKnown contents → IsCauseOf contents board file cause → cause ≢ CantBeRead
-    → IsCauseOf contents board other more → more ≢ CantBeRead → (cause ≡ more) × (file ≡ other)
+OneCause = (contents : Contents) (board file other : List ℕ) (cause more : ImageCause) → AreKnown contents
+    → IsCertainCause contents board file cause → IsCertainCause contents board other more → (cause ≡ more) × (file ≡ other)
 
 is_unread : (file : List ℕ) (cause : ImageCause) (reply : Reply) → reply ≡ stopped file cause → IsRead reply → cause ≢ CantBeRead
 is_unread file cause reply is read fault = read (ap (λ (s : Reply). s.status) is ∙ ap (λ (c : ImageCause). (stopped file c).status) fault)
@@ -43,7 +42,8 @@ is_unread file cause reply is read fault = read (ap (λ (s : Reply). s.status) i
 one_end : OneCause → (contents : Contents) (board : List ℕ) → IsKnownBoard contents board → (one other : Reply) → EndsAtBoard contents board one → EndsAtBoard contents board other → IsRead one → IsRead other → one ≡ other
 one_end one_cause contents board told one other h k read also =
     let same : (h.cause ≡ k.cause) × (h.file ≡ k.file) = one_cause (all_told contents) board h.file k.file h.cause k.cause (each_is_told contents)
-    (stops contents board told h.file h.cause h.stops) (is_unread h.file h.cause one h.told read) (stops contents board told k.file k.cause k.stops) (is_unread k.file k.cause other k.told also) in
+    (record { stops = stops contents board told h.file h.cause h.stops; read = is_unread h.file h.cause one h.told read })
+    (record { stops = stops contents board told k.file k.cause k.stops; read = is_unread k.file k.cause other k.told also }) in
     h.told ∙ ap (λ (f : List ℕ). stopped f h.cause) same.1 ∙ ap (λ (c : ImageCause). stopped k.file c) same.0 ∙ sym k.told
 
 unread_end : (reply : Reply) → IsAnswered (λ status. ⊥) reply → reply.status ≡ ReadFault

@@ -1,3 +1,4 @@
--- Definitions that mirror the code: clauses of private functions alone cite them, and no public clause rests on them.
+-- What single steps of a call answer: clauses of functions that the crate keeps to itself alone cite these, and no public
+-- clause rests on them.
 pub mod Endings
 pub mod JournalFiles

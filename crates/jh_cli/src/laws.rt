@@ -1,9 +1,9 @@
 //! What holds of all files, whoever reads them. Each function does nothing; its contract is the law.
-ghost use Rattle.std.specs.Prelude.{◌≡◌, ◌≢◌, ◌⊎◌, Option};
+ghost use Rattle.std.specs.Prelude.{◌≡◌, ◌⊎◌, Option};
 ghost use Rattle.jh_cli.specs.Words.{Request, IsSerial};
 ghost use Rattle.jh_image.specs.Files.{Contents};
 ghost use Rattle.jh_cli.specs.Reading.{Reply};
-ghost use Rattle.jh_cli.specs.Outcome.{Outcome};
+ghost use Rattle.jh_cli.specs.Outcome.{Outcome, IsCertainOutcome};
 ghost use Rattle.jh_cli.specs.Complete.{AreKnownFiles, AreGood, MayEndWith};
 
 use crate::status::Status;
@@ -32,8 +32,8 @@ pub fn good_inputs_are_answered()
 /// could not be read: one status and one text. What those two write may differ from call to call, as their threads take
 /// turns.
 pub fn words_have_one_outcome()
-    ensures { (contents : Contents) (request : Option Request) (one other : Reply) → IsSerial request → AreKnownFiles contents request → Outcome contents request one → Outcome contents request other
-        → one.status ≢ Status.ReadFault → other.status ≢ Status.ReadFault → one ≡ other }
+    ensures { (contents : Contents) (request : Option Request) (one other : Reply) → IsSerial request → AreKnownFiles contents request
+        → IsCertainOutcome contents request one → IsCertainOutcome contents request other → one ≡ other }
 {
     spelling_has_no_fault();
     system_has_no_fault();

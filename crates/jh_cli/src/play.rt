@@ -48,14 +48,14 @@ fn play_by<F: Files>(
     alloc: Global,
     files: &mut F,
     image: Image,
-    items: &str,
+    name: &str,
 ) -> Result<Ending, CallFault>
     requires admitted { IsAdmitted image }
-    ensures ends { OnEnding result (PlaysBy (F.contents files.old) items.now image) }
+    ensures ends { OnEnding result (PlaysBy (F.contents files.old) name.now image) }
     ensures counted { OnEnding result (IsCountedFault (F.faults files.old) (F.faults files.new) (F.failed files.new)) }
-    ensures asked { OnEnding result (AsksIn F.Files files.old files.new (items.now ∷ [])) }
+    ensures asked { OnEnding result (AsksIn F.Files files.old files.new (name.now ∷ [])) }
 {
-    let cpus = schedule(alloc, files, items, &image)?;
+    let cpus = schedule(alloc, files, name, &image)?;
     Ok(render(alloc, image, cpus.as_slice())?)
 }
 
@@ -64,12 +64,12 @@ pub fn play<F: Files>(
     alloc: Global,
     files: &mut F,
     board: &str,
-    items: &str,
+    name: &str,
 ) -> Result<Ending, CallFault>
-    ensures ends { OnEnding result (Plays (F.contents files.old) board.now items.now) }
+    ensures ends { OnEnding result (Plays (F.contents files.old) board.now name.now) }
     ensures counted { OnEnding result (IsCountedFault (F.faults files.old) (F.faults files.new) (F.failed files.new)) }
-    ensures asked { OnEnding result (AsksBoardAnd F.Files files.old files.new (F.contents files.old) board.now (items.now ∷ [])) }
+    ensures asked { OnEnding result (AsksBoardAnd F.Files files.old files.new (F.contents files.old) board.now (name.now ∷ [])) }
 {
     let image = open(alloc, files, board)?;
-    play_by(alloc, files, image, items)
+    play_by(alloc, files, image, name)
 }

@@ -19,7 +19,7 @@ use jh_outside::Files;
 use std::alloc::Global;
 
 /// Does what the command asks for, which isn't `run` or `soak`.
-fn run_command<F: Files>(
+fn carry_out<F: Files>(
     alloc: Global,
     command: Command<'_>,
     files: &mut F,
@@ -53,7 +53,7 @@ pub fn reply_to<F: Files>(
     ensures asked { OnEnding result (AsksFor F.Files files.old files.new (F.contents files.old) (command_of (map string_bytes words.now))) }
 {
     match command_of(words) {
-        Some(command) => run_command(alloc, command, files),
+        Some(command) => carry_out(alloc, command, files),
         None => Ok(Ending {
             status: Status::Usage,
             text: usage_line(alloc)?,

@@ -1,32 +1,15 @@
 -- Where files tell what they hold, the reading of a board goes one way.
-use Rattle.std.proofs.Common.{◌≡◌, ℕ, ◌<◌, List, [], length, slice_get, ◌⊎◌, inl, inr, refl, sym, ap, subst, ◌∙◌, arith}
-use Rattle.std.proofs.lemmas.Option.{same_Some, slice_get_within}
+use Rattle.std.proofs.Common.{◌≡◌, ℕ, ◌<◌, List, length, ◌⊎◌, inl, inr, refl, sym, ap, subst, arith}
+use Rattle.std.proofs.lemmas.Option.{slice_get_within}
 use Rattle.jh_script.specs.declared.image.Image.{Image}
-use Rattle.jh_image.specs.declared.board.Listing.{Listing}
-use Rattle.jh_image.specs.declared.board.PreloadFile.{PreloadFile}
 use Rattle.jh_image.specs.declared.board.ProgramFile.{ProgramFile}
-use Rattle.jh_image.specs.Files.{Contents, SpellsSystem, IsPreloadOf, IsProgramOf}
-use Rattle.jh_image.specs.Images.{SoFar, Stage, nothing, with_listing, with_system, so_far_of, with_preload, with_program, IsNextPreload, HasPreloads, IsComplete, IsNextProgram, ReadsNext, reads_board, reads_system, reads_preload, reads_program, ReadsTo, nothing_read, one_more_read, IsImage}
+use Rattle.jh_image.specs.Files.{Contents}
+use Rattle.jh_image.specs.Images.{SoFar, Stage, nothing, with_system, so_far_of, IsComplete, IsNextProgram, IsNextFile, a_preload, a_program, ReadsNext, ReadsTo, nothing_read, one_more_read, IsImage}
 use Rattle.jh_image.specs.Laws.{AreKnown}
-use Rattle.jh_image.proofs.OneLemmas.{OneSpelling, listing_one, spelled_one, preload_one, program_one}
+use Rattle.jh_image.proofs.OneLemmas.{OneSpelling}
+use Rattle.jh_image.proofs.NextLemmas.{one_so_far, no_preload, SpellingsAreFaultless, goes_on, Follows, file_one, follows_one, goes_on_of}
 
--- ---- the next file
-
-pub same_preload : (one other : SoFar) (file entry : PreloadFile) → IsNextPreload one file → IsNextPreload other entry → one ≡ other → file ≡ entry
-same_preload one other file entry next more same =
-    same_Some file entry (sym next ∙ ap (λ (s : SoFar). slice_get s.listing.preloads (length s.preloads)) same ∙ more)
-
-pub same_program : (one other : SoFar) (file entry : ProgramFile) → IsNextProgram one file → IsNextProgram other entry → one ≡ other → file ≡ entry
-same_program one other file entry next more same =
-    same_Some file entry (sym next.next ∙ ap (λ (s : SoFar). slice_get s.listing.programs (length s.programs)) same ∙ more.next)
-
--- no preload is next where none is left
-pub no_preload : (one other : SoFar) (file : PreloadFile) → IsNextPreload one file → HasPreloads other → one ≡ other → ⊥
-no_preload one other file next all same =
-    let moved : IsNextPreload other file = subst (λ (s : SoFar). IsNextPreload s file) same next in
-    let within : length other.preloads < length other.listing.preloads = slice_get_within other.listing.preloads (length other.preloads) file moved in
-    let left : length other.preloads ≡ length other.listing.preloads = all in
-    omega arith
+-- ---- no file is next where none is left
 
 no_program : (one other : SoFar) (file : ProgramFile) → IsNextProgram one file → IsComplete other → one ≡ other → ⊥
 no_program one other file next all same =
@@ -35,48 +18,22 @@ no_program one other file next all same =
     let left : length other.programs ≡ length other.listing.programs = all.programs in
     omega arith
 
-pub one_so_far : (one other : SoFar) → with_system one ≡ with_system other → one ≡ other
-one_so_far one other e = cc
-
-pub one_listing : (one other : Listing) → with_listing one ≡ with_listing other → one ≡ other
-one_listing one other e = cc
-
--- nothing is next where no file is left
-pub complete_preload : (one other : SoFar) (file : PreloadFile) → IsNextPreload one file → IsComplete other → with_system one ≡ with_system other → ⊥
-complete_preload one other file next all same = no_preload one other file next all.preloads (one_so_far one other same)
-
-pub complete_program : (one other : SoFar) (file : ProgramFile) → IsNextProgram one file → IsComplete other → with_system one ≡ with_system other → ⊥
-complete_program one other file next all same = no_program one other file next all (one_so_far one other same)
-
--- ---- one read
-
-module _ (contents : Contents) (board : List ℕ) (told : AreKnown contents) (spelling : OneSpelling) where
-  reads_one : (s r t u : Stage) → ReadsNext contents board s t → ReadsNext contents board r u → s ≡ r → t ≡ u
-  reads_one s r t u (reads_board one lists) (reads_board other more) e = ap with_listing (listing_one contents board one other told lists more)
-  reads_one s r t u (reads_system one system spells sound) (reads_system other more spelled sound_too) e =
-      let same = one_listing one other e in
-      let moved : SpellsSystem contents other.system system = subst (λ (l : Listing). SpellsSystem contents l.system system) same spells in
-      let alike : system ≡ more = spelled_one contents other.system system more spelling told moved spelled in
-      λ i. with_system (so_far_of (same i) (alike i) [] [])
-  reads_one s r t u (reads_preload one file preload next is fit) (reads_preload other entry more next_too is_too fit_too) e =
-      let same = one_so_far one other e in
-      let files : file ≡ entry = same_preload one other file entry next next_too same in
-      let last : preload ≡ more = preload_one contents entry preload more told (subst (λ f. IsPreloadOf contents f preload) files is) is_too in
-      λ i. with_system (with_preload (same i) (last i))
-  reads_one s r t u (reads_program one file program next is) (reads_program other entry more next_too is_too) e =
-      let same = one_so_far one other e in
-      let files : file ≡ entry = same_program one other file entry next next_too same in
-      let last : program ≡ more = program_one contents entry program more told (subst (λ f. IsProgramOf contents f program) files is) is_too in
-      λ i. with_system (with_program (same i) (last i))
-  reads_one s r t u (reads_preload one file preload next is fit) (reads_program other entry program next_too is_too) e =
-      let same = one_so_far one other e in
-      absurd (no_preload one other file next next_too.preloads same)
-  reads_one s r t u (reads_program other entry program next_too is_too) (reads_preload one file preload next is fit) e =
-      let same = sym (one_so_far other one e) in
-      absurd (no_preload one other file next next_too.preloads same)
-  reads_one s r t u one other e = absurd cc
+pub none_next : (board : List ℕ) (stage : Stage) (name : List ℕ) → IsNextFile board stage name → (so_far : SoFar) → IsComplete so_far → stage ≡ with_system so_far → ⊥
+none_next board stage name (a_preload one file next) so_far all e = no_preload one so_far file next all.preloads (one_so_far one so_far e)
+none_next board stage name (a_program one file next) so_far all e = no_program one so_far file next all (one_so_far one so_far e)
+none_next board stage name next so_far all e = cc
 
 -- ---- one read after another
+
+module _ (spelling : OneSpelling) (faultless : SpellingsAreFaultless) (contents : Contents) (told : AreKnown contents) (board : List ℕ) where
+  reads_one : (s t u : Stage) → ReadsNext contents board s t → ReadsNext contents board s u → t ≡ u
+  reads_one s t u one other =
+      let on = goes_on_of contents board s t one in
+      let more = goes_on_of contents board s u other in
+      let same : on.name ≡ more.name = file_one board s s on.name more.name on.next more.next refl in
+      let both : goes_on t ≡ goes_on u
+      = follows_one spelling faultless contents told s more.name (goes_on t) (goes_on u) (subst (λ n. Follows contents s n (goes_on t)) same on.follows) more.follows in
+      cc
 
 data Leads (contents : Contents) (board : List ℕ) : Stage → Stage → Type 0 where
   here : (s : Stage) → Leads contents board s s
@@ -98,12 +55,12 @@ leads_last : (contents : Contents) (board : List ℕ) (s u : Stage) → Leads co
 leads_last contents board s u (here x) last = refl
 leads_last contents board s u (step x y z first rest) last = absurd (last y first)
 
-module _ (contents : Contents) (board : List ℕ) (told : AreKnown contents) (spelling : OneSpelling) where
+module _ (spelling : OneSpelling) (faultless : SpellingsAreFaultless) (contents : Contents) (told : AreKnown contents) (board : List ℕ) where
   leads_both : (s t u : Stage) → Leads contents board s t → Leads contents board s u → Leads contents board t u ⊎ Leads contents board u t
   leads_both s t u (here x) other = inl other
   leads_both s t u (step x y z first rest) (here w) = inr (step x y z first rest)
   leads_both s t u (step x y z first rest) (step w v q next more) =
-      let same : v ≡ y = reads_one contents board told spelling w x v y next first refl in
+      let same : v ≡ y = reads_one spelling faultless contents told board x v y next first in
       leads_both y t u rest (subst (λ m. Leads contents board m u) same more)
 
   -- the reading has one last stage
@@ -115,24 +72,22 @@ module _ (contents : Contents) (board : List ℕ) (told : AreKnown contents) (sp
 
 -- ---- the image
 
-complete_last : (contents : Contents) (board : List ℕ) (s t : Stage) → ReadsNext contents board s t → (so_far : SoFar) → IsComplete so_far → s ≡ with_system so_far → ⊥
-complete_last contents board s t (reads_preload one file preload next is fit) so_far all e = complete_preload one so_far file next all e
-complete_last contents board s t (reads_program one file program next is) so_far all e = complete_program one so_far file next all e
-complete_last contents board s t other so_far all e = cc
-
 -- what is read where the board makes the image
 abbrev pub read_for : (contents : Contents) (board : List ℕ) (image : Image) → IsImage contents board image → SoFar
 read_for contents board image h = so_far_of h.listing image.system image.preloads image.programs
 
 pub image_last : (contents : Contents) (board : List ℕ) (image : Image) → (h : IsImage contents board image) → IsLast contents board (with_system (read_for contents board image h))
-image_last contents board image h t reads = complete_last contents board (with_system (read_for contents board image h)) t reads (read_for contents board image h) h.complete refl
+image_last contents board image h t reads =
+    let whole = read_for contents board image h in
+    let on = goes_on_of contents board (with_system whole) t reads in
+    none_next board (with_system whole) on.name on.next whole h.complete refl
 
 abbrev image_of : SoFar → Image
 image_of so_far = record { system = so_far.system; preloads = so_far.preloads; programs = so_far.programs }
 
-pub image_one : OneSpelling → (contents : Contents) (board : List ℕ) (one other : Image) → AreKnown contents → IsImage contents board one → IsImage contents board other → one ≡ other
-image_one spelling contents board one other told h k =
+pub image_one : OneSpelling → SpellingsAreFaultless → (contents : Contents) (board : List ℕ) (one other : Image) → AreKnown contents → IsImage contents board one → IsImage contents board other → one ≡ other
+image_one spelling faultless contents board one other told h k =
     let a = read_for contents board one h in
     let b = read_for contents board other k in
-    let same : with_system a ≡ with_system b = last_one contents board told spelling (with_system a) (with_system b) h.read k.read (image_last contents board one h) (image_last contents board other k) in
+    let same : with_system a ≡ with_system b = last_one spelling faultless contents told board (with_system a) (with_system b) h.read k.read (image_last contents board one h) (image_last contents board other k) in
     ap image_of (one_so_far a b same)

@@ -1,17 +1,17 @@
 -- What the text of a board tells: the names of its files, and what each is for.
-use Rattle.std.specs.Prelude.{◌≡◌, ⊤, ℕ, Bool, true, ◌&&◌, not, ◌==◌, nat_lt, nat_le, nat_eq, List, [], ◌∷◌, length, map, codes, Option, Some, None, Result, Ok, Err, unwrap_or, is_some, option_and_then, if◌then◌else◌}
+use Rattle.std.specs.Prelude.{ℕ, Bool, true, ◌&&◌, not, ◌==◌, nat_lt, nat_le, nat_eq, List, [], ◌∷◌, length, map, codes, Option, Some, None, Result, Ok, Err, unwrap_or, is_some, option_and_then, if◌then◌else◌}
 use Rattle.std.specs.List.{list_any, list_all}
 use Rattle.std.specs.Cmp.Lexicographic.{pointwise}
 use Rattle.serde_json.specs.Data.{Data}
 use Rattle.serde_json.specs.Find.{as_str, as_object}
 use Rattle.jh_cellcfg.specs.Limits.{is_printable}
 use Rattle.jh_spec.specs.Faults.{IsJsonAnswer}
-use Rattle.jh_spec.specs.Json.{◌>>=◌, IsText, told_at, unlisted, has_only, number_told, number_below, list_at}
+use Rattle.jh_spec.specs.Json.{◌>>=◌, told_at, unlisted, has_only, number_told, number_below, list_at}
 use Rattle.jh_image.specs.declared.board.Listing.{Listing}
 use Rattle.jh_image.specs.declared.board.PreloadFile.{PreloadFile}
 use Rattle.jh_image.specs.declared.board.ProgramFile.{ProgramFile}
 use Rattle.jh_spec.specs.declared.fault.JsonFault.{JsonFault}
-use Rattle.jh_spec.specs.declared.fault.JsonFault.TheVariants.{Json, Member, NoMemory}
+use Rattle.jh_spec.specs.declared.fault.JsonFault.TheVariants.{Json, Member}
 
 -- ---- entries: objects with these members and no others
 

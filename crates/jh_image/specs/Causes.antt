@@ -12,7 +12,6 @@ use Rattle.jh_script.specs.Programs.{program_of}
 use Rattle.jh_history.specs.Admitted.{root_pages, pool_pages}
 use Rattle.jh_outside.specs.Count.{Rose}
 use Rattle.jh_image.specs.declared.board.Listing.{Listing}
-use Rattle.jh_spec.specs.declared.fault.JsonFault.{JsonFault}
 use Rattle.jh_spec.specs.declared.fault.JsonFault.TheVariants as boards
 use Rattle.jh_image.specs.declared.board.PreloadFile.{PreloadFile}
 use Rattle.jh_image.specs.declared.board.ProgramFile.{ProgramFile}

@@ -1,2 +1,3 @@
--- Definitions that mirror the code: clauses of private functions alone cite them, and no public clause rests on them.
+-- What single steps of the reading answer: clauses of functions that the crate keeps to itself alone cite these, and no
+-- public clause rests on them.
 pub mod Causes

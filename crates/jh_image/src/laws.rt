@@ -1,12 +1,12 @@
 //! Laws. Each function does nothing; its contract is the law.
-ghost use Rattle.std.specs.Prelude.{◌≡◌, ◌≢◌, ◌<◌, ℕ, List, All};
+ghost use Rattle.std.specs.Prelude.{◌≡◌, ℕ, List};
 ghost use Rattle.jh_script.specs.declared.image.Image.{Image as TheImage};
 ghost use Rattle.jh_image.specs.declared.fault.ImageCause.{ImageCause as TheCause};
 ghost use Rattle.jh_image.specs.declared.fault.ImageCause.TheVariants.{ReadFault};
 ghost use Rattle.jh_image.specs.Files.{Contents};
 ghost use Rattle.jh_image.specs.Images.{IsImage};
 ghost use Rattle.jh_image.specs.Causes.{IsCauseOf};
-ghost use Rattle.jh_image.specs.Laws.{AreKnown};
+ghost use Rattle.jh_image.specs.Laws.{AreKnown, IsCertainCause};
 
 use jh_script::Image;
 use jh_syscfg::{one_system_spelling, system_has_no_fault};
@@ -16,6 +16,7 @@ pub fn boards_make_one_image()
     ensures { (contents : Contents) (board : List ℕ) (one other : TheImage) → AreKnown contents → IsImage contents board one → IsImage contents board other → one ≡ other }
 {
     one_system_spelling();
+    system_has_no_fault();
 }
 
 /// Where files tell what they hold and a board makes an image, nothing stops its reading but a file that can't be
@@ -32,8 +33,7 @@ pub fn boards_that_make_an_image_are_not_refused()
 /// and it names one file.
 pub fn boards_have_one_cause()
     ensures { (contents : Contents) (board file other : List ℕ) (cause more : TheCause) → AreKnown contents
-        → IsCauseOf contents board file cause → cause ≢ ReadFault → IsCauseOf contents board other more → more ≢ ReadFault
-        → (cause ≡ more) × (file ≡ other) }
+        → IsCertainCause contents board file cause → IsCertainCause contents board other more → (cause ≡ more) × (file ≡ other) }
 {
     one_system_spelling();
     system_has_no_fault();

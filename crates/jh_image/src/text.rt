@@ -15,8 +15,7 @@ fn words(alloc: Global, word: &str, behind: &[u8]) -> Result<Vec<u8>, NoMemory>
     Ok(text)
 }
 
-/// What stands behind the file's name in the line of a refusal, without its line feed. The name of a member is
-/// its UTF-8 bytes.
+/// The words for a cause, without a line feed. The name of a member is its UTF-8 bytes.
 pub fn cause_text(alloc: Global, cause: &ImageCause) -> Result<Vec<u8>, NoMemory>
     ensures { IfOk result (λ text. text.items ≡ cause_text cause.now) }
 {

@@ -1,4 +1,5 @@
--- Definitions that mirror the code: clauses of private functions alone cite them, and no public clause rests on them.
+-- What single steps of a schedule or a run answer, and what types say of an image: clauses of functions that the crate
+-- keeps to itself alone cite these, and no public clause rests on them.
 pub mod Driving
 pub mod Ran
 pub mod Typed

@@ -1,5 +1,4 @@
-//! That what is played can be read, and that maps have one text. The functions answer nothing; their
-//! contracts are the laws.
+//! Laws of legal journals and of maps. Each function answers nothing; its contract is the law.
 ghost use Rattle.std.specs.Prelude.{◌≡◌, ◌≤◌, ℕ, List, length};
 ghost use Rattle.std.specs.List.{AllByRecursion};
 ghost use Rattle.jh_history.specs.declared.entry.Entry.{Entry};

@@ -32,7 +32,7 @@ fn bytes_are_typed(bytes: &[u8])
     }
 }
 
-/// The addresses of the operation, and the code and arguments of a hypercall, are below 2^64.
+/// The address of the operation, or the code and the arguments of its hypercall, are below 2^64.
 fn op_is_typed(op: &Op)
     ensures { IsTypedOp op.now }
 {

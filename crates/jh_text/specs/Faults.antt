@@ -52,7 +52,7 @@ pub record IsTooLong (text : List ℕ) : Type 0 where
 abbrev pub HasAnswer : List ℕ → Type 0
 HasAnswer text = ((entries : List Entry) × IsJournalText text entries) ⊎ (((number : ℕ) × IsFirstBadLine text number) ⊎ IsTooLong text)
 
--- the fault is one that the text has; want of memory is no fault of a text
+-- the fault is one that the text has; want of memory, which is no fault of a text, may come at any
 abbrev pub IsFault : List ℕ → JournalFault → Type 0
 IsFault text (Line number) = IsFirstBadLine text number
 IsFault text TooLong = IsTooLong text

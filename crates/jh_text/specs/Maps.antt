@@ -37,11 +37,11 @@ abbrev pub kind_text : Bool → List ℕ
 kind_text true = codes "page"
 kind_text false = codes "sub"
 
--- the addresses, up to one past the last; where the first leads; the rights, and the kind of the region
+-- the words of a run: its addresses, up to one past the last; where the first leads; its rights, and the kind of its region
 abbrev pub run_words : Run → List (List ℕ)
 run_words run = (hexadecimal run.start ++ codes "-" ++ hexadecimal run.end) ∷ place_text run.comm ∷ hexadecimal run.place ∷ rights_text run.rights ∷ kind_text run.page ∷ []
 
--- the cell's id and name
+-- the words for a cell: its id and its name
 abbrev pub cell_words : CellConfig → List (List ℕ)
 cell_words cell = codes "cell" ∷ decimal cell.id ∷ name_of cell ∷ []
 
@@ -53,6 +53,6 @@ words_line words = join_with_byte 32 words ++ 10 ∷ []
 abbrev pub run_line : Run → List ℕ
 run_line run = words_line (run_words run)
 
--- a line for the cell, and one for each run of its map
+-- the text of a cell's map: a line for the cell, and one for each run
 abbrev pub map_text : CellConfig → List Run → List ℕ
 map_text cell runs = words_line (cell_words cell) ++ flat_map run_line runs

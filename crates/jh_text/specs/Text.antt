@@ -63,18 +63,18 @@ act_words (Note id) = codes "note" ∷ decimal id ∷ []
 act_words (Noted id how) = codes "noted" ∷ decimal id ∷ codes "=" ∷ heard_text how ∷ []
 act_words (Finish answer) = codes "finish" ∷ codes "=" ∷ signed_decimal answer ∷ []
 
--- the CPU, the cell that it belonged to, and what it did
+-- the words of an entry: the CPU, the cell that it belonged to, and what it did
 abbrev pub entry_words : Entry → List (List ℕ)
 entry_words entry = decimal entry.cpu ∷ decimal entry.cell ∷ act_words entry.act
 
--- the words, with one space between each two
+-- the text of an entry: its words, with one space between each two
 abbrev pub entry_text : Entry → List ℕ
 entry_text entry = join_with_byte 32 (entry_words entry)
 
--- the text, ended by a line feed
+-- the line of an entry: its text, ended by a line feed
 abbrev pub line : Entry → List ℕ
 line entry = entry_text entry ++ 10 ∷ []
 
--- one line for each entry, in order
+-- the text of a journal: one line for each entry, in order
 abbrev pub journal_text : List Entry → List ℕ
 journal_text = flat_map line

@@ -8,7 +8,7 @@ use jh_map::Run;
 use jh_num::{NoMemory, Rights};
 use std::alloc::Global;
 
-/// What the word before a place is: whether it is in a communication page or in memory.
+/// The word before a place, which tells whether it is in the communication page or in memory.
 fn place_word(comm: bool) -> &'static str
     ensures { result.now ≡ place_text comm }
 {

@@ -3,7 +3,7 @@ use Rattle.std.specs.Prelude.{◌≡◌, ℕ, Bool, true, false, List}
 use Rattle.jh_laws.specs.Items.{ItemsLead, IsCutShort}
 use Rattle.jh_board.specs.BoardView.{BoardView}
 
--- the board has the image and the limit of another
+-- the one board has the image and the limit of the other
 abbrev pub IsSameBoard : BoardView → BoardView → Type 0
 IsSameBoard old new = new ≡ record old { entries = new.entries }
 

@@ -6,7 +6,7 @@ use Rattle.jh_script.specs.declared.image.Image.{Image}
 use Rattle.jh_script.specs.declared.image.Preload.{Preload}
 use Rattle.jh_script.specs.declared.image.Program.{Program}
 
--- the address of the operation, or the code and the two words of its hypercall, are numbers of 64 bits
+-- the address of the operation, or the code and the arguments of its hypercall, are below 2^64
 abbrev pub IsTypedOp : Op → Type 0
 IsTypedOp (Read width at) = at < 2 ^ 64
 IsTypedOp (Write width at value) = at < 2 ^ 64

@@ -10,7 +10,7 @@ pub returns-clause-ends : goal.returns-clause-ends
 returns-clause-ends g c =
     let contents = g.F.Files.contents c.args.files.now in
     let rest = rw c.open.ensures.kept at c.map_by.ensures.ends in
-    opens contents c.args.board.now (MapsBy contents c.args.items.now) c.in_ok-image.image c.in_ok-image.ensures.image c.in_ok-image.ensures.admitted c.map_by.result rest
+    opens contents c.args.board.now (MapsBy contents c.args.name.now) c.in_ok-image.image c.in_ok-image.ensures.image c.in_ok-image.ensures.admitted c.map_by.result rest
 
 pub returns-clause-counted : goal.returns-clause-counted
 returns-clause-counted g c =
@@ -18,4 +18,4 @@ returns-clause-counted g c =
 
 pub returns-clause-asked : goal.returns-clause-asked
 returns-clause-asked g c =
-    board_behind g.F.Files (g.F.Files.contents c.args.files.now) c.args.board.now (c.args.items.now ∷ []) c.args.files.now c.open.new.files c.map_by.new.files c.in_ok-image.ensures.asked c.map_by.result c.map_by.ensures.asked
+    board_behind g.F.Files (g.F.Files.contents c.args.files.now) c.args.board.now (c.args.name.now ∷ []) c.args.files.now c.open.new.files c.map_by.new.files c.in_ok-image.ensures.asked c.map_by.result c.map_by.ensures.asked

@@ -7,8 +7,8 @@ use Rattle.jh_cli.specs.Private.Endings.{reply_of}
 use Rattle.jh_cli.specs.declared.status.Status.TheVariants.{Usage}
 use Rattle.jh_cli.proofs.reply.reply_to.Goals as goal
 
-pub run_command-requires-clause-serial : goal.run_command-requires-clause-serial
-run_command-requires-clause-serial g c = subst IsSerial (sym c.in-Some.ensures.command) c.requires
+pub carry_out-requires-clause-serial : goal.carry_out-requires-clause-serial
+carry_out-requires-clause-serial g c = subst IsSerial (sym c.in-Some.ensures.command) c.requires
 
 pub returns-in_ok-usage_line-in-None-clause-asked : goal.returns-in_ok-usage_line-in-None-clause-asked
 returns-in_ok-usage_line-in-None-clause-asked g c =

@@ -1,4 +1,4 @@
--- The first stage at which one of the two stops is the other's, too.
+-- Both stop at the last stage, and what follows that is one.
 use Rattle.jh_image.proofs.CauseLemmas.{causes_one}
 use Rattle.jh_image.proofs.laws.boards_have_one_cause.Goals as goal
 

@@ -1,5 +1,5 @@
 -- What the command asks for is done.
-use Rattle.jh_cli.proofs.reply.run_command.Goals as goal
+use Rattle.jh_cli.proofs.reply.carry_out.Goals as goal
 
 pub returns-in-Check-clause-ends : goal.returns-in-Check-clause-ends
 returns-in-Check-clause-ends g c = rw c.in-Check.is c.check.ensures.ends
