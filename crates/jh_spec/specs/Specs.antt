@@ -1,17 +1,16 @@
 -- What the bytes of a SPEC tell.
-use Rattle.std.specs.Prelude.{◌≡◌, ℕ, nat_eq, List, codes, ◌∷◌, Option, Some, None, Result, Ok, Err, option_and_then, if◌then◌else◌, ⊤, is_some}
+use Rattle.std.specs.Prelude.{ℕ, nat_eq, List, codes, ◌∷◌, Option, Some, None, Result, Ok, Err, option_and_then, if◌then◌else◌, is_some}
 use Rattle.std.specs.Cmp.Lexicographic.{pointwise}
 use Rattle.serde_json.specs.Data.{Data}
 use Rattle.serde_json.specs.Find.{get, as_str, as_object}
 use Rattle.jh_cellcfg.specs.Limits.{IsWithinLimits}
 use Rattle.jh_syscfg.specs.Layout.{IsSystemWithinLimits}
 use Rattle.jh_spec.specs.declared.fault.JsonFault.{JsonFault}
-use Rattle.jh_spec.specs.declared.fault.JsonFault.TheVariants.{Json, Member, NoMemory}
+use Rattle.jh_spec.specs.declared.fault.JsonFault.TheVariants.{Json, Member}
 use Rattle.jh_spec.specs.declared.spec.Spec.{Spec}
 use Rattle.jh_spec.specs.declared.spec.Spec.TheVariants.{Cell as CellSpec, System as SystemSpec}
 use Rattle.jh_spec.specs.declared.spec.Kind.{Kind}
 use Rattle.jh_spec.specs.declared.spec.Kind.TheVariants.{Cell, System}
-use Rattle.jh_spec.specs.Json.{IsText}
 use Rattle.jh_spec.specs.Faults.{◌>>=◌, IsJsonAnswer}
 use Rattle.jh_spec.specs.Cells.{cell_names, cell_told, system_told}
 
