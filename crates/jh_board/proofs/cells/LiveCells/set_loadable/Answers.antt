@@ -63,5 +63,5 @@ returns-clause-lives c =
     let cell = cell_at lives c.args.id c.in-Some.index c.in-Some.ensures.found in
     let index : c.in-Some.index + 1 - 1 ≡ c.in-Some.index = omega arith in
     rw (← c.self.view_is)
-    (c.a_cell_is_marked_by_its_id.ensures c.in-Some.index cell.0 c.args.on new cell.1.at c.set_loadable.ensures.list (c.set_loadable.ensures.marks ∙ ap (λ k. set (marks_of lives) k c.args.on) index)
+    (c.a_cell_is_marked_by_its_id.ensures c.in-Some.index cell.0 c.args.on new cell.1.at (record { configs = c.set_loadable.ensures.list; marks = c.set_loadable.ensures.marks ∙ ap (λ k. set (marks_of lives) k c.args.on) index })
     ∙ ap (λ id. map (marked id c.args.on) lives) cell.1.is)
