@@ -1,5 +1,5 @@
 -- What a board's memory, CPUs, live cells, devices and open call stand for.
-use Rattle.std.specs.Prelude.{◌≡◌, ℕ, ◌<◌, ◌≤◌, length, slice_get, Option, Some, None, All}
+use Rattle.std.specs.Prelude.{◌≡◌, ℕ, ◌<◌, ◌≤◌, length, Option, Some, None, All}
 use Rattle.jh_cellcfg.specs.declared.config.CellConfig.{CellConfig}
 use Rattle.jh_cellcfg.specs.declared.live.Live.{Live}
 use Rattle.jh_script.specs.declared.image.Image.{Image}
@@ -7,7 +7,8 @@ use Rattle.jh_history.specs.declared.call.OpenCall.{OpenCall}
 use Rattle.jh_history.specs.declared.call.Phase.{Phase}
 use Rattle.jh_history.specs.declared.call.Phase.TheVariants.{ToCreate}
 use Rattle.jh_history.specs.declared.place.Place.{Place}
-use Rattle.jh_history.specs.DueFacts.{NamesCpu}
+use Rattle.jh_history.specs.Cpus.{ListsCpus}
+use Rattle.jh_history.specs.DueFacts.{EachNamesCpu}
 use Rattle.jh_history.specs.Devices.{specs_of}
 use Rattle.jh_history.specs.Facts.{Facts}
 use Rattle.jh_board.specs.Indexed.{AreProgramIndices}
@@ -45,7 +46,7 @@ IsReadyToGoOn held (Some o) = IsReadyIn held o.phase
 -- what is held is as the facts say, and needs no memory for what the open call goes on to do
 pub record Means (image : Image) (held : Held) (facts : Facts) : Type 0 where
   pub bytes : (q : Place) → byte_of held.memory q ≡ facts.byte q
-  pub cpus : (i : ℕ) → i < 16 → slice_get held.cpus i ≡ Some (facts.cpu i)
+  pub cpus : ListsCpus held.cpus facts.cpu
   pub system : held.cells.system ≡ image.system
   pub cells : held.cells.lives ≡ facts.cells
   pub endpoints : held.endpoints.list ≡ facts.endpoints
@@ -53,6 +54,6 @@ pub record Means (image : Image) (held : Held) (facts : Facts) : Type 0 where
   pub pages : All (HoldsPageOf held) facts.cells
   pub words : All (λ (live : Live). HoldsWordsOf held live.config) facts.cells
   pub root_words : HoldsWordsOf held image.system.root
-  pub named : All (λ (live : Live). NamesCpu live.config) facts.cells
+  pub named : EachNamesCpu facts.cells
   pub programs : AreProgramIndices image facts.cells held.programs
   pub ready : IsReadyToGoOn held facts.call

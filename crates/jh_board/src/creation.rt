@@ -2,6 +2,7 @@
 ghost use Rattle.std.specs.Prelude.{◌≡◌, ℕ, ◌<◌, ◌==◌, ◌&&◌, Some, false, true, slice_get, IfOk};
 ghost use Rattle.jh_num.specs.Bits.{has_bit};
 ghost use Rattle.jh_history.specs.declared.reading.ReadCell.TheVariants.{Reads};
+ghost use Rattle.jh_history.specs.Cpus.{ListsCpus};
 ghost use Rattle.jh_history.specs.Facts.{Facts};
 ghost use Rattle.jh_history.specs.Lives.{is_on_board};
 ghost use Rattle.jh_history.specs.Phases.{creation_by};
@@ -24,7 +25,7 @@ fn is_of_root(image: &IndexedImage, state: Cpu, cpu: u8) -> bool
 
 /// The CPUs on the board that are root's.
 fn cpus_of_root(image: &IndexedImage, cpus: &[Cpu; MAX_CPUS]) -> u16
-    ensures { (f : Facts) → ((i : ℕ) → i < 16 → slice_get cpus.now i ≡ Some (f.cpu i)) → (cpu : ℕ) → has_bit result cpu ≡ (is_on_board image.now cpu && ((f.cpu cpu).owner == image.now.system.root.id)) }
+    ensures { (f : Facts) → ListsCpus cpus.now f.cpu → (cpu : ℕ) → has_bit result cpu ≡ (is_on_board image.now cpu && ((f.cpu cpu).owner == image.now.system.root.id)) }
 {
     image.has_few_cpus();
     let mut owned = 0;

@@ -28,7 +28,7 @@ use Rattle.jh_history.specs.declared.entry.Entry.{Entry}
 use Rattle.jh_history.specs.Items.{items, played}
 use Rattle.jh_text.specs.declared.fault.JournalFault.{JournalFault}
 use Rattle.jh_text.specs.declared.fault.JournalFault.TheVariants as journals
-use Rattle.jh_text.specs.Faults.{IsFirstBadLine, IsJournalText, IsTooLong, IsFault, max_entries}
+use Rattle.jh_text.specs.Faults.{IsFault, max_entries}
 use Rattle.jh_text.proofs.Public.{NoBadLine, NotLong}
 use Rattle.jh_audit.specs.declared.verdict.Verdict.{Verdict}
 use Rattle.jh_audit.specs.declared.verdict.Verdict.TheVariants.{Legal, Illegal}

@@ -59,6 +59,9 @@ pub use due_facts::{
 };
 pub use entry::{Act, Entry, Heard, Settled};
 pub use grants::{Grants, first_of_row, memory};
+pub use jh_cellcfg::{CellConfig, Console, Irqchip, PciDevice, Region, SystemConfig};
+pub use jh_cpu::{Cpu, Mode};
+pub use jh_script::{Image, Op, Preload, Program};
 pub use journal::Journal;
 pub use known::Known;
 pub use laws::{admitted_roots_are_sound, root_lives_alone, rows_are_read_byte_by_byte};
