@@ -55,7 +55,7 @@ impl<'a> Grants for Granted<'a> {
     }
 }
 
-/// Whether root is kept from one of so many places in a row.
+/// Whether one of so many places in a row is closed to root.
 fn closes_row(cells: &LiveCells, first: Place, count: u16) -> bool
     requires { number_of first + count < 2 ^ 64 }
     ensures { (i : TheImage) → result ≡ list_any (is_closed_to i cells.now.lives i.system.root.id) (places_in_row first count) }
@@ -69,7 +69,7 @@ fn closes_row(cells: &LiveCells, first: Place, count: u16) -> bool
     }
 }
 
-/// Whether root is kept from a place of the row.
+/// Whether a place of the row is closed to root.
 fn closes_any_of(cells: &LiveCells, row: Row) -> bool
     requires { IsRow row }
     ensures { (i : TheImage) → result ≡ list_any (is_closed_to i cells.now.lives i.system.root.id) (places_of_row row) }

@@ -34,7 +34,7 @@ pub record SilentMoment : Type 0 where
   pub silent : HasNoCall image
   pub legal : IsLegal image (before ++ entry ∷ rest)
 
--- an entry that is due to a CPU of a silent image, where root is alone
+-- an entry that is due to a CPU of a silent image, where root lives alone
 pub record LoneEntry : Type 0 where
   pub image : Image
   pub facts : Facts

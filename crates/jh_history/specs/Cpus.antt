@@ -58,7 +58,7 @@ asked_by_begin image own i cpu =
     if is_on_board image i && not (i == own) && (cpu.owner == image.system.root.id) && is_running cpu.mode
     then asked_of cpu else cpu
 
--- the call goes on after the Settle
+-- the Settle isn't denied, so the call goes on after it
 abbrev pub is_undenied : Settled → Bool
 is_undenied Agreed = true
 is_undenied Denied = false

@@ -26,7 +26,7 @@ besides test list = filter (λ (e : Endpoint). not (test e.spec)) list
 abbrev pub is_pending : ℕ → ℕ → ℕ → List Endpoint → Bool
 is_pending cell device v list = option_map_or (λ (e : Endpoint). (vector_at e v).pending) (endpoint_at cell device list) false
 
--- so has the endpoint of that number in the list
+-- the endpoint at that index of the list has the vector pending
 abbrev pub is_pending_at : ℕ → ℕ → List Endpoint → Bool
 is_pending_at k v list = option_map_or (λ (e : Endpoint). (vector_at e v).pending) (slice_get list k) false
 

@@ -14,7 +14,8 @@ pub record IsMadeByFirst (s : AdmittedSpan) (live : Live) : Type 0 where
   pub act : s.first.act ≡ Commit
   pub joins : (facts_past_first s).cells ≡ (facts_at_first s).cells ++ live ∷ []
 
--- by the last entry a cell comes behind the others, with the configuration that is read at the address just before the first
+-- by the last entry a new live cell comes behind the others, with the configuration that was read at the address just
+-- before the first entry
 pub record IsMadeAsRead (s : AdmittedSpan) (at : ℕ) : Type 0 where
   pub config : CellConfig
   pub read : config_read (read_at s.image (facts_at_first s) at) ≡ Some config

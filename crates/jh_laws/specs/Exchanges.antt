@@ -51,14 +51,14 @@ pub record IsHeardBy (image : Image) (f : Facts) (caller : ℕ) (config : CellCo
   pub other : is_down (state_word f config.id) ≡ false → reply_word f config.id ≢ REPLY_RECEIVED → reply_word f config.id ≢ 0 → how ≡ Other
   pub silent : is_down (state_word f config.id) ≡ false → reply_word f config.id ≡ 0 → (how ≡ Silent) × IsTimeOver image f caller config waited
 
--- at the last entry the cell that the call is about has met the request to shut down so, which it was asked by the first
+-- at the last entry the cell that the call is about has met so the request to shut down that the first entry made
 pub record IsSettledAtLast (s : AdmittedSpan) (call : Call) (how : Settled) : Type 0 where
   pub config : CellConfig
   pub lives : Contains (configs_of (facts_at_last s).cells) config
   pub named : is_named call config.id ≡ true
   pub settles : IsSettledBy s.image (facts_at_last s) s.first.cpu config (made_by_named call s.between) how
 
--- at the last entry the cell with the id has met the note so, which it was told by the first
+-- at the last entry the cell with the id has met so the note that the first entry told it
 pub record IsHeardAtLast (s : AdmittedSpan) (id : ℕ) (how : Heard) : Type 0 where
   pub config : CellConfig
   pub lives : Contains (configs_of (facts_at_last s).cells) config

@@ -18,8 +18,7 @@ use Rattle.jh_laws.specs.Grants.{IsGiven}
 abbrev pub IsRootOrLive : Image → List Live → CellConfig → Type 0
 IsRootOrLive image cells cell = (cell ≡ image.system.root) ⊎ Contains (configs_of cells) cell
 
--- the place is left to the cell: another cell, which holds it for itself, keeps root from it, and no other cell from
--- what its own regions give
+-- the place is left to the cell: what another live cell takes is closed to root, and to no other cell
 abbrev pub IsLeft : Image → List Live → CellConfig → Place → Type 0
 IsLeft image cells cell (Physical p) = cell.id ≡ image.system.root.id → IsTaken cells p → ⊥
 IsLeft image cells cell (Page id offset) = Unit {0}

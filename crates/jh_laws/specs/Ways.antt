@@ -35,7 +35,7 @@ abbrev pub is_finish : Act → Bool
 is_finish (Finish answer) = true
 is_finish _ = false
 
--- the act is a Settle after which the call goes on
+-- the act is a Settle that isn't denied
 abbrev pub is_undenied_settle : Act → Bool
 is_undenied_settle (Settle how) = is_undenied how
 is_undenied_settle _ = false

@@ -22,7 +22,7 @@ ghost use Rattle.jh_laws.specs.Outcomes.{is_violation};
 ghost use Rattle.jh_laws.specs.States.{changes_others, is_stop_act, HasBegun, HasSettled, HasCommitted, HasFinished};
 
 /// An entry of a program moves its CPU by one operation, and a violation fails it, too. A stop stops it. No other
-/// CPU changes, unless the entry begins, agrees, commits or ends a call.
+/// CPU changes, unless the entry begins or ends a call, or is a Settle or a Commit.
 pub fn entries_change_their_cpu()
     ensures moved { (m : AdmittedMoment) → is_call m.entry.act ≡ false → is_stop_act m.entry.act ≡ false →
         is_violation m.entry.act ≡ false → state_behind m m.entry.cpu ≡ stepped (state_before m m.entry.cpu) }

@@ -13,14 +13,14 @@ use crate::cells::{Cells, live_cells_differ};
 use jh_cellcfg::CellConfig;
 use jh_check::nothing_is_refused_that_is_accepted;
 
-/// The cell that is dropped by its number is the one with its id, and the others stay with their marks.
+/// The cell that is dropped by its index in the list is the one with its id, and the others stay with their marks.
 pub fn a_cell_is_dropped_by_its_id(cells: &Cells)
     ensures { (i : ℕ) (cell : Live) → slice_get cells.now.lives i ≡ Some cell → remove cells.now.lives i ≡ without cell.config.id cells.now.lives }
 {
     live_cells_differ(cells);
 }
 
-/// The cell whose mark is put by its number is the one with its id, and the others stay with theirs.
+/// The cell whose mark is put by its index in the list is the one with its id, and the others stay with theirs.
 pub fn a_cell_is_marked_by_its_id(cells: &Cells)
     ensures { (i : ℕ) (cell : Live) (on : Bool) (new : List Live) → slice_get cells.now.lives i ≡ Some cell → IsMarkedAt i on cells.now.lives new → new ≡ map (marked cell.config.id on) cells.now.lives }
 {

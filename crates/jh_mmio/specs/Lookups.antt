@@ -32,7 +32,7 @@ pub record HasFirstByte (l : Lookup) (number : ℕ) (region : Region) : Type 0 w
   pub listed : slice_get l.regions number ≡ Some region
   pub first : IsTrue (has_address region l.at)
 
--- the region of that number has the access
+-- the region of that number is a subpage region that has the whole access, none of its bytes at a closed place
 pub record TakesAccess (l : Lookup) (number : ℕ) (region : Region) : Type 0 where
   pub listed : slice_get l.regions number ≡ Some region
   pub whole : takes_all l.closed l.at l.width region ≡ true
@@ -41,7 +41,7 @@ pub record TakesAccess (l : Lookup) (number : ℕ) (region : Region) : Type 0 wh
 abbrev pub lets_lookup_through : Lookup → Region → Bool
 lets_lookup_through l region = lets_through l.at l.width l.write region
 
--- the region of that number has the access and lets it through
+-- the region of that number takes the access so, and lets it through
 pub record IsLetThrough (l : Lookup) (number : ℕ) : Type 0 where
   pub region : Region
   pub takes : TakesAccess l number region

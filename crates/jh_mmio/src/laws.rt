@@ -16,8 +16,8 @@ pub fn the_region_that_answers_is_the_only_one()
         → (k : ℕ) (r : TheRegion) → HasFirstByte l k r → number ≡ item_number k }
 {}
 
-/// A subpage region that has the access and doesn't let it through ends the search: no window answers
-/// in its place.
+/// Where no two regions share an address, a subpage region that has the whole access, none of its bytes at a closed
+/// place, and doesn't let it through ends the search: no window answers in its place.
 pub fn a_region_that_refuses_ends_the_search()
     ensures { (l : Lookup) (k : ℕ) (r : TheRegion) → IsAmongApart l → TakesAccess l k r → lets_lookup_through l r ≡ false
         → hitting_of_lookup l ≡ NoAnswer }

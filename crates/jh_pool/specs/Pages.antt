@@ -36,7 +36,7 @@ pages_of pool = map (λ k. pool.base + 4096 * k) (range_with_len 0 pool.size)
 abbrev pub used_of : PoolView → ℕ
 used_of pool = pool.size - length pool.free
 
--- how often each page is had: a page of the pool that is taken once, and no other page of it
+-- of how often each page is had: each taken page of the pool is had once, and no other page of it is had
 pub record AreHadOnce (pool : PoolView) (had : ℕ → ℕ) : Type 0 where
   pub once : (page : ℕ) → IsPageOf pool page → had page ≤ 1
   pub taken : (page : ℕ) → IsPageOf pool page → 0 < had page ↔ IsTakenPage pool page
