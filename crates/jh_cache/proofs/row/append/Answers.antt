@@ -1,6 +1,6 @@
 -- The list has room.
 use Rattle.std.specs.VecDeque.{deque_capacity, deque_len}
-use Rattle.std.proofs.Common.{◌≡◌, ◌<◌, length, ◌∙◌, rules, arith}
+use Rattle.std.proofs.Common.{◌≡◌, ◌<◌, ◌∷◌, ◌++◌, [], is_ok, length, ◌∙◌, rules, arith}
 use Rattle.std.proofs.lemmas.Bool.{cond-true}
 use Rattle.jh_cache.proofs.row.append.Goals as goal
 
