@@ -4,11 +4,11 @@ use Rattle.jh_history.specs.Access.{memory_or_nothing}
 use Rattle.jh_board.proofs.GrantedLemmas.{reach_shut, reach_free, reach_nothing}
 use Rattle.jh_board.proofs.granted.memory.Goals as goal
 
-pub returns-then-closes_any : goal.returns-then-keeps
+pub returns-then-closes_any : goal.returns-then-closes_any
 returns-then-closes_any c =
     reach_shut c.args.image.now c.args.cells.now.lives c.args.cell c.args.wanted.now.access c.args.wanted.now.at c.args.wanted.now.width (memory_or_nothing c.memory.result) c.in-Some.places c.closes_any.result c.memory.ensures (ap memory_or_nothing c.in-Some.is) c.closes_any.ensures c.if-closes_any.true
 
-pub returns-else-closes_any : goal.returns-else-keeps
+pub returns-else-closes_any : goal.returns-else-closes_any
 returns-else-closes_any c =
     reach_free c.args.image.now c.args.cells.now.lives c.args.cell c.args.wanted.now.access c.args.wanted.now.at c.args.wanted.now.width (memory_or_nothing c.memory.result) c.in-Some.places c.closes_any.result c.memory.ensures (ap memory_or_nothing c.in-Some.is) c.closes_any.ensures c.if-closes_any.false
 

@@ -19,4 +19,4 @@ returns c =
     let kept : Place → Bool = is_closed_to c.args.image.now c.args.cells.now c.args.cell in
     let low = places_of_row c.rows.result.0 in
     let high = places_of_row c.rows.result.1 in
-    sym (ap (λ (ps : List Place). list_any kept ps) c.rows.ensures.places ∙ list_any-append kept low high ∙ rw (← c.is_row_closed.ensures, c.if-is_row_closed.false) (sym c.is_row_kept-2.ensures))
+    sym (ap (λ (ps : List Place). list_any kept ps) c.rows.ensures.places ∙ list_any-append kept low high ∙ rw (← c.is_row_closed.ensures, c.if-is_row_closed.false) (sym c.is_row_closed-2.ensures))
