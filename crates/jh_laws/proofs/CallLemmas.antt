@@ -550,9 +550,9 @@ begun_from image f b (entry ∷ entries) h =
     begun_from image (after image f entry) (begun_by b entry entry.act) entries
     (subst P (sym (after_call image f entry)) (begun_act f.cells (coming_of image f) b f.call entry entry.act refl h))
 
-pub begun_call : (image : Image) (entries : List Entry) → IsBegun (begun entries) (facts image entries).call
+pub open_call_begun : (image : Image) (entries : List Entry) → IsBegun (begun entries) (facts image entries).call
 unfolding facts
-begun_call image entries = begun_from image (start image) None entries tt
+open_call_begun image entries = begun_from image (start image) None entries tt
 
 begun_none : (b : Option Entry) (call : Option OpenCall) → call ≡ None → IsBegun b call → b ≡ None
 begun_none None call is h = refl
@@ -569,7 +569,7 @@ begun_some (Some entry) (Some p) o is h =
 
 -- what the call that is open says of the one that was begun
 pub begun_of : (image : Image) (entries : List Entry) (o : OpenCall) → (facts image entries).call ≡ Some o → (first : Entry) × (begun entries ≡ Some first) × (o.caller ≡ first.cpu) × (o.call ≡ call_begun first.act)
-begun_of image entries o is = begun_some (begun entries) (facts image entries).call o is (begun_call image entries)
+begun_of image entries o is = begun_some (begun entries) (facts image entries).call o is (open_call_begun image entries)
 
 -- it is that one
 pub call_of_open : (image : Image) (entries : List Entry) (o : OpenCall) → (facts image entries).call ≡ Some o → begun_call entries ≡ Some o.call
@@ -593,7 +593,7 @@ pub begins_alone : (image : Image) (before rest : List Entry) (entry : Entry) (c
 begins_alone image before rest entry code a b admitted legal act =
     let f : Facts = facts image before in
     let sound = legal_sound image before admitted (IsLegal_begin image before (entry ∷ rest) legal) in
-    begun_none (begun before) f.call (begin_none_by image f entry code a b f.call act sound refl (due_split image before rest entry legal)) (begun_call image before)
+    begun_none (begun before) f.call (begin_none_by image f entry code a b f.call act sound refl (due_split image before rest entry legal)) (open_call_begun image before)
 
 -- a phase is the caller's
 pub phases_own : (image : Image) (before rest : List Entry) (entry : Entry) → IsAdmitted image → IsLegal image (before ++ entry ∷ rest) → is_phase entry.act ≡ true → (first : Entry) × (begun before ≡ Some first) × (first.cpu ≡ entry.cpu)
