@@ -39,7 +39,7 @@ giving_by : (regions : List Region) (access : Access) (at : ℕ) (c : Region) (o
 giving_by regions access at c None e is = let no : gives access at c ≡ false = find_None (gives access at) regions c e is.own in rw no refl
 giving_by regions access at c (Some r) e is =
     let found = IsFound_from_find (gives access at) regions r e in
-    let same : c ≡ r = same_Some c r (is.only r found.held (gives_has access at r found.passes)) in
+    let same : c ≡ r = same_Some c r (is.only r found.among (gives_has access at r found.passes)) in
     let yes : gives access at c ≡ true = ap (gives access at) same ∙ found.passes in
     rw yes (ap (λ (x : Region). Some x) same)
 
@@ -56,7 +56,7 @@ giving_false regions access at c is fails = let e : None ≡ cond (gives access 
 none_by : (regions : List Region) (access : Access) (at : ℕ) (o : Option Region) → region_of regions access at ≡ o → IsRegionAt regions at None → None ≡ o
 none_by regions access at None e is = refl
 none_by regions access at (Some r) e is =
-    let found = IsFound_from_find (gives access at) regions r e in absurd (none-some r (is.only r found.held (gives_has access at r found.passes)))
+    let found = IsFound_from_find (gives access at) regions r e in absurd (none-some r (is.only r found.among (gives_has access at r found.passes)))
 
 pub region_of_none : (regions : List Region) (access : Access) (at : ℕ) → IsRegionAt regions at None → None ≡ region_of regions access at
 region_of_none regions access at is = none_by regions access at (region_of regions access at) refl is
@@ -108,7 +108,7 @@ found_in_range : (image : Image) (access : Access) (at : ℕ) (o : Option Region
 found_in_range image access at None admitted e = tt
 found_in_range image access at (Some r) admitted e =
     let found = IsFound_from_find (gives access at) image.system.root.memory_regions r e in
-    All-contains IsEmptyOrInRange image.system.root.memory_regions r (within image admitted) found.held (has_some r at (gives_has access at r found.passes))
+    All-contains IsEmptyOrInRange image.system.root.memory_regions r (within image admitted) found.among (has_some r at (gives_has access at r found.passes))
 
 pub region_of_in_range : (image : Image) (access : Access) (at : ℕ) (o : Option Region) → IsAdmitted image → o ≡ region_of image.system.root.memory_regions access at → IfSome o IsInRange
 region_of_in_range image access at o admitted e = found_in_range image access at o admitted (sym e)

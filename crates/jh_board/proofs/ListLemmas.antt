@@ -52,7 +52,7 @@ All_removed Q xs k all = All-from_recursion Q (remove xs k) (removed Q xs k (rec
 
 -- and one that is found has it
 pub All_from_find : {X : Type 0} (p : X → Bool) (Q : X → Type 0) (xs : List X) (x : X) → find p xs ≡ Some x → All Q xs → Q x
-All_from_find p Q xs x e all = All-contains Q xs x all (IsFound_from_find p xs x e).held
+All_from_find p Q xs x e all = All-contains Q xs x all (IsFound_from_find p xs x e).among
 
 -- an element of equal elements
 pub slice_get_replicate : {X : Type 0} (n i : ℕ) (x : X) → i < n → slice_get (replicate n x) i ≡ Some x

@@ -137,7 +137,7 @@ pub told_by : RunsLead → RunsAreSingle → (kept : Place → Bool) (id : ℕ) 
 told_by leads single kept id regions runs access at page apart is None e =
     ap (option_map (place_of_run id at)) (find_nothing (is_mapped_at access at) runs (λ run there. false_from_ne_true (is_mapped_at access at run) (λ h.
     let own = All-contains (IsRunIn (λ p. kept (Physical p)) regions) runs run is.own there in
-    both_ways (gives access at own.region) (find_None (gives access at) regions own.region e own.held) (told_gives (λ p. kept (Physical p)) access at own.region run own.of h))))
+    both_ways (gives access at own.region) (find_None (gives access at) regions own.region e own.among) (told_gives (λ p. kept (Physical p)) access at own.region run own.of h))))
 told_by leads single kept id regions runs access at page apart is (Some r) e = ⊎_elim granted not_granted (cases_Bool (is_granted closed r at))
   where
     closed : ℕ → Bool
@@ -154,10 +154,10 @@ told_by leads single kept id regions runs access at page apart is (Some r) e = �
 
     granted : is_granted closed r at ≡ true → grant_of_map id runs access at ≡ unless kept (place_in_cell id r at)
     granted h =
-        let told = is.whole r at found.held h in
+        let told = is.whole r at found.among h in
         let here = gives_told closed access at r told.run told.of told.has found.passes in
-        let only = find_unique (is_mapped_at access at) runs told.run told.held here
-        (λ other there passes. single closed regions runs other told.run at is there told.held (told_in access at other passes) told.has) in
+        let only = find_unique (is_mapped_at access at) runs told.run told.among here
+        (λ other there passes. single closed regions runs other told.run at is there told.among (told_in access at other passes) told.has) in
         ap (option_map (place_of_run id at)) only ∙ ap Some (place_is leads closed id at r told.run told.of told.has)
         ∙ sym (open_as kept id (byte_in r at) (place_in r at) (is_comm r) page (sym as_left ∙ h))
 
@@ -166,7 +166,7 @@ told_by leads single kept id regions runs access at page apart is (Some r) e = �
         ap (option_map (place_of_run id at)) (find_nothing (is_mapped_at access at) runs (λ run there. false_from_ne_true (is_mapped_at access at run) (λ told.
         let own = All-contains (IsRunIn closed regions) runs run is.own there in
         let own_granted = own.of.each at (told_in access at run told) in
-        let same = same_region regions own.region r at apart own.held found.held (granted_has closed own.region at own_granted) has in
+        let same = same_region regions own.region r at apart own.among found.among (granted_has closed own.region at own_granted) has in
         let P : Region → Type 0 = λ x. is_granted closed x at ≡ true in
         both_ways (is_granted closed r at) h (subst P same own_granted))))
         ∙ sym (kept_as kept id (byte_in r at) (place_in r at) (is_comm r) (sym as_left ∙ h))

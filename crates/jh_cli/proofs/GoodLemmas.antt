@@ -173,7 +173,7 @@ spec_sound spec bytes words within form (inr (inr bad)) =
 
 pack_unrefused : (contents : Contents) (name : List ℕ) (reply : Reply) → IsGoodToPack contents name → Packs contents name reply → IsAnswered (λ status. status ≡ Good) reply
 pack_unrefused contents name reply good h =
-    reads_unrefused (λ status. status ≡ Good) contents name spec_file (λ (spec : Spec) (s : Reply). s ≡ record { status = Good; text = packed spec }) good.spec reply (spec_sound good.spec) good.held
+    reads_unrefused (λ status. status ≡ Good) contents name spec_file (λ (spec : Spec) (s : Reply). s ≡ record { status = Good; text = packed spec }) good.spec reply (spec_sound good.spec) good.spells
     (λ bytes other form form_other went. inl (ap (λ (s : Reply). s.status) went)) h
 
 -- ---- boards
@@ -237,7 +237,7 @@ play_unrefused one_image unrefused contents board schedule reply good (inl ends)
 play_unrefused one_image unrefused contents board schedule reply good (inr (image, is, admitted, plays)) =
     let same : image ≡ good.image =
     one_image (all_told contents) board image good.image (each_is_told contents) (is_image contents board good.known image is) (is_image contents board good.known good.image good.is) in
-    plays_unrefused contents schedule good.image good.items reply good.held (subst (λ (i : Image). PlaysBy contents schedule i reply) same plays)
+    plays_unrefused contents schedule good.image good.items reply good.spells (subst (λ (i : Image). PlaysBy contents schedule i reply) same plays)
 
 -- ---- audit
 
@@ -262,7 +262,7 @@ audits_unrefused no_bad not_long contents journal image entries reply held h =
 audit_unrefused : BoardsAreUnrefused → NoBadLine → NotLong → (contents : Contents) (board journal : List ℕ) (reply : Reply) → AreGoodToAudit contents board journal → Audits contents board journal reply → IsAnswered IsVerdict reply
 audit_unrefused unrefused no_bad not_long contents board journal reply good (inl ends) = board_unrefused unrefused IsVerdict contents board good.image reply good.known good.is ends
 audit_unrefused unrefused no_bad not_long contents board journal reply good (inr (image, is, admitted, audits)) =
-    audits_unrefused no_bad not_long contents journal image good.entries reply good.held audits
+    audits_unrefused no_bad not_long contents journal image good.entries reply good.spells audits
 
 -- ---- map
 
@@ -290,7 +290,7 @@ map_unrefused one_image unrefused contents board schedule reply good (inl ends) 
 map_unrefused one_image unrefused contents board schedule reply good (inr (image, is, admitted, maps)) =
     let same : image ≡ good.image =
     one_image (all_told contents) board image good.image (each_is_told contents) (is_image contents board good.known image is) (is_image contents board good.known good.image good.is) in
-    maps_unrefused contents schedule good.image good.items reply good.held (subst (λ (i : Image). MapsBy contents schedule i reply) same maps)
+    maps_unrefused contents schedule good.image good.items reply good.spells (subst (λ (i : Image). MapsBy contents schedule i reply) same maps)
 
 -- ---- run and soak
 

@@ -67,7 +67,7 @@ pub record AreGoodToCheck (contents : Contents) (system : List ℕ) (cells : Lis
 -- the file of a pack holds a configuration's SPEC
 pub record IsGoodToPack (contents : Contents) (name : List ℕ) : Type 0 where
   pub spec : Spec
-  pub held : FileSpells most_of_a_file contents name IsSpecFile spec
+  pub spells : FileSpells most_of_a_file contents name IsSpecFile spec
 
 -- the board's files make an image, and the schedule's holds items for it
 pub record AreGoodToPlay (contents : Contents) (board schedule : List ℕ) : Type 0 where
@@ -75,7 +75,7 @@ pub record AreGoodToPlay (contents : Contents) (board schedule : List ℕ) : Typ
   pub image : Image
   pub is : IsImage contents board image
   pub items : List ℕ
-  pub held : FileSpells most_of_a_file contents schedule (IsSchedule image) items
+  pub spells : FileSpells most_of_a_file contents schedule (IsSchedule image) items
 
 -- the board's files make an image
 pub record AreGoodToRun (contents : Contents) (board : List ℕ) : Type 0 where
@@ -89,7 +89,7 @@ pub record AreGoodToAudit (contents : Contents) (board journal : List ℕ) : Typ
   pub image : Image
   pub is : IsImage contents board image
   pub entries : List Entry
-  pub held : FileSpells most_of_a_journal contents journal IsJournalFile entries
+  pub spells : FileSpells most_of_a_journal contents journal IsJournalFile entries
 
 -- the words have a command, and its files are good for it
 abbrev pub AreGood : Contents → Option Request → Type 0

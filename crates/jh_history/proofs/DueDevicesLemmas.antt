@@ -99,7 +99,7 @@ held_by : (cells : List Live) (id : ℕ) (o : Option Live) (c : CellConfig) → 
 held_by cells id None c is h = absurd (none-some c h)
 held_by cells id (Some live) c is h =
     let P : CellConfig → Type 0 = Contains (configs_of cells) in
-    subst P (same_Some live.config c h) (Contains_map (λ (l : Live). l.config) cells live (IsFound_from_find (has_id id) cells live is).held)
+    subst P (same_Some live.config c h) (Contains_map (λ (l : Live). l.config) cells live (IsFound_from_find (has_id id) cells live is).among)
 
 pub live_held : (cells : List Live) (id : ℕ) (c : CellConfig) → live_in cells id ≡ Some c → Contains (configs_of cells) c
 live_held cells id c h = held_by cells id (find (has_id id) cells) c refl h
@@ -234,7 +234,7 @@ endpoint_word : (endpoints : List Endpoint) (cell : ℕ) (register : InWindow) (
     → IfSome (option_and_then (λ (e : Endpoint). endpoint_word_written e register.bar register.at (value % 2 ^ 32)) o) (IsWordOf endpoints)
 endpoint_word endpoints cell register value None sound is = tt
 endpoint_word endpoints cell register value (Some e) sound is =
-    let there = (IsFound_from_find (λ (x : Endpoint). is_device cell register.device x.spec) endpoints e is).held in
+    let there = (IsFound_from_find (λ (x : Endpoint). is_device cell register.device x.spec) endpoints e is).among in
     written_word endpoints e register.bar register.at (value % 2 ^ 32) there (All-contains IsSoundEndpoint endpoints e sound there)
 
 pub reach_word : (image : Image) (f : Facts) (id value : ℕ) (found : Reach) → IsSound image f → IfSome (endpoint_word_of_reach (devices_of image f id) found value) (IsWordOf f.endpoints)

@@ -46,7 +46,7 @@ live_config cells config id held named =
 found_by : (cells : List Live) (id : ℕ) (o : Option Live) (c : CellConfig) → find (has_id id) cells ≡ o → option_map (λ (live : Live). live.config) o ≡ Some c → IsLive cells c.id
 found_by cells id None c is h = absurd (none-some c h)
 found_by cells id (Some live) c is h =
-    (live, (IsFound_from_find (has_id id) cells live is).held, ap (λ (x : CellConfig). x.id) (same_Some live.config c h))
+    (live, (IsFound_from_find (has_id id) cells live is).among, ap (λ (x : CellConfig). x.id) (same_Some live.config c h))
 
 pub live_found : (cells : List Live) (id : ℕ) (c : CellConfig) → live_in cells id ≡ Some c → IsLive cells c.id
 live_found cells id c h = found_by cells id (find (has_id id) cells) c refl h
@@ -170,9 +170,9 @@ told_config image f caller id call (ToSettle waited) act h is phase = not_tellin
 told_config image f caller id call (ToCreate config) act h is phase = not_telling act Commit id refl is h
 told_config image f caller id call ToCommit act h is phase = not_telling act Commit id refl is h
 told_config image f caller id call (ToNote told about answer) act h is phase =
-    live_config f.cells phase.0.config id phase.0.held (phase.0.named ∙ same_Some told id (ap tells (sym h) ∙ is))
+    live_config f.cells phase.0.config id phase.0.among (phase.0.named ∙ same_Some told id (ap tells (sym h) ∙ is))
 told_config image f caller id call (ToNoted told about answer waited) act h is phase =
-    live_config f.cells phase.0.config id phase.0.held (phase.0.named ∙ same_Some told id (ap tells (sym h.1) ∙ is))
+    live_config f.cells phase.0.config id phase.0.among (phase.0.named ∙ same_Some told id (ap tells (sym h.1) ∙ is))
 told_config image f caller id call (ToFinish answer) act h is phase = not_telling act (Finish answer) id refl is h
 
 told_live : (image : Image) (f : Facts) (entry : Entry) (id : ℕ) → IsSound image f → due_at image f entry.cpu ≡ Some entry → IsLater entry.act → tells entry.act ≡ Some id → IsLive f.cells id

@@ -102,7 +102,7 @@ comm_by image f id at r false (Some live) sound is held has comm =
     let cell = numbered image.system (configs_of f.cells) live.config found.0 in
     let item = item_of live.config.memory_regions r held in
     let page = sound.cells.clean.comms cell.0 live.config cell.1 cell.2 item.0 r item.1 (has_some r at has) comm in
-    (byte_within r at page.size has, (live, (IsFound_from_find (has_id id) f.cells live is).held, found.1))
+    (byte_within r at page.size has, (live, (IsFound_from_find (has_id id) f.cells live is).among, found.1))
 
 place_by_region : (image : Image) (f : Facts) (id : ℕ) (access : Access) (at : ℕ) (p : Place) (o : Option Region) → IsSound image f → region_of (regions_in image f.cells id) access at ≡ o
     → option_map (λ (r : Region). place_in_cell id r at) o ≡ Some p → IsOfCells f.cells p
@@ -112,7 +112,7 @@ place_by_region image f id access at p (Some r) sound is e =
     let P : Place → Type 0 = IsOfCells f.cells in
     subst P (same_Some (place_in_cell id r at) p e)
     (place_by f.cells id r at (is_comm r)
-    (λ comm. comm_by image f id at r (eqb id image.system.root.id) (find (has_id id) f.cells) sound refl found.held (gives_has access at r found.passes) comm))
+    (λ comm. comm_by image f id at r (eqb id image.system.root.id) (find (has_id id) f.cells) sound refl found.among (gives_has access at r found.passes) comm))
 
 place_of_cells : (image : Image) (f : Facts) (id : ℕ) (access : Access) (at : ℕ) (p : Place) → IsSound image f → place_of id (regions_in image f.cells id) access at ≡ Some p → IsOfCells f.cells p
 unfolding place_of
@@ -183,7 +183,7 @@ found_answers image lives id closed windows wanted None clean is =
 found_answers image lives id closed windows wanted (Some r) clean is =
     let found = IsFound_from_find (takes_all closed wanted.at wanted.width) (regions_in image lives id) r is in
     region_answers lives id wanted.at wanted.width r (is_comm r) (lets_through wanted.at wanted.width (is_write wanted.access) r)
-    (takes_all_plain image lives id closed wanted.at wanted.width r clean found.held found.passes)
+    (takes_all_plain image lives id closed wanted.at wanted.width r clean found.among found.passes)
 
 fetch_answers : (lives : List Live) (access : Access) (found : Reach) → ReachesCells lives found → ReachesCells lives (unless_fetch access found)
 fetch_answers lives ToRead found all = all

@@ -93,7 +93,7 @@ within_at image cells (Some c) clean numbered = λ i d lt some.
 
 pub numbered_live : (image : Image) (lives : List Live) (id : ℕ) (c : CellConfig) → live_in lives id ≡ Some c → (a : ℕ) × IsNumbered image.system (configs_of lives) a c
 numbered_live image lives id c e =
-    let held = (IsFound_from_find (has_number id) (configs_of lives) c (live_in_is lives (configs_of lives) id refl ∙ e)).held in
+    let held = (IsFound_from_find (has_number id) (configs_of lives) c (live_in_is lives (configs_of lives) id refl ∙ e)).among in
     (suc held.0, slice_get-get_or (configs_of lives) held.0 c held.1 ∙ ap Some held.2)
 
 pub numbered_cell : (image : Image) (lives : List Live) (id : ℕ) (c : CellConfig) (b : Bool) → cond b (Some image.system.root) (live_in lives id) ≡ Some c → (a : ℕ) × IsNumbered image.system (configs_of lives) a c

@@ -220,7 +220,7 @@ left_more specs s gone now rest =
     let other : EndpointSpec → Bool = λ x. not (is_device s.cell s.device x) in
     record {
       row = rest.row;
-      from = λ x h. (IsFound_from_filter other specs x (rest.from x h)).held;
+      from = λ x h. (IsFound_from_filter other specs x (rest.from x h)).among;
       beside = λ x h t held.
           ⊎_elim
           (λ (same : s ≡ t). ap (λ (z : EndpointSpec). is_device z.cell z.device x) (sym same) ∙ not-true (is_device s.cell s.device x) (IsFound_from_filter other specs x (rest.from x h)).passes)

@@ -154,7 +154,7 @@ unfolding place_of
 beyond_by id regions kept at None e within le = ap (λ (o : Option Region). option_and_then (unless kept) (option_map (λ (r : Region). place_in_cell id r at) o)) e
 beyond_by id regions kept at (Some r) e within le =
     let has = region_of_has regions Read at r e in
-    let held = (IsFound_from_find (gives Read at) regions r e).held in
+    let held = (IsFound_from_find (gives Read at) regions r e).among in
     let range : IsInRange r = subst IsEmptyOrInRange held.2 (within held.0 r held.1) (has_some r at has) in
     let above = has_address_last r at has in
     let end = range.virt in

@@ -164,7 +164,7 @@ pub owned_returned : (image : Image) (configs : List CellConfig) (cpu : ℕ → 
 owned_returned image configs cpu id sound owned = record {
   cells = λ config held.
       let found = IsFound_from_filter (is_other_config id) configs config held in
-      returned_has image configs cpu id config sound owned found.held (other_config id config found.passes);
+      returned_has image configs cpu id config sound owned found.among (other_config id config found.passes);
   others = λ i.
       let P : ℕ → Type 0 = IsOwner image (filter (is_other_config id) configs) in
       ⊎_elim
@@ -184,7 +184,7 @@ told_by image configs cpu caller about call answer cells (Some live) e held news
     let found = IsFound_from_find (is_recipient about) cells live e in
     let parts = and_parts (not (has_id about live)) (not (is_passive live.config)) found.passes in
     let other : live.config.id ≢ about = λ is. both_ways (eqb live.config.id about) (not-true (eqb live.config.id about) parts.0) (eq-eqb live.config.id about is) in
-    (tt, (record { config = live.config; held = held live found.held other; named = refl; other = other; active = not-true (is_passive live.config) parts.1 }, news))
+    (tt, (record { config = live.config; among = held live found.among other; named = refl; other = other; active = not-true (is_passive live.config) parts.1 }, news))
 
 pub told_first : (image : Image) (configs : List CellConfig) (cpu : ℕ → Cpu) (caller about : ℕ) (call : Call) (answer : ℤ) (cells : List Live)
     → ((live : Live) → Contains cells live → live.config.id ≢ about → Contains configs live.config) → IsNews configs call about answer

@@ -98,7 +98,7 @@ open_late image configs cpu caller call phase late is_caller roots cells absent 
 pub found_live : (cells : List Live) (id : ℕ) (live : Live) → find (has_id id) cells ≡ Some live → Contains (configs_of cells) live.config × (live.config.id ≡ id)
 found_live cells id live h =
     let found = IsFound_from_find (has_id id) cells live h in
-    (Contains_map (λ (l : Live). l.config) cells live found.held, eqb-true live.config.id id found.passes)
+    (Contains_map (λ (l : Live). l.config) cells live found.among, eqb-true live.config.id id found.passes)
 
 -- a live cell besides root has the id
 abbrev pub IsLiveId : List CellConfig → ℕ → Type 0

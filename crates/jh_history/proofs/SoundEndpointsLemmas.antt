@@ -69,7 +69,7 @@ specs_of_them image configs list are = record {
   whole = λ config held s h.
       let has = All-contains (HasEndpoint list) (specs_of config) s (are.whole config held) h in
       let found = IsFound_from_find (λ (e : Endpoint). is_device s.cell s.device e.spec) list has.0 has.1 in
-      subst (Contains (specs_in list)) has.2 (Contains_map (λ (e : Endpoint). e.spec) list has.0 found.held);
+      subst (Contains (specs_in list)) has.2 (Contains_map (λ (e : Endpoint). e.spec) list has.0 found.among);
   row = record { apart = are.apart; order = are.order };
 }
 
@@ -81,7 +81,7 @@ has_by list s apart h =
     let passes : test from.0 ≡ true = ap (λ (x : EndpointSpec). is_device s.cell s.device x) from.2 ∙ own_device s in
     let some = find_some test list from.0 from.1 passes in
     let found = IsFound_from_find test list some.0 some.1 in
-    (some.0, some.1, sym (one_device (specs_in list) s some.0.spec apart h (Contains_map (λ (e : Endpoint). e.spec) list some.0 found.held) found.passes))
+    (some.0, some.1, sym (one_device (specs_in list) s some.0.spec apart h (Contains_map (λ (e : Endpoint). e.spec) list some.0 found.among) found.passes))
 
 them_of_specs : (image : Image) (configs : List CellConfig) (list : List Endpoint) → AreSpecs image configs (specs_in list) → All IsSoundEndpoint list → AreEndpoints image configs list
 them_of_specs image configs list are sound = record {
@@ -116,11 +116,11 @@ function_follow devices bytes value n None apart is = follow_same devices.endpoi
 function_follow devices bytes value n (Some e) apart is =
     let list : List Endpoint = devices.endpoints in
     let found = IsFound_from_find (λ (x : Endpoint). is_device devices.cell n x.spec) list e is in
-    follow_space devices.cell n e (bytes.at % 4096) bytes.width (value % 2 ^ 32) list found.held
+    follow_space devices.cell n e (bytes.at % 4096) bytes.width (value % 2 ^ 32) list found.among
     (λ x held passes.
     one_device (specs_in list) x.spec e.spec apart
     (Contains_map (λ (y : Endpoint). y.spec) list x held)
-    (Contains_map (λ (y : Endpoint). y.spec) list e found.held)
+    (Contains_map (λ (y : Endpoint). y.spec) list e found.among)
     (same_device devices.cell n x.spec e.spec passes found.passes))
 
 -- a write that reaches a device
@@ -264,7 +264,7 @@ specs_go image configs id specs gone now are of left =
           (λ (later : Contains rest config).
           let found = IsFound_from_filter (is_other_config id) configs config later in
           let other : config.id ≢ id = λ same. both_ways (eqb config.id id) (not-true (eqb config.id id) found.passes) (eq-eqb config.id id same) in
-          left.stay s (are.whole config (Contains_tail root configs config found.held) s h) (beside_cell gone id s of.cell (λ t there is. other (sym cell ∙ is))))
+          left.stay s (are.whole config (Contains_tail root configs config found.among) s h) (beside_cell gone id s of.cell (λ t there is. other (sym cell ∙ is))))
           (Contains_cases root rest config held);
       row = left.row;
     }
@@ -291,7 +291,7 @@ of_cell_by image cells id None sound none = record {
 of_cell_by image cells id (Some live) sound found =
     let is = IsFound_from_find (has_id id) cells live found in
     let named : live.config.id ≡ id = eqb-true live.config.id id is.passes in
-    let held : Contains (configs_of cells) live.config = Contains_map (λ (l : Live). l.config) cells live is.held in
+    let held : Contains (configs_of cells) live.config = Contains_map (λ (l : Live). l.config) cells live is.among in
     record {
       cell = λ s h. spec_cell live.config s h ∙ named;
       other = λ s h same. other_root image.system (configs_of cells) live.config sound held (named ∙ same);

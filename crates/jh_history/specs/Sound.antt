@@ -123,7 +123,7 @@ pub record MayBeCreated (image : Image) (configs : List CellConfig) (cpu : ℕ �
 -- the cell with the id is told of another: it lives, isn't passive, and isn't the one that it is told of
 pub record IsNoteRecipient (configs : List CellConfig) (id about : ℕ) : Type 0 where
   pub config : CellConfig
-  pub held : Contains configs config
+  pub among : Contains configs config
   pub named : config.id ≡ id
   pub other : id ≢ about
   pub active : is_passive config ≡ false

@@ -220,7 +220,7 @@ told_calls image f entry e h sound told =
     let x : Endpoint = at.0 in
     let parts = and_parts (not (eqb x.state 0)) (is_other x.spec.bdf x.spec.id e.spec) at.2 in
     let link = and_parts (eqb e.spec.bdf x.spec.bdf) (not (eqb e.spec.id x.spec.id)) parts.1 in
-    let cell : x.spec.cell ≡ h.id = named_cell s.cell s.device f.endpoints x at.1 ∙ spec_cell h.config s found.1.held ∙ h.named in
+    let cell : x.spec.cell ≡ h.id = named_cell s.cell s.device f.endpoints x at.1 ∙ spec_cell h.config s found.1.among ∙ h.named in
     let P : ℕ → Type 0 = Clears f entry in
     inr (
       refl,

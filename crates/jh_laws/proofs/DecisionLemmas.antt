@@ -83,7 +83,7 @@ none_other_locked f id none =
     (λ some.
     let found = IsFound_from_list_any (is_other_locked f id) f.cells some in
     let parts = and_parts (not (has_id id found.0)) (is_locked f found.0) found.1.passes in
-    none found.0 found.1.held (λ e. both_ways (has_id id found.0) (not-true (has_id id found.0) parts.0) (eq-eqb (id_of found.0) id e)) (eqb-true (state_word f (id_of found.0)) STATE_RUNNING_LOCKED parts.1))
+    none found.0 found.1.among (λ e. both_ways (has_id id found.0) (not-true (has_id id found.0) parts.0) (eq-eqb (id_of found.0) id e)) (eqb-true (state_word f (id_of found.0)) STATE_RUNNING_LOCKED parts.1))
 
 destroy_decision : (image : Image) (f : Facts) (id : ℕ) → AreSoundCells image.system (configs_of f.cells) → IsDestroyDecision image f id (first_refusal (id_refusal image f id) (list_any (is_other_locked f id) f.cells))
 destroy_decision image f id sound =
@@ -104,7 +104,7 @@ some_locked f live locked = list_any_from_Contains (is_locked f) f.cells live lo
 none_locked : (f : Facts) → NoneIsLocked f → list_any (is_locked f) f.cells ≡ false
 none_locked f none =
     false_from_ne_true (list_any (is_locked f) f.cells)
-    (λ some. let found = IsFound_from_list_any (is_locked f) f.cells some in none found.0 found.1.held (eqb-true (state_word f (id_of found.0)) STATE_RUNNING_LOCKED found.1.passes))
+    (λ some. let found = IsFound_from_list_any (is_locked f) f.cells some in none found.0 found.1.among (eqb-true (state_word f (id_of found.0)) STATE_RUNNING_LOCKED found.1.passes))
 
 created_locked : (image : Image) (f : Facts) (caller at : ℕ) → list_any (is_locked f) f.cells ≡ true → refused_by (creation_of image f caller at) ≡ Some EPERM
 unfolding creation_of

@@ -41,7 +41,7 @@ use Rattle.jh_laws.proofs.WindowLemmas.{window_at, windows_are, windows_have, Is
 
 -- the endpoint that is found is among the endpoints
 pub endpoint_held : (image : Image) (f : Facts) (id n : ℕ) (e : Endpoint) → endpoint_at id n f.endpoints ≡ Some e → Contains f.endpoints e
-endpoint_held image f id n e there = (IsFound_from_find (λ (o : Endpoint). is_device id n o.spec) f.endpoints e there).held
+endpoint_held image f id n e there = (IsFound_from_find (λ (o : Endpoint). is_device id n o.spec) f.endpoints e there).among
 
 pub endpoint_sound : (image : Image) (f : Facts) (id n : ℕ) (e : Endpoint) → IsSound image f → endpoint_at id n f.endpoints ≡ Some e → IsSoundEndpoint e
 endpoint_sound image f id n e sound there = All-contains IsSoundEndpoint f.endpoints e sound.endpoints.sound (endpoint_held image f id n e there)
@@ -148,7 +148,7 @@ pub window_lies : (image : Image) (f : Facts) (id at width : ℕ) (w : Window) �
 window_lies image f id at width w sound some is =
     let found : find (window_has at width) (windows_from id f.endpoints 0 (list_in image f.cells id)) ≡ Some w = sym (windows_listed image f id at width) ∙ is in
     let got = IsFound_from_find (window_has at width) (windows_from id f.endpoints 0 (list_in image f.cells id)) w found in
-    let own = windows_are id f.endpoints 0 (list_in image f.cells id) w got.held in
+    let own = windows_are id f.endpoints 0 (list_in image f.cells id) w got.among in
     let place : w.device ≡ 0 + own.index = own.place in
     let number : own.index ≡ w.device = omega arith in
     let item : slice_get (list_in image f.cells id) w.device ≡ Some own.device = ap (slice_get (list_in image f.cells id)) (sym number) ∙ own.item in

@@ -199,7 +199,7 @@ committed_typed (Start id) phase cells typed h = same_typed (configs_of (map (ma
 committed_typed (Loadable id) phase cells typed h = same_typed (configs_of (map (marked id true) cells)) (configs_of cells) (configs_marked id true cells) h
 committed_typed (Destroy id) phase cells typed h =
     same_typed (configs_of (filter (is_other id) cells)) (filter (is_other_config id) (configs_of cells)) (configs_others id cells)
-    (λ config held. h config (IsFound_from_filter (is_other_config id) (configs_of cells) config held).held)
+    (λ config held. h config (IsFound_from_filter (is_other_config id) (configs_of cells) config held).among)
 committed_typed _ phase cells typed h = h
 
 commits_typed : (call : Option OpenCall) (cells : List Live) → IsTypedCall call → AreTyped (configs_of cells) → AreTyped (configs_of (cells_by call cells Commit))

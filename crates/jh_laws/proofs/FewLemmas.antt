@@ -218,7 +218,7 @@ few_numbers xs apart small =
     (λ q h.
     let found = IsFound_from_list_any (eqb q) xs h in
     let P : ℕ → Type 0 = λ x. x < 16 in
-    subst P (sym (eqb-true q found.0 found.1.passes)) (All-contains P xs found.0 small found.1.held))
+    subst P (sym (eqb-true q found.0 found.1.passes)) (All-contains P xs found.0 small found.1.among))
 
 -- a CPU of each of the cells
 pub record ArePicked (owner : ℕ → ℕ) (configs : List CellConfig) : Type 0 where

@@ -14,7 +14,7 @@ use Rattle.jh_laws.proofs.RootLemmas.{root_region}
 pub granted_same : (image : Image) (access : Access) (at : ℕ) (place : Place) → IsAdmitted image → IsGiven image.system.root access at place → place ≡ Physical at
 granted_same image access at place admitted granted =
     let r = granted.region in
-    let own = root_region image r at admitted granted.held (has_address_from r at granted.first granted.last) in
+    let own = root_region image r at admitted granted.among (has_address_from r at granted.first granted.last) in
     let first : r.virt_start ≤ at = granted.first in
     let identity : r.phys_start ≡ r.virt_start = own.identity in
     let same : r.phys_start + (at - r.virt_start) ≡ at = omega arith in

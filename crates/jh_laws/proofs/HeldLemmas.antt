@@ -146,12 +146,12 @@ pub given_place : (image : Image) (cells : List Live) (cell : CellConfig) (acces
 unfolding place_of
 given_place image cells cell access at place sound live given =
     let r = given.region in
-    let i = given.held.0 in
+    let i = given.among.0 in
     let regions : List Region = cell.memory_regions in
-    let same : get_or regions i r ≡ r = given.held.2 in
+    let same : get_or regions i r ≡ r = given.among.2 in
     let has : has_address r at ≡ true = has_address_from r at given.first given.last in
     let there : gives access at (get_or regions i r) ≡ true = ap (gives access at) same ∙ gives_from access at r has given.pages (sym (may_right access r) ∙ given.right) in
-    let found : find (gives access at) regions ≡ Some r = find_only (gives access at) regions i r given.held.1 there (only_region image cells cell access at sound live) ∙ ap Some same in
+    let found : find (gives access at) regions ≡ Some r = find_only (gives access at) regions i r given.among.1 there (only_region image cells cell access at sound live) ∙ ap Some same in
     ap (option_map (λ (s : Region). place_in_cell cell.id s at)) found ∙ ap Some (sym given.given)
 
 place_by : (image : Image) (cells : List Live) (cell : CellConfig) (access : Access) (at : ℕ) (place : Place) (o : Option Region) → AreSoundCells image.system (configs_of cells) → IsRootOrLive image cells cell → region_of cell.memory_regions access at ≡ o
@@ -160,12 +160,12 @@ place_by image cells cell access at place None sound live is e = absurd (none-so
 place_by image cells cell access at place (Some r) sound live is e =
     let found = IsFound_from_find (gives access at) cell.memory_regions r is in
     let has : has_address r at ≡ true = gives_has access at r found.passes in
-    let within : virt_end r ≤ ADDRESS_END = region_within image cells cell r at sound live found.held has in
+    let within : virt_end r ≤ ADDRESS_END = region_within image cells cell r at sound live found.among has in
     let last : at < virt_end r = has_address_last r at has in
     record {
       below = omega arith;
       region = r;
-      held = found.held;
+      among = found.among;
       pages = gives_pages access at r found.passes;
       right = may_right access r ∙ gives_right access at r found.passes;
       first = has_address_first r at has;
@@ -258,7 +258,7 @@ to_granted_holds image f id access at place sound h = to_granted image f.cells i
 pub root_address : (image : Image) (cells : List Live) (access : Access) (at : ℕ) (place : Place) → AreSoundCells image.system (configs_of cells) → IsGiven image.system.root access at place → place ≡ Physical at
 root_address image cells access at place sound given =
     let r = given.region in
-    let held : Contains image.system.root.memory_regions r = given.held in
+    let held : Contains image.system.root.memory_regions r = given.among in
     let item : slice_get image.system.root.memory_regions held.0 ≡ Some r = slice_get-get_or image.system.root.memory_regions held.0 r held.1 ∙ ap Some held.2 in
     let first : r.virt_start ≤ at = given.first in
     let last : at < r.virt_start + r.size = given.last in

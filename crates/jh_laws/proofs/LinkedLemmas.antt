@@ -111,7 +111,7 @@ found_cleared Leave e o list id n clears differs there = found_left e o list id 
 
 none_filtered : (id n : ℕ) (q : Endpoint → Bool) (list : List Endpoint) → endpoint_at id n list ≡ None → endpoint_at id n (filter q list) ≡ None
 none_filtered id n q list none =
-    find_nothing (λ (x : Endpoint). is_device id n x.spec) (filter q list) (λ x held. find_None (λ (y : Endpoint). is_device id n y.spec) list x none (IsFound_from_filter q list x held).held)
+    find_nothing (λ (x : Endpoint). is_device id n x.spec) (filter q list) (λ x held. find_None (λ (y : Endpoint). is_device id n y.spec) list x none (IsFound_from_filter q list x held).among)
 
 pub none_cleared : (change : DeviceChange) (e : Endpoint) (list : List Endpoint) (id n : ℕ) → endpoint_at id n list ≡ None → endpoint_at id n (cleared_by change e list) ≡ None
 none_cleared Join e list id n none = none
@@ -147,7 +147,7 @@ quiet_own Reset e list o clears there =
 quiet_own Leave e list o clears there =
     let found = IsFound_from_find (λ (x : Endpoint). is_device e.spec.cell e.spec.device x.spec) (left_by e list) o there in
     absurd (both_ways (is_device e.spec.cell e.spec.device o.spec)
-    (not-true (is_device e.spec.cell e.spec.device o.spec) (IsFound_from_filter (λ (x : Endpoint). not (is_device e.spec.cell e.spec.device x.spec)) (told_of e 0 list) o found.held).passes) found.passes)
+    (not-true (is_device e.spec.cell e.spec.device o.spec) (IsFound_from_filter (λ (x : Endpoint). not (is_device e.spec.cell e.spec.device x.spec)) (told_of e 0 list) o found.among).passes) found.passes)
 
 quiet_told : (b : Bool) (o : Endpoint) → IsQuiet o → IsQuiet (cond b (raised 0 o) o)
 quiet_told true o quiet = subst IsQuiet (sym (closed_control 0 o quiet.control)) quiet

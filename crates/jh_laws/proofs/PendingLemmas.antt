@@ -191,7 +191,7 @@ next_some_holds f id n v h =
     (best.0, best.1, omega arith)
   where
     endpoint_held : (g : Facts) (cell m : ℕ) (o : Endpoint) → endpoint_at cell m g.endpoints ≡ Some o → Contains g.endpoints o
-    endpoint_held g cell m o is = (IsFound_from_find (λ (q : Endpoint). is_device cell m q.spec) g.endpoints o is).held
+    endpoint_held g cell m o is = (IsFound_from_find (λ (q : Endpoint). is_device cell m q.spec) g.endpoints o is).among
 
 -- what is next is pending, and lowest
 pub next_is : (image : Image) (f : Facts) (id n v : ℕ) → IsSound image f → pending_of id f.endpoints ≡ Some (n, v) → IsNextVector f id n v

@@ -87,7 +87,7 @@ changed_at image f id at width value q place are changed =
     (λ (some : list_any (is_same q) (listed place width) ≡ true).
     let found = IsFound_from_list_any (is_same q) (listed place width) some in
     let P : Place → Type 0 = λ p. Contains (listed place width) p in
-    let k = listed_at place width q (subst P (sym (same_place q found.0 found.1.passes)) found.1.held) in
+    let k = listed_at place width q (subst P (sym (same_place q found.0 found.1.passes)) found.1.among) in
     let G : Place → Type 0 = IsGivenTo image f.cells id (at + k.0) in
     (at + k.0, subst G (sym k.2) (places_given image f.cells id at width place are k.0 k.1)))
     (λ (none : list_any (is_same q) (listed place width) ≡ false). absurd (changed (written_other f.byte (listed place width) value q none)))
@@ -185,7 +185,7 @@ held_taken cells live number region place h =
       cell = live;
       live = h.lives;
       region = region;
-      held = (number, slice_get_within regions number region h.item, get_or_from_slice_get regions number region region h.item);
+      among = (number, slice_get_within regions number region h.item, get_or_from_slice_get regions number region region h.item);
       alone = h.alone;
       has = h.has;
       kept = h.kept;
@@ -244,8 +244,8 @@ other_writes : (image : Image) (cells : List Live) (live : Live) (number : ℕ) 
     → (given : IsGivenTo image cells other.id at (Physical place)) → given.cell ≡ other → IsOwnOrLinked cells live.config number other.id
 other_writes image cells live number region place other at sound held there given is_other =
     let yours = given_place image cells other.id at place given in
-    let item_y : slice_get other.memory_regions given.held.0 ≡ Some given.region = ap (λ (c : CellConfig). slice_get c.memory_regions given.held.0) (sym is_other) ∙ numbered given.cell.memory_regions given.region given.held in
-    live_has image cells live number region place other sound.clean held there (record { number = given.held.0; region = given.region; item = item_y; no_comm = yours.0; has = yours.1 })
+    let item_y : slice_get other.memory_regions given.among.0 ≡ Some given.region = ap (λ (c : CellConfig). slice_get c.memory_regions given.among.0) (sym is_other) ∙ numbered given.cell.memory_regions given.region given.among in
+    live_has image cells live number region place other sound.clean held there (record { number = given.among.0; region = given.region; item = item_y; no_comm = yours.0; has = yours.1 })
 
 -- the same, by the name of the cell itself
 abbrev own_name : (image : Image) (cells : List Live) (id at : ℕ) (place : Place) (h : IsGivenTo image cells id at place) → IsGivenTo image cells h.cell.id at place
@@ -254,7 +254,7 @@ own_name image cells id at place h = record {
   live = h.live;
   named = refl;
   region = h.region;
-  held = h.held;
+  among = h.among;
   first = h.first;
   last = h.last;
   given = h.given;
@@ -305,7 +305,7 @@ table_has image configs config spec value k place clean held own there =
 -- a device whose word a Commit clears is that of a cell which lives before it or behind it
 pub record IsChanging (image : Image) (f : Facts) (entry : Entry) (spec : EndpointSpec) : Type 0 where
   pub config : CellConfig
-  pub held : Contains (specs_of config) spec
+  pub among : Contains (specs_of config) spec
   pub lives : Contains (configs_of f.cells) config ⊎ (IsClean image.system (configs_of f.cells ++ config ∷ []) × (configs_of (cells_after f entry) ≡ configs_of f.cells ++ config ∷ []))
 
 nothing_in : (spec : EndpointSpec) → Contains [] spec → ⊥
@@ -313,13 +313,13 @@ nothing_in spec held = let below : held.0 < 0 = held.1 in let no : ⊥ = omega a
 
 live_changing : (image : Image) (f : Facts) (entry : Entry) (spec : EndpointSpec) (id : ℕ) (o : Option Live) → find (has_id id) f.cells ≡ o → Contains (option_map_or specs_of (option_map (λ (l : Live). l.config) o) []) spec → IsChanging image f entry spec
 live_changing image f entry spec id None is held = absurd (nothing_in spec held)
-live_changing image f entry spec id (Some live) is held = record { config = live.config; held = held; lives = inl (found_live f.cells id live is).0 }
+live_changing image f entry spec id (Some live) is held = record { config = live.config; among = held; lives = inl (found_live f.cells id live is).0 }
 
 call_changing : (image : Image) (f : Facts) (entry : Entry) (spec : EndpointSpec) (caller : ℕ) (call : Call) (phase : Phase) → f.call ≡ Some (record { caller = caller; call = call; phase = phase }) → entry.act ≡ Commit
     → IsInPhase image (configs_of f.cells) f.cpu caller call phase → Contains (option_map_or specs_of (changing f.cells call phase) []) spec → IsChanging image f entry spec
 call_changing image f entry spec caller (Create at) (ToCreate config) is commits phase held = record {
   config = config;
-  held = held;
+  among = held;
   lives = inr (
     phase.1.clean,
     ap (λ (o : Option OpenCall). configs_of (cells_by o f.cells entry.act)) is
@@ -372,14 +372,14 @@ changing_owner : (image : Image) (f : Facts) (entry : Entry) (live : Live) (numb
 changing_owner image f entry live number region place spec value k sound held h there =
     let P : ℕ → Type 0 = IsOwnerOf image f entry live.config number in
     let all : List CellConfig = configs_of f.cells ++ h.config ∷ [] in
-    subst P (sym (spec_cell h.config spec h.held))
+    subst P (sym (spec_cell h.config spec h.among))
     (⊎_elim
     (λ (lives : Contains (configs_of f.cells) h.config).
     inl (live_has image f.cells live number region place h.config sound.cells.clean held lives
-    (table_has image (configs_of f.cells) h.config spec value k place sound.cells.clean (Contains_tail image.system.root (configs_of f.cells) h.config lives) h.held there)))
+    (table_has image (configs_of f.cells) h.config spec value k place sound.cells.clean (Contains_tail image.system.root (configs_of f.cells) h.config lives) h.among there)))
     (λ comes.
     coming_owner image f entry live number region place h.config held comes.0 comes.1
-    (table_has image all h.config spec value k place comes.0 (Contains_tail image.system.root all h.config (Contains-push (configs_of f.cells) h.config)) h.held there))
+    (table_has image all h.config spec value k place comes.0 (Contains_tail image.system.root all h.config (Contains-push (configs_of f.cells) h.config)) h.among there))
     h.lives)
 
 endpoint_owner : (image : Image) (f : Facts) (entry : Entry) (live : Live) (number : ℕ) (region : Region) (place : ℕ) (e : Endpoint) (value k : ℕ) → IsSound image f → IsHeld f.cells live number region place → Contains f.endpoints e
@@ -405,11 +405,11 @@ cleared_there : (image : Image) (f : Facts) (entry : Entry) (live : Live) (numbe
 cleared_there image f entry live number region place sound held h = record {
   spec = h.spec;
   value = 0;
-  writes = inr (h.held, refl);
+  writes = inr (h.among, refl);
   index = h.index;
   within = h.there.0;
   there = ap number_of h.there.1;
-  owner = changing_owner image f entry live number region place h.spec 0 h.index sound held (changing_is image f entry h.spec sound h.held) h.there;
+  owner = changing_owner image f entry live number region place h.spec 0 h.index sound held (changing_is image f entry h.spec sound h.among) h.there;
 }
 
 put_there : (image : Image) (f : Facts) (entry : Entry) (live : Live) (number : ℕ) (region : Region) (place : ℕ) → IsSound image f → IsHeld f.cells live number region place → PutsWordAt image f entry.cell entry.act (Physical place)

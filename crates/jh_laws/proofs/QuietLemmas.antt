@@ -141,7 +141,7 @@ settles f call waited about =
 
 hears : (f : Facts) (id about waited : ℕ) → IsNoteRecipient (configs_of f.cells) id about → is_some (heard_of f true id waited) ≡ true
 hears f id about waited told =
-    let live = live_some f.cells told.config id told.held told.named in
+    let live = live_some f.cells told.config id told.among told.named in
     let by : Bool → Option Heard = λ over. heard_by (state_word f id) (reply_word f id) over in
     let e : heard_of f true id waited ≡ by (is_over live.0.msg_reply_timeout waited true) =
     ap (option_and_then (λ (c : CellConfig). by (is_over c.msg_reply_timeout waited true))) live.1 in

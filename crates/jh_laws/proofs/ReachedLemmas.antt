@@ -125,7 +125,7 @@ has_takes image cells id at width r sound some h =
     let open_is : is_at_closed (kept_of image cells id) at width r ≡ false = sym (kept_row image cells id at width r low) ∙ free in
     let C : List Region → Type 0 = λ rs. Contains rs r in
     let R : ℕ → Type 0 = λ i. regions_in image cells i ≡ h.cell.memory_regions in (
-      subst C (sym (subst R h.named (regions_of_live image cells h.cell sound h.live))) h.held,
+      subst C (sym (subst R h.named (regions_of_live image cells h.cell sound h.live))) h.among,
       and_from (has_size r && not (is_page_mapped r)) (lies_between r.virt_start (virt_end r) at width && not (is_at_closed (kept_of image cells id) at width r))
           (and_from (has_size r) (not (is_page_mapped r)) size (ap not h.part))
           (and_from (lies_between r.virt_start (virt_end r) at width) (not (is_at_closed (kept_of image cells id) at width r)) lies (ap not open_is)),
@@ -145,7 +145,7 @@ has_of_cell image cells id at width r (Some cell) some is held takes =
       cell = cell;
       live = live.0;
       named = live.1;
-      held = held;
+      among = held;
       part = takes_all_subpage (kept_of image cells id) at width r takes;
       first = parts.0;
       last = parts.1;
@@ -179,7 +179,7 @@ one_region image cells id at width r s sound some h k =
     let Q : ℕ → Type 0 = λ i. cell_in image cells i ≡ Some k.cell in
     let same : k.cell ≡ h.cell = same_Some k.cell h.cell (sym (subst Q k.named (live_cell image cells k.cell sound k.live)) ∙ subst P h.named (live_cell image cells h.cell sound h.live)) in
     let C : CellConfig → Type 0 = λ c. Contains c.memory_regions s in
-    same_at image cells h.cell r s at sound h.live h.held (subst C same k.held) (has_first image cells id at width r some h) (has_first image cells id at width s some k)
+    same_at image cells h.cell r s at sound h.live h.among (subst C same k.among) (has_first image cells id at width r some h) (has_first image cells id at width s some k)
 
 -- ---- whether it lets the access through
 
@@ -382,7 +382,7 @@ found_way : (image : Image) (f : Facts) (id : ℕ) (access : Access) (at width :
     → find (takes_all (kept_of image f.cells id) at width) (regions_in image f.cells id) ≡ o → reach image f id access at width ≡ region_or_window (asked_with image id o (window_of_access (devices_of image f id) at width)) (wanted_at access at width) → Way image f id access at width
 found_way image f id access at width (Some r) sound some behind is e =
     let found = IsFound_from_find (takes_all (kept_of image f.cells id) at width) (regions_in image f.cells id) r is in
-    region_way image f id access at width r (lets_through at width (is_write access) r) sound.cells some behind (takes_has image f.cells id at width r some found.held found.passes) refl e
+    region_way image f id access at width r (lets_through at width (is_write access) r) sound.cells some behind (takes_has image f.cells id at width r some found.among found.passes) refl e
 found_way image f id access at width None sound some behind is e =
     window_way image f id access at width (window_of_access (devices_of image f id) at width) (lies_between (ecam_start image.system) (ecam_end image.system) at width) sound some behind
     (λ r has.

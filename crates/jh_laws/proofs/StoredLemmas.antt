@@ -146,7 +146,7 @@ pub record IsGivenTo (image : Image) (cells : List Live) (id at : ℕ) (place : 
   pub live : IsRootOrLive image cells cell
   pub named : cell.id ≡ id
   pub region : Region
-  pub held : Contains cell.memory_regions region
+  pub among : Contains cell.memory_regions region
   pub first : region.virt_start ≤ at
   pub last : at < region.virt_start + region.size
   pub given : place ≡ place_behind cell region (at - region.virt_start)
@@ -158,7 +158,7 @@ granted_given image cells id at place h = record {
   live = h.live;
   named = h.named;
   region = h.given.region;
-  held = h.given.held;
+  among = h.given.among;
   first = h.given.first;
   last = h.given.last;
   given = h.given.given;
@@ -176,7 +176,7 @@ region_given image cells id at width place k lt by =
       live = has.live;
       named = has.named;
       region = by.region;
-      held = has.held;
+      among = has.among;
       first = omega arith;
       last = omega arith;
       given = by.given k lt;

@@ -234,10 +234,10 @@ in_phase image f caller call (ToSettle waited) act is holds cells typed refusal 
 in_phase image f caller call (ToCreate config) act is holds cells typed refusal = subst HasTypedAct (sym is) tt
 in_phase image f caller call ToCommit act is holds cells typed refusal = subst HasTypedAct (sym is) tt
 in_phase image f caller call (ToNote id about answer) act is holds cells typed refusal =
-    let small : id < 2 ^ 32 = subst (λ n. n < 2 ^ 32) holds.0.named (cells holds.0.config holds.0.held).id in
+    let small : id < 2 ^ 32 = subst (λ n. n < 2 ^ 32) holds.0.named (cells holds.0.config holds.0.among).id in
     subst HasTypedAct (sym is) small
 in_phase image f caller call (ToNoted id about answer waited) act is holds cells typed refusal =
-    let small : id < 2 ^ 32 = subst (λ n. n < 2 ^ 32) holds.0.named (cells holds.0.config holds.0.held).id in
+    let small : id < 2 ^ 32 = subst (λ n. n < 2 ^ 32) holds.0.named (cells holds.0.config holds.0.among).id in
     subst HasTypedAct (sym is.1) small
 in_phase image f caller call (ToFinish answer) act is holds cells typed refusal = subst HasTypedAct (sym is) typed
 

@@ -175,7 +175,7 @@ abbrev pub IsFirst : Window → Window → Type 0
 IsFirst w x = (w ≡ x) ⊎ IsLower w.device w.bar x.device x.bar
 
 single_first : (p : Window → Bool) (a w x : Window) → find p (a ∷ []) ≡ Some w → Contains (a ∷ []) x → IsFirst w x
-single_first p a w x found held = inl (sym (only a w (IsFound_from_find p (a ∷ []) w found).held) ∙ only a x held)
+single_first p a w x found held = inl (sym (only a w (IsFound_from_find p (a ∷ []) w found).among) ∙ only a x held)
 
 two_first : (p : Window → Bool) (n : ℕ) (a b : ℕ × ℕ) (w x : Window) (passes : Bool) → p (window_at n 0 a) ≡ passes
     → cond passes (Some (window_at n 0 a)) (find p (window_at n 1 b ∷ [])) ≡ Some w → (window_at n 0 a ≡ x) ⊎ Contains (window_at n 1 b ∷ []) x → p x ≡ true → IsFirst w x
@@ -222,7 +222,7 @@ first_by p cell endpoints n device devices w x (Some v) is found held passed res
     ⊎_elim
     (λ (here : Contains (device_windows cell endpoints n device) x). device_first p cell endpoints n w x (is_endpoint n device) own here passed)
     (λ (later : Contains (windows_from cell endpoints (n + 1) devices) x).
-    let first = windows_at cell endpoints n device w (is_endpoint n device) refl (IsFound_from_find p (device_windows cell endpoints n device) w own).held in
+    let first = windows_at cell endpoints n device w (is_endpoint n device) refl (IsFound_from_find p (device_windows cell endpoints n device) w own).among in
     let number : w.device ≡ n = first.number in
     let second = windows_are cell endpoints (n + 1) devices x later in
     let place : x.device ≡ (n + 1) + second.index = second.place in

@@ -121,7 +121,7 @@ words_kept (s ∷ specs) byte q apart =
 -- the place is in one of them
 pub record IsInWords (specs : List EndpointSpec) (q : Place) : Type 0 where
   pub spec : EndpointSpec
-  pub held : Contains specs spec
+  pub among : Contains specs spec
   pub index : ℕ
   pub there : IsByteAt (endpoint_word_of spec 0) q index
 
@@ -130,10 +130,10 @@ pub words_or : (specs : List EndpointSpec) (q : Place) → IsInWords specs q ⊎
 words_or [] q = inr (λ spec held. let below : held.0 < 0 = held.1 in absurd (omega arith))
 words_or (s ∷ specs) q =
     ⊎_elim
-    (λ (there : (k : ℕ) × IsByteAt (endpoint_word_of s 0) q k). inl (record { spec = s; held = Contains_head s specs; index = there.0; there = there.1 }))
+    (λ (there : (k : ℕ) × IsByteAt (endpoint_word_of s 0) q k). inl (record { spec = s; among = Contains_head s specs; index = there.0; there = there.1 }))
     (λ (apart : IsApart (endpoint_word_of s 0) q).
     ⊎_elim
-    (λ (rest : IsInWords specs q). inl (record { spec = rest.spec; held = Contains_tail s specs rest.spec rest.held; index = rest.index; there = rest.there }))
+    (λ (rest : IsInWords specs q). inl (record { spec = rest.spec; among = Contains_tail s specs rest.spec rest.among; index = rest.index; there = rest.there }))
     (λ (others : AreApart specs q).
     inr (λ spec held.
     let P : EndpointSpec → Type 0 = λ t. IsApart (endpoint_word_of t 0) q in

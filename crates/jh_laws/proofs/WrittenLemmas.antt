@@ -92,16 +92,16 @@ single_by image cells cell access a b q g h true true sound live comm_x comm_y a
     let last_a : a < x.virt_start + x.size = g.last in
     let first_b : y.virt_start ≤ b = h.first in
     let last_b : b < y.virt_start + y.size = h.last in
-    let same = comm_only image (configs_of cells) number.0 cell g.held.0 h.held.0 x y sound number.1 (item_of cell x g.held) (item_of cell y h.held) (omega arith) (omega arith) comm_x comm_y in
-    same_offset x y a b (same_item cell g.held.0 h.held.0 x y same (item_of cell x g.held) (item_of cell y h.held)) first_a first_b (ap number_of (sym at_a ∙ at_b))
+    let same = comm_only image (configs_of cells) number.0 cell g.among.0 h.among.0 x y sound number.1 (item_of cell x g.among) (item_of cell y h.among) (omega arith) (omega arith) comm_x comm_y in
+    same_offset x y a b (same_item cell g.among.0 h.among.0 x y same (item_of cell x g.among) (item_of cell y h.among)) first_a first_b (ap number_of (sym at_a ∙ at_b))
 single_by image cells cell access a b q g h false false sound live comm_x comm_y at_a at_b =
     let number = number_of_holds image cells cell live in
     let x : Region = g.region in
     let y : Region = h.region in
     let p : ℕ = x.phys_start + (a - x.virt_start) in
     let same_place : p ≡ y.phys_start + (b - y.virt_start) = ap number_of (sym at_a ∙ at_b) in
-    let same : g.held.0 ≡ h.held.0 = sound.clean.places number.0 cell number.1 g.held.0 h.held.0 x y (item_of cell x g.held) (item_of cell y h.held) comm_x comm_y p (in_place x a p g.first g.last refl) (in_place y b p h.first h.last same_place) in
-    let one : x ≡ y = same_item cell g.held.0 h.held.0 x y same (item_of cell x g.held) (item_of cell y h.held) in
+    let same : g.among.0 ≡ h.among.0 = sound.clean.places number.0 cell number.1 g.among.0 h.among.0 x y (item_of cell x g.among) (item_of cell y h.among) comm_x comm_y p (in_place x a p g.first g.last refl) (in_place y b p h.first h.last same_place) in
+    let one : x ≡ y = same_item cell g.among.0 h.among.0 x y same (item_of cell x g.among) (item_of cell y h.among) in
     let P : Region → Type 0 = λ r. p ≡ r.phys_start + (b - r.virt_start) in
     let Q : Region → Type 0 = λ r. r.virt_start ≤ b in
     let there : x.phys_start + (a - x.virt_start) ≡ x.phys_start + (b - x.virt_start) = subst P (sym one) same_place in

@@ -30,7 +30,7 @@ pub record HasAccess (image : Image) (cells : List Live) (id at width : ℕ) (re
   pub cell : CellConfig
   pub live : IsRootOrLive image cells cell
   pub named : cell.id ≡ id
-  pub held : Contains cell.memory_regions region
+  pub among : Contains cell.memory_regions region
   pub part : is_page_mapped region ≡ false
   pub first : region.virt_start ≤ at
   pub last : at + width ≤ region.virt_start + region.size

@@ -24,7 +24,7 @@ may Fetch region = (rights_of region).execute
 pub record IsGiven (cell : CellConfig) (access : Access) (at : ℕ) (place : Place) : Type 0 where
   pub below : at < 2 ^ 39
   pub region : Region
-  pub held : Contains cell.memory_regions region
+  pub among : Contains cell.memory_regions region
   pub pages : IsTrue (is_page_mapped region)
   pub right : IsTrue (may access region)
   pub first : region.virt_start ≤ at

@@ -136,7 +136,7 @@ words_namesake new cell (inr same) = or_right (cell.id == new.id) (pointwise nat
 known_words : (seen : CellsView) (new : CellConfig) → is_known (numbered_cells seen) new ≡ true → IsKnownTo seen new
 known_words seen new t =
     let r = IsFound_from_list_any (is_namesake new) (numbered_cells seen) t in
-    record { cell = r.0; lives = r.1.held; same = namesake_words new r.0 r.1.passes }
+    record { cell = r.0; lives = r.1.among; same = namesake_words new r.0 r.1.passes }
 
 words_known : (seen : CellsView) (new : CellConfig) → IsKnownTo seen new → is_known (numbered_cells seen) new ≡ true
 words_known seen new h = list_any_from_Contains (is_namesake new) (numbered_cells seen) h.cell h.lives (words_namesake new h.cell h.same)
@@ -201,7 +201,7 @@ found_words seen new overlaps test kind t =
     let p = (kind r.0).0 r.1.passes in
     record {
       finding = r.0;
-      broken = broken_from_listed seen.system cells r.0 r.1.held;
+      broken = broken_from_listed seen.system cells r.0 r.1.among;
       named = names_words (length (configs_of seen.lives) + 1) r.0 p.0;
       kind = p.1;
     }

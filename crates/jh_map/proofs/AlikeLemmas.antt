@@ -60,11 +60,11 @@ run_some closed regions runs run is held = (All-contains (IsRunIn closed regions
 pub same_member : (closed : ℕ → Bool) (regions : List Region) (runs others : List Run) (run : Run) → IsMap closed regions runs → IsMap closed regions others → Contains runs run → Contains others run
 same_member closed regions runs others run is other held =
     let own = All-contains (IsRunIn closed regions) runs run is.own held in
-    let told = other.whole own.region run.start own.held (first_granted closed own.region run own.of) in
+    let told = other.whole own.region run.start own.among (first_granted closed own.region run own.of) in
     let some = own.of.some in
     let same = same_run closed own.region told.run run run.start told.of own.of told.has (record { first = omega arith; last = some }) in
     let P : Run → Type 0 = λ x. Contains others x in
-    subst P same told.held
+    subst P same told.among
 
 -- two lists of runs, each of which ends before the next begins, with the same members
 pair_head : (x : Run) (xs : List Run) (r : Run) → AllPairs EndsBefore (x ∷ xs) → Contains xs r → EndsBefore x r

@@ -41,16 +41,16 @@ ends_before closed r s one other before of other_of =
     omega arith
 
 own_left : (closed : ℕ → Bool) (xs ys : List Region) (run : Run) → IsRunIn closed xs run → IsRunIn closed (xs ++ ys) run
-own_left closed xs ys run is = record { region = is.region; held = Contains-append_left xs ys is.region is.held; of = is.of }
+own_left closed xs ys run is = record { region = is.region; among = Contains-append_left xs ys is.region is.among; of = is.of }
 
 own_right : (closed : ℕ → Bool) (xs ys : List Region) (run : Run) → IsRunIn closed ys run → IsRunIn closed (xs ++ ys) run
-own_right closed xs ys run is = record { region = is.region; held = Contains-append_right xs ys is.region is.held; of = is.of }
+own_right closed xs ys run is = record { region = is.region; among = Contains-append_right xs ys is.region is.among; of = is.of }
 
 told_left : (closed : ℕ → Bool) (rs ss : List Run) (r : Region) (at : ℕ) → IsInRun closed rs r at → IsInRun closed (rs ++ ss) r at
-told_left closed rs ss r at is = record { run = is.run; held = Contains-append_left rs ss is.run is.held; of = is.of; has = is.has }
+told_left closed rs ss r at is = record { run = is.run; among = Contains-append_left rs ss is.run is.among; of = is.of; has = is.has }
 
 told_right : (closed : ℕ → Bool) (rs ss : List Run) (r : Region) (at : ℕ) → IsInRun closed ss r at → IsInRun closed (rs ++ ss) r at
-told_right closed rs ss r at is = record { run = is.run; held = Contains-append_right rs ss is.run is.held; of = is.of; has = is.has }
+told_right closed rs ss r at is = record { run = is.run; among = Contains-append_right rs ss is.run is.among; of = is.of; has = is.has }
 
 -- the map of regions, and that of others whose addresses are above
 pub joined_map : (closed : ℕ → Bool) (xs ys : List Region) (rs ss : List Run) → ((r s : Region) → Contains xs r → Contains ys s → Precedes closed r s) → IsMap closed xs rs → IsMap closed ys ss → IsMap closed (xs ++ ys) (rs ++ ss)
@@ -66,14 +66,14 @@ joined_map closed xs ys rs ss before one other = record {
       (λ i j d il jl.
       let low = one.own i d il in
       let high = other.own j d jl in
-      ends_before closed low.region high.region (get_or rs i d) (get_or ss j d) (before low.region high.region low.held high.held) low.of high.of);
+      ends_before closed low.region high.region (get_or rs i d) (get_or ss j d) (before low.region high.region low.among high.among) low.of high.of);
 }
 
 -- the map of the same regions in another order
 pub moved_map : (closed : ℕ → Bool) (xs ys : List Region) (runs : List Run) → IsPermutation xs ys → IsMap closed ys runs → IsMap closed xs runs
 moved_map closed xs ys runs moved is = record {
   own = All-weaker (IsRunIn closed ys) (IsRunIn closed xs)
-      (λ run own. record { region = own.region; held = Contains-permutation ys xs own.region (IsPermutation-sym xs ys moved) own.held; of = own.of })
+      (λ run own. record { region = own.region; among = Contains-permutation ys xs own.region (IsPermutation-sym xs ys moved) own.among; of = own.of })
       runs is.own;
   whole = λ r at held granted. is.whole r at (Contains-permutation xs ys r moved held) granted;
   order = is.order;

@@ -19,7 +19,7 @@ use Rattle.jh_map.proofs.MapLemmas.{granted_has, alone}
 -- one run has all that a region grants
 pub whole_map : (closed : ℕ → Bool) (r : Region) (run : Run) → IsRunOf closed r run → run.start ≡ r.virt_start → run.end ≡ virt_end r → IsMap closed (r ∷ []) (run ∷ [])
 whole_map closed r run of start end = record {
-  own = All-cons (IsRunIn closed (r ∷ [])) run [] (record { region = r; held = Contains_head r []; of = of }) (All-nil (IsRunIn closed (r ∷ [])));
+  own = All-cons (IsRunIn closed (r ∷ [])) run [] (record { region = r; among = Contains_head r []; of = of }) (All-nil (IsRunIn closed (r ∷ [])));
   whole = λ s at held granted.
       let same = alone r s held in
       let P : Region → Type 0 = λ x. is_granted closed x at ≡ true in
@@ -27,7 +27,7 @@ whole_map closed r run of start end = record {
       let has = granted_has closed r at (subst P (sym same) granted) in
       let low = has_address_first r at has in
       let high = has_address_last r at has in
-      record { run = run; held = Contains_head run []; of = subst Q same of; has = record { first = omega arith; last = omega arith } };
+      record { run = run; among = Contains_head run []; of = subst Q same of; has = record { first = omega arith; last = omega arith } };
   order = λ i j d lt jl. absurd (omega arith);
 }
 
@@ -70,7 +70,7 @@ not_in : (ranges : List Range) (k : ℕ) (d : Range) (p : ℕ) → AreApart rang
 not_in ranges k d p apart kl low high out = false_from_ne_true (has_byte ranges p) (λ h.
     let found = IsFound_from_list_any (λ (x : Range). in_range x p) ranges h in
     let y : Range = found.0 in
-    let place = found.1.held in
+    let place = found.1.among in
     let j : ℕ = place.0 in
     let is : get_or ranges j d ≡ y = get_or_default ranges j d y place.1 ∙ place.2 in
     let P : Range → Type 0 = λ x. in_range x p ≡ true in
@@ -199,7 +199,7 @@ told_at closed r ranges at left own granted =
     let low = has_address_first r at has in
     let found = IsFound_from_list_any (λ (x : Range). in_range x (place_in r at)) ranges (sym (granted_is closed r ranges at left has) ∙ granted) in
     let x : Range = found.0 in
-    let held = found.1.held in
+    let held = found.1.among in
     let first = range_low x (place_in r at) found.1.passes in
     let last = range_high x (place_in r at) found.1.passes in
     let P : Range → Type 0 = λ y. IsRunOf closed r (run_to r y) in
@@ -208,7 +208,7 @@ told_at closed r ranges at left own granted =
     let start : r.phys_start ≤ x.start = subst Q held.2 ends.0 in
     record {
       run = run_to r x;
-      held = Contains_map (run_to r) ranges x held;
+      among = Contains_map (run_to r) ranges x held;
       of = subst P held.2 (run_of closed r ranges (get_or ranges held.0 x) left (one_of ranges held.0 x left.apart held.1) ends.0 ends.1);
       has = record { first = omega arith; last = omega arith };
     }
@@ -217,7 +217,7 @@ told_at closed r ranges at left own granted =
 pub ranges_map : (closed : ℕ → Bool) (r : Region) (ranges : List Range) → AreLeft closed r ranges → All (λ (x : Range). (r.phys_start ≤ x.start) × (x.end ≤ phys_end r)) ranges → IsMap closed (r ∷ []) (map (run_to r) ranges)
 ranges_map closed r ranges left own = record {
   own = All-map (IsRunIn closed (r ∷ [])) (run_to r) ranges
-      (λ k d kl. record { region = r; held = Contains_head r []; of = run_of closed r ranges (get_or ranges k d) left (one_of ranges k d left.apart kl) (own k d kl).0 (own k d kl).1 });
+      (λ k d kl. record { region = r; among = Contains_head r []; of = run_of closed r ranges (get_or ranges k d) left (one_of ranges k d left.apart kl) (own k d kl).0 (own k d kl).1 });
   whole = λ s at held granted.
       let same = alone r s held in
       let P : Region → Type 0 = λ y. is_granted closed y at ≡ true in

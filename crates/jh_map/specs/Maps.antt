@@ -33,13 +33,13 @@ pub record IsRunOf (closed : ℕ → Bool) (region : Region) (run : Run) : Type 
 -- the run is a run of one of the regions
 pub record IsRunIn (closed : ℕ → Bool) (regions : List Region) (run : Run) : Type 0 where
   pub region : Region
-  pub held : Contains regions region
+  pub among : Contains regions region
   pub of : IsRunOf closed region run
 
 -- the address is in one of the runs, which is one of the region's
 pub record IsInRun (closed : ℕ → Bool) (runs : List Run) (region : Region) (at : ℕ) : Type 0 where
   pub run : Run
-  pub held : Contains runs run
+  pub among : Contains runs run
   pub of : IsRunOf closed region run
   pub has : IsIn run at
 

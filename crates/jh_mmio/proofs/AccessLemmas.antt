@@ -88,6 +88,6 @@ closed_test ranges r at n b start end comm low start_is end_is told =
     back h =
         let found = IsFound_from_list_any (λ a. has_byte ranges (place_in r a)) (range_with_len at n) h in
         let a : ℕ = found.0 in
-        let within = byte_at at n a found.1.held in
+        let within = byte_at at n a found.1.among in
         let place : ℕ = place_in r a in
         told.1 (place, and_from (is_between start end place) (has_byte ranges place) (between_from start end place (omega arith) (omega arith)) found.1.passes)

@@ -65,7 +65,7 @@ whole_from closed at n r h open_is =
 found_is : (regions : List Region) (closed : ℕ → Bool) (at n : ℕ) (o : Option Region) (s : Region) → 0 < n → IsRegionAt regions at o → find (takes_all closed at n) regions ≡ Some s → o ≡ Some s
 found_is regions closed at n o s some is e =
     let found = IsFound_from_find (takes_all closed at n) regions s e in
-    is.only s found.held (takes_all_has closed at n s some found.passes)
+    is.only s found.among (takes_all_has closed at n s some found.passes)
 
 found_by : (regions : List Region) (closed : ℕ → Bool) (at n : ℕ) (r : Region) (f : Option Region) (b : Bool) → 0 < n → IsRegionAt regions at (Some r) → has_whole at n r ≡ true → find (takes_all closed at n) regions ≡ f → is_at_closed closed at n r ≡ b → f ≡ cond b None (Some r)
 found_by regions closed at n r None true some is whole e closed_is = refl

@@ -22,14 +22,14 @@ Contains_cases y ys x (suc k, below, is) = inr (k, omega arith, is)
 
 -- the element passes, and is one of the list
 pub record IsFound {X : Type 0} (p : X → Bool) (xs : List X) (x : X) : Type 0 where
-  pub held : Contains xs x
+  pub among : Contains xs x
   pub passes : p x ≡ true
 
 found_by : {X : Type 0} (p : X → Bool) (y : X) (ys : List X) (x : X) (b : Bool) → p y ≡ b → (find p ys ≡ Some x → IsFound p ys x) → cond b (Some y) (find p ys) ≡ Some x → IsFound p (y ∷ ys) x
 found_by {X} p y ys x true is rest e =
     let P : X → Type 0 = λ z. IsFound p (y ∷ ys) z in
-    subst P (same_Some y x e) (record { held = Contains_head y ys; passes = is })
-found_by p y ys x false is rest e = let r = rest e in record { held = Contains_tail y ys x r.held; passes = r.passes }
+    subst P (same_Some y x e) (record { among = Contains_head y ys; passes = is })
+found_by p y ys x false is rest e = let r = rest e in record { among = Contains_tail y ys x r.among; passes = r.passes }
 
 -- what is found is such an element
 pub IsFound_from_find : {X : Type 0} (p : X → Bool) (xs : List X) (x : X) → find p xs ≡ Some x → IsFound p xs x
@@ -63,11 +63,11 @@ pub find_unique : {X : Type 0} (p : X → Bool) (xs : List X) (x : X) → Contai
 find_unique p xs x h passes only =
     let some = find_some p xs x h passes in
     let found = IsFound_from_find p xs some.0 some.1 in
-    some.1 ∙ ap Some (only some.0 found.held found.passes)
+    some.1 ∙ ap Some (only some.0 found.among found.passes)
 
 -- an element of the list that passes
 pub IsFound_from_list_any : {X : Type 0} (p : X → Bool) (xs : List X) → list_any p xs ≡ true → (x : X) × IsFound p xs x
-IsFound_from_list_any p xs h = let f = Any-from_list_any p xs h in (f.1, record { held = (f.0, f.2, f.3); passes = f.4 })
+IsFound_from_list_any p xs h = let f = Any-from_list_any p xs h in (f.1, record { among = (f.0, f.2, f.3); passes = f.4 })
 
 pub list_any_from_Contains : {X : Type 0} (p : X → Bool) (xs : List X) (x : X) → Contains xs x → p x ≡ true → list_any p xs ≡ true
 list_any_from_Contains p xs x (k, below, is) passes = list_any_at p xs k x below (ap p is ∙ passes)
@@ -127,10 +127,10 @@ filtered_by : {X : Type 0} (p : X → Bool) (y : X) (ys : List X) (x : X) (b : B
 filtered_by {X} p y ys x true is rest h =
     let P : X → Type 0 = λ z. IsFound p (y ∷ ys) z in
     ⊎_elim
-    (λ (same : y ≡ x). subst P same (record { held = Contains_head y ys; passes = is }))
-    (λ (later : Contains (filter p ys) x). let r = rest later in record { held = Contains_tail y ys x r.held; passes = r.passes })
+    (λ (same : y ≡ x). subst P same (record { among = Contains_head y ys; passes = is }))
+    (λ (later : Contains (filter p ys) x). let r = rest later in record { among = Contains_tail y ys x r.among; passes = r.passes })
     (Contains_cases y (filter p ys) x h)
-filtered_by p y ys x false is rest h = let r = rest h in record { held = Contains_tail y ys x r.held; passes = r.passes }
+filtered_by p y ys x false is rest h = let r = rest h in record { among = Contains_tail y ys x r.among; passes = r.passes }
 
 pub IsFound_from_filter : {X : Type 0} (p : X → Bool) (xs : List X) (x : X) → Contains (filter p xs) x → IsFound p xs x
 IsFound_from_filter p [] x (k, below, is) = absurd (omega arith)

@@ -71,13 +71,13 @@ met_there claims level start h =
     let a = and_parts (is_mapped x) (touches x.virt_start (virt_end x) start (slot_size level)) f.1.passes in
     let m = and_parts (nat_lt 0 x.size) (is_page_mapped x) a.0 in
     let n = touch_there x.virt_start (virt_end x) start (slot_size level) a.1 (size_some level) in
-    record { region = x; held = f.1.held; pages = m.1; at = n.0; first = n.1; last = n.2; has = within_both x.virt_start (virt_end x) n.0 n.3 n.4 }
+    record { region = x; among = f.1.among; pages = m.1; at = n.0; first = n.1; last = n.2; has = within_both x.virt_start (virt_end x) n.0 n.3 n.4 }
 
 pub met_back : (claims : Claims) (level start : ℕ) → IsMet claims level start → is_met claims level start ≡ true
 met_back claims level start h =
     let x = h.region in
     let a = in_there x.virt_start (virt_end x) h.at h.has in
-    list_any_from_Contains (λ (region : Region). is_met_by level start region) claims.regions x h.held
+    list_any_from_Contains (λ (region : Region). is_met_by level start region) claims.regions x h.among
     (and_from (is_mapped x) (touches x.virt_start (virt_end x) start (slot_size level)) (mapped_from x h.at h.pages h.has)
     (touch_back x.virt_start (virt_end x) start (slot_size level) h.at h.first h.last a.0 a.1))
 
@@ -111,9 +111,9 @@ cut_there holders place size some h =
     let same : n.0 ≡ place + (n.0 - place) = let l = n.1 in omega arith in
     record {
       holder = f.0;
-      live = f.1.held;
+      live = f.1.among;
       region = x;
-      held = g.1.held;
+      among = g.1.among;
       alone = a.0;
       some = n.0 - place;
       within = let l = n.1 in let r = n.2 in omega arith;
@@ -135,7 +135,7 @@ cut_back holders place size h =
     let s = span_there first end place size h.other yes h.also in
     both_ways (has_place x (place + h.other)) h.lacks (within_both first end (place + h.other) s.0 s.1)) in
     list_any_from_Contains (λ (holder : Holder). list_any (λ (region : Region). meets_in_part region place size) holder.regions) holders h.holder h.live
-    (list_any_from_Contains (λ (region : Region). meets_in_part region place size) h.holder.regions x h.held
+    (list_any_from_Contains (λ (region : Region). meets_in_part region place size) h.holder.regions x h.among
     (and_from (is_unshared x) (cut_test x place size) h.alone
     (and_from (touches first end place size) (not (spans first end place size))
     (touch_back first end place size (place + h.some) (omega arith) (omega arith) a.0 a.1)
@@ -180,7 +180,7 @@ leaf_by_there claims level start region held h =
     let q = and_parts s ((level == 3) || b) p.1 in
     let m = and_parts (nat_lt 0 region.size) (is_page_mapped region) p.0 in
     record {
-      held = held;
+      among = held;
       pages = m.1;
       covers = λ k l. let r = span_there region.virt_start (virt_end region) start (slot_size level) k q.0 l in within_both region.virt_start (virt_end region) (start + k) r.0 r.1;
       block = λ other.
@@ -206,11 +206,11 @@ leaf_by_back claims level start region h =
 pub leaf_there : (claims : Claims) (level start : ℕ) → is_leaf claims level start ≡ true → IsServed claims level start
 leaf_there claims level start h =
     let f = IsFound_from_list_any (λ (region : Region). is_leaf_by claims level start region) claims.regions h in
-    (f.0, leaf_by_there claims level start f.0 f.1.held f.1.passes)
+    (f.0, leaf_by_there claims level start f.0 f.1.among f.1.passes)
 
 pub leaf_back : (claims : Claims) (level start : ℕ) → IsServed claims level start → is_leaf claims level start ≡ true
 leaf_back claims level start (region, h) =
-    list_any_from_Contains (λ (region : Region). is_leaf_by claims level start region) claims.regions region h.held (leaf_by_back claims level start region h)
+    list_any_from_Contains (λ (region : Region). is_leaf_by claims level start region) claims.regions region h.among (leaf_by_back claims level start region h)
 
 -- what is wanted is a table exactly where the slot is one
 leaf_no_table : (kept : Bool) (leaf : Want) → is_to_table leaf ≡ false → is_to_table (cond kept Nothing leaf) ≡ false
@@ -304,7 +304,7 @@ met_above claims level start up i h =
     let high = i.high in
     let first = h.first in
     let last = h.last in
-    record { region = h.region; held = h.held; pages = h.pages; at = h.at; first = omega arith; last = omega arith; has = h.has }
+    record { region = h.region; among = h.among; pages = h.pages; at = h.at; first = omega arith; last = omega arith; has = h.has }
 
 -- places that are held in part inside others
 cut_above : (holders : List Holder) (place by size many : ℕ) → by + size ≤ many → IsCut holders (place + by) size → IsCut holders place many
@@ -317,7 +317,7 @@ cut_above holders place by size many l h =
       holder = h.holder;
       live = h.live;
       region = h.region;
-      held = h.held;
+      among = h.among;
       alone = h.alone;
       some = by + h.some;
       within = omega arith;
@@ -337,7 +337,7 @@ served_below claims level start up l i (region, h) =
     let block = h.block (λ (e : level ≡ 3). let z : ⊥ = absurd (omega arith) in z) in (
       region,
       record {
-        held = h.held;
+        among = h.among;
         pages = h.pages;
         covers = λ k m.
             let same : up + ((start - up) + k) ≡ start + k = omega arith in
@@ -374,9 +374,9 @@ taken_there cells place h =
     let b = and_parts free (has_place g.0 place) a.1 in
     record {
       cell = f.0;
-      live = f.1.held;
+      live = f.1.among;
       region = g.0;
-      held = g.1.held;
+      among = g.1.among;
       alone = a.0;
       has = b.1;
       kept = λ loads may. both_ways (f.0.loadable && is_loadable g.0) (not-true (f.0.loadable && is_loadable g.0) b.0) (and_from f.0.loadable (is_loadable g.0) loads may);
@@ -389,5 +389,5 @@ taken_back cells place h =
     let free : both ≡ false = false_from_ne_true both (λ yes. let p = and_parts h.cell.loadable (is_loadable h.region) yes in h.kept p.0 p.1) in
     list_any_map holder_of_live closes cells
     ∙ list_any_from_Contains (λ (cell : Live). closes (holder_of_live cell)) cells h.cell h.live
-    (list_any_from_Contains (λ (region : Region). takes h.cell.loadable region place) h.cell.config.memory_regions h.region h.held
+    (list_any_from_Contains (λ (region : Region). takes h.cell.loadable region place) h.cell.config.memory_regions h.region h.among
     (and_from (is_unshared h.region) (not both && has_place h.region place) h.alone (and_from (not both) (has_place h.region place) (not_from_false both free) h.has)))

@@ -14,7 +14,7 @@ use Rattle.jh_num.specs.Levels.{slot_size}
 -- a page-mapped region of the cell has one of the slot's addresses
 pub record IsMet (claims : Claims) (level start : ℕ) : Type 0 where
   pub region : Region
-  pub held : Contains claims.regions region
+  pub among : Contains claims.regions region
   pub pages : IsTrue (is_page_mapped region)
   pub at : ℕ
   pub first : start ≤ at
@@ -26,7 +26,7 @@ pub record IsCut (holders : List Holder) (place size : ℕ) : Type 0 where
   pub holder : Holder
   pub live : Contains holders holder
   pub region : Region
-  pub held : Contains holder.regions region
+  pub among : Contains holder.regions region
   pub alone : IsTrue (is_unshared region)
   pub some : ℕ
   pub within : some < size
@@ -48,7 +48,7 @@ pub record IsBlock (claims : Claims) (level start : ℕ) (region : Region) : Typ
 -- one descriptor serves the slot by the region: a page-mapped region of the cell that has each of its
 -- addresses, and at a level above that of pages a block may map it
 pub record Serves (claims : Claims) (level start : ℕ) (region : Region) : Type 0 where
-  pub held : Contains claims.regions region
+  pub among : Contains claims.regions region
   pub pages : IsTrue (is_page_mapped region)
   pub covers : (k : ℕ) → k < slot_size level → IsTrue (has_address region (start + k))
   pub block : level ≢ 3 → IsBlock claims level start region
@@ -62,7 +62,7 @@ pub record IsTaken (cells : List Live) (place : ℕ) : Type 0 where
   pub cell : Live
   pub live : Contains cells cell
   pub region : Region
-  pub held : Contains cell.config.memory_regions region
+  pub among : Contains cell.config.memory_regions region
   pub alone : IsTrue (is_unshared region)
   pub has : IsTrue (has_place region place)
   pub kept : IsTrue cell.loadable → IsTrue (is_loadable region) → ⊥

@@ -85,7 +85,7 @@ named : (cpus : List ℕ) (cpu : ℕ) → (digit (names_cpu cpus cpu) ≡ 1) ↔
 named cpus cpu = (
   (λ h.
       let found = IsFound_from_list_any (λ other. other == cpu) cpus (is_one (names_cpu cpus cpu) h) in
-      subst (Contains cpus) (eqb-true found.0 cpu found.1.passes) found.1.held),
+      subst (Contains cpus) (eqb-true found.0 cpu found.1.passes) found.1.among),
   (λ held. one_of (names_cpu cpus cpu) (list_any_from_Contains (λ other. other == cpu) cpus cpu held (eq-eqb cpu cpu refl))),
 )
 
