@@ -21,7 +21,7 @@ pub struct CellRegions {
     /// The places that the cell takes from root while it isn't loadable.
     taken: ByteSet,
     /// The places that the cell takes even while it is loadable, where they aren't those that it takes while it isn't.
-    kept: Option<ByteSet>,
+    withheld: Option<ByteSet>,
 }
 
 impl Model for CellRegions {
@@ -45,7 +45,7 @@ fn takes_places(region: &Region, loadable: bool) -> bool
 }
 
 /// Whether one of the regions is unshared and root's while the cell is loadable.
-fn any_lent(regions: &[Region]) -> bool
+fn any_left_to_root(regions: &[Region]) -> bool
     ensures { result ≡ list_any (λ (r : TheRegion). is_unshared r && is_loadable r) regions.now }
 {
     regions
@@ -80,11 +80,11 @@ fn taken_places(alloc: Global, regions: &[Region], loadable: bool) -> Result<Byt
 }
 
 /// The places that the cell takes even while it is loadable, where they aren't those that it takes while it isn't.
-fn kept_places(alloc: Global, regions: &[Region]) -> Result<Option<ByteSet>, NoMemory>
-    ensures kept { IfOk result (λ kept. IfSome kept (λ places. AreTaken true regions.now places.ranges)) }
-    ensures same { IfOk result (λ kept. IfNone kept ((place : ℕ) → is_taken true regions.now place ≡ is_taken false regions.now place)) }
+fn withheld_places(alloc: Global, regions: &[Region]) -> Result<Option<ByteSet>, NoMemory>
+    ensures withheld { IfOk result (λ withheld. IfSome withheld (λ places. AreTaken true regions.now places.ranges)) }
+    ensures same { IfOk result (λ withheld. IfNone withheld ((place : ℕ) → is_taken true regions.now place ≡ is_taken false regions.now place)) }
 {
-    if any_lent(regions) {
+    if any_left_to_root(regions) {
         let places = taken_places(alloc, regions, true)?;
         Ok(Some(places))
     } else {
@@ -100,11 +100,11 @@ impl CellRegions {
     {
         let by_address = RegionIndex::new(alloc, regions)?;
         let taken = taken_places(alloc, regions, false)?;
-        let kept = kept_places(alloc, regions)?;
+        let withheld = withheld_places(alloc, regions)?;
         Ok(CellRegions {
             by_address,
             taken,
-            kept,
+            withheld,
         })
     }
 
@@ -124,8 +124,8 @@ impl CellRegions {
         if !loadable {
             return &self.taken;
         }
-        match &self.kept {
-            Some(kept) => kept,
+        match &self.withheld {
+            Some(withheld) => withheld,
             None => &self.taken,
         }
     }

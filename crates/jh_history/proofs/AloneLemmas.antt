@@ -28,7 +28,7 @@ use Rattle.jh_history.specs.Commits.{cells_by}
 use Rattle.jh_ivshmem.specs.Links.{pending_of}
 use Rattle.jh_history.specs.History.{start, after, facts, coming_of}
 use Rattle.jh_history.specs.Wants.{pending_op, goes_on}
-use Rattle.jh_history.specs.Admitted.{HasNoCall, IsNoCall}
+use Rattle.jh_history.specs.Admitted.{HasNoHypercall, IsNoHypercall}
 use Rattle.jh_history.specs.Due.{due_at, state_act, next_act, act_of, await_of, got_by, entry_by, IsLegal, IsLegalFrom}
 use Rattle.jh_history.specs.Alone.{IsAlone, IsByRoot}
 use Rattle.jh_history.proofs.AdmittedLemmas.{program_ops_all}
@@ -56,7 +56,7 @@ own_irq : (next : Option (ℕ × ℕ)) → IfSome (option_map (λ (n : ℕ × �
 own_irq None = tt
 own_irq (Some n) = refl
 
-own_act : (image : Image) (f : Facts) (cell : ℕ) (op : Op) → IsNoCall op → IfSome (act_of image f cell op) IsNoPhase
+own_act : (image : Image) (f : Facts) (cell : ℕ) (op : Op) → IsNoHypercall op → IfSome (act_of image f cell op) IsNoPhase
 own_act image f cell (ReadOp width at) no_call = refl
 own_act image f cell (WriteOp width at value) no_call = refl
 own_act image f cell (FetchOp at) no_call = refl
@@ -64,26 +64,26 @@ own_act image f cell (AwaitOp width at value) no_call = own_await width at value
 own_act image f cell IrqOp no_call = own_irq (pending_of cell f.endpoints)
 own_act image f cell (HvcOp code a b) no_call = absurd no_call
 
-own_op : (image : Image) (f : Facts) (cell : ℕ) (o : Option Op) → IfSome o IsNoCall → IfSome (option_and_then (act_of image f cell) o) IsNoPhase
+own_op : (image : Image) (f : Facts) (cell : ℕ) (o : Option Op) → IfSome o IsNoHypercall → IfSome (option_and_then (act_of image f cell) o) IsNoPhase
 own_op image f cell None no_call = tt
 own_op image f cell (Some op) no_call = own_act image f cell op no_call
 
 -- no program of such an image has a hypercall
-no_call_at : (ops : List Op) (i : ℕ) → AllByRecursion IsNoCall ops → IfSome (slice_get ops i) IsNoCall
+no_call_at : (ops : List Op) (i : ℕ) → AllByRecursion IsNoHypercall ops → IfSome (slice_get ops i) IsNoHypercall
 no_call_at [] i all = tt
 no_call_at (op ∷ ops) zero all = all.0
 no_call_at (op ∷ ops) (suc i) all = no_call_at ops i all.1
 
-no_calls_by : (image : Image) (cpu : ℕ) (cell : Option CellConfig) → HasNoCall image
-    → AllByRecursion IsNoCall (option_map_or (λ (c : CellConfig). program_ops image (name_of c) cpu) cell [])
-no_calls_by image cpu (Some c) silent = recursion_from_All IsNoCall (program_ops image (name_of c) cpu) (program_ops_all IsNoCall image (name_of c) cpu silent)
+no_calls_by : (image : Image) (cpu : ℕ) (cell : Option CellConfig) → HasNoHypercall image
+    → AllByRecursion IsNoHypercall (option_map_or (λ (c : CellConfig). program_ops image (name_of c) cpu) cell [])
+no_calls_by image cpu (Some c) silent = recursion_from_All IsNoHypercall (program_ops image (name_of c) cpu) (program_ops_all IsNoHypercall image (name_of c) cpu silent)
 no_calls_by image cpu None silent = tt
 
-no_call_pending : (image : Image) (f : Facts) (state : Cpu) (cpu : ℕ) (b : Bool) → HasNoCall image → IfSome (cond b (op_at image f state cpu) None) IsNoCall
+no_call_pending : (image : Image) (f : Facts) (state : Cpu) (cpu : ℕ) (b : Bool) → HasNoHypercall image → IfSome (cond b (op_at image f state cpu) None) IsNoHypercall
 no_call_pending image f state cpu true silent = no_call_at (ops_in image f.cells state.owner cpu) state.position (no_calls_by image cpu (cell_in image f.cells state.owner) silent)
 no_call_pending image f state cpu false silent = tt
 
-own_state : (image : Image) (f : Facts) (state : Cpu) (cpu : ℕ) (asked : Bool) → HasNoCall image → IfSome (cond asked (Some Stop) (option_and_then (act_of image f state.owner) (pending_op image f state cpu))) IsNoPhase
+own_state : (image : Image) (f : Facts) (state : Cpu) (cpu : ℕ) (asked : Bool) → HasNoHypercall image → IfSome (cond asked (Some Stop) (option_and_then (act_of image f state.owner) (pending_op image f state cpu))) IsNoPhase
 own_state image f state cpu true silent = refl
 own_state image f state cpu false silent = own_op image f state.owner (pending_op image f state cpu) (no_call_pending image f state cpu (goes_on state) silent)
 
@@ -91,7 +91,7 @@ own_state image f state cpu false silent = own_op image f state.owner (pending_o
 pub next_act_alone : (image : Image) (f : Facts) (state : Cpu) (cpu : ℕ) → f.call ≡ None → next_act image f state cpu ≡ state_act image f state cpu
 next_act_alone image f state cpu none = rw none refl
 
-own_next : (image : Image) (f : Facts) (state : Cpu) (cpu : ℕ) → HasNoCall image → f.call ≡ None → IfSome (next_act image f state cpu) IsNoPhase
+own_next : (image : Image) (f : Facts) (state : Cpu) (cpu : ℕ) → HasNoHypercall image → f.call ≡ None → IfSome (next_act image f state cpu) IsNoPhase
 own_next image f state cpu silent none =
     let P : Option Act → Type 0 = λ o. IfSome o IsNoPhase in
     subst P (sym (next_act_alone image f state cpu none)) (own_state image f state cpu state.asked silent)
@@ -102,13 +102,13 @@ roots_entry image cpu cell entry (Some act) own is h =
     let P : Entry → Type 0 = IsByRoot image in
     subst P (same_Some (entry_by cpu cell act) entry h) (record { cell = is; act = own })
 
-roots_at : (image : Image) (f : Facts) (cpu : ℕ) (entry : Entry) (b : Bool) → HasNoCall image → IsAlone image f → is_on_board image cpu ≡ b → due_at image f cpu ≡ Some entry → IsByRoot image entry
+roots_at : (image : Image) (f : Facts) (cpu : ℕ) (entry : Entry) (b : Bool) → HasNoHypercall image → IsAlone image f → is_on_board image cpu ≡ b → due_at image f cpu ≡ Some entry → IsByRoot image entry
 roots_at image f cpu entry true silent alone e h =
     roots_entry image cpu (f.cpu cpu).owner entry (next_act image f (f.cpu cpu) cpu) (own_next image f (f.cpu cpu) cpu silent alone.call) (alone.owners cpu) (sym (due_at_present image f cpu e) ∙ h)
 roots_at image f cpu entry false silent alone e h = absurd (none-some entry (sym (due_at_absent image f cpu e) ∙ h))
 
 -- where root is alone, an entry that is due is root's
-pub due_at_roots : (image : Image) (f : Facts) (cpu : ℕ) (entry : Entry) → HasNoCall image → IsAlone image f → due_at image f cpu ≡ Some entry → IsByRoot image entry
+pub due_at_roots : (image : Image) (f : Facts) (cpu : ℕ) (entry : Entry) → HasNoHypercall image → IsAlone image f → due_at image f cpu ≡ Some entry → IsByRoot image entry
 due_at_roots image f cpu entry silent alone h = roots_at image f cpu entry (is_on_board image cpu) silent alone refl h
 
 -- what such an entry does
@@ -176,17 +176,17 @@ alone_after image f entry alone own = record {
       ∙ owner_if (eqb i entry.cpu) (change_of entry.act) (f.cpu i) ∙ alone.owners i;
 }
 
-alone_from : (image : Image) (f : Facts) (entries : List Entry) → HasNoCall image → IsAlone image f → IsLegalFrom image f entries → IsAlone image (fold (after image) f entries)
+alone_from : (image : Image) (f : Facts) (entries : List Entry) → HasNoHypercall image → IsAlone image f → IsLegalFrom image f entries → IsAlone image (fold (after image) f entries)
 alone_from image f [] silent alone legal = alone
 alone_from image f (entry ∷ entries) silent alone legal =
     alone_from image (after image f entry) entries silent (alone_after image f entry alone (due_at_roots image f entry.cpu entry silent alone legal.0)) legal.1
 
 -- root is alone after each legal journal
-pub legal_alone : (image : Image) (entries : List Entry) → HasNoCall image → IsLegal image entries → IsAlone image (facts image entries)
+pub legal_alone : (image : Image) (entries : List Entry) → HasNoHypercall image → IsLegal image entries → IsAlone image (facts image entries)
 unfolding IsLegal facts
 legal_alone image entries silent legal = alone_from image (start image) entries silent (alone_start image) legal
 
 -- and each of its entries is root's
-pub legal_roots : (image : Image) (before rest : List Entry) (entry : Entry) → HasNoCall image → IsLegal image (before ++ entry ∷ rest) → IsByRoot image entry
+pub legal_roots : (image : Image) (before rest : List Entry) (entry : Entry) → HasNoHypercall image → IsLegal image (before ++ entry ∷ rest) → IsByRoot image entry
 legal_roots image before rest entry silent legal =
     due_at_roots image (facts image before) entry.cpu entry silent (legal_alone image before silent (IsLegal_begin image before (entry ∷ rest) legal)) (due_split image before rest entry legal)

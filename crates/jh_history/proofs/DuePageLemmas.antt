@@ -21,7 +21,7 @@ use Rattle.jh_history.specs.declared.comm.PageChange.TheVariants.{State as NewSt
 use Rattle.jh_history.specs.declared.comm.PageWrite.{PageWrite}
 use Rattle.jh_history.specs.declared.entry.Entry.{Entry}
 use Rattle.jh_history.specs.declared.entry.Settled.TheVariants.{Agreed, Denied, Timeout}
-use Rattle.jh_history.specs.declared.entry.Heard.TheVariants.{Received, Down, Other, Timeout as Silent}
+use Rattle.jh_history.specs.declared.entry.Heard.TheVariants.{Received, Down, Other, Timeout as Unheard}
 use Rattle.jh_history.specs.declared.entry.Act.{Act}
 use Rattle.jh_history.specs.declared.entry.Act.TheVariants.{Read, Write, Fetch, Await, Irq, Hvc, Begin, Stop, Decide, Settle, Commit, Note, Noted, Finish}
 use Rattle.jh_history.specs.Facts.{Facts}
@@ -209,7 +209,7 @@ page_by image f entry write (Note id) sound due is h = inl (note_live image f en
 page_by image f entry write (Noted id Received) sound due is h = absurd (none-some write h)
 page_by image f entry write (Noted id Down) sound due is h = absurd (none-some write h)
 page_by image f entry write (Noted id Other) sound due is h = absurd (none-some write h)
-page_by image f entry write (Noted id Silent) sound due is h = inl (note_live image f entry id (Noted id Silent) (NewState STATE_FAILED) write sound due is tt refl h)
+page_by image f entry write (Noted id Unheard) sound due is h = inl (note_live image f entry id (Noted id Unheard) (NewState STATE_FAILED) write sound due is tt refl h)
 page_by image f entry write (Finish answer) sound due is h = absurd (none-some write h)
 
 pub page_cells : (image : Image) (f : Facts) (entry : Entry) (write : PageWrite) → IsSound image f → due_at image f entry.cpu ≡ Some entry → page_write_by image f entry entry.act ≡ Some write → HasPage f entry.act write.cell

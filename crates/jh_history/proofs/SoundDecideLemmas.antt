@@ -32,7 +32,7 @@ use Rattle.jh_history.specs.Calls.{is_named, decided, after_settle}
 use Rattle.jh_history.specs.declared.reading.ReadCell.{ReadCell}
 use Rattle.jh_history.specs.declared.reading.ReadCell.TheVariants.{Reads, Refuses}
 use Rattle.jh_history.specs.Configs.{read_at, config_read}
-use Rattle.jh_history.specs.Cpus.{is_running, settled, is_undenied}
+use Rattle.jh_history.specs.Cpus.{is_running, cpu_by_settle, is_undenied}
 use Rattle.jh_history.specs.History.{coming_by}
 use Rattle.jh_history.specs.Phases.{keeps_decide, may_give, is_locked, is_other_locked, unless_refused, creation_by, creation_of, refused_by, id_refusal, first_refusal, decision}
 use Rattle.jh_shape.specs.Lives.{configs_of}
@@ -238,36 +238,36 @@ absent_unnamed image configs cpu call i owned about off =
     let has = owned.cells about.0 about.1 in
     both_ways (is_on_board image i) off (has.board i (has.named i (named_same call (cpu i).owner about.0.id yes about.2))))
 
-pub settled_owner : (agreed : Bool) (call : Call) (cpu : Cpu) → (settled agreed call cpu).owner ≡ cpu.owner
+pub settled_owner : (agreed : Bool) (call : Call) (cpu : Cpu) → (cpu_by_settle agreed call cpu).owner ≡ cpu.owner
 settled_owner agreed call cpu =
     let same : Cpu → Type 0 = λ c. c.owner ≡ cpu.owner in
     cond_both (agreed && is_named call cpu.owner && is_running cpu.mode) (asked_of cpu) cpu same (λ _. refl) (λ _. refl)
 
-pub owned_settled : (image : Image) (configs : List CellConfig) (cpu : ℕ → Cpu) (agreed : Bool) (call : Call) → AreOwned image configs cpu → AreOwned image configs (λ i. settled agreed call (cpu i))
-owned_settled image configs cpu agreed call owned = owned_kept image configs cpu (λ i. settled agreed call (cpu i)) (λ i. settled_owner agreed call (cpu i)) owned
+pub owned_settled : (image : Image) (configs : List CellConfig) (cpu : ℕ → Cpu) (agreed : Bool) (call : Call) → AreOwned image configs cpu → AreOwned image configs (λ i. cpu_by_settle agreed call (cpu i))
+owned_settled image configs cpu agreed call owned = owned_kept image configs cpu (λ i. cpu_by_settle agreed call (cpu i)) (λ i. settled_owner agreed call (cpu i)) owned
 
 -- only CPUs of the cell that the call is about are asked
-settled_other : (call : Call) (cpu : Cpu) → is_named call cpu.owner ≡ false → settled true call cpu ≡ cpu
+settled_other : (call : Call) (cpu : Cpu) → is_named call cpu.owner ≡ false → cpu_by_settle true call cpu ≡ cpu
 settled_other call cpu other = rw other refl
 
-settled_named : (call : Call) (cpu : Cpu) (b : Bool) → is_running cpu.mode ≡ b → is_named call cpu.owner ≡ true → IsCalm cpu → IsHalting (settled true call cpu)
+settled_named : (call : Call) (cpu : Cpu) (b : Bool) → is_running cpu.mode ≡ b → is_named call cpu.owner ≡ true → IsCalm cpu → IsHalting (cpu_by_settle true call cpu)
 settled_named call cpu true runs named calm =
-    let asked : settled true call cpu ≡ asked_of cpu = rw (named, runs) refl in
+    let asked : cpu_by_settle true call cpu ≡ asked_of cpu = rw (named, runs) refl in
     subst IsHalting (sym asked) (inl (record { asked = refl; stopped = calm.stopped; running = running_mode cpu runs }))
 settled_named call cpu false rests named calm =
-    let same : settled true call cpu ≡ cpu = rw (named, rests) refl in
+    let same : cpu_by_settle true call cpu ≡ cpu = rw (named, rests) refl in
     subst IsHalting (sym same) (inr (record { asked = calm.asked; stopped = calm.stopped ∙ sym rests }))
 
 -- the cell has agreed
 open_agreed : (image : Image) (configs : List CellConfig) (cpu : ℕ → Cpu) (caller waited : ℕ) (call : Call) → AreSoundCells image.system configs → AreOwned image configs cpu
     → IsOpen image configs cpu (record { caller = caller; call = call; phase = ToSettle waited })
-    → IsOpen image configs (λ i. settled true call (cpu i)) (record { caller = caller; call = call; phase = ToCommit })
+    → IsOpen image configs (λ i. cpu_by_settle true call (cpu i)) (record { caller = caller; call = call; phase = ToCommit })
 open_agreed image configs cpu caller waited call sound owned opens =
     let root : ℕ = image.system.root.id in
     let about : IsAboutLive configs call = opens.phase in
     let unnamed : is_named call root ≡ false = root_unnamed image.system configs call sound about in
-    let roots_same : (i : ℕ) → (cpu i).owner ≡ root → settled true call (cpu i) ≡ cpu i = λ i is. settled_other call (cpu i) (ap (is_named call) is ∙ unnamed) in
-    let owner : (i : ℕ) → (settled true call (cpu i)).owner ≡ (cpu i).owner = λ i. settled_owner true call (cpu i) in
+    let roots_same : (i : ℕ) → (cpu i).owner ≡ root → cpu_by_settle true call (cpu i) ≡ cpu i = λ i is. settled_other call (cpu i) (ap (is_named call) is ∙ unnamed) in
+    let owner : (i : ℕ) → (cpu_by_settle true call (cpu i)).owner ≡ (cpu i).owner = λ i. settled_owner true call (cpu i) in
     record {
       caller = subst (IsCaller image caller call) (sym (roots_same caller opens.caller.owner)) opens.caller;
       roots = λ i on other is. let was : (cpu i).owner ≡ root = sym (owner i) ∙ is in subst IsHalted (sym (roots_same i was)) (opens.roots i on other was);
@@ -282,7 +282,7 @@ open_agreed image configs cpu caller waited call sound owned opens =
 
 pub open_settled : (image : Image) (configs : List CellConfig) (cpu : ℕ → Cpu) (caller waited : ℕ) (call : Call) (how : Settled) → AreSoundCells image.system configs → AreOwned image configs cpu
     → IsOpen image configs cpu (record { caller = caller; call = call; phase = ToSettle waited })
-    → IsOpen image configs (λ i. settled (is_undenied how) call (cpu i)) (record { caller = caller; call = call; phase = after_settle how })
+    → IsOpen image configs (λ i. cpu_by_settle (is_undenied how) call (cpu i)) (record { caller = caller; call = call; phase = after_settle how })
 open_settled image configs cpu caller waited call Agreed sound owned opens = open_agreed image configs cpu caller waited call sound owned opens
 open_settled image configs cpu caller waited call Timeout sound owned opens = open_agreed image configs cpu caller waited call sound owned opens
 open_settled image configs cpu caller waited call Denied sound owned opens = record { caller = opens.caller; roots = opens.roots; cells = opens.cells; absent = opens.absent; phase = tt }

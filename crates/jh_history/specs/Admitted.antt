@@ -61,13 +61,13 @@ pub record IsAdmitted (image : Image) : Type 0 where
   pub owned : AllPairs IsOtherProgram image.programs
 
 -- the operation is no hypercall
-abbrev pub IsNoCall : Op → Type 0
-IsNoCall (Hvc code a b) = ⊥
-IsNoCall _ = Unit {0}
+abbrev pub IsNoHypercall : Op → Type 0
+IsNoHypercall (Hvc code a b) = ⊥
+IsNoHypercall _ = Unit {0}
 
 -- no program of the image has a hypercall
-abbrev pub HasNoCall : Image → Type 0
-HasNoCall image = All (λ (p : Program). All IsNoCall p.ops) image.programs
+abbrev pub HasNoHypercall : Image → Type 0
+HasNoHypercall image = All (λ (p : Program). All IsNoHypercall p.ops) image.programs
 
 -- the act, where it is a read or a write, has at most 8 bytes
 abbrev pub IsWellFormedAct : Act → Type 0

@@ -2,7 +2,7 @@
 use Rattle.std.specs.Prelude.{◌≡◌, ℕ, false, List, [], ◌∷◌, ◌++◌, Some, None}
 use Rattle.jh_script.specs.declared.image.Image.{Image}
 use Rattle.jh_history.specs.declared.entry.Entry.{Entry}
-use Rattle.jh_history.specs.Admitted.{HasNoCall}
+use Rattle.jh_history.specs.Admitted.{HasNoHypercall}
 use Rattle.jh_history.specs.Calls.{is_call}
 use Rattle.jh_history.specs.Due.{due_at, IsLegal}
 use Rattle.jh_history.specs.Facts.{Facts}
@@ -22,7 +22,7 @@ pub record IsByRoot (image : Image) (entry : Entry) : Type 0 where
 pub record SilentJournal : Type 0 where
   pub image : Image
   pub entries : List Entry
-  pub silent : HasNoCall image
+  pub silent : HasNoHypercall image
   pub legal : IsLegal image entries
 
 -- an entry of a legal journal of a silent image, with the entries before it and the rest behind it
@@ -31,7 +31,7 @@ pub record SilentMoment : Type 0 where
   pub before : List Entry
   pub entry : Entry
   pub rest : List Entry
-  pub silent : HasNoCall image
+  pub silent : HasNoHypercall image
   pub legal : IsLegal image (before ++ entry ∷ rest)
 
 -- an entry that is due to a CPU of a silent image, where root lives alone
@@ -40,6 +40,6 @@ pub record LoneEntry : Type 0 where
   pub facts : Facts
   pub cpu : ℕ
   pub entry : Entry
-  pub silent : HasNoCall image
+  pub silent : HasNoHypercall image
   pub alone : IsAlone image facts
   pub due : due_at image facts cpu ≡ Some entry

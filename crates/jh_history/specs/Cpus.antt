@@ -65,8 +65,8 @@ is_undenied Denied = false
 is_undenied Timeout = true
 
 -- at a Settle that isn't denied each running CPU of the call's cell is asked to stop
-abbrev pub settled : Bool → Call → Cpu → Cpu
-settled undenied call cpu = if undenied && is_named call cpu.owner && is_running cpu.mode then asked_of cpu else cpu
+abbrev pub cpu_by_settle : Bool → Call → Cpu → Cpu
+cpu_by_settle undenied call cpu = if undenied && is_named call cpu.owner && is_running cpu.mode then asked_of cpu else cpu
 
 -- where in root's program a failed CPU goes on: at its end
 abbrev pub end_in_root : Image → ℕ → ℕ
@@ -74,27 +74,27 @@ end_in_root image i = length (program_ops image (name_of image.system.root) i)
 
 -- at the Commit of a create the new cell is lent its CPUs; by a start the cell's CPUs run from their programs'
 -- beginnings, by a set loadable they are parked, by a destroy root has them again
-abbrev pub committed : Image → Call → Phase → ℕ → Cpu → Cpu
-committed image (Create at) (ToCreate config) i cpu = if is_cpu_set config.cpu_set i then lent config.id cpu else cpu
-committed image (Start id) phase i cpu = if cpu.owner == id then restarted cpu else cpu
-committed image (Loadable id) phase i cpu = if cpu.owner == id then parked cpu else cpu
-committed image (Destroy id) phase i cpu = if cpu.owner == id then returned image.system.root.id (end_in_root image i) cpu else cpu
-committed image _ phase i cpu = cpu
+abbrev pub cpu_by_commit : Image → Call → Phase → ℕ → Cpu → Cpu
+cpu_by_commit image (Create at) (ToCreate config) i cpu = if is_cpu_set config.cpu_set i then lent config.id cpu else cpu
+cpu_by_commit image (Start id) phase i cpu = if cpu.owner == id then restarted cpu else cpu
+cpu_by_commit image (Loadable id) phase i cpu = if cpu.owner == id then parked cpu else cpu
+cpu_by_commit image (Destroy id) phase i cpu = if cpu.owner == id then returned image.system.root.id (end_in_root image i) cpu else cpu
+cpu_by_commit image _ phase i cpu = cpu
 
 -- the CPU, resumed where it is root's
 abbrev pub resumed_in : ℕ → Cpu → Cpu
 resumed_in root cpu = if cpu.owner == root then resumed cpu else cpu
 
 -- at the Finish no CPU of root is stopped any more, and the caller has done its operation
-abbrev pub finished : Image → ℕ → ℕ → Cpu → Cpu
-finished image own i cpu = let there = resumed_in image.system.root.id cpu in if i == own then moved there else there
+abbrev pub cpu_by_finish : Image → ℕ → ℕ → Cpu → Cpu
+cpu_by_finish image own i cpu = let there = resumed_in image.system.root.id cpu in if i == own then moved there else there
 
 -- CPU i after the act, which is CPU `own`'s; the call is the one that is open before it
 abbrev pub acted : Image → Option OpenCall → Act → ℕ → ℕ → Cpu → Cpu
 acted image call (Begin code a b) own i cpu = asked_by_begin image own i cpu
-acted image call (Settle how) own i cpu = option_map_or (λ (o : OpenCall). settled (is_undenied how) o.call cpu) call cpu
-acted image call Commit own i cpu = option_map_or (λ (o : OpenCall). committed image o.call o.phase i cpu) call cpu
-acted image call (Finish answer) own i cpu = finished image own i cpu
+acted image call (Settle how) own i cpu = option_map_or (λ (o : OpenCall). cpu_by_settle (is_undenied how) o.call cpu) call cpu
+acted image call Commit own i cpu = option_map_or (λ (o : OpenCall). cpu_by_commit image o.call o.phase i cpu) call cpu
+acted image call (Finish answer) own i cpu = cpu_by_finish image own i cpu
 acted image call act own i cpu = if i == own then changed (change_of act) cpu else cpu
 
 -- the list has the states of CPUs 0 to 15, in order

@@ -21,7 +21,7 @@ use Rattle.jh_history.specs.declared.place.Place.{Place}
 use Rattle.jh_history.specs.declared.place.Place.TheVariants.{Physical, Page}
 use Rattle.jh_history.specs.declared.entry.Entry.{Entry}
 use Rattle.jh_history.specs.declared.entry.Settled.TheVariants.{Timeout}
-use Rattle.jh_history.specs.declared.entry.Heard.TheVariants.{Timeout as Silent}
+use Rattle.jh_history.specs.declared.entry.Heard.TheVariants.{Timeout as Unheard}
 use Rattle.jh_history.specs.declared.entry.Act.{Act}
 use Rattle.jh_history.specs.declared.entry.Act.TheVariants.{Read, Write, Fetch, Await, Decide, Settle, Commit, Note, Noted}
 use Rattle.jh_history.specs.Facts.{Facts}
@@ -91,7 +91,7 @@ page_write_by image facts entry (Decide None) = option_and_then (λ (o : OpenCal
 page_write_by image facts entry (Settle Timeout) = option_and_then (λ (o : OpenCall). option_map (on_page (State STATE_FAILED)) (named_cell facts.cells o.call)) facts.call
 page_write_by image facts entry Commit = option_and_then (λ (o : OpenCall). committing image.system.pci_mmconfig_base facts.cells o.call o.phase) facts.call
 page_write_by image facts entry (Note id) = Some (record { cell = id; change = Message MESSAGE_RECONFIG_COMPLETED })
-page_write_by image facts entry (Noted id Silent) = Some (record { cell = id; change = State STATE_FAILED })
+page_write_by image facts entry (Noted id Unheard) = Some (record { cell = id; change = State STATE_FAILED })
 page_write_by image facts entry act = None
 
 -- the bytes after the write into a page, if there is one

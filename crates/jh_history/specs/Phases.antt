@@ -21,7 +21,7 @@ use Rattle.jh_history.specs.declared.call.Phase.TheVariants.{ToDecide, ToSettle,
 use Rattle.jh_history.specs.declared.entry.Settled.{Settled}
 use Rattle.jh_history.specs.declared.entry.Settled.TheVariants.{Agreed, Denied, Timeout}
 use Rattle.jh_history.specs.declared.entry.Heard.{Heard}
-use Rattle.jh_history.specs.declared.entry.Heard.TheVariants.{Received, Down, Other, Timeout as Silent}
+use Rattle.jh_history.specs.declared.entry.Heard.TheVariants.{Received, Down, Other, Timeout as Unheard}
 use Rattle.jh_history.specs.declared.entry.Act.{Act}
 use Rattle.jh_history.specs.declared.entry.Act.TheVariants.{Decide, Settle, Commit, Note, Noted, Finish}
 use Rattle.jh_history.specs.Facts.{Facts}
@@ -130,7 +130,7 @@ heard_by state reply over =
     if is_down state then Some Down
     else (if reply == REPLY_RECEIVED then Some Received
     else (if not (reply == 0) then Some Other
-    else (if over then Some Silent else None)))
+    else (if over then Some Unheard else None)))
 
 -- how the cell with the id met the note of a change, where these facts hold; nothing yet where it hasn't
 abbrev pub heard_of : Facts → Bool → ℕ → ℕ → Option Heard

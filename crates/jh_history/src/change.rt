@@ -6,7 +6,7 @@ ghost use Rattle.jh_script.specs.declared.image.Image.{Image as TheImage};
 ghost use Rattle.jh_history.specs.declared.call.OpenCall.{OpenCall as TheOpenCall};
 ghost use Rattle.jh_history.specs.Admitted.{IsAdmitted};
 ghost use Rattle.jh_history.specs.Facts.{Facts};
-ghost use Rattle.jh_history.specs.Cpus.{change_if, change_of, changed, asked_by_begin, is_undenied, settled, end_in_root, committed, finished, acted, cpu_after, is_running, ListsCpus};
+ghost use Rattle.jh_history.specs.Cpus.{change_if, change_of, changed, asked_by_begin, is_undenied, cpu_by_settle, end_in_root, cpu_by_commit, cpu_by_finish, acted, cpu_after, is_running, ListsCpus};
 
 use crate::call::{OpenCall, Phase};
 use crate::cells::{is_on_board, program_ops};
@@ -104,7 +104,7 @@ fn is_undenied(how: Settled) -> bool
 
 /// At a Settle that isn't denied each running CPU of the call's cell is asked to stop.
 fn settle(undenied: bool, call: &Call, cpu: &mut Cpu)
-    ensures { cpu.new ≡ settled undenied call.now cpu.old }
+    ensures { cpu.new ≡ cpu_by_settle undenied call.now cpu.old }
 {
     if undenied && is_named(call, u64::from(cpu.owner)) && is_running(cpu.mode) {
         cpu.ask();
@@ -121,7 +121,7 @@ fn end_in_root(image: &Image, i: u8) -> u32
 
 /// The CPU is lent to the new cell, where that has it.
 fn lend(phase: &Phase, i: u8, cpu: &mut Cpu)
-    ensures { (image : TheImage) (at : ℕ) → cpu.new ≡ committed image (Create at) phase.now i cpu.old }
+    ensures { (image : TheImage) (at : ℕ) → cpu.new ≡ cpu_by_commit image (Create at) phase.now i cpu.old }
 {
     match phase {
         Phase::ToCreate { config } => {
@@ -137,7 +137,7 @@ fn lend(phase: &Phase, i: u8, cpu: &mut Cpu)
 /// At a Commit the cell's CPUs come and go, or begin and end to run.
 fn commit(image: &Image, begun: &OpenCall, i: u8, cpu: &mut Cpu)
     requires { IsAdmitted image.now }
-    ensures { cpu.new ≡ committed image.now begun.now.call begun.now.phase i cpu.old }
+    ensures { cpu.new ≡ cpu_by_commit image.now begun.now.call begun.now.phase i cpu.old }
 {
     match begun.call {
         Call::Create { .. } => lend(&begun.phase, i, cpu),
@@ -162,7 +162,7 @@ fn commit(image: &Image, begun: &OpenCall, i: u8, cpu: &mut Cpu)
 
 /// At a Finish no CPU of root is stopped any more, and the caller has done its operation.
 fn finish(root: u32, own: u8, i: u8, cpu: &mut Cpu)
-    ensures { (image : TheImage) → image.system.root.id ≡ root → cpu.new ≡ finished image own i cpu.old }
+    ensures { (image : TheImage) → image.system.root.id ≡ root → cpu.new ≡ cpu_by_finish image own i cpu.old }
 {
     if cpu.owner == root {
         cpu.resume();

@@ -56,7 +56,7 @@ fn refusal_with(
     pages: u64,
 ) -> Result<Option<i64>, NoMemory>
     requires few { length cells.now ≤ 15 }
-    requires kept { length cells.now ≡ 15 → may ≡ 0 }
+    requires full { length cells.now ≡ 15 → may ≡ 0 }
     ensures { IfOk result (λ refusal. refusal ≡ refusal_of image.now.system cells.now config.now (has_bit may) pages (pool_pages image.now.system)) }
 {
     if cells.len() == MAX_CELLS {
@@ -75,7 +75,7 @@ fn refusal_by(
     config: &BoxedCell,
 ) -> Result<Option<i64>, NoMemory>
     requires few { length cells.now ≤ 15 }
-    requires kept { length cells.now ≡ 15 → may ≡ 0 }
+    requires full { length cells.now ≡ 15 → may ≡ 0 }
     ensures { IfOk result (λ refusal. refusal ≡ refusal_by image.now cells.now (has_bit may) config.now) }
 {
     let root = image.system.root.memory_regions.as_slice();

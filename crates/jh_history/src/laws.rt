@@ -35,7 +35,7 @@ pub fn root_lives_alone()
     ensures alone { (j : SilentJournal) → IsAlone j.image (facts j.image j.entries) }
     ensures entries { (m : SilentMoment) → IsByRoot m.image m.entry }
     ensures due { (e : LoneEntry) → IsByRoot e.image e.entry }
-    ensures kept { (image : TheImage) (f : Facts) (entry : TheEntry) → IsAlone image f → IsByRoot image entry → IsAlone image (after image f entry) }
+    ensures stays { (image : TheImage) (f : Facts) (entry : TheEntry) → IsAlone image f → IsByRoot image entry → IsAlone image (after image f entry) }
 {}
 
 /// What an access of one byte reads at each address of a row is the byte at its place, where each address has one; beyond

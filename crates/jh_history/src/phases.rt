@@ -145,8 +145,8 @@ fn is_over<K: Known>(known: &K, caller: u8, timeout: u64, waited: u64) -> bool
 
 /// How the cell met the request to shut down, by its own words; nothing yet where it says nothing.
 fn settled_by(passive: bool, state: u32, reply: u32) -> Option<Settled>
-    ensures said { IfSome result (λ how. (over : Bool) → settled_by passive state reply over ≡ Some how) }
-    ensures silent { result ≡ None → (over : Bool) → settled_by passive state reply over ≡ (if over then Some Settled.Timeout else None) }
+    ensures answered { IfSome result (λ how. (over : Bool) → settled_by passive state reply over ≡ Some how) }
+    ensures unanswered { result ≡ None → (over : Bool) → settled_by passive state reply over ≡ (if over then Some Settled.Timeout else None) }
 {
     if passive || is_down(state) || reply == REPLY_REQUEST_APPROVED {
         return Some(Settled::Agreed);
@@ -160,8 +160,8 @@ fn settled_by(passive: bool, state: u32, reply: u32) -> Option<Settled>
 
 /// How the cell met the note of a change, by its own words; nothing yet where it says nothing.
 fn heard_by(state: u32, reply: u32) -> Option<Heard>
-    ensures said { IfSome result (λ how. (over : Bool) → heard_by state reply over ≡ Some how) }
-    ensures silent { result ≡ None → (over : Bool) → heard_by state reply over ≡ (if over then Some Heard.Timeout else None) }
+    ensures answered { IfSome result (λ how. (over : Bool) → heard_by state reply over ≡ Some how) }
+    ensures unanswered { result ≡ None → (over : Bool) → heard_by state reply over ≡ (if over then Some Heard.Timeout else None) }
 {
     if is_down(state) {
         return Some(Heard::Down);

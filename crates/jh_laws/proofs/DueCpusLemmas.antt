@@ -28,7 +28,7 @@ use Rattle.jh_history.specs.declared.entry.Entry.{Entry}
 use Rattle.jh_history.specs.declared.entry.Settled.{Settled}
 use Rattle.jh_history.specs.declared.entry.Settled.TheVariants.{Agreed, Denied, Timeout}
 use Rattle.jh_history.specs.declared.entry.Heard.{Heard}
-use Rattle.jh_history.specs.declared.entry.Heard.TheVariants.{Received, Down, Other, Timeout as Silent}
+use Rattle.jh_history.specs.declared.entry.Heard.TheVariants.{Received, Down, Other, Timeout as Unheard}
 use Rattle.jh_history.specs.declared.entry.Act.{Act}
 use Rattle.jh_history.specs.declared.entry.Act.TheVariants.{Await, Irq, Stop, Decide, Settle, Commit, Noted}
 use Rattle.jh_history.specs.Facts.{Facts}
@@ -397,7 +397,7 @@ heard_if false how h = absurd (false≢true h)
 
 heard_tells : (state reply : ℕ) (over : Bool) → is_some (heard_by state reply over) ≡ true → (is_down state ≡ true) ⊎ ((reply ≢ 0) ⊎ (over ≡ true))
 heard_tells state reply over h =
-    let last : Option Heard = cond over (Some Silent) None in
+    let last : Option Heard = cond over (Some Unheard) None in
     let third : Option Heard = cond (not (eqb reply 0)) (Some Other) last in
     let second : Option Heard = cond (eqb reply REPLY_RECEIVED) (Some Received) third in
     ⊎_elim
@@ -406,13 +406,13 @@ heard_tells state reply over h =
     inr (replied reply REPLY_RECEIVED over (omega arith)
     (⊎_elim
     (λ (yes : eqb reply REPLY_RECEIVED ≡ true). inl yes)
-    (λ more. inr (⊎_elim (λ (other : not (eqb reply 0) ≡ true). inl other) (λ end. inr (heard_if over Silent end)) (some_else (not (eqb reply 0)) Other last more)))
+    (λ more. inr (⊎_elim (λ (other : not (eqb reply 0) ≡ true). inl other) (λ end. inr (heard_if over Unheard end)) (some_else (not (eqb reply 0)) Other last more)))
     (some_else (eqb reply REPLY_RECEIVED) Received third rest))))
     (some_else (is_down state) Down second h)
 
 tells_heard : (state reply : ℕ) (over : Bool) → (is_down state ≡ true) ⊎ ((reply ≢ 0) ⊎ (over ≡ true)) → is_some (heard_by state reply over) ≡ true
 tells_heard state reply over h =
-    let last : Option Heard = cond over (Some Silent) None in
+    let last : Option Heard = cond over (Some Unheard) None in
     let third : Option Heard = cond (not (eqb reply 0)) (Some Other) last in
     let second : Option Heard = cond (eqb reply REPLY_RECEIVED) (Some Received) third in
     ⊎_elim
@@ -421,7 +421,7 @@ tells_heard state reply over h =
     some_later (is_down state) Down second (some_later (eqb reply REPLY_RECEIVED) Received third
     (⊎_elim
     (λ other. some_first (not (eqb reply 0)) Other last (not_from_false (eqb reply 0) (ne_eqb reply 0 other)))
-    (λ is. some_later (not (eqb reply 0)) Other last (some_first over Silent None is))
+    (λ is. some_later (not (eqb reply 0)) Other last (some_first over Unheard None is))
     more)))
     h
 

@@ -16,7 +16,7 @@ use Rattle.jh_history.specs.declared.entry.Entry.{Entry}
 use Rattle.jh_history.specs.declared.entry.Settled.{Settled}
 use Rattle.jh_history.specs.declared.entry.Settled.TheVariants.{Agreed, Denied, Timeout}
 use Rattle.jh_history.specs.declared.entry.Heard.{Heard}
-use Rattle.jh_history.specs.declared.entry.Heard.TheVariants.{Received, Down, Other, Timeout as Silent}
+use Rattle.jh_history.specs.declared.entry.Heard.TheVariants.{Received, Down, Other, Timeout as Unheard}
 use Rattle.jh_history.specs.Facts.{Facts}
 use Rattle.jh_history.specs.Calls.{is_named, counted}
 use Rattle.jh_num.specs.Numbers.{counted_up}
@@ -136,19 +136,19 @@ settled_as image f o config waited how sound is h =
       denied = λ up down other some.
           let rest = other_reply reply over how (settled_rest passive state reply over how h up down) other in
           sym (same_Some Denied how (sym (ap (λ (b : Bool). cond b (Some Denied) (cond over (Some Timeout) None)) (not_from_false (eqb reply 0) (ne_eqb reply 0 some))) ∙ rest));
-      silent = λ up down none.
+      unanswered = λ up down none.
           let other : reply ≢ REPLY_REQUEST_APPROVED = λ e. (let zero_is : REPLY_REQUEST_APPROVED ≡ 0 = sym e ∙ none in omega arith) in
           let rest = other_reply reply over how (settled_rest passive state reply over how h up down) other in
           let last = over_some over Timeout how (sym (ap (λ (b : Bool). cond b (Some Denied) (cond over (Some Timeout) None)) (not_from_true (eqb reply 0) (eq-eqb reply 0 none))) ∙ rest) in
           (last.0, time_over image f o config waited sound is last.1);
     }
 
-heard_rest : (state reply : ℕ) (over : Bool) (how : Heard) → heard_by state reply over ≡ Some how → is_down state ≡ false → cond (eqb reply REPLY_RECEIVED) (Some Received) (cond (not (eqb reply 0)) (Some Other) (cond over (Some Silent) None)) ≡ Some how
+heard_rest : (state reply : ℕ) (over : Bool) (how : Heard) → heard_by state reply over ≡ Some how → is_down state ≡ false → cond (eqb reply REPLY_RECEIVED) (Some Received) (cond (not (eqb reply 0)) (Some Other) (cond over (Some Unheard) None)) ≡ Some how
 heard_rest state reply over how h up =
-    sym (ap (λ (b : Bool). cond b (Some Down) (cond (eqb reply REPLY_RECEIVED) (Some Received) (cond (not (eqb reply 0)) (Some Other) (cond over (Some Silent) None)))) up) ∙ h
+    sym (ap (λ (b : Bool). cond b (Some Down) (cond (eqb reply REPLY_RECEIVED) (Some Received) (cond (not (eqb reply 0)) (Some Other) (cond over (Some Unheard) None)))) up) ∙ h
 
-heard_other : (reply : ℕ) (over : Bool) (how : Heard) → cond (eqb reply REPLY_RECEIVED) (Some Received) (cond (not (eqb reply 0)) (Some Other) (cond over (Some Silent) None)) ≡ Some how → reply ≢ REPLY_RECEIVED → cond (not (eqb reply 0)) (Some Other) (cond over (Some Silent) None) ≡ Some how
-heard_other reply over how h other = sym (ap (λ (b : Bool). cond b (Some Received) (cond (not (eqb reply 0)) (Some Other) (cond over (Some Silent) None))) (ne_eqb reply REPLY_RECEIVED other)) ∙ h
+heard_other : (reply : ℕ) (over : Bool) (how : Heard) → cond (eqb reply REPLY_RECEIVED) (Some Received) (cond (not (eqb reply 0)) (Some Other) (cond over (Some Unheard) None)) ≡ Some how → reply ≢ REPLY_RECEIVED → cond (not (eqb reply 0)) (Some Other) (cond over (Some Unheard) None) ≡ Some how
+heard_other reply over how h other = sym (ap (λ (b : Bool). cond b (Some Received) (cond (not (eqb reply 0)) (Some Other) (cond over (Some Unheard) None))) (ne_eqb reply REPLY_RECEIVED other)) ∙ h
 
 pub heard_as : (image : Image) (f : Facts) (o : OpenCall) (config : CellConfig) (waited : ℕ) (how : Heard) → AreSoundCells image.system (configs_of f.cells) → f.call ≡ Some o
     → heard_by (state_word f config.id) (reply_word f config.id) (is_over config.msg_reply_timeout waited (is_idle_but image f o.caller)) ≡ Some how → IsHeardBy image f o.caller config waited how
@@ -157,15 +157,15 @@ heard_as image f o config waited how sound is h =
     let reply : ℕ = reply_word f config.id in
     let over : Bool = is_over config.msg_reply_timeout waited (is_idle_but image f o.caller) in
     record {
-      down = λ yes. sym (same_Some Down how (sym (ap (λ (b : Bool). cond b (Some Down) (cond (eqb reply REPLY_RECEIVED) (Some Received) (cond (not (eqb reply 0)) (Some Other) (cond over (Some Silent) None)))) yes) ∙ h));
+      down = λ yes. sym (same_Some Down how (sym (ap (λ (b : Bool). cond b (Some Down) (cond (eqb reply REPLY_RECEIVED) (Some Received) (cond (not (eqb reply 0)) (Some Other) (cond over (Some Unheard) None)))) yes) ∙ h));
       received = λ up yes.
-          sym (same_Some Received how (sym (ap (λ (b : Bool). cond b (Some Received) (cond (not (eqb reply 0)) (Some Other) (cond over (Some Silent) None))) (eq-eqb reply REPLY_RECEIVED yes)) ∙ heard_rest state reply over how h up));
+          sym (same_Some Received how (sym (ap (λ (b : Bool). cond b (Some Received) (cond (not (eqb reply 0)) (Some Other) (cond over (Some Unheard) None))) (eq-eqb reply REPLY_RECEIVED yes)) ∙ heard_rest state reply over how h up));
       other = λ up no_reply some.
           let rest = heard_other reply over how (heard_rest state reply over how h up) no_reply in
-          sym (same_Some Other how (sym (ap (λ (b : Bool). cond b (Some Other) (cond over (Some Silent) None)) (not_from_false (eqb reply 0) (ne_eqb reply 0 some))) ∙ rest));
-      silent = λ up none.
+          sym (same_Some Other how (sym (ap (λ (b : Bool). cond b (Some Other) (cond over (Some Unheard) None)) (not_from_false (eqb reply 0) (ne_eqb reply 0 some))) ∙ rest));
+      unanswered = λ up none.
           let other : reply ≢ REPLY_RECEIVED = λ e. (let zero_is : REPLY_RECEIVED ≡ 0 = sym e ∙ none in omega arith) in
           let rest = heard_other reply over how (heard_rest state reply over how h up) other in
-          let last = over_some over Silent how (sym (ap (λ (b : Bool). cond b (Some Other) (cond over (Some Silent) None)) (not_from_true (eqb reply 0) (eq-eqb reply 0 none))) ∙ rest) in
+          let last = over_some over Unheard how (sym (ap (λ (b : Bool). cond b (Some Other) (cond over (Some Unheard) None)) (not_from_true (eqb reply 0) (eq-eqb reply 0 none))) ∙ rest) in
           (last.0, time_over image f o config waited sound is last.1);
     }

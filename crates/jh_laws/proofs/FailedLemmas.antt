@@ -15,7 +15,7 @@ use Rattle.jh_history.specs.declared.entry.Act.{Act}
 use Rattle.jh_history.specs.declared.entry.Act.TheVariants.{Read, Write, Fetch, Await, Begin, Settle, Commit, Finish}
 use Rattle.jh_history.specs.Facts.{Facts}
 use Rattle.jh_history.specs.Calls.{is_named}
-use Rattle.jh_history.specs.Cpus.{acted, settled, finished, resumed_in, is_running, is_undenied}
+use Rattle.jh_history.specs.Cpus.{acted, cpu_by_settle, cpu_by_finish, resumed_in, is_running, is_undenied}
 use Rattle.jh_history.specs.Pages.{failing, page_write_by}
 use Rattle.jh_history.specs.declared.place.Place.{Place}
 use Rattle.jh_history.specs.declared.place.Place.TheVariants.{Physical}
@@ -79,7 +79,7 @@ not_made image f cpu entry admitted sound failed due own =
     not_ready image f cpu sound failed (ready_from_due image f cpu admitted sound (subst P own (ap (λ (o : Option Entry). is_some o) due)))
 
 -- an entry of another CPU than this, but a Commit, leaves it so
-settled_failed : (how : Settled) (call : Option OpenCall) (cpu : Cpu) → cpu.mode ≡ Failed → option_map_or (λ (o : OpenCall). settled (is_undenied how) o.call cpu) call cpu ≡ cpu
+settled_failed : (how : Settled) (call : Option OpenCall) (cpu : Cpu) → cpu.mode ≡ Failed → option_map_or (λ (o : OpenCall). cpu_by_settle (is_undenied how) o.call cpu) call cpu ≡ cpu
 settled_failed how None cpu mode = refl
 settled_failed how (Some o) cpu mode =
     let rests : is_running cpu.mode ≡ false = ap is_running mode in
@@ -88,7 +88,7 @@ settled_failed how (Some o) cpu mode =
 abbrev SameRest : Cpu → Cpu → Type 0
 SameRest one other = (one.mode ≡ other.mode) × (one.asked ≡ other.asked)
 
-finished_rest : (image : Image) (own i : ℕ) (cpu : Cpu) → SameRest (finished image own i cpu) cpu
+finished_rest : (image : Image) (own i : ℕ) (cpu : Cpu) → SameRest (cpu_by_finish image own i cpu) cpu
 finished_rest image own i cpu =
     let there : Cpu = resumed_in image.system.root.id cpu in
     let P : Cpu → Type 0 = λ c. SameRest c cpu in

@@ -32,7 +32,7 @@ use Rattle.jh_history.specs.declared.comm.PageChange.TheVariants.{State as NewSt
 use Rattle.jh_history.specs.declared.entry.Entry.{Entry}
 use Rattle.jh_history.specs.declared.entry.Settled.{Settled}
 use Rattle.jh_history.specs.declared.entry.Settled.TheVariants.{Agreed, Denied, Timeout}
-use Rattle.jh_history.specs.declared.entry.Heard.TheVariants.{Timeout as Silent}
+use Rattle.jh_history.specs.declared.entry.Heard.TheVariants.{Timeout as Unheard}
 use Rattle.jh_history.specs.declared.entry.Act.{Act}
 use Rattle.jh_history.specs.declared.entry.Act.TheVariants.{Read, Write, Fetch, Await, Begin, Decide, Settle, Commit, Note, Noted, Finish}
 use Rattle.jh_history.specs.Access.{places_from}
@@ -45,7 +45,7 @@ use Rattle.jh_history.specs.Calls.{is_named, counted, telling, first_recipient, 
 use Rattle.jh_num.specs.Numbers.{counted_up}
 use Rattle.jh_history.specs.Commits.{cells_by, committed_cells, is_other, is_commit}
 use Rattle.jh_history.specs.Configs.{bytes_at, read_whole, read_behind, read_from, read_at, config_read}
-use Rattle.jh_history.specs.Cpus.{acted, changed, change_of, settled, is_undenied, cpu_after}
+use Rattle.jh_history.specs.Cpus.{acted, changed, change_of, cpu_by_settle, is_undenied, cpu_after}
 use Rattle.jh_history.specs.History.{start, after, facts, coming_by, coming_of}
 use Rattle.jh_history.specs.Pages.{is_left, failing, unless_good, asking, committing, named_cell, page_write_by, on_page}
 use Rattle.jh_shape.specs.Lives.{configs_of, marked}
@@ -269,7 +269,7 @@ page_write_small image f entry (Await width at value ok) typed h = failing_small
 page_write_small image f entry (Decide None) typed h = asking_small f.cells f.call
 page_write_small image f entry (Settle Timeout) typed h = timeout_small f.cells f.call
 page_write_small image f entry Commit typed h = commit_small image.system.pci_mmconfig_base f.cells f.call typed h
-page_write_small image f entry (Noted id Silent) typed h = tt
+page_write_small image f entry (Noted id Unheard) typed h = tt
 page_write_small image f entry _ typed h = tt
 
 byte_small : (image : Image) (f : Facts) (entry : Entry) (q : Place) → IsTypedBoard f → byte_after image f entry q < 256
@@ -286,7 +286,7 @@ one_owner change own i cpu =
     let same : Cpu → Type 0 = λ c. c.owner ≡ cpu.owner in
     cond_both (eqb i own) (changed (change_of change) cpu) cpu same (λ _. changed_owner (change_of change) cpu) (λ _. refl)
 
-settle_owner : (call : Option OpenCall) (how : Settled) (cpu : Cpu) → (option_map_or (λ (o : OpenCall). settled (is_undenied how) o.call cpu) call cpu).owner ≡ cpu.owner
+settle_owner : (call : Option OpenCall) (how : Settled) (cpu : Cpu) → (option_map_or (λ (o : OpenCall). cpu_by_settle (is_undenied how) o.call cpu) call cpu).owner ≡ cpu.owner
 settle_owner None how cpu = refl
 settle_owner (Some o) how cpu = settled_owner (is_undenied how) o.call cpu
 

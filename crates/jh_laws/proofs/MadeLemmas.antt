@@ -41,7 +41,7 @@ use Rattle.jh_history.specs.Cpus.{change_of, changed, is_running}
 use Rattle.jh_history.specs.Alone.{IsAlone, IsByRoot}
 use Rattle.jh_history.specs.History.{start, after, facts}
 use Rattle.jh_history.specs.Due.{due_at, act_of, await_of, irq_of, got_by, entry_by, IsLegal, IsLegalFrom}
-use Rattle.jh_history.specs.Admitted.{IsAdmitted, IsNoCall, HasNoCall}
+use Rattle.jh_history.specs.Admitted.{IsAdmitted, IsNoHypercall, HasNoHypercall}
 use Rattle.jh_history.specs.Calls.{is_call}
 use Rattle.jh_history.proofs.Public.{due_at_absent, due_at_present, acted_own, alone_start, alone_after, due_split, IsLegal_begin, program_ops_all, few_operations}
 use Rattle.std.specs.List.{AllByRecursion}
@@ -57,16 +57,16 @@ use Rattle.jh_laws.proofs.FactsLemmas.{cpu_after_holds}
 pub record IsSilent (image : Image) : Type 0 where
   pub admitted : IsAdmitted image
   pub bare : HasNoDevice image
-  pub silent : HasNoCall image
+  pub silent : HasNoHypercall image
 
 -- so no operation is one
-no_call_at : (ops : List Op) (i : ℕ) (op : Op) → AllByRecursion IsNoCall ops → slice_get ops i ≡ Some op → IsNoCall op
+no_call_at : (ops : List Op) (i : ℕ) (op : Op) → AllByRecursion IsNoHypercall ops → slice_get ops i ≡ Some op → IsNoHypercall op
 no_call_at [] i op all e = absurd (none-some op e)
-no_call_at (first ∷ ops) zero op all e = let P : Op → Type 0 = IsNoCall in subst P (same_Some first op e) all.0
+no_call_at (first ∷ ops) zero op all e = let P : Op → Type 0 = IsNoHypercall in subst P (same_Some first op e) all.0
 no_call_at (first ∷ ops) (suc i) op all e = no_call_at ops i op all.1 e
 
-pub op_silent : (image : Image) (name : List ℕ) (cpu i : ℕ) (op : Op) → IsSilent image → slice_get (program_ops image name cpu) i ≡ Some op → IsNoCall op
-op_silent image name cpu i op admitted e = no_call_at (program_ops image name cpu) i op (recursion_from_All IsNoCall (program_ops image name cpu) (program_ops_all IsNoCall image name cpu admitted.silent)) e
+pub op_silent : (image : Image) (name : List ℕ) (cpu i : ℕ) (op : Op) → IsSilent image → slice_get (program_ops image name cpu) i ≡ Some op → IsNoHypercall op
+op_silent image name cpu i op admitted e = no_call_at (program_ops image name cpu) i op (recursion_from_All IsNoHypercall (program_ops image name cpu) (program_ops_all IsNoHypercall image name cpu admitted.silent)) e
 
 -- the CPU is root's, and is neither asked to stop nor stopped
 pub record IsRoots (image : Image) (state : Cpu) : Type 0 where
@@ -183,7 +183,7 @@ await_access image f cell width at value act (Some got) plain e h = await_equal 
 no_irq : (image : Image) (f : Facts) (cell : ℕ) → f.endpoints ≡ [] → act_of image f cell IrqOp ≡ None
 no_irq image f cell bare = ap (irq_of cell) bare
 
-pub act_access : (image : Image) (f : Facts) (cell : ℕ) (op : Op) (act : Act) → f.endpoints ≡ [] → IsWellFormed op → IsNoCall op → act_of image f cell op ≡ Some act → IsAccessOf image f cell op act
+pub act_access : (image : Image) (f : Facts) (cell : ℕ) (op : Op) (act : Act) → f.endpoints ≡ [] → IsWellFormed op → IsNoHypercall op → act_of image f cell op ≡ Some act → IsAccessOf image f cell op act
 act_access image f cell (ReadOp width at) act bare plain silent h =
     let P : Act → Type 0 = IsAccessOf image f cell (ReadOp width at) in
     subst P (same_Some (Read width at (got_by image f cell ToRead at width)) act h) (record { access = (plain, refl); operation = refl })

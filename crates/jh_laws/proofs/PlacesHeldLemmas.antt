@@ -188,7 +188,7 @@ held_taken cells live number region place h =
       among = (number, slice_get_within regions number region h.item, get_or_from_slice_get regions number region region h.item);
       alone = h.alone;
       has = h.has;
-      kept = h.kept;
+      withheld = h.withheld;
     }
 
 -- two different cells of the board with the place: it is in the same section of linked devices of theirs

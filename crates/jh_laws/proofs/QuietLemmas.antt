@@ -21,7 +21,7 @@ use Rattle.jh_history.specs.declared.entry.Entry.{Entry}
 use Rattle.jh_history.specs.declared.entry.Settled.{Settled}
 use Rattle.jh_history.specs.declared.entry.Settled.TheVariants.{Agreed, Denied, Timeout}
 use Rattle.jh_history.specs.declared.entry.Heard.{Heard}
-use Rattle.jh_history.specs.declared.entry.Heard.TheVariants.{Received, Down, Other, Timeout as Silent}
+use Rattle.jh_history.specs.declared.entry.Heard.TheVariants.{Received, Down, Other, Timeout as Unheard}
 use Rattle.jh_history.specs.declared.entry.Act.{Act}
 use Rattle.jh_history.specs.declared.entry.Act.TheVariants.{Stop, Decide, Settle, Commit, Note, Noted, Finish}
 use Rattle.jh_history.specs.Facts.{Facts}
@@ -112,9 +112,9 @@ settled_idle passive state reply =
 
 heard_idle : (state reply : ℕ) → is_some (heard_by state reply true) ≡ true
 heard_idle state reply =
-    some_later (is_down state) Down (cond (eqb reply REPLY_RECEIVED) (Some Received) (cond (not (eqb reply 0)) (Some Other) (Some Silent)))
-    (some_later (eqb reply REPLY_RECEIVED) Received (cond (not (eqb reply 0)) (Some Other) (Some Silent))
-    (some_later (not (eqb reply 0)) Other (Some Silent) refl))
+    some_later (is_down state) Down (cond (eqb reply REPLY_RECEIVED) (Some Received) (cond (not (eqb reply 0)) (Some Other) (Some Unheard)))
+    (some_later (eqb reply REPLY_RECEIVED) Received (cond (not (eqb reply 0)) (Some Other) (Some Unheard))
+    (some_later (not (eqb reply 0)) Other (Some Unheard) refl))
 
 -- the cell that lives is found
 live_some : (cells : List Live) (config : CellConfig) (id : ℕ) → Contains (configs_of cells) config → config.id ≡ id → (c : CellConfig) × (live_in cells id ≡ Some c)

@@ -18,7 +18,7 @@ use Rattle.jh_history.specs.Access.{is_reached}
 use Rattle.jh_history.specs.History.{facts}
 use Rattle.jh_history.specs.Grants.{reach}
 use Rattle.jh_history.specs.Due.{due, act_of, await_of, irq_of, got_by, entry_by, IsLegal, IsQuiet}
-use Rattle.jh_history.specs.Admitted.{IsNoCall}
+use Rattle.jh_history.specs.Admitted.{IsNoHypercall}
 use Rattle.jh_history.specs.Sound.{IsSound}
 use Rattle.jh_history.proofs.Public.{legal_sound}
 use Rattle.jh_laws.specs.Ends.{IsAnswered, IsReadBy, IsGotBy, IsAwaitedBy}
@@ -44,7 +44,7 @@ await_due : (image : Image) (entries : List Entry) (width at value : ℕ) (act :
 await_due image entries width at value act None outcome h = λ granted. absurd (false≢true (outcome.answered.1 granted))
 await_due image entries width at value act (Some got) outcome h = equal_due image entries width at value got act (eqb got value) outcome refl h
 
-op_due : (image : Image) (entries : List Entry) (op : Op) (act : Act) → (facts image entries).endpoints ≡ [] → IsSound image (facts image entries) → IsWellFormed op → IsNoCall op → act_of image (facts image entries) image.system.root.id op ≡ Some act → IsDueOp image entries image.system.root op
+op_due : (image : Image) (entries : List Entry) (op : Op) (act : Act) → (facts image entries).endpoints ≡ [] → IsSound image (facts image entries) → IsWellFormed op → IsNoHypercall op → act_of image (facts image entries) image.system.root.id op ≡ Some act → IsDueOp image entries image.system.root op
 op_due image entries (ReadOp width at) act bare sound plain silent h = tt
 op_due image entries (WriteOp width at value) act bare sound plain silent h = tt
 op_due image entries (FetchOp at) act bare sound plain silent h = tt

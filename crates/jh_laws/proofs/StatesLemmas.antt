@@ -31,7 +31,7 @@ use Rattle.jh_history.specs.Lives.{is_on_board, program_ops, cell_in}
 use Rattle.jh_history.specs.Admitted.{IsAdmitted}
 use Rattle.jh_history.specs.Calls.{is_named, is_call}
 use Rattle.jh_history.specs.Commits.{cells_by, committed_cells, is_commit}
-use Rattle.jh_history.specs.Cpus.{acted, changed, change_if, asked_by_begin, settled, committed, finished, resumed_in, is_running}
+use Rattle.jh_history.specs.Cpus.{acted, changed, change_if, asked_by_begin, cpu_by_settle, cpu_by_commit, cpu_by_finish, resumed_in, is_running}
 use Rattle.jh_history.specs.History.{facts}
 use Rattle.jh_shape.specs.Lives.{configs_of}
 use Rattle.jh_history.specs.Due.{is_idle_but, IsLegal}
@@ -181,7 +181,7 @@ begin_cpus image before entry code x y i act =
     let same = behind_cpu image before entry i ∙ ap (λ (a : Act). acted image f.call a entry.cpu i (f.cpu i)) act in
     subst P (sym same) (begins image entry.cpu i (f.cpu i))
 
-finishes : (image : Image) (own i : ℕ) (cpu : Cpu) → (i ≡ own → (cpu.position < 4096) × (cpu.stopped ≡ false) × (cpu.owner ≡ image.system.root.id)) → HasFinished image own i cpu (finished image own i cpu)
+finishes : (image : Image) (own i : ℕ) (cpu : Cpu) → (i ≡ own → (cpu.position < 4096) × (cpu.stopped ≡ false) × (cpu.owner ≡ image.system.root.id)) → HasFinished image own i cpu (cpu_by_finish image own i cpu)
 finishes image own i cpu caller =
     let root : ℕ = image.system.root.id in
     record {
@@ -190,15 +190,15 @@ finishes image own i cpu caller =
           let yes : eqb i own ≡ true = eq-eqb i own is in
           let there : resumed_in root cpu ≡ resumed cpu = ap (λ (b : Bool). cond b (resumed cpu) cpu) (eq-eqb cpu.owner root c.2) in
           let same : resumed cpu ≡ cpu = ap (λ (b : Bool). record cpu { stopped = b }) (sym c.1) in
-          let e : finished image own i cpu ≡ moved (resumed_in root cpu) = rw yes refl in
+          let e : cpu_by_finish image own i cpu ≡ moved (resumed_in root cpu) = rw yes refl in
           e ∙ ap moved (there ∙ same) ∙ moved_stepped cpu c.0;
       roots = λ other is.
           let fails : eqb i own ≡ false = ne_eqb i own other in
-          let e : finished image own i cpu ≡ resumed_in root cpu = rw fails refl in
+          let e : cpu_by_finish image own i cpu ≡ resumed_in root cpu = rw fails refl in
           e ∙ ap (λ (b : Bool). cond b (resumed cpu) cpu) (eq-eqb cpu.owner root is);
       foreign = λ other.
           let fails : eqb i own ≡ false = ne_eqb i own (λ is. other (caller is).2) in
-          let e : finished image own i cpu ≡ resumed_in root cpu = rw fails refl in
+          let e : cpu_by_finish image own i cpu ≡ resumed_in root cpu = rw fails refl in
           e ∙ ap (λ (b : Bool). cond b (resumed cpu) cpu) (ne_eqb cpu.owner root other);
     }
 
@@ -219,7 +219,7 @@ finish_cpus image before rest entry answer i admitted legal act =
 
 -- ---- the Settle and the Commit
 
-agrees : (call : Call) (cpu : Cpu) → HasSettled call cpu (settled true call cpu)
+agrees : (call : Call) (cpu : Cpu) → HasSettled call cpu (cpu_by_settle true call cpu)
 agrees call cpu = record {
   asked = λ named runs. rw (named, runs) refl;
   foreign = λ other. asked_if (is_named call cpu.owner && is_running cpu.mode) cpu (and_left (is_named call cpu.owner) (is_running cpu.mode) other);
@@ -273,7 +273,7 @@ settle_cpus image before rest entry call i admitted legal is agreed =
     subst P (sym (behind_cpu image before entry i)) (settle_by image f.call (record { caller = entry.cpu; call = call; phase = of.phase }) entry.act entry.cpu i (f.cpu i) of.opens agreed)
 
 created_cpus : (image : Image) (cells made : List Live) (cpu : ℕ → Cpu) (caller at i : ℕ) (phase : Phase) → Expects phase Commit → IsInPhase image (configs_of cells) cpu caller (Create at) phase → made ≡ committed_cells (Create at) phase cells
-    → HasCommitted image (configs_of cells) (configs_of made) (Create at) i (cpu i) (committed image (Create at) phase i (cpu i))
+    → HasCommitted image (configs_of cells) (configs_of made) (Create at) i (cpu i) (cpu_by_commit image (Create at) phase i (cpu i))
 created_cpus image cells made cpu caller at i ToDecide e h is = absurd (not_same is_commit Commit (Decide e.0) refl refl e.1)
 created_cpus image cells made cpu caller at i (ToSettle waited) e h is = absurd (not_same is_commit Commit (Settle e.0) refl refl e.1)
 created_cpus image cells made cpu caller at i (ToCreate config) e h is = (
@@ -295,7 +295,7 @@ owner_changed change id cpu = (
 )
 
 commit_by : (image : Image) (cells made : List Live) (cpu : ℕ → Cpu) (caller i : ℕ) (call : Call) (phase : Phase) → is_management call ≡ true → Expects phase Commit → IsInPhase image (configs_of cells) cpu caller call phase → made ≡ committed_cells call phase cells
-    → HasCommitted image (configs_of cells) (configs_of made) call i (cpu i) (committed image call phase i (cpu i))
+    → HasCommitted image (configs_of cells) (configs_of made) call i (cpu i) (cpu_by_commit image call phase i (cpu i))
 commit_by image cells made cpu caller i (Create at) phase manages e h is = created_cpus image cells made cpu caller at i phase e h is
 commit_by image cells made cpu caller i (Start id) phase manages e h is = owner_changed restarted id (cpu i)
 commit_by image cells made cpu caller i (Loadable id) phase manages e h is = owner_changed parked id (cpu i)
@@ -315,7 +315,7 @@ commit_cpus image before rest entry call i admitted legal is act =
     ∙ after_cells image f entry
     ∙ ap (λ (c : Option OpenCall). cells_by c f.cells entry.act) of.opens
     ∙ ap (cells_by (Some o) f.cells) act in
-    let same : (facts image (before ++ entry ∷ [])).cpu i ≡ committed image call of.phase i (f.cpu i) =
+    let same : (facts image (before ++ entry ∷ [])).cpu i ≡ cpu_by_commit image call of.phase i (f.cpu i) =
     behind_cpu image before entry i
     ∙ ap (λ (c : Option OpenCall). acted image c entry.act entry.cpu i (f.cpu i)) of.opens
     ∙ ap (λ (a : Act). acted image (Some o) a entry.cpu i (f.cpu i)) act in

@@ -258,7 +258,7 @@ kept_others image f entry e b there unclear foreign become =
           (λ (called : (is_open e v ≡ true) × Calls image f entry e v). inr (record { peer = e; there = there; let_through = called.0; by = called.1 }))
           (λ was. inl (pending_of_endpoint f e.spec.cell e.spec.device v e there was.0))
           (become.only v now);
-      kept = λ v pending.
+      pending = λ v pending.
           let at = endpoint_of_pending f e.spec.cell e.spec.device v pending in
           let P : Endpoint → Type 0 = λ o. (vector_at o v).pending ≡ true in
           let was : (vector_at e v).pending ≡ true = subst P (same_Some at.0 e (sym at.1 ∙ there)) at.2 in

@@ -10,7 +10,7 @@ use Rattle.jh_history.specs.declared.entry.Entry.{Entry}
 use Rattle.jh_history.specs.declared.entry.Settled.{Settled}
 use Rattle.jh_history.specs.declared.entry.Settled.TheVariants.{Agreed, Denied, Timeout}
 use Rattle.jh_history.specs.declared.entry.Heard.{Heard}
-use Rattle.jh_history.specs.declared.entry.Heard.TheVariants.{Received, Down, Other, Timeout as Silent}
+use Rattle.jh_history.specs.declared.entry.Heard.TheVariants.{Received, Down, Other, Timeout as Unheard}
 use Rattle.jh_history.specs.Facts.{Facts}
 use Rattle.jh_history.specs.Calls.{is_named}
 use Rattle.jh_history.specs.Phases.{state_word, reply_word, is_down}
@@ -41,7 +41,7 @@ pub record IsSettledBy (image : Image) (f : Facts) (caller : ℕ) (config : Cell
   pub down : is_down (state_word f config.id) ≡ true → how ≡ Agreed
   pub approved : reply_word f config.id ≡ REPLY_REQUEST_APPROVED → how ≡ Agreed
   pub denied : is_passive config ≡ false → is_down (state_word f config.id) ≡ false → reply_word f config.id ≢ REPLY_REQUEST_APPROVED → reply_word f config.id ≢ 0 → how ≡ Denied
-  pub silent : is_passive config ≡ false → is_down (state_word f config.id) ≡ false → reply_word f config.id ≡ 0 → (how ≡ Timeout) × IsTimeOver image f caller config waited
+  pub unanswered : is_passive config ≡ false → is_down (state_word f config.id) ≡ false → reply_word f config.id ≡ 0 → (how ≡ Timeout) × IsTimeOver image f caller config waited
 
 -- how the cell met the note: it is down; else it received it, or replied something else; without a reply its time was
 -- over
@@ -49,7 +49,7 @@ pub record IsHeardBy (image : Image) (f : Facts) (caller : ℕ) (config : CellCo
   pub down : is_down (state_word f config.id) ≡ true → how ≡ Down
   pub received : is_down (state_word f config.id) ≡ false → reply_word f config.id ≡ REPLY_RECEIVED → how ≡ Received
   pub other : is_down (state_word f config.id) ≡ false → reply_word f config.id ≢ REPLY_RECEIVED → reply_word f config.id ≢ 0 → how ≡ Other
-  pub silent : is_down (state_word f config.id) ≡ false → reply_word f config.id ≡ 0 → (how ≡ Silent) × IsTimeOver image f caller config waited
+  pub unanswered : is_down (state_word f config.id) ≡ false → reply_word f config.id ≡ 0 → (how ≡ Unheard) × IsTimeOver image f caller config waited
 
 -- at the last entry the cell that the call is about has met so the request to shut down that the first entry made
 pub record IsSettledAtLast (s : AdmittedSpan) (call : Call) (how : Settled) : Type 0 where

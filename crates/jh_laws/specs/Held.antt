@@ -48,7 +48,7 @@ pub record IsHeld (cells : List Live) (live : Live) (number : ℕ) (region : Reg
   pub item : slice_get live.config.memory_regions number ≡ Some region
   pub alone : is_unshared region ≡ true
   pub has : has_place region place ≡ true
-  pub kept : live.loadable ≡ true → is_loadable region ≡ true → ⊥
+  pub withheld : live.loadable ≡ true → is_loadable region ≡ true → ⊥
 
 -- just before the entry the cell holds the place for itself, by its region of that number
 abbrev pub IsHeldBefore : AdmittedMoment → Live → ℕ → ℕ → Type 0

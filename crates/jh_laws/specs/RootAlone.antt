@@ -8,7 +8,7 @@ use Rattle.jh_history.specs.declared.place.Place.{Place}
 use Rattle.jh_history.specs.declared.entry.Entry.{Entry}
 use Rattle.jh_history.specs.History.{facts}
 use Rattle.jh_history.specs.Due.{IsLegal}
-use Rattle.jh_history.specs.Admitted.{HasNoCall, IsAdmitted}
+use Rattle.jh_history.specs.Admitted.{HasNoHypercall, IsAdmitted}
 
 -- root has no ivshmem device
 pub record HasNoDevice (image : Image) : Type 0 where
@@ -21,7 +21,7 @@ pub record RootAloneJournal : Type 0 where
   pub entries : List Entry
   pub admitted : IsAdmitted image
   pub bare : HasNoDevice image
-  pub silent : HasNoCall image
+  pub silent : HasNoHypercall image
   pub legal : IsLegal image entries
 
 -- an entry of a legal journal of an image where root lives alone, and has no registers, with the entries before it and
@@ -33,7 +33,7 @@ pub record RootAloneMoment : Type 0 where
   pub rest : List Entry
   pub admitted : IsAdmitted image
   pub bare : HasNoDevice image
-  pub silent : HasNoCall image
+  pub silent : HasNoHypercall image
   pub legal : IsLegal image (before ++ entry ∷ rest)
 
 -- the byte at the place after the entries
@@ -65,8 +65,8 @@ abbrev pub entries_of : RootAloneMoment → List Entry
 entries_of m = m.before ++ m.entry ∷ m.rest
 
 -- the cell whose CPU makes the entry: root is the one cell that there is
-abbrev pub cell_of : RootAloneMoment → CellConfig
-cell_of m = m.image.system.root
+abbrev pub own_cell : RootAloneMoment → CellConfig
+own_cell m = m.image.system.root
 
 -- the cell of the journal's CPUs: root is the one cell that there is
 abbrev pub root_of : RootAloneJournal → CellConfig

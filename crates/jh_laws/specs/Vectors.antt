@@ -119,6 +119,6 @@ pub record IsKeptByOthers (image : Image) (f : Facts) (entry : Entry) (before be
   pub state : behind.state ≡ before.state
   pub control : behind.control ≢ before.control → (v : ℕ) × Raises image f entry before.spec.cell before.spec.device v
   pub words : (v : ℕ) → written_part (vector_at behind v) ≡ written_part (vector_at before v)
-  pub kept : (v : ℕ) → IsPendingIn f before.spec.cell before.spec.device v → is_pending before.spec.cell before.spec.device v (behind ∷ []) ≡ true
+  pub pending : (v : ℕ) → IsPendingIn f before.spec.cell before.spec.device v → is_pending before.spec.cell before.spec.device v (behind ∷ []) ≡ true
   pub raised : (v : ℕ) → is_pending before.spec.cell before.spec.device v (behind ∷ []) ≡ true
       → IsPendingIn f before.spec.cell before.spec.device v ⊎ Raises image f entry before.spec.cell before.spec.device v

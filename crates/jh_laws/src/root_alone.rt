@@ -3,7 +3,7 @@ ghost use Rattle.std.specs.Prelude.{◌≡◌, ◌≢◌, ◌↔◌, ℕ, ◌+�
 ghost use Rattle.jh_history.specs.declared.place.Place.{Place as ThePlace};
 ghost use Rattle.jh_history.specs.declared.entry.Entry.{Entry as TheEntry};
 ghost use Rattle.jh_history.specs.Due.{due, IsQuiet};
-ghost use Rattle.jh_laws.specs.RootAlone.{RootAloneJournal, RootAloneMoment, byte_at, byte_before, byte_behind, cell_of, cpu_at, cpu_before, cpu_behind, entries_of, root_of};
+ghost use Rattle.jh_laws.specs.RootAlone.{RootAloneJournal, RootAloneMoment, byte_at, byte_before, byte_behind, own_cell, cpu_at, cpu_before, cpu_behind, entries_of, root_of};
 ghost use Rattle.jh_laws.specs.Outcomes.{HasItsOutcome, is_violation};
 ghost use Rattle.jh_laws.specs.Writes.{Writes, WritesNot};
 ghost use Rattle.jh_laws.specs.Moves.{stepped, ended};
@@ -14,21 +14,21 @@ ghost use Rattle.jh_laws.specs.Operations.{IsReady, IsCpusOwn, operations_by, pr
 /// places, the lowest first, or in configuration space the number whose bits are all set. A violation is
 /// what any other access is.
 pub fn accesses_of_root_alone_go_by_grants()
-    ensures { (m : RootAloneMoment) → HasItsOutcome m.image m.before (cell_of m) m.entry.act }
+    ensures { (m : RootAloneMoment) → HasItsOutcome m.image m.before (own_cell m) m.entry.act }
 {}
 
 /// An entry gives each place that it writes the byte that it writes there, and no other place changes.
 pub fn entries_of_root_alone_write_their_bytes()
-    ensures written { (m : RootAloneMoment) (place : ThePlace) (byte : ℕ) → Writes m.image (cell_of m) m.entry.act place byte →
+    ensures written { (m : RootAloneMoment) (place : ThePlace) (byte : ℕ) → Writes m.image (own_cell m) m.entry.act place byte →
         byte_behind m place ≡ byte }
-    ensures others { (m : RootAloneMoment) (place : ThePlace) → WritesNot m.image (cell_of m) place m.entry →
+    ensures others { (m : RootAloneMoment) (place : ThePlace) → WritesNot m.image (own_cell m) place m.entry →
         byte_behind m place ≡ byte_before m place }
 {}
 
 /// Each byte has the value that the last entry which wrote it gave it, and its opening value where none did.
 pub fn bytes_of_root_alone_are_the_last_written()
-    ensures last { (m : RootAloneMoment) (place : ThePlace) (byte : ℕ) → Writes m.image (cell_of m) m.entry.act place byte →
-        All (WritesNot m.image (cell_of m) place) m.rest → byte_at m.image (entries_of m) place ≡ byte }
+    ensures last { (m : RootAloneMoment) (place : ThePlace) (byte : ℕ) → Writes m.image (own_cell m) m.entry.act place byte →
+        All (WritesNot m.image (own_cell m) place) m.rest → byte_at m.image (entries_of m) place ≡ byte }
     ensures opening { (j : RootAloneJournal) (place : ThePlace) → All (WritesNot j.image (root_of j) place) j.entries →
         byte_at j.image j.entries place ≡ byte_at j.image [] place }
 {}

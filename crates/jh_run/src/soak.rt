@@ -128,6 +128,17 @@ fn push_reads(ops: &mut Seq<Op>, base: u64, count: u64) -> Result<(), NoMemory>
     Ok(())
 }
 
+/// The management call of that code about a cell, told by its id or by the place of its configuration.
+fn management(code: u64, cell: u64) -> Op
+    ensures { result ≡ Op.Hvc code cell 0 }
+{
+    Op::Hvc {
+        code,
+        a: cell,
+        b: 0,
+    }
+}
+
 /// One round of root's first CPU: it creates both cells, loads the number into the first one, starts both,
 /// destroys them, and reads what the first one wrote.
 fn push_round(ops: &mut Seq<Op>, number: u64) -> Result<(), NoMemory>
@@ -136,46 +147,18 @@ fn push_round(ops: &mut Seq<Op>, number: u64) -> Result<(), NoMemory>
     push_all(
         ops,
         &[
-            Op::Hvc {
-                code: 1,
-                a: PLACE_A,
-                b: 0,
-            },
-            Op::Hvc {
-                code: 1,
-                a: PLACE_B,
-                b: 0,
-            },
-            Op::Hvc {
-                code: 3,
-                a: 1,
-                b: 0,
-            },
+            management(1, PLACE_A),
+            management(1, PLACE_B),
+            management(3, 1),
             Op::Write {
                 width: 8,
                 at: 0x5000_0000,
                 value: number,
             },
-            Op::Hvc {
-                code: 2,
-                a: 1,
-                b: 0,
-            },
-            Op::Hvc {
-                code: 2,
-                a: 2,
-                b: 0,
-            },
-            Op::Hvc {
-                code: 4,
-                a: 1,
-                b: 0,
-            },
-            Op::Hvc {
-                code: 4,
-                a: 2,
-                b: 0,
-            },
+            management(2, 1),
+            management(2, 2),
+            management(4, 1),
+            management(4, 2),
             Op::Read {
                 width: 8,
                 at: 0x5000_0008,

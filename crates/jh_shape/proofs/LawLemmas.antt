@@ -379,14 +379,14 @@ taken_there cells place h =
       among = g.1.among;
       alone = a.0;
       has = b.1;
-      kept = λ loads may. both_ways (f.0.loadable && is_loadable g.0) (not-true (f.0.loadable && is_loadable g.0) b.0) (and_from f.0.loadable (is_loadable g.0) loads may);
+      withheld = λ loads may. both_ways (f.0.loadable && is_loadable g.0) (not-true (f.0.loadable && is_loadable g.0) b.0) (and_from f.0.loadable (is_loadable g.0) loads may);
     }
 
 pub taken_back : (cells : List Live) (place : ℕ) → IsTaken cells place → is_closed (map holder_of_live cells) place ≡ true
 taken_back cells place h =
     let closes : Holder → Bool = λ (holder : Holder). list_any (λ (region : Region). takes holder.loadable region place) holder.regions in
     let both = h.cell.loadable && is_loadable h.region in
-    let free : both ≡ false = false_from_ne_true both (λ yes. let p = and_parts h.cell.loadable (is_loadable h.region) yes in h.kept p.0 p.1) in
+    let free : both ≡ false = false_from_ne_true both (λ yes. let p = and_parts h.cell.loadable (is_loadable h.region) yes in h.withheld p.0 p.1) in
     list_any_map holder_of_live closes cells
     ∙ list_any_from_Contains (λ (cell : Live). closes (holder_of_live cell)) cells h.cell h.live
     (list_any_from_Contains (λ (region : Region). takes h.cell.loadable region place) h.cell.config.memory_regions h.region h.among

@@ -65,7 +65,7 @@ pub record IsTaken (cells : List Live) (place : ℕ) : Type 0 where
   pub among : Contains cell.config.memory_regions region
   pub alone : IsTrue (is_unshared region)
   pub has : IsTrue (has_place region place)
-  pub kept : IsTrue cell.loadable → IsTrue (is_loadable region) → ⊥
+  pub withheld : IsTrue cell.loadable → IsTrue (is_loadable region) → ⊥
 
 -- what is wanted is a table
 abbrev pub is_to_table : Want → Bool

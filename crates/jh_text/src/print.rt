@@ -6,7 +6,7 @@ ghost use Rattle.std.specs.List.{join_with_byte};
 
 use crate::number_text::{push_decimal, push_hexadecimal, push_signed};
 use crate::outcomes::{heard_word, ok_word, settled_word};
-use jh_history::{Act, Entry, Heard, Journal};
+use jh_history::{Act, Entry, Heard, Journal, Settled};
 use jh_num::NoMemory;
 use std::alloc::Global;
 
@@ -47,52 +47,38 @@ fn push_act(text: &mut Vec<u8>, act: Act) -> Result<(), NoMemory>
     ensures { OnOk result (text.new.items ≡ text.old.items ++ join_with_byte 32 (act_words act)) }
 {
     match act {
-        Act::Read { width, at, got } => push_read(text, width, at, got)?,
+        Act::Read { width, at, got } => push_read(text, width, at, got),
         Act::Write {
             width,
             at,
             value,
             ok,
-        } => {
-            text.extend_from_slice(b"write ")?;
-            push_attempt(text, width, at, value, ok)?;
-        }
-        Act::Fetch { at, got } => push_fetch(text, at, got)?,
+        } => push_write(text, width, at, value, ok),
+        Act::Fetch { at, got } => push_fetch(text, at, got),
         Act::Await {
             width,
             at,
             value,
             ok,
-        } => {
-            text.extend_from_slice(b"await ")?;
-            push_attempt(text, width, at, value, ok)?;
-        }
-        Act::Irq { device, vector } => push_irq(text, device, vector)?,
-        Act::Hvc { code, a, b, answer } => {
-            push_call(text, code, a, b)?;
-            push_signed(text, answer)?;
-        }
-        Act::Begin { code, a, b } => {
-            push_call(text, code, a, b)?;
-            text.extend_from_slice(b"begin")?;
-        }
-        Act::Stop => text.extend_from_slice(b"stop")?,
-        Act::Decide { refused } => push_decision(text, refused)?,
-        Act::Settle { how } => {
-            text.extend_from_slice(b"settle = ")?;
-            text.extend_from_slice(settled_word(how).as_bytes())?;
-        }
-        Act::Commit => text.extend_from_slice(b"commit")?,
-        Act::Note { id } => {
-            text.extend_from_slice(b"note ")?;
-            push_decimal(text, u64::from(id))?;
-        }
-        Act::Noted { id, how } => push_noted(text, id, how)?,
-        Act::Finish { answer } => {
-            text.extend_from_slice(b"finish = ")?;
-            push_signed(text, answer)?;
-        }
+        } => push_await(text, width, at, value, ok),
+        Act::Irq { device, vector } => push_irq(text, device, vector),
+        Act::Hvc { code, a, b, answer } => push_hvc(text, code, a, b, answer),
+        Act::Begin { code, a, b } => push_begin(text, code, a, b),
+        Act::Stop => push_word(text, "stop"),
+        Act::Decide { refused } => push_decision(text, refused),
+        Act::Settle { how } => push_settled(text, how),
+        Act::Commit => push_word(text, "commit"),
+        Act::Note { id } => push_note(text, id),
+        Act::Noted { id, how } => push_noted(text, id, how),
+        Act::Finish { answer } => push_finish(text, answer),
     }
+}
+
+/// Puts the word at the end.
+fn push_word(text: &mut Vec<u8>, word: &str) -> Result<(), NoMemory>
+    ensures { OnOk result (text.new.items ≡ text.old.items ++ word.now) }
+{
+    text.extend_from_slice(word.as_bytes())?;
     Ok(())
 }
 
@@ -100,41 +86,96 @@ fn push_act(text: &mut Vec<u8>, act: Act) -> Result<(), NoMemory>
 fn push_read(text: &mut Vec<u8>, width: u8, at: u64, got: Option<u64>) -> Result<(), NoMemory>
     ensures { OnOk result (text.new.items ≡ text.old.items ++ join_with_byte 32 (act_words (Act.Read width at got))) }
 {
-    text.extend_from_slice(b"read ")?;
+    push_word(text, "read ")?;
     push_decimal(text, u64::from(width))?;
     text.push(b' ')?;
     push_hexadecimal(text, at)?;
     push_got(text, got)
 }
 
+/// Puts the words of a write at the end.
+fn push_write(text: &mut Vec<u8>, width: u8, at: u64, value: u64, ok: bool) -> Result<(), NoMemory>
+    ensures { OnOk result (text.new.items ≡ text.old.items ++ join_with_byte 32 (act_words (Act.Write width at value ok))) }
+{
+    push_word(text, "write ")?;
+    push_attempt(text, width, at, value, ok)
+}
+
 /// Puts the words of a fetch at the end.
 fn push_fetch(text: &mut Vec<u8>, at: u64, got: Option<u64>) -> Result<(), NoMemory>
     ensures { OnOk result (text.new.items ≡ text.old.items ++ join_with_byte 32 (act_words (Act.Fetch at got))) }
 {
-    text.extend_from_slice(b"fetch ")?;
+    push_word(text, "fetch ")?;
     push_hexadecimal(text, at)?;
     push_got(text, got)
+}
+
+/// Puts the words of a wait for a value at the end.
+fn push_await(text: &mut Vec<u8>, width: u8, at: u64, value: u64, ok: bool) -> Result<(), NoMemory>
+    ensures { OnOk result (text.new.items ≡ text.old.items ++ join_with_byte 32 (act_words (Act.Await width at value ok))) }
+{
+    push_word(text, "await ")?;
+    push_attempt(text, width, at, value, ok)
 }
 
 /// Puts the words of an interrupt at the end.
 fn push_irq(text: &mut Vec<u8>, device: u32, vector: u8) -> Result<(), NoMemory>
     ensures { OnOk result (text.new.items ≡ text.old.items ++ join_with_byte 32 (act_words (Act.Irq device vector))) }
 {
-    text.extend_from_slice(b"irq = ")?;
+    push_word(text, "irq = ")?;
     push_decimal(text, u64::from(device))?;
     text.push(b' ')?;
     push_decimal(text, u64::from(vector))
+}
+
+/// Puts the words of a hypercall that is answered at once at the end.
+fn push_hvc(text: &mut Vec<u8>, code: u64, a: u64, b: u64, answer: i64) -> Result<(), NoMemory>
+    ensures { OnOk result (text.new.items ≡ text.old.items ++ join_with_byte 32 (act_words (Act.Hvc code a b answer))) }
+{
+    push_call(text, code, a, b)?;
+    push_signed(text, answer)
+}
+
+/// Puts the words of a call's beginning at the end.
+fn push_begin(text: &mut Vec<u8>, code: u64, a: u64, b: u64) -> Result<(), NoMemory>
+    ensures { OnOk result (text.new.items ≡ text.old.items ++ join_with_byte 32 (act_words (Act.Begin code a b))) }
+{
+    push_call(text, code, a, b)?;
+    push_word(text, "begin")
+}
+
+/// Puts the words at the end that tell how a cell met the request to shut down.
+fn push_settled(text: &mut Vec<u8>, how: Settled) -> Result<(), NoMemory>
+    ensures { OnOk result (text.new.items ≡ text.old.items ++ join_with_byte 32 (act_words (Act.Settle how))) }
+{
+    push_word(text, "settle = ")?;
+    push_word(text, settled_word(how))
+}
+
+/// Puts the words of a note of a change at the end.
+fn push_note(text: &mut Vec<u8>, id: u32) -> Result<(), NoMemory>
+    ensures { OnOk result (text.new.items ≡ text.old.items ++ join_with_byte 32 (act_words (Act.Note id))) }
+{
+    push_word(text, "note ")?;
+    push_decimal(text, u64::from(id))
 }
 
 /// Puts the words at the end that tell how a cell met the note of a change.
 fn push_noted(text: &mut Vec<u8>, id: u32, how: Heard) -> Result<(), NoMemory>
     ensures { OnOk result (text.new.items ≡ text.old.items ++ join_with_byte 32 (act_words (Act.Noted id how))) }
 {
-    text.extend_from_slice(b"noted ")?;
+    push_word(text, "noted ")?;
     push_decimal(text, u64::from(id))?;
-    text.extend_from_slice(b" = ")?;
-    text.extend_from_slice(heard_word(how).as_bytes())?;
-    Ok(())
+    push_word(text, " = ")?;
+    push_word(text, heard_word(how))
+}
+
+/// Puts the words of a call's end at the end.
+fn push_finish(text: &mut Vec<u8>, answer: i64) -> Result<(), NoMemory>
+    ensures { OnOk result (text.new.items ≡ text.old.items ++ join_with_byte 32 (act_words (Act.Finish answer))) }
+{
+    push_word(text, "finish = ")?;
+    push_signed(text, answer)
 }
 
 /// Puts what a write or a wait tells behind its name at the end.
@@ -153,19 +194,18 @@ fn push_attempt(
     push_hexadecimal(text, at)?;
     text.push(b' ')?;
     push_hexadecimal(text, value)?;
-    text.extend_from_slice(b" = ")?;
-    text.extend_from_slice(ok_word(ok).as_bytes())?;
-    Ok(())
+    push_word(text, " = ")?;
+    push_word(text, ok_word(ok))
 }
 
 /// Puts the equals sign and what a read or a fetch gave at the end.
 fn push_got(text: &mut Vec<u8>, got: Option<u64>) -> Result<(), NoMemory>
     ensures { OnOk result (text.new.items ≡ text.old.items ++ codes " = " ++ got_text got) }
 {
-    text.extend_from_slice(b" = ")?;
+    push_word(text, " = ")?;
     match got {
         Some(value) => push_hexadecimal(text, value)?,
-        None => text.extend_from_slice(b"violation")?,
+        None => push_word(text, "violation")?,
     }
     Ok(())
 }
@@ -175,24 +215,23 @@ fn push_call(text: &mut Vec<u8>, code: u64, a: u64, b: u64) -> Result<(), NoMemo
     ensures { OnOk result (text.new.items ≡ text.old.items
         ++ join_with_byte 32 (codes "hvc" ∷ decimal code ∷ hexadecimal a ∷ hexadecimal b ∷ codes "= " ∷ [])) }
 {
-    text.extend_from_slice(b"hvc ")?;
+    push_word(text, "hvc ")?;
     push_decimal(text, code)?;
     text.push(b' ')?;
     push_hexadecimal(text, a)?;
     text.push(b' ')?;
     push_hexadecimal(text, b)?;
-    text.extend_from_slice(b" = ")?;
-    Ok(())
+    push_word(text, " = ")
 }
 
 /// Puts the words of a decision at the end.
 fn push_decision(text: &mut Vec<u8>, refused: Option<i64>) -> Result<(), NoMemory>
     ensures { OnOk result (text.new.items ≡ text.old.items ++ codes "decide = " ++ decision_text refused) }
 {
-    text.extend_from_slice(b"decide = ")?;
+    push_word(text, "decide = ")?;
     match refused {
         Some(number) => push_signed(text, number)?,
-        None => text.extend_from_slice(b"go")?,
+        None => push_word(text, "go")?,
     }
     Ok(())
 }

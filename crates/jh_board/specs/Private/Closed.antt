@@ -40,11 +40,11 @@ abbrev pub live_regions : List Live → ℕ → List Region
 live_regions lives id = option_map_or (λ (c : CellConfig). c.memory_regions) (live_in lives id) []
 
 -- the first of the cells with the id is the one at the index
-pub record IsAt (lives : List Live) (id k : ℕ) : Type 0 where
+pub record IsFirstAt (lives : List Live) (id k : ℕ) : Type 0 where
   pub within : k < length lives
   pub found : find (has_id id) lives ≡ slice_get lives k
 
 -- the index is that of the first cell with the id, or there is none where no cell has it
 abbrev pub IsIndexOf : List Live → ℕ → Option ℕ → Type 0
 IsIndexOf lives id None = find (has_id id) lives ≡ None
-IsIndexOf lives id (Some k) = IsAt lives id k
+IsIndexOf lives id (Some k) = IsFirstAt lives id k

@@ -15,4 +15,4 @@ returns-then-cells-eq-MAX_CELLS c =
     let system = c.args.image.now.system in
     let may = c.args.may in
     c.refusal_without_cpus.ensures.value c.args.pages (pool_pages system)
-    ∙ ap (λ (m : ℕ → Bool). refusal_of system c.args.cells.now c.args.config.now m c.args.pages (pool_pages system)) (same_function nobody (has_bit may) (none_given may (c.requires.kept c.if-cells-eq-MAX_CELLS.true)))
+    ∙ ap (λ (m : ℕ → Bool). refusal_of system c.args.cells.now c.args.config.now m c.args.pages (pool_pages system)) (same_function nobody (has_bit may) (none_given may (c.requires.full c.if-cells-eq-MAX_CELLS.true)))

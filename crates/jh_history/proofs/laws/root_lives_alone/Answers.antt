@@ -7,5 +7,5 @@ returns c = record {
   alone = λ j. legal_alone j.image j.entries j.silent j.legal;
   entries = λ m. legal_roots m.image m.before m.rest m.entry m.silent m.legal;
   due = λ e. due_at_roots e.image e.facts e.cpu e.entry e.silent e.alone e.due;
-  kept = alone_after;
+  stays = alone_after;
 }
