@@ -1,6 +1,5 @@
 //! The translations of all CPUs.
 ghost use Rattle.std.specs.Prelude.{◌≡◌, ◌≢◌, ℕ, ◌<◌, ◌≤◌, [], IfOk, length, map};
-ghost use Rattle.jh_cache.specs.declared.translation.Translation.{Translation as AnyTranslation};
 ghost use Rattle.jh_cache.specs.Translations.{filled, flushed, looked, row_of};
 
 use crate::row::Row;

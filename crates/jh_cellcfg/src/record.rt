@@ -1,5 +1,5 @@
 //! The records that a part of a configuration is a list of, read and written one by one.
-ghost use Rattle.std.specs.Prelude.{◌≡◌, ◌+◌, ◌*◌, ◌<◌, ◌≤◌, ◌^◌, ℕ, List, [], ◌∷◌, ◌++◌, length, OnOk, IfOk};
+ghost use Rattle.std.specs.Prelude.{◌≡◌, ◌+◌, ◌*◌, ◌<◌, ◌≤◌, ◌^◌, ℕ, List, ◌++◌, length, OnOk, IfOk};
 ghost use Rattle.std.specs.List.{flat_map, AllByRecursion};
 ghost use Rattle.jh_cellcfg.specs.Spelling.{u32_bytes, region_bytes, irqchip_bytes, device_bytes, console_bytes, counts_bytes, header_bytes};
 ghost use Rattle.jh_cellcfg.specs.Widths.{IsRegion, IsIrqchip, IsDevice, IsConsole, AreCounts, IsHeader};

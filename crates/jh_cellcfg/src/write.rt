@@ -1,5 +1,5 @@
 //! Writing a cell's configuration.
-ghost use Rattle.std.specs.Prelude.{◌≡◌, ◌++◌, IfOk, OnOk};
+ghost use Rattle.std.specs.Prelude.{◌≡◌, ◌++◌, IfOk};
 ghost use Rattle.jh_cellcfg.specs.Spelling.{counts_of, header_of, parts_bytes, body_bytes, spelling};
 ghost use Rattle.jh_cellcfg.specs.Limits.{AreWithinLimits, IsWithinLimits};
 ghost use Rattle.jh_cellcfg.specs.Widths.{AreCounts};

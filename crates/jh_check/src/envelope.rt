@@ -1,5 +1,5 @@
 //! Envelopes of a cell's regions, by which those that meet none of them are told at once.
-ghost use Rattle.std.specs.Prelude.{◌≡◌, ◌≢◌, ◌<◌, ◌≤◌, ◌-◌, ℕ, true, false, length, slice_index_or, OnOk, IfOk, IfSome, Contains};
+ghost use Rattle.std.specs.Prelude.{◌≡◌, ◌<◌, ◌≤◌, ◌-◌, ℕ, true, false, length, slice_index_or, OnOk, IfOk, IfSome, Contains};
 ghost use Rattle.jh_check.specs.declared.spans.Span.{Span};
 ghost use Rattle.jh_check.specs.declared.envelope.Envelope.{Envelope};
 ghost use Rattle.jh_check.specs.Private.Spans.{is_within, joins, span_of};

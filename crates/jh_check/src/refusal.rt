@@ -2,7 +2,6 @@
 ghost use Rattle.std.specs.Prelude.{◌≡◌, ℕ, ◌≤◌, ◌<◌, ◌∷◌, IsSome, false, not, drop, length, slice_index, IfOk};
 ghost use Rattle.std.specs.List.{list_any, list_all};
 ghost use Rattle.jh_num.specs.Bits.{has_bit};
-ghost use Rattle.jh_cellcfg.specs.Cells.{is_cpu_set};
 ghost use Rattle.jh_cellcfg.specs.Limits.{is_zero};
 ghost use Rattle.jh_check.specs.Refusals.{is_namesake, is_known, any_below, is_beyond, names_beyond, nobody, refusal_of};
 

@@ -1,5 +1,5 @@
 //! Cells whose regions begin in the order of their numbers, as they mostly do: those that meet stand side by side.
-ghost use Rattle.std.specs.Prelude.{◌≡◌, ◌<◌, ◌≤◌, ℕ, true, length, slice_index_or, IfSome};
+ghost use Rattle.std.specs.Prelude.{◌<◌, IfSome};
 ghost use Rattle.jh_cellcfg.specs.declared.region.Region.{Region};
 ghost use Rattle.jh_check.specs.Private.Spans.{takes_part, span_of};
 ghost use Rattle.jh_check.specs.Private.Rising.{IsStretch, IsRowMore, EndsBefore};

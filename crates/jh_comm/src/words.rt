@@ -4,7 +4,7 @@
 /// The cell runs, and may be shut down when it is asked for its consent.
 pub const STATE_RUNNING: u32 = 0;
 
-/// The cell runs, and may not be reconfigured.
+/// The cell runs and is locked: no cell may be created beside it, and no other destroyed.
 pub const STATE_RUNNING_LOCKED: u32 = 1;
 
 /// The cell doesn't run, and needs no consent.

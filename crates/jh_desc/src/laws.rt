@@ -1,5 +1,5 @@
 //! What holds of every descriptor and every word. Each function does nothing; its contract is the law.
-ghost use Rattle.std.specs.Prelude.{◌≡◌, ℕ, ◌+◌, ◌*◌, ◌/◌, ◌%◌, ◌^◌, ◌<◌, ◌≤◌};
+ghost use Rattle.std.specs.Prelude.{◌≡◌, ℕ, ◌+◌, ◌*◌, ◌%◌, ◌^◌, ◌<◌, ◌≤◌};
 ghost use Rattle.jh_desc.specs.declared.descriptor.Descriptor.{Descriptor as AnyDescriptor};
 ghost use Rattle.jh_desc.specs.declared.descriptor.Descriptor.TheVariants.{Table as TableOf};
 ghost use Rattle.jh_desc.specs.Descriptors.{read_of, word_of, IsWritable};

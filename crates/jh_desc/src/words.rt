@@ -1,8 +1,7 @@
 //! Descriptors as words, and words as descriptors.
-ghost use Rattle.std.specs.Prelude.{◌≡◌, ◌+◌, ◌*◌, ◌^◌, ◌/◌, ◌%◌, ◌<◌, ◌≤◌, ◌==◌};
-ghost use Rattle.jh_desc.specs.Descriptors.{address_in, is_device, leaf_bits, leaf_in, read_of, rights_in, word_of, IsWritable};
-ghost use Rattle.jh_num.specs.Bits.{bits_where, has_bit};
-ghost use Rattle.jh_num.specs.Levels.{slot_size};
+ghost use Rattle.std.specs.Prelude.{◌≡◌, ◌+◌, ◌^◌, ◌/◌, ◌%◌, ◌<◌, ◌≤◌, ◌==◌};
+ghost use Rattle.jh_desc.specs.Descriptors.{leaf_bits, leaf_in, read_of, rights_in, word_of, IsWritable};
+ghost use Rattle.jh_num.specs.Bits.{bits_where};
 
 use crate::descriptor::Descriptor;
 use crate::levels::offset;

@@ -76,7 +76,7 @@ reset_of e list = changed (is_device e.spec.cell e.spec.device) cleared (told_of
 
 -- the endpoints after the endpoint leaves: it acts on the link as a state write of 0, and then is gone
 abbrev pub left_by : Endpoint → List Endpoint → List Endpoint
-left_by e list = filter (λ (o : Endpoint). not (is_device e.spec.cell e.spec.device o.spec)) (told_of e 0 list)
+left_by e list = besides (is_device e.spec.cell e.spec.device) (told_of e 0 list)
 
 -- the earlier of two pending vectors: the one of the lower device
 abbrev pub earlier : Option (ℕ × ℕ) → Option (ℕ × ℕ) → Option (ℕ × ℕ)

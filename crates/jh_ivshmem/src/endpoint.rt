@@ -1,5 +1,5 @@
 //! One endpoint.
-ghost use Rattle.std.specs.Prelude.{◌≡◌, ◌<◌, ◌≤◌, ◌+◌, length, position, IfSome};
+ghost use Rattle.std.specs.Prelude.{◌≡◌, ◌<◌, length, position, IfSome};
 
 use crate::change::EndpointChange;
 use crate::registers::{ID, INTERRUPT_CONTROL, PEERS, STATE};

@@ -1,5 +1,5 @@
 //! All endpoints of the live cells.
-ghost use Rattle.std.specs.Prelude.{◌≡◌, ℕ, ◌+◌, ◌*◌, ◌%◌, ◌^◌, ◌<◌, ◌≤◌, ◌⊎◌, ◌↔◌, None, Some, [], ◌∷◌, ◌++◌, length, fold, All, map, position, filter, not, ◌&&◌, vec_len, vec_capacity, slice_get, is_some, if◌then◌else◌, ◌==◌, IsSome, IsTrue, IsOk, IfOk, OnOk, OnErr, MatchOption, true, false};
+ghost use Rattle.std.specs.Prelude.{◌≡◌, ◌+◌, ◌*◌, ◌%◌, ◌<◌, ◌≤◌, ◌↔◌, None, Some, [], length, fold, All, position, filter, not, ◌&&◌, vec_len, vec_capacity, slice_get, is_some, if◌then◌else◌, ◌==◌, IsSome, IsTrue, IsOk, IfOk, OnOk, OnErr, MatchOption, true, false};
 ghost use Rattle.std.specs.List.{list_all, insert};
 ghost use Rattle.std.specs.List.Sorted.{IsPartitionPoint};
 ghost use Rattle.jh_vpci.specs.Space.{Space};

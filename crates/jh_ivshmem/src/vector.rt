@@ -14,7 +14,6 @@ pub struct Vector {
 }
 
 impl Vector {
-    ghost use Rattle.jh_ivshmem.specs.Endpoint.{fresh_vector};
     ghost use Rattle.jh_ivshmem.specs.Registers.{word_of, with_word};
 
     /// A vector as after a reset.

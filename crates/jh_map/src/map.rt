@@ -1,5 +1,5 @@
 //! Making a map.
-ghost use Rattle.std.specs.Prelude.{◌≡◌, ℕ, ◌+◌, ◌<◌, ◌≤◌, ◌&&◌, Bool, true, false, [], ◌∷◌, All, AllPairs, Contains, IfOk, map};
+ghost use Rattle.std.specs.Prelude.{◌≡◌, ℕ, ◌+◌, ◌<◌, ◌≤◌, ◌&&◌, Bool, true, false, [], ◌∷◌, All, AllPairs, IfOk, map};
 ghost use Rattle.std.specs.List.Sorted.{IsNonDecreasingBy, IsPermutation};
 ghost use Rattle.jh_num.specs.Bytes.{has_byte, AreApart};
 ghost use Rattle.jh_num.specs.declared.range.Range.{Range as TheRange};

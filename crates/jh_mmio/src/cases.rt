@@ -1,8 +1,7 @@
 //! The cases in which a device answers.
-ghost use Rattle.std.specs.Prelude.{◌≡◌, ℕ, ◌+◌, ◌-◌, ◌<◌, ◌≤◌, ◌^◌, true, position, All, IfSome, IsTrue, length};
+ghost use Rattle.std.specs.Prelude.{◌≡◌, ◌+◌, ◌-◌, ◌<◌, ◌≤◌, true, position, IfSome, IsTrue, length};
 ghost use Rattle.std.specs.Option.{option_map_or};
 ghost use Rattle.jh_num.specs.Bytes.{has_byte};
-ghost use Rattle.jh_cellcfg.specs.declared.region.Region.{Region as TheRegion};
 ghost use Rattle.jh_cellcfg.specs.Regions.{virt_end, has_address, IsInRange, IsEmptyOrInRange, AreInRange};
 ghost use Rattle.jh_mmio.specs.Dispatch.{lies_between, is_at_closed, takes_all, has_whole, lets_through, by_subpage, by_ecam, by_window, window_has, hitting_behind_regions, hitting};
 

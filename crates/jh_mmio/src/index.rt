@@ -1,5 +1,5 @@
 //! An index of regions, by which the one that may have an address is found by halving.
-ghost use Rattle.std.specs.Prelude.{◌≡◌, ℕ, ◌<◌, ◌≤◌, Bool, All, AllPairs, Contains, IfOk, IfSome, IsTrue, find, position};
+ghost use Rattle.std.specs.Prelude.{◌≡◌, ℕ, ◌<◌, Bool, AllPairs, Contains, IfOk, IfSome, IsTrue, find, position};
 ghost use Rattle.jh_num.specs.Bytes.{has_byte};
 ghost use Rattle.jh_cellcfg.specs.declared.region.Region.{Region as TheRegion};
 ghost use Rattle.jh_cellcfg.specs.Regions.{has_address, SharesNoAddress, AreInRange};

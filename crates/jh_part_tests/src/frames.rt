@@ -1,5 +1,5 @@
 //! Borders of pages and of the hypervisor's range, the last place, words, and pages that are spare.
-ghost use Rattle.std.specs.Prelude.{◌≡◌, ◌+◌, ◌≤◌, ◌<◌, length};
+ghost use Rattle.std.specs.Prelude.{◌+◌, ◌≤◌, ◌<◌};
 ghost use Rattle.jh_num.specs.declared.address.TheConstants.{ADDRESS_END};
 ghost use Rattle.jh_frames.specs.Memory.{AreOwnBytes};
 

@@ -1,5 +1,5 @@
 //! Tables in memory written by hand: a block, a page, and words that end a walk at each level.
-ghost use Rattle.std.specs.Prelude.{◌≡◌, ◌+◌, ◌%◌, ◌<◌, ◌≤◌, length};
+ghost use Rattle.std.specs.Prelude.{◌+◌, ◌<◌, ◌≤◌};
 ghost use Rattle.jh_num.specs.declared.address.TheConstants.{ADDRESS_END};
 
 use jh_frames::Frames;

@@ -1,5 +1,5 @@
 //! The pages of one range: those that are free, and those that somebody took.
-ghost use Rattle.std.specs.Prelude.{◌≡◌, ◌≢◌, ℕ, ◌+◌, ◌*◌, ◌%◌, ◌≤◌, ◌↔◌, [], true, false, not, IsNone, IfNone, IfSome, OnSome, IfOk, count_by, sum_by};
+ghost use Rattle.std.specs.Prelude.{◌≡◌, ◌≢◌, ℕ, ◌+◌, ◌*◌, ◌%◌, ◌≤◌, ◌↔◌, true, not, IsNone, IfNone, IfSome, OnSome, IfOk, count_by, sum_by};
 ghost use Rattle.jh_num.specs.declared.address.TheConstants.{ADDRESS_END};
 ghost use Rattle.jh_pool.specs.Pages.{is_free, pages_of, used_of, AreHadOnce, IsPageOf, IsTakenPage};
 

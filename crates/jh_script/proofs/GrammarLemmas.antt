@@ -18,8 +18,8 @@ use Rattle.jh_script.specs.declared.op.Op.TheVariants.{Read, Write, Fetch, Await
 use Rattle.jh_script.specs.declared.line.Line.TheVariants.{Blank, Operation, Syntax, Width}
 use Rattle.jh_script.specs.Numbers.{are_digits, value_of, decimal_of, hexadecimal_of, number_written}
 use Rattle.jh_script.specs.Words.{words, line_gaps}
-use Rattle.jh_script.specs.Operations.{none_of, one_of, two_of, three_of, op_of, is_well_formed, IsWellFormed, line_of, line_of_op, line_of_words}
-use Rattle.jh_script.specs.Grammar.{IsDecimal, IsNumber, IsNameAlone, IsNameAndOne, IsNameAndTwo, IsNameAndThree, are_ascii, IsSkipped, IsTooWide, Writes}
+use Rattle.jh_script.specs.Operations.{is_ascii, none_of, one_of, two_of, three_of, op_of, is_well_formed, IsWellFormed, line_of, line_of_op, line_of_words}
+use Rattle.jh_script.specs.Grammar.{IsDecimal, IsNumber, IsNameAlone, IsNameAndOne, IsNameAndTwo, IsNameAndThree, IsSkipped, IsTooWide, Writes}
 use Rattle.jh_script.proofs.OperationLemmas.{well_formed_by_test, test_from_well_formed}
 
 -- ---- numbers
@@ -283,11 +283,11 @@ words_told (name ∷ behind) op e = by (starts_with nat_eq name (codes "#")) e
         let told = op_told (op_of name behind) op e in
         (op_to name behind op told.0, told.1)
 
-pub line_to : (text : List ℕ) (op : Op) → line_of text ≡ Operation op → (are_ascii text ≡ true) × Writes (words line_gaps text) op × IsWellFormed op
+pub line_to : (text : List ℕ) (op : Op) → line_of text ≡ Operation op → (is_ascii text ≡ true) × Writes (words line_gaps text) op × IsWellFormed op
 unfolding line_of
-line_to text op e = by (are_ascii text) refl e
+line_to text op e = by (is_ascii text) refl e
   where
-    by : (t : Bool) → are_ascii text ≡ t → cond t (line_of_words (words line_gaps text)) Syntax ≡ Operation op → (are_ascii text ≡ true) × Writes (words line_gaps text) op × IsWellFormed op
+    by : (t : Bool) → is_ascii text ≡ t → cond t (line_of_words (words line_gaps text)) Syntax ≡ Operation op → (is_ascii text ≡ true) × Writes (words line_gaps text) op × IsWellFormed op
     by false h e = cc
     by true h e =
         let told = words_told (words line_gaps text) op e in
@@ -297,7 +297,7 @@ well_formed_line : (op : Op) → IsWellFormed op → line_of_op (Some op) ≡ Op
 unfolding line_of_op
 well_formed_line op h = rw (test_from_well_formed op h) refl
 
-pub line_from : (text : List ℕ) (op : Op) → (are_ascii text ≡ true) × Writes (words line_gaps text) op × IsWellFormed op → line_of text ≡ Operation op
+pub line_from : (text : List ℕ) (op : Op) → (is_ascii text ≡ true) × Writes (words line_gaps text) op × IsWellFormed op → line_of text ≡ Operation op
 unfolding line_of
 line_from text op h = rw (h.0) (op_from (words line_gaps text) op h.1 ∙ well_formed_line op h.2)
 
@@ -332,9 +332,9 @@ words_wide (name ∷ behind) e = by (starts_with nat_eq name (codes "#")) e
 
 pub width_to : (text : List ℕ) → line_of text ≡ Width → IsTooWide text
 unfolding line_of
-width_to text e = by (are_ascii text) refl e
+width_to text e = by (is_ascii text) refl e
   where
-    by : (t : Bool) → are_ascii text ≡ t → cond t (line_of_words (words line_gaps text)) Syntax ≡ Width → IsTooWide text
+    by : (t : Bool) → is_ascii text ≡ t → cond t (line_of_words (words line_gaps text)) Syntax ≡ Width → IsTooWide text
     by false h e = cc
     by true h e =
         let wide = words_wide (words line_gaps text) e in
@@ -367,14 +367,14 @@ unfolding line_of_words
 skipped [] h = refl
 skipped (name ∷ behind) h = ap (λ t. cond t Blank (line_of_op (op_of name behind))) h
 
-pub blank_to : (text : List ℕ) → line_of text ≡ Blank → (are_ascii text ≡ true) × IsSkipped (words line_gaps text)
+pub blank_to : (text : List ℕ) → line_of text ≡ Blank → (is_ascii text ≡ true) × IsSkipped (words line_gaps text)
 unfolding line_of
-blank_to text e = by (are_ascii text) refl e
+blank_to text e = by (is_ascii text) refl e
   where
-    by : (t : Bool) → are_ascii text ≡ t → cond t (line_of_words (words line_gaps text)) Syntax ≡ Blank → (are_ascii text ≡ true) × IsSkipped (words line_gaps text)
+    by : (t : Bool) → is_ascii text ≡ t → cond t (line_of_words (words line_gaps text)) Syntax ≡ Blank → (is_ascii text ≡ true) × IsSkipped (words line_gaps text)
     by false h e = cc
     by true h e = (h, words_blank (words line_gaps text) e)
 
-pub blank_from : (text : List ℕ) → (are_ascii text ≡ true) × IsSkipped (words line_gaps text) → line_of text ≡ Blank
+pub blank_from : (text : List ℕ) → (is_ascii text ≡ true) × IsSkipped (words line_gaps text) → line_of text ≡ Blank
 unfolding line_of
 blank_from text h = rw (h.0) (skipped (words line_gaps text) h.1)

@@ -1,12 +1,12 @@
 -- The lines of operations, from the operation to its words: a text may write each operation in many ways, and each
 -- line writes one operation at most.
-use Rattle.std.specs.Prelude.{◌≡◌, ℕ, ◌^◌, ◌<◌, ◌≤◌, ◌⊎◌, Bool, true, nat_lt, nat_eq, List, [], ◌∷◌, ◌++◌, length, codes}
-use Rattle.std.specs.List.{list_all, starts_with}
+use Rattle.std.specs.Prelude.{◌≡◌, ℕ, ◌^◌, ◌<◌, ◌≤◌, ◌⊎◌, true, nat_eq, List, [], ◌∷◌, ◌++◌, length, codes}
+use Rattle.std.specs.List.{starts_with}
 use Rattle.std.specs.Fmt.{decimal}
 use Rattle.std.specs.Str.Parse.{AllDigits, digits_value}
 use Rattle.jh_script.specs.declared.op.Op.{Op}
 use Rattle.jh_script.specs.declared.op.Op.TheVariants.{Read, Write, Fetch, Await, Irq, Hvc}
-use Rattle.jh_script.specs.Operations.{IsWellFormed}
+use Rattle.jh_script.specs.Operations.{IsWellFormed, is_ascii}
 use Rattle.jh_script.specs.Words.{line_gaps, words}
 
 -- the word is the number in decimal
@@ -69,13 +69,9 @@ abbrev pub IsSkipped : List (List ℕ) → Type 0
 IsSkipped [] = Unit {0}
 IsSkipped (word ∷ more) = starts_with nat_eq word (codes "#") ≡ true
 
--- the line's bytes are below 128
-abbrev pub are_ascii : List ℕ → Bool
-are_ascii text = list_all (λ byte. nat_lt byte 128) text
-
 -- the line is that of an operation that isn't within its limits
 pub record IsTooWide (text : List ℕ) : Type 0 where
-  pub ascii : are_ascii text ≡ true
+  pub ascii : is_ascii text ≡ true
   pub op : Op
   pub written : Writes (words line_gaps text) op
   pub wide : IsWellFormed op → ⊥

@@ -92,6 +92,10 @@ unfoldable pub line_of_words : List (List ℕ) → Line
 line_of_words [] = Blank
 line_of_words (name ∷ behind) = if starts_with nat_eq name (codes "#") then Blank else line_of_op (op_of name behind)
 
+-- all bytes are below 128
+abbrev pub is_ascii : List ℕ → Bool
+is_ascii text = list_all (λ byte. nat_lt byte 128) text
+
 -- what a line of these bytes tells: a byte of 128 or more is a fault, in a comment too
 unfoldable pub line_of : List ℕ → Line
-line_of line = if list_all (λ byte. nat_lt byte 128) line then line_of_words (words line_gaps line) else Syntax
+line_of line = if is_ascii line then line_of_words (words line_gaps line) else Syntax

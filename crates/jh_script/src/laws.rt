@@ -6,9 +6,9 @@ ghost use Rattle.jh_script.specs.declared.line.Line.TheVariants as lines;
 ghost use Rattle.jh_script.specs.declared.fault.ScriptFault.TheVariants as faults;
 ghost use Rattle.jh_script.specs.declared.fault.ScheduleFault.TheVariants as refusals;
 ghost use Rattle.jh_script.specs.Laws.{IsProgram, IsFirstBad, HasTooMany, HasOneMoreBlank, IsSchedule, IsFirstRefused, HasTooManyItems};
-ghost use Rattle.jh_script.specs.Grammar.{IsNumber, IsSkipped, IsTooWide, Writes, are_ascii};
+ghost use Rattle.jh_script.specs.Grammar.{IsNumber, IsSkipped, IsTooWide, Writes};
 ghost use Rattle.jh_script.specs.Numbers.{number_written};
-ghost use Rattle.jh_script.specs.Operations.{IsWellFormed, line_of};
+ghost use Rattle.jh_script.specs.Operations.{IsWellFormed, is_ascii, line_of};
 ghost use Rattle.jh_script.specs.Programs.{program_of};
 ghost use Rattle.jh_script.specs.Schedules.{schedule_of};
 ghost use Rattle.jh_script.specs.Words.{line_gaps, words};
@@ -35,10 +35,10 @@ pub fn first_fault_of_a_schedule_decides()
 /// bytes are below 128 and it has no words or begins a comment. Any other line is a fault of syntax.
 pub fn lines_are_words_of_operations()
     ensures operation { (text : List ℕ) (op : TheOp) → (line_of text ≡ lines.Operation op)
-        ↔ ((are_ascii text ≡ true) × Writes (words line_gaps text) op × IsWellFormed op) }
+        ↔ ((is_ascii text ≡ true) × Writes (words line_gaps text) op × IsWellFormed op) }
     ensures width { (text : List ℕ) → (line_of text ≡ lines.Width) ↔ IsTooWide text }
     ensures skipped { (text : List ℕ) → (line_of text ≡ lines.Blank)
-        ↔ ((are_ascii text ≡ true) × IsSkipped (words line_gaps text)) }
+        ↔ ((is_ascii text ≡ true) × IsSkipped (words line_gaps text)) }
 {}
 
 /// A word is a number exactly where it is the number in decimal, or `0x` and 1 to 16 hexadecimal digits that

@@ -1,9 +1,8 @@
 //! What a line of a program tells.
-ghost use Rattle.std.specs.Prelude.{◌≡◌, nat_lt, IfSome, IfNone, IsTrue};
-ghost use Rattle.std.specs.List.{list_all};
+ghost use Rattle.std.specs.Prelude.{◌≡◌};
 ghost use Rattle.std.specs.Option.{option_map};
 ghost use Rattle.jh_script.specs.declared.op.Op.TheVariants as ops;
-ghost use Rattle.jh_script.specs.Operations.{is_width, line_of, line_of_op, none_of, one_of, two_of, three_of, op_of};
+ghost use Rattle.jh_script.specs.Operations.{is_ascii, line_of, line_of_op, none_of, one_of, two_of, three_of, op_of};
 ghost use Rattle.jh_script.specs.Private.Lines.{IsWellFormedLine};
 ghost use Rattle.jh_script.specs.Words.{words, line_gaps};
 
@@ -47,7 +46,7 @@ pub(crate) fn read_line(text: &[u8]) -> Line
 
 /// Whether all bytes are below 128.
 fn is_ascii(text: &[u8]) -> bool
-    ensures { result ≡ list_all (λ byte. nat_lt byte 128) text.now }
+    ensures { result ≡ is_ascii text.now }
 {
     text.iter().all(|byte| *byte < 128)
 }

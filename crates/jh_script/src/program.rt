@@ -1,5 +1,5 @@
 //! From a program's text to its operations.
-ghost use Rattle.std.specs.Prelude.{◌≡◌, ◌≢◌, ◌≤◌, ◌<◌, All, length, IfOk, IfSome, MatchOption, [], ◌∷◌, ◌++◌};
+ghost use Rattle.std.specs.Prelude.{◌≡◌, ◌≢◌, ◌≤◌, ◌<◌, All, length, IfOk, IfSome, MatchOption, [], ◌∷◌};
 ghost use Rattle.jh_script.specs.Operations.{IsWellFormed};
 ghost use Rattle.jh_script.specs.Private.Lines.{IsWellFormedLine};
 ghost use Rattle.jh_script.specs.Programs.{lines_of, program_of};

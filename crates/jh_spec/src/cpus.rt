@@ -1,5 +1,5 @@
 //! The CPU bitmap.
-ghost use Rattle.std.specs.Prelude.{◌≡◌, ◌≤◌, ◌<◌, ◌+◌, length, IfOk, IfSome, is_some, get_or, false, []};
+ghost use Rattle.std.specs.Prelude.{◌≡◌, ◌≤◌, ◌<◌, ◌+◌, length, IfOk, IfSome, is_some, false, []};
 ghost use Rattle.serde_json.specs.View.{view};
 ghost use Rattle.jh_num.specs.Bits.{bits_where};
 ghost use Rattle.jh_spec.specs.Cpus.{bitmap_of, are_new};

@@ -1,5 +1,5 @@
 //! What a SPEC tells, in the words of who writes one. Each function does nothing; its contract is the law.
-ghost use Rattle.std.specs.Prelude.{◌≡◌, ◌↔◌, ℕ, ◌*◌, ◌/◌, ◌%◌, ◌<◌, List, Some, None, Ok, true, false, length, slice_index, is_some, Contains};
+ghost use Rattle.std.specs.Prelude.{◌≡◌, ◌↔◌, ℕ, ◌*◌, ◌/◌, ◌%◌, ◌<◌, List, Some, None, Ok, true, length, slice_index, is_some, Contains};
 ghost use Rattle.std.specs.Int.{bit_at};
 ghost use Rattle.serde_json.specs.Data.{Data};
 ghost use Rattle.serde_json.specs.Find.{as_object};

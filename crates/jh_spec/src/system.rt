@@ -1,5 +1,5 @@
 //! A system's members.
-ghost use Rattle.std.specs.Prelude.{◌≡◌, IfOk};
+ghost use Rattle.std.specs.Prelude.{IfOk};
 ghost use Rattle.serde_json.specs.View.{view};
 ghost use Rattle.jh_cellcfg.specs.Limits.{IsWithinLimits};
 ghost use Rattle.jh_syscfg.specs.Layout.{IsSystemWithinLimits};

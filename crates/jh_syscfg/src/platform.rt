@@ -1,5 +1,4 @@
 //! What a system's configuration has before root's name.
-ghost use Rattle.jh_cellcfg.specs.Widths.{IsRegion, IsConsole};
 ghost use Rattle.jh_syscfg.specs.Layout.{platform_bytes, IsPlatform};
 
 use jh_cellcfg::{Console, Reader, Record, Region, Writer};

@@ -1,6 +1,6 @@
 //! Turns on a list of callers, from one thread and from several.
-ghost use Rattle.std.specs.Prelude.{◌≡◌, ◌<◌, ℕ, ◌++◌, ◌∷◌, [], List, MatchBool, All, AllPairs, ◌≢◌, map, length};
-ghost use Rattle.jh_turn.specs.Ports.{IsPortOf, port_caller};
+ghost use Rattle.std.specs.Prelude.{◌≡◌, ◌<◌, ℕ, ◌++◌, ◌∷◌, [], MatchBool, All, AllPairs, ◌≢◌, map, length};
+ghost use Rattle.jh_turn.specs.Ports.{IsPortOf};
 ghost use Rattle.jh_turn.specs.PortSets.{IsSameSet};
 
 use crate::{Port, Shared, Turner};

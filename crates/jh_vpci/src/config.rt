@@ -1,7 +1,7 @@
 //! Configuration space, read and written.
-ghost use Rattle.std.specs.Prelude.{◌≡◌, ◌+◌, ◌*◌, ◌/◌, ◌%◌, ◌^◌, ◌<◌, ◌≤◌, ◌⊎◌, ◌↔◌, false, IsNone, option_map};
+ghost use Rattle.std.specs.Prelude.{◌≡◌, ◌+◌, ◌*◌, ◌/◌, ◌%◌, ◌^◌, ◌<◌, ◌⊎◌, ◌↔◌, false, IsNone, option_map};
 ghost use Rattle.jh_vpci.specs.Space.{fresh, is_open, window_of, ends_of, has_vectors};
-ghost use Rattle.jh_vpci.specs.Words.{command_bits, control_bits, with_vectors, word_of, word_offset, read_of};
+ghost use Rattle.jh_vpci.specs.Words.{command_bits, control_bits, with_vectors, word_of, read_of};
 ghost use Rattle.jh_num.specs.Bits.{bits_where, has_bit};
 ghost use Rattle.jh_vpci.specs.Writes.{with_word, written};
 

@@ -1,6 +1,6 @@
 //! What holds of configuration space whatever a guest writes. Each function does nothing; its contract is
 //! the law.
-ghost use Rattle.std.specs.Prelude.{◌≡◌, ◌≢◌, ℕ, ◌+◌, ◌-◌, ◌*◌, ◌%◌, ◌<◌, ◌≤◌, ◌⊎◌};
+ghost use Rattle.std.specs.Prelude.{◌≡◌, ◌≢◌, ℕ, ◌+◌, ◌-◌, ◌*◌, ◌%◌, ◌<◌, ◌⊎◌};
 ghost use Rattle.std.specs.Int.{bit_at};
 ghost use Rattle.jh_vpci.specs.Words.{word_of, word_offset, read_of};
 ghost use Rattle.jh_vpci.specs.Writes.{written, writable_bits, IsPut};

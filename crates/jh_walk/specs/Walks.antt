@@ -1,10 +1,11 @@
 -- The walk of stage-2 tables over the words of memory (VMSAv8-64, 4 KB granule), and the descriptors that
 -- it reads.
-use Rattle.std.specs.Prelude.{ℕ, ◌+◌, ◌-◌, ◌*◌, ◌%◌, ◌^◌, Bool, nat_lt, min, Option, Some, None, List, [], ◌∷◌, ◌++◌, fold, zero, suc, if◌then◌else◌}
+use Rattle.std.specs.Prelude.{ℕ, ◌+◌, ◌-◌, ◌*◌, ◌%◌, Bool, nat_lt, Option, Some, None, List, [], ◌∷◌, ◌++◌, fold, zero, suc, if◌then◌else◌}
 use Rattle.jh_num.specs.declared.address.TheConstants.{ADDRESS_END}
 use Rattle.jh_num.specs.declared.rights.Rights.{Rights}
 use Rattle.jh_num.specs.declared.steps.Probe.{Probe}
 use Rattle.jh_num.specs.Counted.{Counted, last_eight}
+use Rattle.jh_num.specs.Numbers.{counted_up}
 use Rattle.jh_desc.specs.declared.descriptor.Descriptor.{Descriptor}
 use Rattle.jh_desc.specs.declared.descriptor.Descriptor.TheVariants.{Invalid, Table, Leaf}
 use Rattle.jh_desc.specs.declared.descriptor.Hit.{Hit}
@@ -52,7 +53,7 @@ probes_of word (suc n) table at =
 
 -- counted reads after one more
 abbrev pub counted : Counted → Probe → Counted
-counted steps probe = record { count = min (steps.count + 1) (2 ^ 64 - 1); probes = last_eight (steps.probes ++ probe ∷ []) }
+counted steps probe = record { count = counted_up steps.count; probes = last_eight (steps.probes ++ probe ∷ []) }
 
 -- counted reads after these more, in order
 abbrev pub all_counted : Counted → List Probe → Counted

@@ -1,8 +1,7 @@
 //! The walk.
-ghost use Rattle.std.specs.Prelude.{◌≡◌, ℕ, ◌+◌, ◌-◌, ◌*◌, ◌%◌, ◌^◌, ◌<◌, ◌≤◌};
+ghost use Rattle.std.specs.Prelude.{◌≡◌, ◌+◌, ◌-◌, ◌*◌, ◌%◌, ◌<◌, ◌≤◌};
 ghost use Rattle.jh_num.specs.declared.address.TheConstants.{ADDRESS_END};
 ghost use Rattle.jh_desc.specs.Descriptors.{read_of};
-ghost use Rattle.jh_desc.specs.Levels.{index_of};
 ghost use Rattle.jh_num.specs.Levels.{slot_size};
 ghost use Rattle.jh_frames.specs.Memory.{byte_at, word_in};
 ghost use Rattle.jh_walk.specs.Private.Onwards.{found_on, onward_of, reads_on, IsTablePlace, LeadsToPlace};
