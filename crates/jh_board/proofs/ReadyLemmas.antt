@@ -21,7 +21,7 @@ use Rattle.jh_history.specs.declared.reading.ReadCell.TheVariants.{Reads}
 use Rattle.jh_history.specs.Configs.{read_at, config_read}
 use Rattle.jh_history.specs.Phases.{refused_by}
 use Rattle.jh_history.specs.History.{coming_by, coming_of, call_after}
-use Rattle.jh_history.specs.Calls.{telling, first_recipient, decided, after_commit, call_by}
+use Rattle.jh_history.specs.Calls.{telling, first_recipient, after_decide, after_commit, call_by}
 use Rattle.jh_board.specs.declared.held.Held.{Held}
 use Rattle.jh_board.specs.Means.{IsReadyIn, IsReadyToGoOn, IsReadyFor}
 use Rattle.jh_board.specs.Private.Steps.{decides_to_go_on, create_of}
@@ -62,7 +62,7 @@ ready_create held image f entry o at config is create coming act ready =
     ∙ ap (λ (k : Option OpenCall). call_by f.cells (Some config) k entry entry.act) is
     ∙ ap (λ (a : Act). call_by f.cells (Some config) (Some o) entry a) act in
     let P : Option OpenCall → Type 0 = IsReadyToGoOn held in
-    let Q : Call → Type 0 = λ call. IsReadyIn held (decided call (Some config) None) in
+    let Q : Call → Type 0 = λ call. IsReadyIn held (after_decide call (Some config) None) in
     subst P (sym e) (subst Q (sym create) ready)
 
 -- a call that waits for its Decide needs nothing

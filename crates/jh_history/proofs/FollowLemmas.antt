@@ -73,6 +73,12 @@ may_commit old new act may same endpoints = elim (commit_or act) [
   | inr other ↦ subst (λ (o : Option CellConfig). IfSome o (MayChange (change_by new.call) new.endpoints)) (sym (changing_other new.cells new.call act other)) tt
 ]
 
+-- it, by what is kept
+pub changing_seen : {held : PlainView} (old : PlainView) (call : Option OpenCall) (act : Act) (o : Option CellConfig) → held ≡ old → call ≡ held.call
+    → o ≡ changing_by held.cells call act → changing_by old.cells old.call act ≡ o
+changing_seen {held} old call act o same begun is =
+    sym (is ∙ ap (λ (k : Option OpenCall). changing_by held.cells k act) begun ∙ ap (λ (v : PlainView). changing_by v.cells v.call act) same)
+
 -- the endpoints of its devices
 pub specs_changing_holds : (f : Facts) (cells : List Live) (call : Option OpenCall) (act : Act) (o : Option CellConfig) → f.cells ≡ cells → f.call ≡ call → changing_by cells call act ≡ o
     → option_map_or specs_of o [] ≡ specs_changing f act

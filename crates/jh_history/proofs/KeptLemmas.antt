@@ -80,6 +80,13 @@ reach_kept i image f cells endpoints cell wanted found same lives ends is =
     ∙ ap (λ (l : List Live). reach_in i l endpoints cell wanted.access wanted.at wanted.width) lives
     ∙ ap (λ (es : List Endpoint). reach_in i f.cells es cell wanted.access wanted.at wanted.width) ends
 
+-- what was found by what is kept is what the access reaches
+pub reach_seen : {held : PlainView} (old : PlainView) (i : Image) (f : Facts) (cell : ℕ) (wanted : Wanted) (found : Reach) → held ≡ old → Represents old i f
+    → found ≡ reach_in held.image held.cells held.endpoints cell wanted.access wanted.at wanted.width → found ≡ reach_of i f cell wanted
+reach_seen {held} old i f cell wanted found same h is =
+    reach_kept i held.image f held.cells held.endpoints cell wanted found
+    (ap (λ (p : PlainView). p.image) same ∙ sym h.same) (ap (λ (p : PlainView). p.cells) same ∙ sym h.cells) (ap (λ (p : PlainView). p.endpoints) same ∙ sym h.endpoints) is
+
 -- a write where it reaches memory leaves the endpoints, and so does one that reaches nothing
 pub others_put : (i : Image) (f : Facts) (cell : ℕ) (wanted : Wanted) (found : Reach) (value : ℕ) → found ≡ reach_of i f cell wanted → is_device found ≡ false
     → f.endpoints ≡ endpoints_put (devices_of i f cell) (reach_of i f cell wanted) value

@@ -22,7 +22,7 @@ use Rattle.jh_history.specs.Calls.{is_named, counted}
 use Rattle.jh_num.specs.Numbers.{counted_up}
 use Rattle.jh_history.specs.Cpus.{changed, is_running}
 use Rattle.jh_history.specs.Wants.{goes_on}
-use Rattle.jh_history.specs.Sound.{AreSoundCells, IsOwner, AreOwned, IsCalm, IsHalted, IsAsked, IsHalting, HaltsForCall, GoesOn, IsAboutLive, MayBeCreated, IsInPhase}
+use Rattle.jh_history.specs.Sound.{AreSoundCells, IsOwner, AreOwned, IsCalm, IsHalted, IsAsked, IsHalting, HaltsForCall, HaltsForCommit, IsAboutLive, MayBeCreated, IsInPhase}
 
 -- ---- one CPU
 
@@ -109,7 +109,7 @@ come_stopped (ToNote id about answer) cpu is h = not_asked cpu is h
 come_stopped (ToNoted id about answer waited) cpu is h = not_asked cpu is h
 come_stopped (ToFinish answer) cpu is h = not_asked cpu is h
 
-pub goes_stopped : (call : Call) (phase : Phase) (cpu : Cpu) → cpu.asked ≡ true → GoesOn call phase cpu → GoesOn call phase (stopped_of cpu)
+pub goes_stopped : (call : Call) (phase : Phase) (cpu : Cpu) → cpu.asked ≡ true → HaltsForCommit call phase cpu → HaltsForCommit call phase (stopped_of cpu)
 goes_stopped call ToDecide cpu is h = not_calm cpu is h
 goes_stopped call (ToSettle waited) cpu is h = not_calm cpu is h
 goes_stopped call (ToCreate config) cpu is h = not_calm cpu is h
@@ -119,7 +119,7 @@ goes_stopped call (ToNoted id about answer waited) cpu is h = not_calm cpu is h
 goes_stopped call (ToFinish answer) cpu is h = not_calm cpu is h
 
 -- a CPU of a cell that goes on makes its operation, and goes on as before
-pub goes_mild : (call : Call) (phase : Phase) (change : Change) (cpu : Cpu) → IsMild change → goes_on cpu ≡ true → GoesOn call phase cpu → GoesOn call phase (changed change cpu)
+pub goes_mild : (call : Call) (phase : Phase) (change : Change) (cpu : Cpu) → IsMild change → goes_on cpu ≡ true → HaltsForCommit call phase cpu → HaltsForCommit call phase (changed change cpu)
 goes_mild call ToDecide change cpu mild on h = mild_calm change cpu mild h
 goes_mild call (ToSettle waited) change cpu mild on h = mild_calm change cpu mild h
 goes_mild call (ToCreate config) change cpu mild on h = mild_calm change cpu mild h
@@ -142,13 +142,13 @@ come_counted cell call (ToNote id about answer) cpu h = h
 come_counted cell call (ToNoted id about answer waited) cpu h = cond_both (eqb cell id) (ToNoted id about answer (counted_up waited)) (ToNoted id about answer waited) (λ (p : Phase). HaltsForCall p cpu) (λ _. h) (λ _. h)
 come_counted cell call (ToFinish answer) cpu h = h
 
-pub goes_counted : (cell : ℕ) (call : Call) (phase : Phase) (cpu : Cpu) → GoesOn call phase cpu → GoesOn call (counted cell call phase) cpu
+pub goes_counted : (cell : ℕ) (call : Call) (phase : Phase) (cpu : Cpu) → HaltsForCommit call phase cpu → HaltsForCommit call (counted cell call phase) cpu
 goes_counted cell call ToDecide cpu h = h
-goes_counted cell call (ToSettle waited) cpu h = cond_both (is_named call cell) (ToSettle (counted_up waited)) (ToSettle waited) (λ (p : Phase). GoesOn call p cpu) (λ _. h) (λ _. h)
+goes_counted cell call (ToSettle waited) cpu h = cond_both (is_named call cell) (ToSettle (counted_up waited)) (ToSettle waited) (λ (p : Phase). HaltsForCommit call p cpu) (λ _. h) (λ _. h)
 goes_counted cell call (ToCreate config) cpu h = h
 goes_counted cell call ToCommit cpu h = h
 goes_counted cell call (ToNote id about answer) cpu h = h
-goes_counted cell call (ToNoted id about answer waited) cpu h = cond_both (eqb cell id) (ToNoted id about answer (counted_up waited)) (ToNoted id about answer waited) (λ (p : Phase). GoesOn call p cpu) (λ _. h) (λ _. h)
+goes_counted cell call (ToNoted id about answer waited) cpu h = cond_both (eqb cell id) (ToNoted id about answer (counted_up waited)) (ToNoted id about answer waited) (λ (p : Phase). HaltsForCommit call p cpu) (λ _. h) (λ _. h)
 goes_counted cell call (ToFinish answer) cpu h = h
 
 -- ---- whose CPUs are

@@ -28,7 +28,7 @@ use Rattle.jh_history.specs.declared.entry.Settled.TheVariants.{Agreed, Denied, 
 use Rattle.jh_history.specs.Facts.{Facts}
 use Rattle.jh_history.specs.Lives.{is_on_board, live_in, cell_in}
 use Rattle.jh_history.specs.Admitted.{pool_pages}
-use Rattle.jh_history.specs.Calls.{is_named, decided, after_settle}
+use Rattle.jh_history.specs.Calls.{is_named, after_decide, after_settle}
 use Rattle.jh_history.specs.declared.reading.ReadCell.{ReadCell}
 use Rattle.jh_history.specs.declared.reading.ReadCell.TheVariants.{Reads, Refuses}
 use Rattle.jh_history.specs.Configs.{read_at, config_read}
@@ -36,7 +36,7 @@ use Rattle.jh_history.specs.Cpus.{is_running, cpu_by_settle, is_undenied}
 use Rattle.jh_history.specs.History.{coming_by}
 use Rattle.jh_history.specs.Phases.{keeps_decide, may_give, is_locked, is_other_locked, unless_refused, creation_by, creation_of, refused_by, id_refusal, first_refusal, decision}
 use Rattle.jh_shape.specs.Lives.{configs_of}
-use Rattle.jh_history.specs.Sound.{AreSoundCells, AreOwned, IsCalm, IsHalted, IsAsked, IsHalting, HaltsForCall, GoesOn, IsCaller, IsAboutLive, MayBeCreated, IsInPhase, IsOpen}
+use Rattle.jh_history.specs.Sound.{AreSoundCells, AreOwned, IsCalm, IsHalted, IsAsked, IsHalting, HaltsForCall, HaltsForCommit, IsCaller, IsAboutLive, MayBeCreated, IsInPhase, IsOpen}
 use Rattle.jh_history.proofs.SoundCpusLemmas.{owned_kept, named_same, root_unnamed, running_mode}
 
 -- the board's CPUs are below 16
@@ -68,7 +68,7 @@ late_come (ToNote id about answer) cpu late h = h
 late_come (ToNoted id about answer waited) cpu late h = h
 late_come (ToFinish answer) cpu late h = h
 
-late_goes : (call : Call) (phase : Phase) (cpu : Cpu) → IsLate phase → IsCalm cpu → GoesOn call phase cpu
+late_goes : (call : Call) (phase : Phase) (cpu : Cpu) → IsLate phase → IsCalm cpu → HaltsForCommit call phase cpu
 late_goes call ToDecide cpu late h = h
 late_goes call (ToSettle waited) cpu late h = h
 late_goes call (ToCreate config) cpu late h = h
@@ -172,29 +172,29 @@ may_come image f caller config clean accepted =
 abbrev IsDecided : Image → Facts → ℕ → Call → Phase → Type 0
 IsDecided image f caller call phase = IsLate phase × IsInPhase image (configs_of f.cells) f.cpu caller call phase
 
-decided_create : (image : Image) (f : Facts) (caller at : ℕ) (o : Option ℤ) → IsClean image.system (configs_of f.cells) → refused_by (creation_of image f caller at) ≡ o → IsDecided image f caller (Create at) (decided (Create at) (config_read (read_at image f at)) o)
+decided_create : (image : Image) (f : Facts) (caller at : ℕ) (o : Option ℤ) → IsClean image.system (configs_of f.cells) → refused_by (creation_of image f caller at) ≡ o → IsDecided image f caller (Create at) (after_decide (Create at) (config_read (read_at image f at)) o)
 decided_create image f caller at (Some number) clean h = (tt, tt)
 decided_create image f caller at None clean h =
     let coming = coming_from_decision image f caller at h in
-    let P : ReadCell → Type 0 = λ r. IsDecided image f caller (Create at) (decided (Create at) (config_read r) None) in
+    let P : ReadCell → Type 0 = λ r. IsDecided image f caller (Create at) (after_decide (Create at) (config_read r) None) in
     let accepted = accepted_from image.system (configs_of f.cells) coming.config (may_give image f caller)
     (pages_of image.system.root.memory_regions (configs_of f.cells ++ coming.config ∷ [])) (pool_pages image.system) coming.good in
     subst P (sym coming.reads) (tt, (tt, may_come image f caller coming.config clean accepted))
 
-decided_start : (image : Image) (f : Facts) (caller id : ℕ) (o : Option ℤ) → id_refusal image f id ≡ o → IsDecided image f caller (Start id) (decided (Start id) None o)
+decided_start : (image : Image) (f : Facts) (caller id : ℕ) (o : Option ℤ) → id_refusal image f id ≡ o → IsDecided image f caller (Start id) (after_decide (Start id) None o)
 decided_start image f caller id (Some number) h = (tt, tt)
 decided_start image f caller id None h = let live = named_live image f id h in (tt, (live.0, live.1, eq-eqb id live.0.id (sym live.2)))
 
-decided_loadable : (image : Image) (f : Facts) (caller id : ℕ) (o : Option ℤ) → id_refusal image f id ≡ o → IsDecided image f caller (Loadable id) (decided (Loadable id) None o)
+decided_loadable : (image : Image) (f : Facts) (caller id : ℕ) (o : Option ℤ) → id_refusal image f id ≡ o → IsDecided image f caller (Loadable id) (after_decide (Loadable id) None o)
 decided_loadable image f caller id (Some number) h = (tt, tt)
 decided_loadable image f caller id None h = let live = named_live image f id h in (tt, (live.0, live.1, eq-eqb id live.0.id (sym live.2)))
 
-decided_destroy : (image : Image) (f : Facts) (caller id : ℕ) (locked : Bool) (o : Option ℤ) → first_refusal (id_refusal image f id) locked ≡ o → IsDecided image f caller (Destroy id) (decided (Destroy id) None o)
+decided_destroy : (image : Image) (f : Facts) (caller id : ℕ) (locked : Bool) (o : Option ℤ) → first_refusal (id_refusal image f id) locked ≡ o → IsDecided image f caller (Destroy id) (after_decide (Destroy id) None o)
 decided_destroy image f caller id locked (Some number) h = (tt, tt)
 decided_destroy image f caller id locked None h =
     let live = named_live image f id (not_refused (id_refusal image f id) locked h) in (tt, (live.0, live.1, eq-eqb id live.0.id (sym live.2)))
 
-decided_phase : (image : Image) (f : Facts) (caller : ℕ) (call : Call) → is_management call ≡ true → IsClean image.system (configs_of f.cells) → IsDecided image f caller call (decided call (coming_by image f call) (decision image f caller call))
+decided_phase : (image : Image) (f : Facts) (caller : ℕ) (call : Call) → is_management call ≡ true → IsClean image.system (configs_of f.cells) → IsDecided image f caller call (after_decide call (coming_by image f call) (decision image f caller call))
 decided_phase image f caller (Create at) manages clean = decided_create image f caller at (refused_by (creation_of image f caller at)) clean refl
 decided_phase image f caller (Start id) manages clean = decided_start image f caller id (id_refusal image f id) refl
 decided_phase image f caller (Loadable id) manages clean = decided_loadable image f caller id (id_refusal image f id) refl
@@ -219,10 +219,10 @@ halted_to_decide image caller i cpu few none on other is h =
 
 pub open_decided : (image : Image) (f : Facts) (caller : ℕ) (call : Call) → AreSoundCells image.system (configs_of f.cells) → IsOpen image (configs_of f.cells) f.cpu (record { caller = caller; call = call; phase = ToDecide })
     → any_below (λ k. keeps_decide image caller k (f.cpu k)) 16 ≡ false
-    → IsOpen image (configs_of f.cells) f.cpu (record { caller = caller; call = call; phase = decided call (coming_by image f call) (decision image f caller call) })
+    → IsOpen image (configs_of f.cells) f.cpu (record { caller = caller; call = call; phase = after_decide call (coming_by image f call) (decision image f caller call) })
 open_decided image f caller call sound opens none =
     let next = decided_phase image f caller call opens.caller.management sound.clean in
-    open_late image (configs_of f.cells) f.cpu caller call (decided call (coming_by image f call) (decision image f caller call)) next.0 opens.caller
+    open_late image (configs_of f.cells) f.cpu caller call (after_decide call (coming_by image f call) (decision image f caller call)) next.0 opens.caller
     (λ i on other is. halted_to_decide image caller i f.cpu (board_few image (configs_of f.cells) sound.clean i on) none on other is (opens.roots i on other is))
     opens.cells
     opens.absent

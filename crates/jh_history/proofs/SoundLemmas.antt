@@ -32,7 +32,7 @@ use Rattle.jh_history.specs.Facts.{Facts}
 use Rattle.jh_history.specs.Lives.{is_on_board, program_ops, ops_in}
 use Rattle.jh_history.specs.Admitted.{IsAdmitted}
 use Rattle.jh_history.specs.Bytes.{byte_after}
-use Rattle.jh_history.specs.Calls.{call_by, counted, decided, first_recipient, telling, listed_behind, is_named}
+use Rattle.jh_history.specs.Calls.{call_by, counted, after_decide, first_recipient, telling, listed_behind, is_named}
 use Rattle.jh_history.specs.Commits.{cells_by, is_other}
 use Rattle.jh_history.specs.Cpus.{acted, change_if, is_undenied}
 use Rattle.jh_history.specs.History.{start, after, facts, coming_of, coming_by}
@@ -204,7 +204,7 @@ decide_sound image rest rest' cpu cells caller call cell act false sound none h 
     let refused : Option ℤ = decision image f caller call in
     let P : Act → Type 0 = λ x. IsSoundBut image (behind_act image rest' cpu cells (Some (opened_call caller call ToDecide)) (coming_by image f call) caller cell x) in
     subst P (same_Some (Decide refused) act h)
-    (phase_only image rest' cpu cells caller (opened_call caller call (decided call (coming_by image f call) refused))
+    (phase_only image rest' cpu cells caller (opened_call caller call (after_decide call (coming_by image f call) refused))
     (record { cells = sound.cells; cpus = sound.cpus; call = open_decided image f caller call sound.cells sound.call none }))
 
 -- the Settle

@@ -20,7 +20,7 @@ use Rattle.jh_history.specs.Lives.{is_on_board, program_ops}
 use Rattle.jh_history.specs.Calls.{counted}
 use Rattle.jh_history.specs.Cpus.{changed, is_running, asked_by_begin, cpu_by_finish, resumed_in}
 use Rattle.jh_history.specs.Wants.{goes_on}
-use Rattle.jh_history.specs.Sound.{AreOwned, IsCalm, IsHalting, HaltsForCall, GoesOn, IsCaller, IsOpen}
+use Rattle.jh_history.specs.Sound.{AreOwned, IsCalm, IsHalting, HaltsForCall, HaltsForCommit, IsCaller, IsOpen}
 use Rattle.jh_history.proofs.SoundCpusLemmas.{IsMild, mild_calm, changed_owner, goes_running, running_mode, come_rests, come_stopped, goes_stopped, goes_mild, come_counted, goes_counted, owned_kept, phase_counted}
 
 -- one CPU changes
@@ -49,14 +49,14 @@ calm_one change own cpu mild calm i = at_each (λ k c. IsCalm c) change own cpu 
 -- where one is open, of another CPU than its caller
 pub open_one : (image : Image) (configs : List CellConfig) (cpu : ℕ → Cpu) (o : OpenCall) (change : Change) (own cell : ℕ) → IsOpen image configs cpu o → is_on_board image own ≡ true → own ≢ o.caller
     → ((cpu own).owner ≡ image.system.root.id → HaltsForCall o.phase (changed change (cpu own)))
-    → ((cpu own).owner ≢ image.system.root.id → GoesOn o.call o.phase (changed change (cpu own)))
+    → ((cpu own).owner ≢ image.system.root.id → HaltsForCommit o.call o.phase (changed change (cpu own)))
     → IsOpen image configs (one_changed change own cpu) (record { caller = o.caller; call = o.call; phase = counted cell o.call o.phase })
 open_one image configs cpu o change own cell opens on other come goes =
     let root : ℕ = image.system.root.id in
     let phase : Phase = counted cell o.call o.phase in
     let C : ℕ → Cpu → Type 0 = λ k c. k ≡ o.caller → IsCaller image o.caller o.call c in
     let R : ℕ → Cpu → Type 0 = λ k c. is_on_board image k ≡ true → k ≢ o.caller → c.owner ≡ root → HaltsForCall phase c in
-    let G : ℕ → Cpu → Type 0 = λ k c. c.owner ≢ root → GoesOn o.call phase c in
+    let G : ℕ → Cpu → Type 0 = λ k c. c.owner ≢ root → HaltsForCommit o.call phase c in
     let A : ℕ → Cpu → Type 0 = λ k c. is_on_board image k ≡ false → IsCalm c in
     record {
       caller = at_each C change own cpu o.caller (λ is. absurd (other is)) (λ _ _. opens.caller) refl;

@@ -49,11 +49,11 @@ first_recipient about cells = option_map id_of (find (is_recipient about) cells)
 
 -- the phase after a Decide: the end where it refuses; else a create goes on with the configuration that was read, and
 -- any other call asks its cell
-abbrev pub decided : Call → Option CellConfig → Option ℤ → Phase
-decided call coming (Some refused) = ToFinish refused
-decided (Create at) (Some config) None = ToCreate config
-decided (Create at) None None = ToDecide
-decided call coming None = ToSettle 0
+abbrev pub after_decide : Call → Option CellConfig → Option ℤ → Phase
+after_decide call coming (Some refused) = ToFinish refused
+after_decide (Create at) (Some config) None = ToCreate config
+after_decide (Create at) None None = ToDecide
+after_decide call coming None = ToSettle 0
 
 -- the phase after a Settle: the end with EPERM where it is denied, else the Commit
 abbrev pub after_settle : Settled → Phase
@@ -97,7 +97,7 @@ counted cell call phase = if waits_for cell call phase then waited_on phase else
 -- the phase of the open call after the act of the cell's CPU, where these cells live besides root, and a create reads
 -- this configuration
 abbrev pub phase_after : List Live → Option CellConfig → ℕ → Call → Phase → Act → Phase
-phase_after cells coming cell call phase (Decide refused) = decided call coming refused
+phase_after cells coming cell call phase (Decide refused) = after_decide call coming refused
 phase_after cells coming cell call phase (Settle how) = after_settle how
 phase_after cells coming cell call phase Commit = after_commit call phase cells
 phase_after cells coming cell call phase (Note id) = after_note phase

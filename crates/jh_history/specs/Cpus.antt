@@ -34,7 +34,7 @@ abbrev pub change_if : Bool → Change
 change_if true = Step
 change_if false = Fail
 
--- what the act does to the CPU that makes it, other than with the rest of them
+-- what the act does to the CPU that makes it; acts that change other CPUs, too, have cases of their own in `acted`
 abbrev pub change_of : Act → Change
 change_of (Read width at got) = change_if (is_some got)
 change_of (Write width at value ok) = change_if ok

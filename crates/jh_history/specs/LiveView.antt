@@ -14,12 +14,12 @@ pub record GrantsView : Type 0 where
   pub lives : List Live
 
 -- the state in the cell's page, by these bytes
-abbrev pub word_by : (Place → ℕ) → ℕ → ℕ
-word_by byte id = state_in (λ k. byte (Page id k))
+abbrev pub state_word_by : (Place → ℕ) → ℕ → ℕ
+state_word_by byte id = state_in (λ k. byte (Page id k))
 
 -- a cell of this configuration is locked, by these bytes: its state is RUNNING_LOCKED
 abbrev pub is_locked_by : (Place → ℕ) → CellConfig → Bool
-is_locked_by byte config = word_by byte config.id == STATE_RUNNING_LOCKED
+is_locked_by byte config = state_word_by byte config.id == STATE_RUNNING_LOCKED
 
 -- a cell of this configuration, which is another than the one with the id, is locked, by these bytes
 abbrev pub is_other_locked_by : (Place → ℕ) → ℕ → CellConfig → Bool

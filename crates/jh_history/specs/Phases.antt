@@ -26,7 +26,7 @@ use Rattle.jh_history.specs.declared.entry.Act.{Act}
 use Rattle.jh_history.specs.declared.entry.Act.TheVariants.{Decide, Settle, Commit, Note, Noted, Finish}
 use Rattle.jh_history.specs.Facts.{Facts}
 use Rattle.jh_history.specs.Lives.{is_on_board, live_in, cell_of}
-use Rattle.jh_history.specs.LiveView.{word_by, is_locked_by, is_other_locked_by}
+use Rattle.jh_history.specs.LiveView.{state_word_by, is_locked_by, is_other_locked_by}
 use Rattle.jh_history.specs.ReadView.{gives_by, refusal_by}
 use Rattle.jh_history.specs.Cpus.{is_running}
 use Rattle.jh_history.specs.Calls.{is_named}
@@ -37,7 +37,7 @@ use Rattle.jh_history.specs.Configs.{read_at}
 
 -- the state word of the cell with the id, in its communication page
 abbrev pub state_word : Facts → ℕ → ℕ
-state_word facts id = word_by facts.byte id
+state_word facts id = state_word_by facts.byte id
 
 -- the reply word of the cell with the id, in its communication page
 abbrev pub reply_word : Facts → ℕ → ℕ

@@ -69,7 +69,7 @@ pub record IsHalted (cpu : Cpu) : Type 0 where
   pub asked : cpu.asked ≡ false
   pub stopped : cpu.stopped ≡ is_running cpu.mode
 
--- the CPU runs, and is asked to stop
+-- the CPU runs, is asked to stop, and hasn't stopped
 pub record IsAsked (cpu : Cpu) : Type 0 where
   pub asked : cpu.asked ≡ true
   pub stopped : cpu.stopped ≡ false
@@ -100,11 +100,11 @@ abbrev pub HaltsForCall : Phase → Cpu → Type 0
 HaltsForCall ToDecide cpu = IsHalting cpu
 HaltsForCall _ cpu = IsHalted cpu
 
--- how a CPU of a cell stands in the phase: it is calm; but after a Settle that isn't denied, up to the Commit, a CPU of
--- the cell that the call is about is halting
-abbrev pub GoesOn : Call → Phase → Cpu → Type 0
-GoesOn call ToCommit cpu = (is_named call cpu.owner ≡ true → IsHalting cpu) × (is_named call cpu.owner ≡ false → IsCalm cpu)
-GoesOn call _ cpu = IsCalm cpu
+-- how a CPU of a cell stands in the phase: where the Commit is next, one of the cell that the call is about is halting;
+-- else it is calm
+abbrev pub HaltsForCommit : Call → Phase → Cpu → Type 0
+HaltsForCommit call ToCommit cpu = (is_named call cpu.owner ≡ true → IsHalting cpu) × (is_named call cpu.owner ≡ false → IsCalm cpu)
+HaltsForCommit call _ cpu = IsCalm cpu
 
 -- the cell that the call is about lives
 abbrev pub IsAboutLive : List CellConfig → Call → Type 0
@@ -154,7 +154,7 @@ IsInPhase image configs cpu caller call (ToFinish answer) = Unit {0}
 pub record IsOpen (image : Image) (configs : List CellConfig) (cpu : ℕ → Cpu) (o : OpenCall) : Type 0 where
   pub caller : IsCaller image o.caller o.call (cpu o.caller)
   pub roots : (i : ℕ) → is_on_board image i ≡ true → i ≢ o.caller → (cpu i).owner ≡ image.system.root.id → HaltsForCall o.phase (cpu i)
-  pub cells : (i : ℕ) → (cpu i).owner ≢ image.system.root.id → GoesOn o.call o.phase (cpu i)
+  pub cells : (i : ℕ) → (cpu i).owner ≢ image.system.root.id → HaltsForCommit o.call o.phase (cpu i)
   pub absent : (i : ℕ) → is_on_board image i ≡ false → IsCalm (cpu i)
   pub phase : IsInPhase image configs cpu o.caller o.call o.phase
 

@@ -1,4 +1,4 @@
--- The access that a CPU's next entry makes, and what it reaches.
+-- The operation that a CPU is about to make, and what the access of an entry reaches.
 use Rattle.std.specs.Prelude.{◌≡◌, ℕ, Bool, not, ◌&&◌, Option, None, if◌then◌else◌}
 use Rattle.jh_cpu.specs.declared.cpu.Cpu.{Cpu}
 use Rattle.jh_script.specs.declared.image.Image.{Image}

@@ -1,7 +1,6 @@
 //! What an image is asked for before a board is opened with it.
-ghost use Rattle.std.specs.Prelude.{◌≡◌, ℕ, ◌↔◌, ◌<◌, ◌≤◌, ◌+◌, ◌^◌, [], IsTrue, IfOk, All, AllPairs, length};
+ghost use Rattle.std.specs.Prelude.{◌≡◌, ◌↔◌, ◌<◌, ◌^◌, [], IsTrue, IfOk, All, AllPairs};
 ghost use Rattle.jh_check.specs.Findings.{findings};
-ghost use Rattle.jh_script.specs.declared.image.Program.{Program as TheProgram};
 ghost use Rattle.jh_script.specs.Operations.{is_width, IsWellFormed};
 ghost use Rattle.jh_history.specs.Admitted.{root_pages, pool_pages, IsAdmittedSystem, IsSoundProgram, IsOtherProgram, IsSoundPreload, IsOtherPreload, IsAdmitted};
 

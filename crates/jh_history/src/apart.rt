@@ -1,5 +1,5 @@
 //! Items of a list that have nothing in common.
-ghost use Rattle.std.specs.Prelude.{◌≡◌, ◌↔◌, ◌<◌, IsTrue, All, AllPairs};
+ghost use Rattle.std.specs.Prelude.{◌↔◌, ◌<◌, IsTrue, All, AllPairs};
 ghost use Rattle.jh_history.specs.Private.Apart.{HasNoneOf};
 
 /// Tells whether two of a kind have nothing in common.

@@ -5,7 +5,7 @@ ghost use Rattle.jh_cellcfg.specs.declared.config.CellConfig.{CellConfig as TheC
 ghost use Rattle.jh_cellcfg.specs.declared.live.Live.{Live as TheLive};
 ghost use Rattle.jh_shape.specs.Lives.{configs_of};
 ghost use Rattle.jh_history.specs.Commits.{created, created_at, created_by};
-ghost use Rattle.jh_history.specs.Calls.{is_recipient_by, first_recipient, listed_behind, telling, decided, after_settle, after_commit, after_note, after_noted, counted, phase_after, call_by, is_call, waits_for};
+ghost use Rattle.jh_history.specs.Calls.{is_recipient_by, first_recipient, listed_behind, telling, after_decide, after_settle, after_commit, after_note, after_noted, counted, phase_after, call_by, is_call, waits_for};
 
 use crate::boxed::BoxedCell;
 use crate::call::{OpenCall, Phase};
@@ -73,8 +73,8 @@ fn telling(about: u64, answer: i64, told: Option<u32>) -> Phase
 }
 
 /// The phase after a Decide that goes on.
-fn after_decide(call: &Call, coming: Option<BoxedCell>) -> Phase
-    ensures { result ≡ decided call.now coming None }
+fn after_go_ahead(call: &Call, coming: Option<BoxedCell>) -> Phase
+    ensures { result ≡ after_decide call.now coming None }
 {
     match *call {
         Call::Create { .. } => match coming {
@@ -86,12 +86,12 @@ fn after_decide(call: &Call, coming: Option<BoxedCell>) -> Phase
 }
 
 /// The phase after a Decide.
-fn decided(call: &Call, coming: Option<BoxedCell>, refused: Option<i64>) -> Phase
-    ensures { result ≡ decided call.now coming refused }
+fn after_decide(call: &Call, coming: Option<BoxedCell>, refused: Option<i64>) -> Phase
+    ensures { result ≡ after_decide call.now coming refused }
 {
     match refused {
         Some(answer) => Phase::ToFinish { answer },
-        None => after_decide(call, coming),
+        None => after_go_ahead(call, coming),
     }
 }
 
@@ -120,10 +120,7 @@ fn after_create(phase: Phase, cells: &[CellConfig]) -> Next
                 created: Some(config),
             }
         }
-        _ => Next {
-            phase: Phase::ToFinish { answer: 0 },
-            created: None,
-        },
+        _ => only(Phase::ToFinish { answer: 0 }),
     }
 }
 
@@ -134,14 +131,8 @@ fn after_commit(call: &Call, phase: Phase, cells: &[CellConfig]) -> Next
 {
     match *call {
         Call::Create { .. } => after_create(phase, cells),
-        Call::Destroy { id } => Next {
-            phase: telling(id, 0, first_recipient(id, cells)),
-            created: None,
-        },
-        _ => Next {
-            phase: Phase::ToFinish { answer: 0 },
-            created: None,
-        },
+        Call::Destroy { id } => only(telling(id, 0, first_recipient(id, cells))),
+        _ => only(Phase::ToFinish { answer: 0 }),
     }
 }
 
@@ -231,7 +222,7 @@ fn phase_after(
     ensures created { result.created ≡ created_at call.now phase entry.now.act }
 {
     match entry.act {
-        Act::Decide { refused } => only(decided(call, coming, refused)),
+        Act::Decide { refused } => only(after_decide(call, coming, refused)),
         Act::Settle { how } => only(after_settle(how)),
         Act::Commit => after_commit(call, phase, cells),
         Act::Note { .. } => only(after_note(phase)),

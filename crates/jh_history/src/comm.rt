@@ -16,7 +16,7 @@ pub enum PageChange {
     },
 }
 
-/// A change of a live cell's page.
+/// A change of the page of a cell: of one that lives, or of the one that comes by the entry.
 #[derive(Clone, Copy)]
 pub struct PageWrite {
     /// The cell's id.

@@ -7,11 +7,13 @@ use jh_cellcfg::{CellConfig, PciDevice, Region};
 use jh_ivshmem::EndpointSpec;
 use jh_vpci::FunctionSpec;
 
-/// The sections of a device that every device has, in their order from its first.
+/// The state table is the first of the device's sections.
 const STATE_TABLE: u8 = 0;
 
+/// The read/write section is the next.
 const READ_WRITE: u8 = 1;
 
+/// Then come the outputs, that of peer 0 first.
 const FIRST_OUTPUT: u8 = 2;
 
 /// Whether the device of that number is an ivshmem device. A number has 32 bits.

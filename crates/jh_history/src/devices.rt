@@ -84,7 +84,7 @@ fn bar_window(space: &ConfigSpace, device: u32, bar: u8, wanted: &Wanted) -> Opt
 }
 
 /// The first of the device's windows that has the whole access.
-fn space_window(space: &ConfigSpace, device: u32, wanted: &Wanted) -> Option<Window>
+fn first_window(space: &ConfigSpace, device: u32, wanted: &Wanted) -> Option<Window>
     requires { 0 < wanted.now.width }
     ensures found { result ≡ find (window_has wanted.now.at wanted.now.width) (space_window space.now device 0 ++ space_window space.now device 1) }
     ensures good { IfSome result IsGoodWindow }
@@ -152,7 +152,7 @@ impl<'a> Devices<'a> {
     {
         if is_endpoint(number, device) && self.endpoints.has(self.cell, number as u32) {
             let space = self.endpoints.config(self.cell, number as u32);
-            space_window(space, number as u32, wanted)
+            first_window(space, number as u32, wanted)
         } else {
             None
         }

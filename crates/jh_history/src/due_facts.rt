@@ -46,8 +46,10 @@ pub fn decides_are_of_the_open_call()
 
 /// A cell whose create isn't refused may live beside those that do, at the Decide and until it comes.
 pub fn a_cell_that_comes_may_live()
-    ensures decided { (image : TheImage) (f : Facts) (caller at : ℕ) (config : TheConfig) → IsSound image f → creation_of image f caller at ≡ Accepted config → MayLive image f.cells config }
-    ensures comes { (image : TheImage) (f : Facts) (o : TheCall) (config : TheConfig) → IsSound image f → f.call ≡ Some o → o.phase ≡ ToCreate config → MayLive image f.cells config }
+    ensures decided { (image : TheImage) (f : Facts) (caller at : ℕ) (config : TheConfig) → IsSound image f →
+        creation_of image f caller at ≡ Accepted config → MayLive image f.cells config }
+    ensures comes { (image : TheImage) (f : Facts) (o : TheCall) (config : TheConfig) → IsSound image f → f.call ≡ Some o →
+        o.phase ≡ ToCreate config → MayLive image f.cells config }
 {}
 
 /// What the hypervisor writes by an entry that is due, it writes into the page of a cell that lives, or of the one
@@ -76,7 +78,8 @@ pub fn sound_cells_name_a_cpu(config: &CellConfig)
 /// Where each cell that lives besides root names a CPU, and one that comes does, fewer than 15 live besides root
 /// until it has come: each has a CPU of the board's 16 for itself, and root keeps the caller.
 pub fn few_cells_live()
-    ensures { (image : TheImage) (f : Facts) (o : TheCall) (config : TheConfig) → IsSound image f → EachNamesCpu f.cells → NamesCpu config → f.call ≡ Some o → o.phase ≡ ToCreate config → length f.cells < 15 }
+    ensures { (image : TheImage) (f : Facts) (o : TheCall) (config : TheConfig) → IsSound image f → EachNamesCpu f.cells →
+        NamesCpu config → f.call ≡ Some o → o.phase ≡ ToCreate config → length f.cells < 15 }
 {}
 
 /// The devices of root may join at opening, and those of the cell that a Commit is about may join, be reset or leave.
@@ -86,7 +89,10 @@ pub fn devices_may_change()
     ensures opening { (image : TheImage) → IsAdmitted image → MayChange Joins [] image.system.root }
     ensures commit { (image : TheImage) (f : Facts) (entry : TheEntry) → IsDueEntry image f entry →
         IfSome (changing_by f.cells f.call entry.act) (MayChange (change_by f.call) f.endpoints) }
-    ensures comes { (image : TheImage) (f : Facts) (caller at : ℕ) (config : TheConfig) → IsSound image f → creation_of image f caller at ≡ Accepted config → HasGoodDevices config }
-    ensures interrupt { (image : TheImage) (f : Facts) (entry : TheEntry) → IsDueEntry image f entry → IsNextOf entry.cell f.endpoints entry.act }
-    ensures word { (image : TheImage) (f : Facts) (id value : ℕ) (found : TheReach) → IsSound image f → IfSome (endpoint_word_of_reach (devices_of image f id) found value) (IsWordOf f.endpoints) }
+    ensures comes { (image : TheImage) (f : Facts) (caller at : ℕ) (config : TheConfig) → IsSound image f →
+        creation_of image f caller at ≡ Accepted config → HasGoodDevices config }
+    ensures interrupt { (image : TheImage) (f : Facts) (entry : TheEntry) → IsDueEntry image f entry →
+        IsNextOf entry.cell f.endpoints entry.act }
+    ensures word { (image : TheImage) (f : Facts) (id value : ℕ) (found : TheReach) → IsSound image f →
+        IfSome (endpoint_word_of_reach (devices_of image f id) found value) (IsWordOf f.endpoints) }
 {}

@@ -47,7 +47,7 @@ pub enum Act {
         b: u64,
         answer: i64,
     },
-    /// A management call begins; its other phases are the acts below.
+    /// A management call begins; its other phases are the acts from `Decide` on.
     Begin {
         code: u64,
         a: u64,
@@ -59,18 +59,22 @@ pub enum Act {
     Decide {
         refused: Option<i64>,
     },
+    /// How the call's cell met the request to shut down.
     Settle {
         how: Settled,
     },
+    /// The call does what it is for: its cell comes, starts, is loadable or goes.
     Commit,
     /// The cell with this id is told of the change.
     Note {
         id: u32,
     },
+    /// How the cell with this id met the note.
     Noted {
         id: u32,
         how: Heard,
     },
+    /// The call ends with the answer.
     Finish {
         answer: i64,
     },

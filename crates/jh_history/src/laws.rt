@@ -30,16 +30,19 @@ pub fn admitted_roots_are_sound(image: &Image)
 }
 
 /// Where no program of an image has a hypercall, in its legal journals no cell lives besides root, no
-/// call is open, all CPUs are root's, and each entry is one of root that is no phase of a call.
+/// call is open, all CPUs are root's, and each entry is one of root that is no phase of a call. So is an entry that is
+/// due where root lives alone, and whatever the image, one of root that is no phase of a call leaves root alone.
 pub fn root_lives_alone()
     ensures alone { (j : SilentJournal) → IsAlone j.image (facts j.image j.entries) }
     ensures entries { (m : SilentMoment) → IsByRoot m.image m.entry }
     ensures due { (e : LoneEntry) → IsByRoot e.image e.entry }
-    ensures stays { (image : TheImage) (f : Facts) (entry : TheEntry) → IsAlone image f → IsByRoot image entry → IsAlone image (after image f entry) }
+    ensures stays { (image : TheImage) (f : Facts) (entry : TheEntry) → IsAlone image f → IsByRoot image entry →
+        IsAlone image (after image f entry) }
 {}
 
 /// What an access of one byte reads at each address of a row is the byte at its place, where each address has one; beyond
 /// the addresses there is none.
 pub fn rows_are_read_byte_by_byte()
-    ensures { (byte : ThePlace → ℕ) (place : ℕ → Option ThePlace) (at count : ℕ) → EndsWithAddresses place → bytes_by (byte_read byte place) at count ≡ option_map (map byte) (places_from place at count) }
+    ensures { (byte : ThePlace → ℕ) (place : ℕ → Option ThePlace) (at count : ℕ) → EndsWithAddresses place →
+        bytes_by (byte_read byte place) at count ≡ option_map (map byte) (places_from place at count) }
 {}

@@ -1,8 +1,8 @@
-//! Which cells may not be reconfigured.
+//! Which cells are locked: while one lives, no cell is created and no other is destroyed.
 ghost use Rattle.std.specs.Prelude.{◌≡◌, List};
 ghost use Rattle.std.specs.List.{list_any};
 ghost use Rattle.jh_cellcfg.specs.declared.live.Live.{Live as TheLive};
-ghost use Rattle.jh_history.specs.LiveView.{word_by, is_locked_by, is_other_locked_by};
+ghost use Rattle.jh_history.specs.LiveView.{state_word_by, is_locked_by, is_other_locked_by};
 ghost use Rattle.jh_shape.specs.Lives.{configs_of};
 
 use crate::bytes::{Bytes, value_of};
@@ -12,7 +12,7 @@ use jh_comm::{STATE_AT, STATE_RUNNING_LOCKED};
 
 /// The state of the cell.
 fn state_word<B: Bytes>(bytes: &B, cell: u32) -> u32
-    ensures { result ≡ word_by (B.byte_of bytes.now) cell }
+    ensures { result ≡ state_word_by (B.byte_of bytes.now) cell }
 {
     let places = Places::of_word(Place::Page {
         cell,
@@ -21,7 +21,7 @@ fn state_word<B: Bytes>(bytes: &B, cell: u32) -> u32
     value_of(bytes, &places) as u32
 }
 
-/// Whether the cell is locked, by these bytes: its state is that of one that runs and may not be reconfigured.
+/// Whether the cell is locked, by these bytes: its state is RUNNING_LOCKED.
 pub fn is_locked<B: Bytes>(bytes: &B, cell: &CellConfig) -> bool
     ensures { result ≡ is_locked_by (B.byte_of bytes.now) cell.now }
 {

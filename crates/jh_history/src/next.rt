@@ -117,10 +117,7 @@ fn is_reached(reach: &Reach) -> bool
     ensures { result ≡ is_reached reach.now }
 {
     match reach {
-        Reach::Memory(_) => true,
-        Reach::Subpage(_) => true,
-        Reach::Config(_) => true,
-        Reach::Window(_) => true,
+        Reach::Memory(_) | Reach::Subpage(_) | Reach::Config(_) | Reach::Window(_) => true,
         Reach::Nothing => false,
     }
 }
@@ -242,7 +239,7 @@ fn is_op_due<K: Known>(known: &K, cell: u32, op: Op) -> bool
     ensures { (i : TheImage) (f : Facts) → K.Knows known.now i f → result ≡ is_some (act_of i f cell op) }
 {
     match op {
-        Op::Read { .. } | Op::Write { .. } | Op::Fetch { .. } => true,
+        Op::Read { .. } | Op::Write { .. } | Op::Fetch { .. } | Op::Hvc { .. } => true,
         Op::Await { width, at, value } => {
             let wanted = Wanted {
                 access: Access::Read,
@@ -252,7 +249,6 @@ fn is_op_due<K: Known>(known: &K, cell: u32, op: Op) -> bool
             is_await_due(value, read_of(known, cell, &known.reach(cell, &wanted)))
         }
         Op::Irq => known.endpoints().pending(cell).is_some(),
-        Op::Hvc { .. } => true,
     }
 }
 

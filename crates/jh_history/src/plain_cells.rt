@@ -1,5 +1,5 @@
 //! The cells that live, for the slow plain program.
-ghost use Rattle.std.specs.Prelude.{◌≡◌, ℕ, ◌+◌, ◌<◌, [], ◌++◌, ◌∷◌, List, length, map, filter, Some, false, find, option_map, option_copied, OnOk, OnErr};
+ghost use Rattle.std.specs.Prelude.{◌≡◌, ◌+◌, ◌<◌, [], ◌++◌, ◌∷◌, List, length, map, filter, Some, false, OnOk, OnErr};
 ghost use Rattle.jh_cellcfg.specs.declared.live.Live.{Live as TheLive};
 ghost use Rattle.jh_history.specs.declared.call.Phase.{Phase as ThePhase};
 ghost use Rattle.jh_shape.specs.Shapes.{is_closed, holder_of_live};

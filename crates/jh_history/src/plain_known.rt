@@ -1,5 +1,5 @@
 //! The slow plain program as what tells the facts.
-ghost use Rattle.std.specs.Prelude.{◌≡◌, ◌≤◌, ℕ, length, IsTrue, IfOk};
+ghost use Rattle.std.specs.Prelude.{◌≡◌, IfOk};
 ghost use Rattle.jh_script.specs.declared.image.Image.{Image as TheImage};
 ghost use Rattle.jh_history.specs.Facts.{Facts};
 ghost use Rattle.jh_history.specs.Phases.{creation_of};
@@ -91,6 +91,7 @@ impl<'a> Plain<'a> {
         let cells = self.cells.configs();
         match creation_by(self.alloc, self.image, cells, &self.cpus, caller, read)? {
             Some(creation) => Ok(creation),
+            // never on a sound board: beside 15 cells no CPU is left that may be given away
             None => Err(NoMemory),
         }
     }

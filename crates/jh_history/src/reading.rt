@@ -1,7 +1,7 @@
 //! How a create reads a configuration: the bytes that root may read at an address.
 ghost use Rattle.std.specs.Prelude.{◌≡◌, ◌+◌, ◌%◌, ◌<◌, ◌≤◌, ℕ, None, IfOk, length};
 ghost use Rattle.jh_num.specs.declared.address.TheConstants.{ADDRESS_END};
-ghost use Rattle.jh_cellcfg.specs.Faults.{header_fault, header_size};
+ghost use Rattle.jh_cellcfg.specs.Faults.{header_fault};
 ghost use Rattle.jh_cellcfg.specs.Reading.{config_of};
 ghost use Rattle.jh_history.specs.Configs.{refused_for, read_whole, read_behind};
 ghost use Rattle.jh_history.specs.declared.reading.ReadCell.TheVariants.{Reads};
@@ -42,7 +42,7 @@ pub trait RootBytes {
 }
 
 /// How many bytes from the address on lie in its page and below the end.
-fn in_page(at: u64, end: u64) -> u16
+fn row_length(at: u64, end: u64) -> u16
     requires { at < end }
     ensures some { 1 ≤ result }
     ensures page { at % 4096 + result ≤ 4096 }
@@ -70,7 +70,7 @@ fn bytes_at<R: RootBytes>(
     let mut bytes = Vec::new(alloc);
     let mut next = at;
     while next < end {
-        let here = in_page(next, end);
+        let here = row_length(next, end);
         if !root.append(&mut bytes, next, here)? {
             return Ok(None);
         }

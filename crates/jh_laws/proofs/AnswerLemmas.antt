@@ -20,7 +20,7 @@ use Rattle.jh_history.specs.declared.entry.Act.{Act}
 use Rattle.jh_history.specs.declared.entry.Act.TheVariants.{Decide, Settle, Commit, Note, Noted, Finish}
 use Rattle.jh_history.specs.Facts.{Facts}
 use Rattle.jh_history.specs.Lives.{live_in}
-use Rattle.jh_history.specs.Calls.{is_named, counted, decided, after_note, call_by}
+use Rattle.jh_history.specs.Calls.{is_named, counted, after_decide, after_note, call_by}
 use Rattle.jh_history.specs.Pages.{named_cell}
 use Rattle.jh_history.specs.Phases.{phase_act, settled_of, heard_of}
 use Rattle.jh_shape.specs.Lives.{configs_of}
@@ -45,7 +45,7 @@ expects_over call phase [] act h = h
 expects_over call phase (entry ∷ entries) act h = expects_counted entry.cell call phase act (expects_over call (counted entry.cell call phase) entries act h)
 
 -- behind a Decide that goes on, a Settle is expected in one phase alone
-decided_settle : (call : Call) (coming : Option CellConfig) (how : Settled) → Expects (decided call coming None) (Settle how) → decided call coming None ≡ ToSettle 0
+decided_settle : (call : Call) (coming : Option CellConfig) (how : Settled) → Expects (after_decide call coming None) (Settle how) → after_decide call coming None ≡ ToSettle 0
 decided_settle (Create at) None how h = absurd (not_same is_decide (Decide h.0) (Settle how) refl refl (sym h.1))
 decided_settle (Create at) (Some config) how h = absurd (not_same is_commit Commit (Settle how) refl refl (sym h))
 decided_settle _ coming how h = refl
@@ -128,13 +128,13 @@ own_act image f o entry act sound is due own act_is =
 
 -- the call behind a Decide that goes on, and behind a note
 decided_call : (image : Image) (f : Facts) (entry : Entry) (o : OpenCall) (call : Call) → f.call ≡ Some o → o.caller ≡ entry.cpu → o.call ≡ call → entry.act ≡ Decide None
-    → (after image f entry).call ≡ Some (record { caller = entry.cpu; call = call; phase = decided call (coming_by image f call) None })
+    → (after image f entry).call ≡ Some (record { caller = entry.cpu; call = call; phase = after_decide call (coming_by image f call) None })
 decided_call image f entry o call opens caller same act =
     after_call image f entry
     ∙ ap (λ (c : Option OpenCall). call_by f.cells (option_and_then (λ (x : OpenCall). coming_by image f x.call) c) c entry entry.act) opens
     ∙ ap (call_by f.cells (coming_by image f o.call) (Some o) entry) act
-    ∙ ap (λ (k : Call). Some (record { caller = o.caller; call = k; phase = decided k (coming_by image f k) None })) same
-    ∙ ap (λ (k : ℕ). Some (record { caller = k; call = call; phase = decided call (coming_by image f call) None })) caller
+    ∙ ap (λ (k : Call). Some (record { caller = o.caller; call = k; phase = after_decide k (coming_by image f k) None })) same
+    ∙ ap (λ (k : ℕ). Some (record { caller = k; call = call; phase = after_decide call (coming_by image f call) None })) caller
 
 noted_call : (image : Image) (f : Facts) (entry : Entry) (o : OpenCall) (id about : ℕ) (answer : ℤ) → f.call ≡ Some o → o.caller ≡ entry.cpu → o.phase ≡ ToNote id about answer → entry.act ≡ Note id
     → (after image f entry).call ≡ Some (record { caller = entry.cpu; call = o.call; phase = ToNoted id about answer 0 })
@@ -160,11 +160,11 @@ settles_at image before middle rest decide settle call how admitted legal is act
     let caller : ℕ = decide.cpu in
     let coming : Option CellConfig = coming_by image f0 call in
     let made = decided_call image f0 decide o call of.opens of.caller same act in
-    let waits = waits_over image caller call (decided call coming None) f1 middle (sound_after image f0 decide s.sound s.first_due) made s.between others in
-    let open_there : OpenCall = record { caller = caller; call = call; phase = counted_over call (decided call coming None) middle } in
+    let waits = waits_over image caller call (after_decide call coming None) f1 middle (sound_after image f0 decide s.sound s.first_due) made s.between others in
+    let open_there : OpenCall = record { caller = caller; call = call; phase = counted_over call (after_decide call coming None) middle } in
     let acts = own_act image f open_there settle (Settle how) waits.0 waits.1 s.last_due own settles in
-    let expected = expects_over call (decided call coming None) middle (Settle how) (phase_expects image f (is_idle_but image f caller) caller call (counted_over call (decided call coming None) middle) (Settle how) acts) in
-    let says = settles_there image f caller call middle (decided call coming None) settle how (decided_settle call coming how expected) waits.0 waits.1 acts in
+    let expected = expects_over call (after_decide call coming None) middle (Settle how) (phase_expects image f (is_idle_but image f caller) caller call (counted_over call (after_decide call coming None) middle) (Settle how) acts) in
+    let says = settles_there image f caller call middle (after_decide call coming None) settle how (decided_settle call coming how expected) waits.0 waits.1 acts in
     let P : Facts → Type 0 = λ g. (config : CellConfig) × Contains (configs_of g.cells) config × (is_named call config.id ≡ true) × IsSettledBy image g caller config (made_by_named call middle) how in
     subst P (sym (facts_append image before (decide ∷ middle))) says
 

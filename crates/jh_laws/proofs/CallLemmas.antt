@@ -26,7 +26,7 @@ use Rattle.jh_history.specs.declared.entry.Heard.{Heard}
 use Rattle.jh_history.specs.declared.entry.Act.{Act}
 use Rattle.jh_history.specs.declared.entry.Act.TheVariants.{Read, Write, Fetch, Await, Irq, Hvc, Begin, Stop, Decide, Settle, Commit, Note, Noted, Finish}
 use Rattle.jh_history.specs.Facts.{Facts}
-use Rattle.jh_history.specs.Calls.{is_named, counted, telling, first_recipient, listed_behind, decided, after_settle, after_commit, phase_after, call_by, is_call}
+use Rattle.jh_history.specs.Calls.{is_named, counted, telling, first_recipient, listed_behind, after_decide, after_settle, after_commit, phase_after, call_by, is_call}
 use Rattle.jh_num.specs.Numbers.{counted_up}
 use Rattle.jh_history.specs.declared.reading.ReadCell.{ReadCell}
 use Rattle.jh_history.specs.Configs.{config_read}
@@ -150,10 +150,10 @@ telling_follows about answer answers None next is h = inr (answer, is, h)
 telling_follows about answer answers (Some id) next is h = inl (id, h)
 
 -- the Decide
-decide_follows : (image : Image) (f : Facts) (caller : ℕ) (call : Call) (o : Option ℤ) (next : Act) → decision image f caller call ≡ o → Expects (decided call (coming_by image f call) o) next → MayFollow call (Decide o) next
+decide_follows : (image : Image) (f : Facts) (caller : ℕ) (call : Call) (o : Option ℤ) (next : Act) → decision image f caller call ≡ o → Expects (after_decide call (coming_by image f call) o) next → MayFollow call (Decide o) next
 decide_follows image f caller (Create at) None next is h =
     let coming = coming_from_decision image f caller at is in
-    let P : ReadCell → Type 0 = λ r. Expects (decided (Create at) (config_read r) None) next → next ≡ Commit in
+    let P : ReadCell → Type 0 = λ r. Expects (after_decide (Create at) (config_read r) None) next → next ≡ Commit in
     subst P (sym coming.reads) (λ k. k) h
 decide_follows image f caller _ (Some number) next is h = h
 decide_follows image f caller _ None next is h = h
@@ -187,7 +187,7 @@ phase_follows image f entry caller call ToDecide idle opens h more =
     let refused : Option ℤ = decision image f caller call in
     let P : Act → Type 0 = λ act. GoesOnWith (call_by f.cells (coming_by image f call) (Some o) entry act) caller act in
     let is : entry.act ≡ Decide refused = unless (any_below (λ i. keeps_decide image caller i (f.cpu i)) 16) (Decide refused) entry.act h in
-    subst P (sym is) (record { caller = caller; call = call; phase = decided call (coming_by image f call) refused }, refl, refl, λ next e. decide_follows image f caller call refused next refl e)
+    subst P (sym is) (record { caller = caller; call = call; phase = after_decide call (coming_by image f call) refused }, refl, refl, λ next e. decide_follows image f caller call refused next refl e)
 phase_follows image f entry caller call (ToSettle waited) idle opens h more =
     let o : OpenCall = record { caller = caller; call = call; phase = ToSettle waited } in
     let P : Act → Type 0 = λ act. GoesOnWith (call_by f.cells (coming_by image f call) (Some o) entry act) caller act in

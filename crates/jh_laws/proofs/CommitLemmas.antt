@@ -18,7 +18,7 @@ use Rattle.jh_history.specs.declared.entry.Entry.{Entry}
 use Rattle.jh_history.specs.declared.entry.Act.{Act}
 use Rattle.jh_history.specs.declared.entry.Act.TheVariants.{Decide, Settle, Commit, Note, Noted, Finish}
 use Rattle.jh_history.specs.Facts.{Facts}
-use Rattle.jh_history.specs.Calls.{call_by, decided}
+use Rattle.jh_history.specs.Calls.{call_by, after_decide}
 use Rattle.jh_history.specs.Commits.{cells_by, committed_cells, is_other, is_commit}
 use Rattle.jh_history.specs.Configs.{config_read, read_at}
 use Rattle.jh_history.specs.History.{after, facts, coming_of, coming_by}
@@ -119,7 +119,7 @@ creating_commits image caller at config f entry sound is due own =
     (entry_of_call image f o entry sound is due)
 
 -- behind the Decide that goes on
-decided_by : (caller at : ℕ) (call : Option OpenCall) (o : OpenCall) (coming : Option CellConfig) → call ≡ Some (record { caller = caller; call = Create at; phase = decided (Create at) coming None }) → call ≡ Some o → IsPast o.phase
+decided_by : (caller at : ℕ) (call : Option OpenCall) (o : OpenCall) (coming : Option CellConfig) → call ≡ Some (record { caller = caller; call = Create at; phase = after_decide (Create at) coming None }) → call ≡ Some o → IsPast o.phase
     → (config : CellConfig) × (coming ≡ Some config) × (call ≡ Some (creating caller at config))
 decided_by caller at call o None is opens past =
     let same : record { caller = caller; call = Create at; phase = ToDecide } ≡ o = same_Some (record { caller = caller; call = Create at; phase = ToDecide }) o (sym is ∙ opens) in
@@ -133,13 +133,13 @@ decided_call image f entry at sound due act o opens caller call =
     let phase : is_phase entry.act ≡ true = ap is_phase act in
     let goes = phase_goes image f entry sound due phase (ap is_finish act) in
     let coming : coming_of image f ≡ coming_by image f o.call = ap (option_and_then (λ (c : OpenCall). coming_by image f c.call)) opens in
-    let made : (after image f entry).call ≡ Some (record { caller = entry.cpu; call = Create at; phase = decided (Create at) (config_read (read_at image f at)) None }) =
+    let made : (after image f entry).call ≡ Some (record { caller = entry.cpu; call = Create at; phase = after_decide (Create at) (config_read (read_at image f at)) None }) =
     after_call image f entry
     ∙ ap (λ (c : Option OpenCall). call_by f.cells (coming_of image f) c entry entry.act) opens
     ∙ ap (λ (k : Option CellConfig). call_by f.cells k (Some o) entry entry.act) coming
     ∙ ap (call_by f.cells (coming_by image f o.call) (Some o) entry) act
-    ∙ ap (λ (k : Call). Some (record { caller = o.caller; call = k; phase = decided k (coming_by image f k) None })) call
-    ∙ ap (λ (k : ℕ). Some (record { caller = k; call = Create at; phase = decided (Create at) (config_read (read_at image f at)) None })) caller in
+    ∙ ap (λ (k : Call). Some (record { caller = o.caller; call = k; phase = after_decide k (coming_by image f k) None })) call
+    ∙ ap (λ (k : ℕ). Some (record { caller = k; call = Create at; phase = after_decide (Create at) (config_read (read_at image f at)) None })) caller in
     decided_by entry.cpu at (after image f entry).call goes.0 (config_read (read_at image f at)) made goes.1 (past_from goes.0.call entry.act goes.0.phase phase goes.3)
 
 made_cells : (behind made there up_to : Facts) (config : CellConfig) → behind ≡ made → made.cells ≡ there.cells ++ new_live config ∷ [] → up_to ≡ there

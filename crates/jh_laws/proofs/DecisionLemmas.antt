@@ -39,7 +39,7 @@ use Rattle.jh_history.specs.Due.{due_at, is_idle_but, IsLegal}
 use Rattle.jh_history.proofs.Public.{due_split, IsLegal_begin, other_root, legal_sound, call_open}
 use Rattle.jh_history.specs.Sound.{AreSoundCells}
 use Rattle.jh_laws.specs.Ways.{is_phase, is_decide, begun_call}
-use Rattle.jh_laws.specs.Decisions.{IsLockedBy, NoneIsLocked, NoOtherIsLocked, LivesNot, IsIdDecision, IsDestroyDecision, IsReadRefusal, IsRefusedOf, IsCreateDecision, IsDecision}
+use Rattle.jh_laws.specs.Decisions.{LivesLocked, NoneIsLocked, NoOtherIsLocked, LivesNot, IsIdDecision, IsDestroyDecision, IsReadRefusal, IsRefusedOf, IsCreateDecision, IsDecision}
 use Rattle.jh_laws.proofs.CallLemmas.{phase_expects, phase_of_due, same_call, not_same}
 use Rattle.jh_laws.proofs.HeldLemmas.{live_cell}
 use Rattle.jh_laws.proofs.HvcLemmas.{none_live}
@@ -65,14 +65,13 @@ id_goes image f id config sound held is =
 
 id_decision : (image : Image) (f : Facts) (id : ℕ) → AreSoundCells image.system (configs_of f.cells) → IsIdDecision image f id (id_refusal image f id)
 id_decision image f id sound = record {
-  root = λ is. id_root image f id is;
-  none = λ other none. id_none image f id other none;
+  id_refused = record { root = λ is. id_root image f id is; none = λ other none. id_none image f id other none };
   goes = λ config held is. id_goes image f id config sound held is;
 }
 
 -- ---- a destroy
 
-other_locked : (f : Facts) (id : ℕ) (live : Live) → IsLockedBy f live → id_of live ≢ id → list_any (is_other_locked f id) f.cells ≡ true
+other_locked : (f : Facts) (id : ℕ) (live : Live) → LivesLocked f live → id_of live ≢ id → list_any (is_other_locked f id) f.cells ≡ true
 other_locked f id live locked other =
     list_any_from_Contains (is_other_locked f id) f.cells live locked.0
     (and_from (not (has_id id live)) (is_locked f live) (not_from_false (has_id id live) (ne_eqb (id_of live) id other)) (eq-eqb (state_word f (id_of live)) STATE_RUNNING_LOCKED locked.1))
@@ -90,15 +89,14 @@ destroy_decision image f id sound =
     let locked : Bool = list_any (is_other_locked f id) f.cells in
     let by : Option ℤ → Option ℤ = λ o. first_refusal o locked in
     record {
-      root = λ is. ap by (id_root image f id is);
-      none = λ other none. ap by (id_none image f id other none);
+      id_refused = record { root = λ is. ap by (id_root image f id is); none = λ other none. ap by (id_none image f id other none) };
       locked = λ config other held is lock apart. ap by (id_goes image f id config sound held is) ∙ ap (λ (b : Bool). cond b (Some EPERM) None) (other_locked f id other lock apart);
       goes = λ config held is none. ap by (id_goes image f id config sound held is) ∙ ap (λ (b : Bool). cond b (Some EPERM) None) (none_other_locked f id none);
     }
 
 -- ---- a create
 
-some_locked : (f : Facts) (live : Live) → IsLockedBy f live → list_any (is_locked f) f.cells ≡ true
+some_locked : (f : Facts) (live : Live) → LivesLocked f live → list_any (is_locked f) f.cells ≡ true
 some_locked f live locked = list_any_from_Contains (is_locked f) f.cells live locked.0 (eq-eqb (state_word f (id_of live)) STATE_RUNNING_LOCKED locked.1)
 
 none_locked : (f : Facts) → NoneIsLocked f → list_any (is_locked f) f.cells ≡ false

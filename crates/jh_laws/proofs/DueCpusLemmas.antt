@@ -124,11 +124,13 @@ state_ready image f cpu admitted sound none due =
     (λ stops. inl stops.0)
     (λ (program : IsOfProgram image f (f.cpu cpu) cpu act.0).
     inr (record {
-      none = none;
-      running = running_mode (f.cpu cpu) (goes_running (f.cpu cpu) program.goes);
-      calm = goes_calm (f.cpu cpu) program.goes;
       op = program.op;
-      at = program.at;
+      at = record {
+        none = none;
+        running = running_mode (f.cpu cpu) (goes_running (f.cpu cpu) program.goes);
+        calm = goes_calm (f.cpu cpu) program.goes;
+        at = program.at;
+      };
       due = op_due image f (f.cpu cpu).owner program.op sound (well_formed_at image f cpu program.op admitted program.at) (ap (λ (o : Option Act). is_some o) program.is);
     }))
     (state_parts image f (f.cpu cpu) cpu act.0 act.1)
@@ -139,10 +141,10 @@ asked_state image f cpu asked = ap (λ (b : Bool). is_some (cond b (Some Stop) (
 program_state : (image : Image) (f : Facts) (cpu : ℕ) → IsAdmitted image → IsSound image f → IsReadyProgram image f cpu → is_some (state_act image f (f.cpu cpu) cpu) ≡ true
 program_state image f cpu admitted sound ready =
     let state : Cpu = f.cpu cpu in
-    let goes : goes_on state ≡ true = calm_goes state ready.calm ready.running in
-    ap (λ (b : Bool). is_some (cond b (Some Stop) (option_and_then (act_of image f state.owner) (pending_op image f state cpu)))) ready.calm.asked
+    let goes : goes_on state ≡ true = calm_goes state ready.at.calm ready.at.running in
+    ap (λ (b : Bool). is_some (cond b (Some Stop) (option_and_then (act_of image f state.owner) (pending_op image f state cpu)))) ready.at.calm.asked
     ∙ ap (λ (b : Bool). is_some (option_and_then (act_of image f state.owner) (cond b (op_at image f state cpu) None))) goes
-    ∙ ap (λ (o : Option Op). is_some (option_and_then (act_of image f state.owner) o)) ready.at
+    ∙ ap (λ (o : Option Op). is_some (option_and_then (act_of image f state.owner) o)) ready.at.at
     ∙ due_op image f state.owner ready.op sound (well_formed_at image f cpu ready.op admitted ready.at) ready.due
 
 -- ---- nothing due to any other
@@ -573,6 +575,6 @@ due_from_ready image f cpu admitted sound ready =
     let o : OpenCall = caller.0 in
     let opens = call_open image f o sound caller.1 in
     ap (λ (a : Option Act). is_some a) (own_next image f o cpu caller.1 caller.2 opens.caller) ∙ ready_phase image f o.caller o.call o.phase sound caller.1 opens caller.3)
-    (λ (program : IsReadyProgram image f cpu). ap (λ (a : Option Act). is_some a) (state_next image f cpu f.call refl program.none) ∙ program_state image f cpu admitted sound program)
+    (λ (program : IsReadyProgram image f cpu). ap (λ (a : Option Act). is_some a) (state_next image f cpu f.call refl program.at.none) ∙ program_state image f cpu admitted sound program)
     rest)
     ready.what

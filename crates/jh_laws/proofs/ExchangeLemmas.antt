@@ -25,7 +25,8 @@ use Rattle.jh_shape.specs.Lives.{configs_of}
 use Rattle.jh_history.specs.History.{after}
 use Rattle.jh_history.specs.Due.{is_idle_but, IsLegalFrom}
 use Rattle.jh_history.specs.Sound.{AreSoundCells, IsSound}
-use Rattle.jh_laws.specs.Exchanges.{how_many, IsTimeOver, IsSettledBy, IsHeardBy}
+use Rattle.jh_laws.specs.Exchanges.{how_many, IsSettledBy, IsHeardBy}
+use Rattle.jh_laws.specs.Ready.{IsTimeOver}
 use Rattle.jh_history.proofs.Public.{sound_after}
 use Rattle.jh_laws.proofs.CallLemmas.{IsBeside, entry_of_call, call_counted}
 use Rattle.jh_laws.proofs.DueCpusLemmas.{idle_nothing, over_parts}

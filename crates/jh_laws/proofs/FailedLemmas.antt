@@ -69,7 +69,7 @@ not_ready image f cpu sound failed ready =
     let made = (call_open image f caller.0 sound caller.1).caller in
     let P : ℕ → Type 0 = λ k. (f.cpu k).mode ≡ Running in
     failed_runs (f.cpu cpu) failed.0 (subst P caller.2 made.running))
-    (λ (program : IsReadyProgram image f cpu). failed_runs (f.cpu cpu) failed.0 program.running)
+    (λ (program : IsReadyProgram image f cpu). failed_runs (f.cpu cpu) failed.0 program.at.running)
     rest)
     ready.what
 

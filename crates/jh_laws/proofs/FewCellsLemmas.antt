@@ -41,7 +41,7 @@ use Rattle.jh_history.specs.Lives.{is_on_board, live_in}
 use Rattle.jh_history.specs.Grants.{granted, reach, devices_of}
 use Rattle.jh_history.specs.Endpoints.{specs_changing, with_words}
 use Rattle.jh_history.specs.Bytes.{byte_written, byte_after}
-use Rattle.jh_history.specs.Calls.{is_named, counted, telling, first_recipient, listed_behind, decided, after_settle, after_commit, after_note, after_noted, phase_after, call_by}
+use Rattle.jh_history.specs.Calls.{is_named, counted, telling, first_recipient, listed_behind, after_decide, after_settle, after_commit, after_note, after_noted, phase_after, call_by}
 use Rattle.jh_num.specs.Numbers.{counted_up}
 use Rattle.jh_history.specs.Commits.{cells_by, committed_cells, is_other, is_commit}
 use Rattle.jh_history.specs.Configs.{bytes_at, read_whole, read_behind, read_from, read_at, config_read}
@@ -111,7 +111,7 @@ coming_of_typed : (image : Image) (f : Facts) (call : Option OpenCall) (config :
 coming_of_typed image f None config small h = absurd (none-some config h)
 coming_of_typed image f (Some o) config small h = coming_typed image f o.call config small h
 
-decided_typed : (call : Call) (coming : Option CellConfig) (refused : Option ℤ) → ((config : CellConfig) → coming ≡ Some config → IsTyped config) → IfSome refused (FitsSigned w64) → IsTypedPhase (decided call coming refused)
+decided_typed : (call : Call) (coming : Option CellConfig) (refused : Option ℤ) → ((config : CellConfig) → coming ≡ Some config → IsTyped config) → IfSome refused (FitsSigned w64) → IsTypedPhase (after_decide call coming refused)
 decided_typed call coming (Some number) h fits = fits
 decided_typed (Create at) (Some config) None h fits = h config refl
 decided_typed (Create at) None None h fits = tt

@@ -23,22 +23,22 @@ use Rattle.jh_laws.proofs.PendingLemmas.{next_is}
 program_pending : (image : Image) (f : Facts) (cpu : ℕ) → op_at image f (f.cpu cpu) cpu ≡ Some IrqOp → IsReadyProgram image f cpu → HasPending f (f.cpu cpu).owner
 program_pending image f cpu at ready =
     let P : Op → Type 0 = IsDueIn image f (f.cpu cpu).owner in
-    subst P (same_Some ready.op IrqOp (sym ready.at ∙ at)) ready.due
+    subst P (same_Some ready.op IrqOp (sym ready.at.at ∙ at)) ready.due
 
 pub ready_pending : (image : Image) (f : Facts) (cpu : ℕ) → IsAtInterrupt image f cpu → IsReadyAt image f cpu → HasPending f (f.cpu cpu).owner
 ready_pending image f cpu is ready =
     ⊎_elim
-    (λ (asked : (f.cpu cpu).asked ≡ true). absurd (both_ways (f.cpu cpu).asked is.calm.asked asked))
+    (λ (asked : (f.cpu cpu).asked ≡ true). absurd (both_ways (f.cpu cpu).asked is.at.calm.asked asked))
     (λ more. ⊎_elim
-    (λ (caller : IsReadyCaller image f cpu). absurd (is.none caller.0 caller.1 caller.2))
-    (λ (program : IsReadyProgram image f cpu). program_pending image f cpu is.at program)
+    (λ (caller : IsReadyCaller image f cpu). absurd (is.at.none caller.0 caller.1 caller.2))
+    (λ (program : IsReadyProgram image f cpu). program_pending image f cpu is.at.at program)
     more)
     ready.what
 
 pub pending_ready : (image : Image) (f : Facts) (cpu : ℕ) → IsAtInterrupt image f cpu → HasPending f (f.cpu cpu).owner → IsReadyAt image f cpu
 pending_ready image f cpu is pending = record {
   board = is.board;
-  what = inr (inr (record { none = is.none; running = is.running; calm = is.calm; op = IrqOp; at = is.at; due = pending }));
+  what = inr (inr (record { op = IrqOp; at = is.at; due = pending }));
 }
 
 -- an interrupt takes the next

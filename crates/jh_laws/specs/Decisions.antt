@@ -21,8 +21,8 @@ use Rattle.jh_history.specs.ReadView.{refusal_by}
 use Rattle.jh_shape.specs.Lives.{configs_of}
 
 -- the cell lives besides root, and is locked
-abbrev pub IsLockedBy : Facts → Live → Type 0
-IsLockedBy f live = Contains f.cells live × (state_word f (id_of live) ≡ STATE_RUNNING_LOCKED)
+abbrev pub LivesLocked : Facts → Live → Type 0
+LivesLocked f live = Contains f.cells live × (state_word f (id_of live) ≡ STATE_RUNNING_LOCKED)
 
 -- no cell that lives besides root is locked
 abbrev pub NoneIsLocked : Facts → Type 0
@@ -36,17 +36,20 @@ NoOtherIsLocked f id = (live : Live) → Contains f.cells live → id_of live �
 abbrev pub LivesNot : Facts → ℕ → Type 0
 LivesNot f id = (config : CellConfig) → Contains (configs_of f.cells) config → config.id ≢ id
 
--- what a start or a set loadable is refused for: root's id, and one that no cell has
-pub record IsIdDecision (image : Image) (f : Facts) (id : ℕ) (refused : Option ℤ) : Type 0 where
+-- what a start, a set loadable or a destroy is refused for by its id: root's, and one that no cell has
+pub record IsIdRefusal (image : Image) (f : Facts) (id : ℕ) (refused : Option ℤ) : Type 0 where
   pub root : id ≡ image.system.root.id → refused ≡ Some EINVAL
   pub none : id ≢ image.system.root.id → LivesNot f id → refused ≡ Some ENOENT
+
+-- what a start or a set loadable is refused for: root's id, and one that no cell has
+pub record IsIdDecision (image : Image) (f : Facts) (id : ℕ) (refused : Option ℤ) : Type 0 where
+  pub id_refused : IsIdRefusal image f id refused
   pub goes : (config : CellConfig) → Contains (configs_of f.cells) config → config.id ≡ id → refused ≡ None
 
 -- what a destroy is refused for: root's id, one that no cell has, and then another cell that is locked
 pub record IsDestroyDecision (image : Image) (f : Facts) (id : ℕ) (refused : Option ℤ) : Type 0 where
-  pub root : id ≡ image.system.root.id → refused ≡ Some EINVAL
-  pub none : id ≢ image.system.root.id → LivesNot f id → refused ≡ Some ENOENT
-  pub locked : (config : CellConfig) (other : Live) → Contains (configs_of f.cells) config → config.id ≡ id → IsLockedBy f other → id_of other ≢ id → refused ≡ Some EPERM
+  pub id_refused : IsIdRefusal image f id refused
+  pub locked : (config : CellConfig) (other : Live) → Contains (configs_of f.cells) config → config.id ≡ id → LivesLocked f other → id_of other ≢ id → refused ≡ Some EPERM
   pub goes : (config : CellConfig) → Contains (configs_of f.cells) config → config.id ≡ id → NoOtherIsLocked f id → refused ≡ None
 
 -- what a create is refused for where no configuration is read: root may not read its 132 bytes of header, the header
@@ -65,7 +68,7 @@ pub record IsRefusedOf (image : Image) (f : Facts) (caller : ℕ) (config : Cell
 -- what a create is refused for: a cell that is locked, else what can't be read, and else what refuses the configuration
 -- that was read
 pub record IsCreateDecision (image : Image) (f : Facts) (caller at : ℕ) (refused : Option ℤ) : Type 0 where
-  pub locked : (live : Live) → IsLockedBy f live → refused ≡ Some EPERM
+  pub locked : (live : Live) → LivesLocked f live → refused ≡ Some EPERM
   pub unread : NoneIsLocked f → IsReadRefusal image f at refused
   pub read : NoneIsLocked f → (header bytes : List ℕ) → bytes_at image f at 132 ≡ Some header → header_fault header ≡ None
       → bytes_at image f at (header_size header) ≡ Some bytes → IsRefusedOf image f caller (config_of bytes) refused

@@ -12,6 +12,7 @@ use Rattle.jh_history.specs.Lives.{is_on_board}
 use Rattle.jh_history.specs.Admitted.{pool_pages}
 use Rattle.jh_history.specs.Phases.{state_word}
 use Rattle.jh_shape.specs.Lives.{configs_of}
+use Rattle.jh_laws.specs.Decisions.{LivesNot}
 
 -- the answer to a request for information about the hypervisor: the pool's pages, those used, the live cells with root
 pub record IsInfoAnswer (image : Image) (f : Facts) (kind : ℕ) (answer : ℤ) : Type 0 where
@@ -27,16 +28,20 @@ pub record IsStateAnswer (image : Image) (f : Facts) (cell id : ℕ) (answer : �
   pub root : cell ≡ image.system.root.id → id ≡ image.system.root.id → answer ≡ pos 0
   pub state : (config : CellConfig) → cell ≡ image.system.root.id → Contains (configs_of f.cells) config → config.id ≡ id → state_word f id ≤ 4 → answer ≡ pos (state_word f id)
   pub wrong : (config : CellConfig) → cell ≡ image.system.root.id → Contains (configs_of f.cells) config → config.id ≡ id → 4 < state_word f id → answer ≡ EINVAL
-  pub none : cell ≡ image.system.root.id → id ≢ image.system.root.id → ((config : CellConfig) → Contains (configs_of f.cells) config → config.id ≢ id) → answer ≡ ENOENT
+  pub none : cell ≡ image.system.root.id → id ≢ image.system.root.id → LivesNot f id → answer ≡ ENOENT
+
+-- the cell may see the CPU: root sees each, and another cell its own
+abbrev pub MaySeeCpu : Image → Facts → ℕ → ℕ → Type 0
+MaySeeCpu image f cell cpu = (cell ≡ image.system.root.id) ⊎ ((f.cpu cpu).owner ≡ cell)
 
 -- the answer to a request for information about a CPU, by the first of these: the board lacks it, it is another cell's
 -- and root doesn't ask, the kind isn't 0, it has failed
 pub record IsCpuAnswer (image : Image) (f : Facts) (cell cpu kind : ℕ) (answer : ℤ) : Type 0 where
   pub absent : is_on_board image cpu ≡ false → answer ≡ EINVAL
   pub foreign : is_on_board image cpu ≡ true → cell ≢ image.system.root.id → (f.cpu cpu).owner ≢ cell → answer ≡ EPERM
-  pub wrong : is_on_board image cpu ≡ true → (cell ≡ image.system.root.id) ⊎ ((f.cpu cpu).owner ≡ cell) → kind ≢ 0 → answer ≡ EINVAL
-  pub failed : is_on_board image cpu ≡ true → (cell ≡ image.system.root.id) ⊎ ((f.cpu cpu).owner ≡ cell) → kind ≡ 0 → (f.cpu cpu).mode ≡ Failed → answer ≡ pos 2
-  pub good : is_on_board image cpu ≡ true → (cell ≡ image.system.root.id) ⊎ ((f.cpu cpu).owner ≡ cell) → kind ≡ 0 → (f.cpu cpu).mode ≢ Failed → answer ≡ pos 0
+  pub wrong : is_on_board image cpu ≡ true → MaySeeCpu image f cell cpu → kind ≢ 0 → answer ≡ EINVAL
+  pub failed : is_on_board image cpu ≡ true → MaySeeCpu image f cell cpu → kind ≡ 0 → (f.cpu cpu).mode ≡ Failed → answer ≡ pos 2
+  pub good : is_on_board image cpu ≡ true → MaySeeCpu image f cell cpu → kind ≡ 0 → (f.cpu cpu).mode ≢ Failed → answer ≡ pos 0
 
 -- what the cell's call is answered: calls that manage cells are root's
 abbrev pub IsAnswer : Image → Facts → ℕ → Call → ℤ → Type 0

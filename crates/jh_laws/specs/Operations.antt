@@ -2,7 +2,7 @@
 use Rattle.std.specs.Prelude.{◌≡◌, ℕ, false, ◌==◌, List, Option, Some, None, slice_get, IsTrue, if◌then◌else◌}
 use Rattle.std.specs.List.{filter_map}
 use Rattle.jh_cellcfg.specs.declared.config.CellConfig.{CellConfig}
-use Rattle.jh_cellcfg.specs.Cells.{name_of, is_cpu_set}
+use Rattle.jh_cellcfg.specs.Cells.{name_of}
 use Rattle.jh_cpu.specs.declared.cpu.Mode.TheVariants.{Running}
 use Rattle.jh_script.specs.declared.image.Image.{Image}
 use Rattle.jh_script.specs.declared.op.Op.{Op}
@@ -12,7 +12,7 @@ use Rattle.jh_history.specs.declared.entry.Entry.{Entry}
 use Rattle.jh_history.specs.declared.entry.Act.{Act}
 use Rattle.jh_history.specs.declared.entry.Act.TheVariants.{Read, Write, Fetch, Await, Irq, Hvc, Begin}
 use Rattle.jh_history.specs.History.{facts}
-use Rattle.jh_history.specs.Lives.{program_ops}
+use Rattle.jh_history.specs.Lives.{is_on_board, program_ops}
 use Rattle.jh_laws.specs.Moments.{AdmittedMoment, state_before}
 use Rattle.jh_laws.specs.RootAlone.{cpu_at}
 use Rattle.jh_laws.specs.Ends.{IsAnswered, IsReadBy}
@@ -59,7 +59,7 @@ IsDueOp image entries cell (HvcOp code a b) = ⊥
 -- the CPU, which is the cell's, is one of the board's, runs, is neither asked to stop nor stopped, and
 -- its program has an operation at its position that is due
 pub record IsReady (image : Image) (entries : List Entry) (cell : CellConfig) (cpu : ℕ) : Type 0 where
-  pub board : IsTrue (is_cpu_set image.system.root.cpu_set cpu)
+  pub board : IsTrue (is_on_board image cpu)
   pub running : (cpu_at image entries cpu).mode ≡ Running
   pub asked : (cpu_at image entries cpu).asked ≡ false
   pub stopped : (cpu_at image entries cpu).stopped ≡ false

@@ -31,14 +31,14 @@ IsDueIn image f id _ = Unit {0}
 abbrev pub NothingElseIsDue : Image → Facts → ℕ → Type 0
 NothingElseIsDue image f caller = (cpu : ℕ) → cpu ≢ caller → due_at image f cpu ≡ None
 
--- the cell that was told has answered, or its time is over: it is down, there is a reply, so many entries of its CPUs
--- were made, or nothing is due to any other CPU
+-- the cell's time is over: its CPUs have made as many entries as its configuration gives it, if that isn't 0, or nothing
+-- is due to any CPU but the caller
+abbrev pub IsTimeOver : Image → Facts → ℕ → CellConfig → ℕ → Type 0
+IsTimeOver image f caller config waited = ((config.msg_reply_timeout ≢ 0) × (config.msg_reply_timeout ≤ waited)) ⊎ NothingElseIsDue image f caller
+
+-- the cell that was asked or told is waited for no more: it is down, there is a reply, or its time is over
 abbrev pub HasHeard : Image → Facts → ℕ → CellConfig → ℕ → Type 0
-HasHeard image f caller config waited =
-    (is_down (state_word f config.id) ≡ true)
-    ⊎ (reply_word f config.id ≢ 0)
-    ⊎ ((config.msg_reply_timeout ≢ 0) × (config.msg_reply_timeout ≤ waited))
-    ⊎ NothingElseIsDue image f caller
+HasHeard image f caller config waited = (is_down (state_word f config.id) ≡ true) ⊎ (reply_word f config.id ≢ 0) ⊎ IsTimeOver image f caller config waited
 
 -- each CPU of root on the board but the caller has stopped, where it was asked to
 abbrev pub RootHasStopped : Image → Facts → ℕ → Type 0
@@ -59,22 +59,23 @@ IsPhaseDue image f o (ToFinish answer) = Unit {0}
 abbrev pub IsReadyCaller : Image → Facts → ℕ → Type 0
 IsReadyCaller image f cpu = (o : OpenCall) × (f.call ≡ Some o) × (o.caller ≡ cpu) × IsPhaseDue image f o o.phase
 
--- the CPU has no call open, goes on with its program, and its operation is due
-pub record IsReadyProgram (image : Image) (f : Facts) (cpu : ℕ) : Type 0 where
+-- the CPU has no call open, goes on with its program, and is at the operation
+pub record IsAtOperation (image : Image) (f : Facts) (cpu : ℕ) (op : Op) : Type 0 where
   pub none : (o : OpenCall) → f.call ≡ Some o → o.caller ≢ cpu
   pub running : (f.cpu cpu).mode ≡ Running
   pub calm : IsCalm (f.cpu cpu)
-  pub op : Op
   pub at : op_at image f (f.cpu cpu) cpu ≡ Some op
+
+-- the CPU has no call open, goes on with its program, and its operation is due
+pub record IsReadyProgram (image : Image) (f : Facts) (cpu : ℕ) : Type 0 where
+  pub op : Op
+  pub at : IsAtOperation image f cpu op
   pub due : IsDueIn image f (f.cpu cpu).owner op
 
 -- the CPU is the board's, has no call open, goes on with its program, and is at the wait for an interrupt
 pub record IsAtInterrupt (image : Image) (f : Facts) (cpu : ℕ) : Type 0 where
   pub board : is_on_board image cpu ≡ true
-  pub none : (o : OpenCall) → f.call ≡ Some o → o.caller ≢ cpu
-  pub running : (f.cpu cpu).mode ≡ Running
-  pub calm : IsCalm (f.cpu cpu)
-  pub at : op_at image f (f.cpu cpu) cpu ≡ Some IrqOp
+  pub at : IsAtOperation image f cpu IrqOp
 
 -- the CPU is the board's, and is asked to stop, or has a phase of its call due, or an operation of its program
 pub record IsReadyAt (image : Image) (f : Facts) (cpu : ℕ) : Type 0 where

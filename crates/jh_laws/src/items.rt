@@ -1,12 +1,12 @@
 //! What schedules make, and how they end.
 ghost use Rattle.std.specs.Prelude.{◌≡◌, ◌<◌, ◌≤◌, ◌↔◌, ◌+◌, ℕ, List, [], ◌++◌, length, IsSome, IsTrue, Contains, true, false};
 ghost use Rattle.std.specs.List.Sorted.{IsStrictlyIncreasing};
-ghost use Rattle.jh_cellcfg.specs.Cells.{is_cpu_set};
 ghost use Rattle.jh_script.specs.declared.image.Image.{Image as TheImage};
 ghost use Rattle.jh_history.specs.declared.entry.Entry.{Entry as TheEntry};
 ghost use Rattle.jh_history.specs.Admitted.{IsAdmitted};
 ghost use Rattle.jh_history.specs.Due.{due, IsLegal, IsQuiet};
 ghost use Rattle.jh_history.specs.Items.{items, played, cpus_of, rounds};
+ghost use Rattle.jh_history.specs.Lives.{is_on_board};
 ghost use Rattle.jh_laws.specs.Items.{ItemsLead, IsCutShort};
 
 /// Items end full exactly where the journal has reached its limit and the next item has an entry due.
@@ -45,7 +45,7 @@ pub fn played_journals_are_quiet_or_full()
 /// followed by change nothing.
 pub fn rounds_are_of_the_boards_cpus()
     ensures each { (image : TheImage) (cpu : ℕ) → IsAdmitted image →
-        IsTrue (is_cpu_set image.system.root.cpu_set cpu) ↔ Contains (cpus_of image) cpu }
+        IsTrue (is_on_board image cpu) ↔ Contains (cpus_of image) cpu }
     ensures rising { (image : TheImage) → IsStrictlyIncreasing (cpus_of image) }
     ensures enough { (image : TheImage) (limit n : ℕ) (schedule : List ℕ) → IsAdmitted image → limit < n →
         items image limit (schedule ++ rounds n (cpus_of image)) [] ≡ played image limit schedule }
