@@ -1,6 +1,6 @@
 -- The cells that live: by their ids and indexes, with one less or one more, their regions, and the pages that
 -- root and they take.
-use Rattle.std.proofs.Common.{◌≡◌, ℕ, ◌+◌, ◌*◌, ◌^◌, ◌<◌, ◌≤◌, Bool, true, false, cond, not, List, [], ◌∷◌, ◌++◌, length, get_or, map, remove, position, sum_by, Option, Some, None, refl, sym, ap, subst, ◌∙◌, arith}
+use Rattle.std.proofs.Common.{◌≡◌, ℕ, ◌+◌, ◌^◌, ◌<◌, ◌≤◌, Bool, true, false, cond, not, List, [], ◌∷◌, ◌++◌, length, get_or, map, remove, position, Option, Some, None, refl, sym, ap, subst, ◌∙◌, arith}
 use Rattle.std.specs.Prelude.{All, IfSome, filter, slice_get, option_map, nat_lt}
 use Rattle.std.specs.Option.{option_map_or}
 use Rattle.std.specs.List.{find, position_or_len, Contains}
@@ -16,8 +16,8 @@ use Rattle.jh_cellcfg.specs.declared.region.Region.{Region}
 use Rattle.jh_cellcfg.specs.declared.live.Live.{Live}
 use Rattle.jh_cellcfg.specs.Lives.{has_id}
 use Rattle.jh_cellcfg.specs.Regions.{IsEmptyOrInRange, AreInRange}
-use Rattle.jh_shape.specs.Pages.{tables_of, pages_of, root_claims, cell_claims}
-use Rattle.jh_shape.proofs.Public.{tables_le}
+use Rattle.jh_shape.specs.Pages.{tables_of, pages_of, root_claims}
+use Rattle.jh_shape.proofs.Public.{own_le, tables_le}
 use Rattle.jh_life.specs.Lives.{has_config_id}
 use Rattle.jh_shape.specs.Lives.{configs_of, marked, new_live}
 use Rattle.jh_history.specs.Commits.{is_other}
@@ -147,17 +147,9 @@ configs_added lives new = map-append (λ (l : Live). l.config) lives (new_live n
 
 -- ---- pages
 
-cells_le : (cells : List CellConfig) → sum_by (λ (c : CellConfig). tables_of (cell_claims c) + 1) cells ≤ 1048577 * length cells
-cells_le [] = omega arith
-cells_le (c ∷ cs) =
-    let one : tables_of (cell_claims c) ≤ 1048576 = tables_le (cell_claims c) in
-    let rest = cells_le cs in
-    let sum = sum_by-append (λ (x : CellConfig). tables_of (cell_claims x) + 1) (c ∷ []) cs in
-    omega arith
-
 -- the pages of root and at most 15 cells fit 32 bits
 pub pages_fit : (regions : List Region) (cells : List CellConfig) → length cells ≤ 15 → pages_of regions cells < 2 ^ 32
 pages_fit regions cells few =
     let root : tables_of (root_claims regions cells) ≤ 1048576 = tables_le (root_claims regions cells) in
-    let rest = cells_le cells in
+    let rest = own_le cells in
     omega arith

@@ -83,10 +83,10 @@ kept_none image lives id (p ∷ ps) other = rw (kept_other image lives id p othe
 pub kept_others : (image : Image) (lives : List Live) (id : ℕ) (places : List Place) → (id ≡ image.system.root.id → ⊥) → false ≡ list_any (is_closed_to image lives id) places
 kept_others image lives id places other = kept_none image lives id places (ne_eqb id image.system.root.id other)
 
--- the places of two runs
-pub kept_runs : (image : Image) (lives : List Live) (id : ℕ) (low high places : List Place) (a b : Bool) → id ≡ image.system.root.id → places ≡ low ++ high
+-- the places of two rows
+pub kept_rows : (image : Image) (lives : List Live) (id : ℕ) (low high places : List Place) (a b : Bool) → id ≡ image.system.root.id → places ≡ low ++ high
     → a ≡ list_any (kept_from image lives) low → b ≡ list_any (kept_from image lives) high → (a || b) ≡ list_any (is_closed_to image lives id) places
-kept_runs image lives id low high places a b own is first second =
+kept_rows image lives id low high places a b own is first second =
     ap (λ x. x || b) first ∙ ap (λ x. list_any (kept_from image lives) low || x) second
     ∙ sym (list_any-append (kept_from image lives) low high)
     ∙ ap (λ (ps : List Place). list_any (kept_from image lives) ps) (sym is)
@@ -189,13 +189,13 @@ regions_root image lives id own = ap (λ (b : Bool). option_map_or (λ (c : Cell
 pub regions_live : (image : Image) (lives : List Live) (id : ℕ) → (id ≡ image.system.root.id → ⊥) → regions_in image lives id ≡ live_regions lives id
 regions_live image lives id other = ap (λ (b : Bool). option_map_or (λ (c : CellConfig). c.memory_regions) (cond b (Some image.system.root) (live_in lives id)) []) (ne_eqb id image.system.root.id other)
 
--- the first run decides, or the second
+-- the first row decides, or the second
 pub kept_low : (image : Image) (lives : List Live) (id : ℕ) (low high places : List Place) (a : Bool) → id ≡ image.system.root.id → places ≡ low ++ high
     → a ≡ list_any (kept_from image lives) low → a ≡ true → a ≡ list_any (is_closed_to image lives id) places
 kept_low image lives id low high places a own is first yes_low =
     let b = list_any (kept_from image lives) high in
-    yes_low ∙ sym (or_left a b yes_low) ∙ kept_runs image lives id low high places a b own is first refl
+    yes_low ∙ sym (or_left a b yes_low) ∙ kept_rows image lives id low high places a b own is first refl
 
 pub kept_high : (image : Image) (lives : List Live) (id : ℕ) (low high places : List Place) (a b : Bool) → id ≡ image.system.root.id → places ≡ low ++ high
     → a ≡ list_any (kept_from image lives) low → a ≡ false → b ≡ list_any (kept_from image lives) high → b ≡ list_any (is_closed_to image lives id) places
-kept_high image lives id low high places a b own is first no_low second = sym (ap (λ x. x || b) no_low) ∙ kept_runs image lives id low high places a b own is first second
+kept_high image lives id low high places a b own is first no_low second = sym (ap (λ x. x || b) no_low) ∙ kept_rows image lives id low high places a b own is first second

@@ -31,7 +31,7 @@ use Rattle.jh_history.specs.Facts.{Facts}
 use Rattle.jh_history.specs.Lives.{live_in}
 use Rattle.jh_vpci.specs.Writes.{written as config_written}
 use Rattle.jh_history.specs.Devices.{Devices, InConfig, number_at, specs_of}
-use Rattle.jh_history.specs.Endpoints.{endpoints_put, function_put, space_put, endpoints_acted, endpoints_changed, endpoints_after, device_change, changing, changing_by, change_by}
+use Rattle.jh_history.specs.Endpoints.{endpoints_put, function_put, endpoints_acted, endpoints_changed, endpoints_after, device_change, changing, changing_by, change_by}
 use Rattle.jh_history.specs.Grants.{reach, devices_of}
 use Rattle.jh_history.specs.Commits.{committed_cells, cells_by, is_other}
 use Rattle.jh_shape.specs.Lives.{configs_of, marked}
@@ -111,7 +111,7 @@ same_device cell n a b is_a is_b =
 
 -- a write to configuration space
 function_follow : (devices : Devices) (bytes : InConfig) (value n : ℕ) (o : Option Endpoint) → AllPairs AreEndpointsApart (specs_in devices.endpoints) → endpoint_at devices.cell n devices.endpoints ≡ o
-    → Follow devices.endpoints (option_map_or (λ (e : Endpoint). space_put devices.cell n (config_written e.space (bytes.at % 4096) bytes.width (value % 2 ^ 32)) devices.endpoints) o devices.endpoints)
+    → Follow devices.endpoints (option_map_or (λ (e : Endpoint). configured devices.cell n (config_written e.space (bytes.at % 4096) bytes.width (value % 2 ^ 32)) devices.endpoints) o devices.endpoints)
 function_follow devices bytes value n None apart is = follow_same devices.endpoints
 function_follow devices bytes value n (Some e) apart is =
     let list : List Endpoint = devices.endpoints in

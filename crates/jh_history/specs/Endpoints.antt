@@ -5,13 +5,11 @@ use Rattle.jh_cellcfg.specs.declared.config.CellConfig.{CellConfig}
 use Rattle.jh_cellcfg.specs.declared.config.PciDevice.{PciDevice}
 use Rattle.jh_cellcfg.specs.declared.live.Live.{Live}
 use Rattle.jh_check.specs.Clean.{IsShmem, IsGoodDevice}
-use Rattle.jh_vpci.specs.Space.{Space}
 use Rattle.jh_vpci.specs.Writes.{written as config_written}
 use Rattle.jh_ivshmem.specs.declared.endpoint.Endpoint.{Endpoint}
 use Rattle.jh_ivshmem.specs.declared.spec.EndpointSpec.{EndpointSpec}
-use Rattle.jh_ivshmem.specs.Specs.{is_device, endpoint_word_of, IsInItsLimits, AreEndpointsApart}
-use Rattle.jh_ivshmem.specs.Changes.{changed}
-use Rattle.jh_ivshmem.specs.Links.{endpoint_at, joined, reset_of, left_by, pending_of, taken_of, written}
+use Rattle.jh_ivshmem.specs.Specs.{endpoint_word_of, IsInItsLimits, AreEndpointsApart}
+use Rattle.jh_ivshmem.specs.Links.{configured, endpoint_at, joined, reset_of, left_by, pending_of, taken_of, written}
 use Rattle.jh_call.specs.declared.call.Call.{Call}
 use Rattle.jh_call.specs.declared.call.Call.TheVariants.{Create, Start, Destroy}
 use Rattle.jh_script.specs.declared.image.Image.{Image}
@@ -35,14 +33,10 @@ use Rattle.jh_history.specs.Lives.{live_in}
 
 -- ---- writes of guests
 
--- the endpoints, where that of the cell's device of that number has this configuration space
-abbrev pub space_put : ℕ → ℕ → Space → List Endpoint → List Endpoint
-space_put cell n space endpoints = changed (is_device cell n) (λ (e : Endpoint). record e { space = space }) endpoints
-
 -- the endpoints after a write of the value to the configuration space of the cell's device of that number
 abbrev pub function_put : Devices → InConfig → ℕ → ℕ → List Endpoint
 function_put devices bytes value n =
-    option_map_or (λ (e : Endpoint). space_put devices.cell n (config_written e.space (bytes.at % 4096) bytes.width (value % 2 ^ 32)) devices.endpoints) (endpoint_at devices.cell n devices.endpoints) devices.endpoints
+    option_map_or (λ (e : Endpoint). configured devices.cell n (config_written e.space (bytes.at % 4096) bytes.width (value % 2 ^ 32)) devices.endpoints) (endpoint_at devices.cell n devices.endpoints) devices.endpoints
 
 -- the endpoints after a write of the value to configuration space; a function that is absent takes nothing
 abbrev pub config_put : Devices → InConfig → ℕ → List Endpoint

@@ -11,7 +11,7 @@ use jh_cellcfg::{Region, SystemConfig};
 use jh_check::check;
 use jh_num::{NoMemory, PAGE_SIZE};
 use jh_script::{Image, MAX_OPS, Op, Preload, Program};
-use jh_shape::Target;
+use jh_shape::pages_of;
 use std::alloc::Global;
 
 impl Apart for Program {
@@ -50,16 +50,7 @@ impl Apart for Preload {
 pub fn root_pages(system: &SystemConfig) -> u64
     ensures { result ≡ root_pages system.now }
 {
-    let target = Target {
-        regions: system.root.memory_regions.as_slice(),
-        root: true,
-        cells: &[],
-        held: 0,
-        loadable: 0,
-        extra: None,
-        comm: 0,
-    };
-    target.tables()
+    pages_of(system.root.memory_regions.as_slice(), &[], 0, None)
 }
 
 /// How many pages of 4,096 bytes the hypervisor's memory has for tables and communication pages.

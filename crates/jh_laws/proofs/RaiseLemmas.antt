@@ -12,7 +12,7 @@ use Rattle.jh_ivshmem.specs.Specs.{is_device, is_peer, is_other, vector_count}
 use Rattle.jh_ivshmem.specs.Changes.{changed}
 use Rattle.jh_ivshmem.specs.Endpoint.{is_open, raised, taken, vector_at, fresh_vector}
 use Rattle.jh_ivshmem.specs.Registers.{register_written, with_word, is_in_table}
-use Rattle.jh_ivshmem.specs.Links.{endpoint_at, rung, state_written, told_of, written}
+use Rattle.jh_ivshmem.specs.Links.{configured, endpoint_at, rung, state_written, told_of, written}
 use Rattle.jh_ivshmem.proofs.Public.{raised_spec, taken_spec, register_written_spec, closed, raised_pending, raised_others, raised_keeps_pending, named_cell}
 use Rattle.jh_script.specs.declared.image.Image.{Image}
 use Rattle.jh_history.specs.declared.access.Access.TheVariants.{Write as ToWrite}
@@ -21,7 +21,7 @@ use Rattle.jh_history.specs.declared.entry.Entry.{Entry}
 use Rattle.jh_history.specs.declared.entry.Act.{Act}
 use Rattle.jh_history.specs.declared.entry.Act.TheVariants.{Write, Irq, Commit}
 use Rattle.jh_history.specs.Devices.{number_at}
-use Rattle.jh_history.specs.Endpoints.{space_put, function_put, config_put, endpoints_put, endpoints_acted}
+use Rattle.jh_history.specs.Endpoints.{function_put, config_put, endpoints_put, endpoints_acted}
 use Rattle.jh_history.specs.Facts.{Facts}
 use Rattle.jh_history.specs.Grants.{reach, devices_of}
 use Rattle.jh_history.specs.Sound.{IsSoundEndpoint, IsSound}
@@ -286,7 +286,7 @@ config_become image f entry e m space true quiet stays own =
     (λ other. absurd (other (sym (eqb-true e.spec.cell entry.cell (and_parts (eqb e.spec.cell entry.cell) (eqb e.spec.device m) own).0))))
 config_become image f entry e m space false quiet stays own = stays_so image f entry e quiet stays
 
-function_now : (image : Image) (f : Facts) (entry : Entry) (id n : ℕ) (e : Endpoint) (m : ℕ) (space : Space) → NoCall image f entry e → NoDrop f entry e → endpoint_at id n f.endpoints ≡ Some e → IsNow image f entry id n e (space_put entry.cell m space f.endpoints)
+function_now : (image : Image) (f : Facts) (entry : Entry) (id n : ℕ) (e : Endpoint) (m : ℕ) (space : Space) → NoCall image f entry e → NoDrop f entry e → endpoint_at id n f.endpoints ≡ Some e → IsNow image f entry id n e (configured entry.cell m space f.endpoints)
 function_now image f entry id n e m space quiet stays there = record {
   endpoint = cond (is_device entry.cell m e.spec) (record e { space = space }) e;
   there = found_changed id n (is_device entry.cell m) (λ (o : Endpoint). record o { space = space }) f.endpoints e (λ o. refl) there;
@@ -300,7 +300,7 @@ config_now image f entry id n e at width value quiet stays there = by_number (nu
     unchanged : IsNow image f entry id n e f.endpoints
     unchanged = record { endpoint = e; there = there; become = stays_so image f entry e quiet stays }
 
-    by_endpoint : (m : ℕ) (q : Option Endpoint) → IsNow image f entry id n e (option_map_or (λ (o : Endpoint). space_put entry.cell m (config_written o.space (at % 4096) width (value % 2 ^ 32)) f.endpoints) q f.endpoints)
+    by_endpoint : (m : ℕ) (q : Option Endpoint) → IsNow image f entry id n e (option_map_or (λ (o : Endpoint). configured entry.cell m (config_written o.space (at % 4096) width (value % 2 ^ 32)) f.endpoints) q f.endpoints)
     by_endpoint m None = unchanged
     by_endpoint m (Some o) = function_now image f entry id n e m (config_written o.space (at % 4096) width (value % 2 ^ 32)) quiet stays there
 

@@ -10,7 +10,7 @@ use Rattle.jh_ivshmem.specs.Specs.{IsInItsLimits, is_device, is_peer, is_other, 
 use Rattle.jh_ivshmem.specs.Endpoint.{raised, taken, cleared, fresh, fresh_vector, vector_at, is_open}
 use Rattle.jh_ivshmem.specs.Registers.{word_of, with_word, register_of, register_written, is_in_table}
 use Rattle.jh_ivshmem.specs.Changes.{changed}
-use Rattle.jh_ivshmem.specs.Links.{endpoint_at, joined, rung, others_raised, told_of, state_written, written, reset_of, left_by}
+use Rattle.jh_ivshmem.specs.Links.{configured, endpoint_at, joined, rung, others_raised, told_of, state_written, written, reset_of, left_by}
 use Rattle.jh_vpci.specs.Writes.{written as config_written}
 use Rattle.jh_script.specs.declared.image.Image.{Image}
 use Rattle.jh_history.specs.declared.access.Access.TheVariants.{Write as ToWrite}
@@ -23,7 +23,7 @@ use Rattle.jh_history.specs.declared.entry.Act.{Act}
 use Rattle.jh_history.specs.declared.entry.Act.TheVariants.{Write, Irq}
 use Rattle.jh_history.specs.Facts.{Facts}
 use Rattle.jh_history.specs.Devices.{Devices, InConfig, number_at, specs_of}
-use Rattle.jh_history.specs.Endpoints.{space_put, function_put, endpoints_put, endpoints_acted, endpoint_changed, endpoints_changed, endpoints_after, specs_changing, change_by}
+use Rattle.jh_history.specs.Endpoints.{function_put, endpoints_put, endpoints_acted, endpoint_changed, endpoints_changed, endpoints_after, specs_changing, change_by}
 use Rattle.jh_history.specs.Grants.{reach, devices_of}
 
 -- the words of the vector have 32 bits
@@ -171,7 +171,7 @@ all_fit change (s ∷ specs) list h = all_fit change specs (endpoint_changed cha
 space_fit : (devices : Devices) (bytes : InConfig) (value n : ℕ) → HaveRegisters devices.endpoints → HaveRegisters (function_put devices bytes value n)
 space_fit devices bytes value n h =
     where_some (endpoint_at devices.cell n devices.endpoints)
-    (λ (e : Endpoint). space_put devices.cell n (config_written e.space (bytes.at % 4096) bytes.width (value % 2 ^ 32)) devices.endpoints)
+    (λ (e : Endpoint). configured devices.cell n (config_written e.space (bytes.at % 4096) bytes.width (value % 2 ^ 32)) devices.endpoints)
     devices.endpoints
     (λ e. changed_fit (is_device devices.cell n) _ (λ o g. record { state = g.state; vectors = g.vectors }) devices.endpoints h)
     h

@@ -11,7 +11,7 @@ use Rattle.jh_ivshmem.specs.Changes.{changed}
 use Rattle.jh_ivshmem.specs.Endpoint.{fresh_vector, is_open, raised, taken, vector_at}
 use Rattle.jh_ivshmem.specs.Registers.{register_written}
 use Rattle.jh_ivshmem.specs.Specs.{is_device, is_peer}
-use Rattle.jh_ivshmem.specs.Links.{endpoint_at, is_pending, rung, state_written, told_of, written}
+use Rattle.jh_ivshmem.specs.Links.{configured, endpoint_at, is_pending, rung, state_written, told_of, written}
 use Rattle.jh_ivshmem.proofs.Public.{raised_spec, taken_spec, register_written_spec, named_cell, named_device}
 use Rattle.jh_vpci.specs.Writes.{written as config_written}
 use Rattle.jh_script.specs.declared.image.Image.{Image}
@@ -25,7 +25,7 @@ use Rattle.jh_history.specs.declared.entry.Act.TheVariants.{Write, Irq, Commit}
 use Rattle.jh_history.specs.Admitted.{IsAdmitted}
 use Rattle.jh_history.specs.Devices.{Devices, specs_of, number_at}
 use Rattle.jh_history.specs.Due.{due_at, IsLegal}
-use Rattle.jh_history.specs.Endpoints.{space_put, function_put, endpoints_put, endpoints_acted, endpoints_after, endpoints_changed, change_by}
+use Rattle.jh_history.specs.Endpoints.{function_put, endpoints_put, endpoints_acted, endpoints_after, endpoints_changed, change_by}
 use Rattle.jh_history.specs.Facts.{Facts}
 use Rattle.jh_history.specs.Grants.{reach, devices_of}
 use Rattle.jh_history.specs.History.{after, facts}
@@ -61,7 +61,7 @@ none_put devices (Subpage places) value id n none = none
 none_put devices Nothing value id n none = none
 none_put devices (Config bytes) value id n none = by_number (number_at devices bytes.at)
   where
-    by_endpoint : (m : ℕ) (q : Option Endpoint) → endpoint_at id n (option_map_or (λ (o : Endpoint). space_put devices.cell m (config_written o.space (bytes.at % 4096) bytes.width (value % 2 ^ 32)) devices.endpoints) q devices.endpoints) ≡ None
+    by_endpoint : (m : ℕ) (q : Option Endpoint) → endpoint_at id n (option_map_or (λ (o : Endpoint). configured devices.cell m (config_written o.space (bytes.at % 4096) bytes.width (value % 2 ^ 32)) devices.endpoints) q devices.endpoints) ≡ None
     by_endpoint m None = none
     by_endpoint m (Some o) = none_changed id n (is_device devices.cell m) (λ (e : Endpoint). record e { space = config_written o.space (bytes.at % 4096) bytes.width (value % 2 ^ 32) }) devices.endpoints (λ e. refl) none
 

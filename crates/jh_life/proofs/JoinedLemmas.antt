@@ -1,4 +1,4 @@
--- Configurations, each with its mark.
+-- Marks joined with configurations, the records at each change, and the index that a search finds.
 use Rattle.std.proofs.Common.{◌≡◌, ℕ, suc, ◌+◌, ◌-◌, ◌<◌, nat_lt, Bool, true, false, cond, List, [], ◌∷◌, ◌++◌, length, get_or, map, remove, position, sum_by, Some, None, refl, sym, ap, subst, ◌∙◌, arith}
 use Rattle.std.specs.Prelude.{option_map}
 use Rattle.std.specs.List.{position_or_len}
@@ -15,7 +15,7 @@ use Rattle.jh_check.specs.Refusals.{is_namesake, is_known, AreTwo}
 use Rattle.jh_life.specs.Lives.{marks_of}
 use Rattle.jh_shape.specs.Lives.{with_marks}
 use Rattle.jh_life.specs.SoundRecords.{AreSoundRecords}
-use Rattle.jh_shape.proofs.Public.{own_pages}
+use Rattle.jh_shape.specs.Pages.{own_pages}
 
 pub marks_joined : (configs : List CellConfig) (marks : List Bool) → length marks ≡ length configs → marks_of (with_marks configs marks) ≡ marks
 marks_joined [] [] e = refl
@@ -59,7 +59,7 @@ stands_remove root configs marks own taken i e gone h l is =
       pages = omega arith;
     }
 
--- the first place behind one that fails
+-- the first index behind one that fails
 behind : (n m : ℕ) → cond (nat_lt (1 + n) (suc m)) (Some (1 + n)) None ≡ option_map (λ k. k + 1) (cond (nat_lt n m) (Some n) None)
 behind n m =
     let e : nat_lt (1 + n) (suc m) ≡ nat_lt n m = grind (arith, nat_tests) in
@@ -71,7 +71,7 @@ behind n m =
 pub position_behind : {X : Type 0} (p : X → Bool) (x : X) (xs : List X) → p x ≡ false → position p (x ∷ xs) ≡ option_map (λ k. k + 1) (position p xs)
 position_behind p x xs fails = rw fails (behind (position_or_len p xs) (length xs))
 
--- a place that is found is in the list
+-- an index that is found is in the list
 within_by : (b : Bool) (n m k : ℕ) → nat_lt n m ≡ b → cond b (Some n) None ≡ Some k → k < m
 within_by true n m k is h = subst (λ i. i < m) (same_Some n k h) (ltb-true n m is)
 within_by false n m k is h = absurd (none-some k h)

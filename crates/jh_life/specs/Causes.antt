@@ -26,8 +26,9 @@ pub record Create : Type 0 where
 abbrev pub verdict_on : CellsView → Create → Option ℤ
 verdict_on seen create = verdict_of_create seen create.locked create.new create.owned create.caller create.pool
 
--- nothing holds that the create would be refused for: no live cell is locked, the check accepts the new cell, it names no
--- CPU but root's, without the caller's, and the pages of all cells with it are there
+-- nothing holds that the create would be refused for: no live cell is locked, and the new cell is accepted: neither root
+-- nor a live cell has its name or id, it names no CPU but root's, without the caller's, the check finds nothing that names
+-- it, and the pages of all cells with it are there
 pub record IsLetIn (seen : CellsView) (create : Create) : Type 0 where
   pub unlocked : create.locked ≡ false
   pub accepted : IsAccepted seen.system (configs_of seen.lives) create.new (may_have create.owned create.caller) (pages_with seen create.new) create.pool

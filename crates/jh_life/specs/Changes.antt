@@ -48,12 +48,12 @@ drops id (Dropped gone) = gone == id
 drops id (Marked set on) = false
 
 -- none of the changes drops the cell
-abbrev pub is_left_alone : List CellChange → CellConfig → Bool
-is_left_alone changes config = not (list_any (drops config.id) changes)
+abbrev pub is_never_dropped : List CellChange → CellConfig → Bool
+is_never_dropped changes config = not (list_any (drops config.id) changes)
 
 -- the cells that are created and not dropped later, in order of creation
 abbrev pub lasting : List CellChange → List CellConfig
 lasting [] = []
-lasting (Created config ∷ changes) = if is_left_alone changes config then config ∷ lasting changes else lasting changes
+lasting (Created config ∷ changes) = if is_never_dropped changes config then config ∷ lasting changes else lasting changes
 lasting (Dropped id ∷ changes) = lasting changes
 lasting (Marked id on ∷ changes) = lasting changes

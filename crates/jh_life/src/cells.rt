@@ -85,7 +85,8 @@ impl Cells {
         }
     }
 
-    /// The index in the list of the cell with the id; `None` where none of the list has it. A register holds 64 bits.
+    /// The index in the list of the cell with the id; `None` where none of the list has it. The id is a word of a call,
+    /// of 64 bits.
     pub fn index_of(&self, id: u64) -> Option<usize>
         ensures { result ≡ position (has_config_id id) (configs_of self.now.lives) }
     {
@@ -132,7 +133,8 @@ impl Cells {
             return Ok(refusal_without_cpus(&self.system, live, new));
         }
         let free = free_cpus(owned, caller);
-        // Pages are counted last, where nothing else speaks against the cell.
+        // Here 0 pages are wanted of 0, which refuses nothing: pages are counted last, where nothing else speaks against
+        // the cell.
         let refusal = refusal_of(alloc, &self.system, live, new, free, 0, 0)?;
         match refusal {
             Some(_) => Ok(refusal),

@@ -43,8 +43,9 @@ pub fn a_verdict_goes_by_the_listed_cells()
     ensures { (one other : CellsView) (create : Create) → one.system ≡ other.system → configs_of one.lives ≡ configs_of other.lives → verdict_on one create ≡ verdict_on other create }
 {}
 
-/// A new cell isn't refused exactly where no cell is locked, nothing of what it would be refused for holds, and the
-/// pages of all cells with it are there.
+/// A new cell isn't refused exactly where no live cell is locked, neither root nor a live cell has its name or id, each
+/// CPU that it names may be given away, the check finds nothing that names it, and the pages of all cells with it are
+/// there.
 pub fn a_cell_is_let_in_where_nothing_holds(cells: &Cells, new: &CellConfig)
     ensures { (create : Create) → create.new ≡ new.now → (verdict_on cells.now create ≡ None) ↔ IsLetIn cells.now create }
 {

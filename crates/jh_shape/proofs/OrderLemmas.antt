@@ -11,11 +11,11 @@ use Rattle.jh_cellcfg.specs.Regions.{virt_end, place_in}
 use Rattle.jh_shape.specs.declared.target.Target.{Target}
 use Rattle.jh_num.specs.declared.level.TheConstants.{FIRST_LEVEL, LAST_LEVEL}
 use Rattle.jh_num.specs.Bits.{has_bit}
-use Rattle.jh_shape.specs.Claims.{Claims, Holder, held_from, holder_to_come, claims_of}
+use Rattle.jh_shape.specs.Claims.{Claims, Holder, held_from, holder_of, holder_to_come, claims_of}
 use Rattle.jh_shape.specs.Intervals.{spans}
 use Rattle.jh_shape.specs.Shapes.{is_mapped, meets_in_part, are_cut, fits_blocks, may_be_block, is_leaf_by, is_leaf, is_met, is_met_by, is_table}
 use Rattle.jh_num.specs.Levels.{slot_size}
-use Rattle.jh_shape.specs.Pages.{count_below, tables_at, tables_from, tables_of, holder_of, root_claims, cell_claims, pages_of}
+use Rattle.jh_shape.specs.Pages.{count_below, tables_at, tables_from, tables_of, own_pages, root_claims, pages_of}
 use Rattle.jh_num.proofs.Public.{same_test}
 use Rattle.jh_shape.proofs.HoldersLemmas.{are_cut_append}
 
@@ -130,10 +130,10 @@ one_cell_more regions before cell behind =
 pub pages_of_fewer : (regions : List Region) (before : List CellConfig) (gone : CellConfig) (behind : List CellConfig) → pages_of regions (before ++ behind) ≤ pages_of regions (before ++ gone ∷ behind)
 pages_of_fewer regions before gone behind =
     let a = tables_of_more (root_claims regions (before ++ behind)) (root_claims regions (before ++ gone ∷ behind)) (one_cell_more regions before gone behind) in
-    let b = sum_by-append (λ (cell : CellConfig). tables_of (cell_claims cell) + 1) before behind in
-    let d = sum_by-append (λ (cell : CellConfig). tables_of (cell_claims cell) + 1) before (gone ∷ behind) in
-    let e : sum_by (λ (cell : CellConfig). tables_of (cell_claims cell) + 1) (gone ∷ behind) ≡ sum_by (λ (cell : CellConfig). tables_of (cell_claims cell) + 1) (gone ∷ []) + sum_by (λ (cell : CellConfig). tables_of (cell_claims cell) + 1) behind =
-    sum_by-append (λ (cell : CellConfig). tables_of (cell_claims cell) + 1) (gone ∷ []) behind in
+    let b = sum_by-append own_pages before behind in
+    let d = sum_by-append own_pages before (gone ∷ behind) in
+    let e : sum_by own_pages (gone ∷ behind) ≡ sum_by own_pages (gone ∷ []) + sum_by own_pages behind =
+    sum_by-append own_pages (gone ∷ []) behind in
     omega arith
 
 pub pages_of_more : (regions : List Region) (cells : List CellConfig) (new : CellConfig) → pages_of regions cells ≤ pages_of regions (cells ++ new ∷ [])

@@ -9,8 +9,8 @@ use Rattle.std.proofs.lemmas.Nat.Bits.{bit_at-zero, bit_at_ones}
 use Rattle.jh_num.specs.declared.address.TheConstants.{ADDRESS_END}
 use Rattle.jh_cellcfg.specs.declared.config.CellConfig.{CellConfig}
 use Rattle.jh_num.specs.Bits.{has_bit}
-use Rattle.jh_shape.specs.Claims.{Claims, Holder, held_from, holder_to_come}
-use Rattle.jh_shape.specs.Pages.{tables_at, tables_of, cell_claims, holder_of}
+use Rattle.jh_shape.specs.Claims.{Claims, Holder, held_from, holder_of, holder_to_come}
+use Rattle.jh_shape.specs.Pages.{tables_at, tables_of, cell_claims, own_pages}
 use Rattle.jh_shape.specs.Shapes.{is_table}
 use Rattle.jh_num.specs.Levels.{slot_size}
 use Rattle.jh_shape.proofs.CountLemmas.{count_below_le}
@@ -28,10 +28,7 @@ tables_le claims =
     let all : 1 + (tables_at claims 1 + (tables_at claims 2 + 0)) ≤ 2 ^ 20 = omega arith in
     all
 
--- a cell's own pages, and those of some cells
-abbrev pub own_pages : CellConfig → ℕ
-own_pages cell = tables_of (cell_claims cell) + 1
-
+-- the pages of some cells
 pub own_le : (cells : List CellConfig) → sum_by own_pages cells ≤ 1048577 * length cells
 own_le [] = omega arith
 own_le (c ∷ cs) =

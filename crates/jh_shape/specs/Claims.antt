@@ -28,10 +28,14 @@ held_from held loadable index (cell ∷ cells) =
     then record { regions = cell.memory_regions; loadable = has_bit loadable index } ∷ held_from held loadable (index + 1) cells
     else held_from held loadable (index + 1) cells
 
+-- a live cell besides root that isn't loadable, as root's tables depend on it
+abbrev pub holder_of : CellConfig → Holder
+holder_of cell = record { regions = cell.memory_regions; loadable = false }
+
 -- one cell more, if there is one, which isn't loadable
 abbrev pub holder_to_come : Option (Bor CellConfig) → List Holder
 holder_to_come None = []
-holder_to_come (Some cell) = record { regions = cell.now.memory_regions; loadable = false } ∷ []
+holder_to_come (Some cell) = holder_of cell.now ∷ []
 
 -- what the tables of the target are made from
 abbrev pub claims_of : Target → Claims

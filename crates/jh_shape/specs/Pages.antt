@@ -4,7 +4,7 @@ use Rattle.jh_cellcfg.specs.declared.config.CellConfig.{CellConfig}
 use Rattle.jh_cellcfg.specs.declared.region.Region.{Region}
 use Rattle.jh_num.specs.declared.address.TheConstants.{ADDRESS_END}
 use Rattle.jh_num.specs.declared.level.TheConstants.{FIRST_LEVEL, LAST_LEVEL}
-use Rattle.jh_shape.specs.Claims.{Claims, Holder}
+use Rattle.jh_shape.specs.Claims.{Claims, holder_of}
 use Rattle.jh_shape.specs.Shapes.{is_table}
 use Rattle.jh_num.specs.Levels.{slot_size}
 
@@ -26,10 +26,6 @@ tables_from claims level (suc more) = tables_at claims level + tables_from claim
 unfoldable pub tables_of : Claims → ℕ
 tables_of claims = 1 + tables_from claims FIRST_LEVEL (LAST_LEVEL - FIRST_LEVEL)
 
--- a live cell besides root that isn't loadable, as root's tables depend on it
-abbrev pub holder_of : CellConfig → Holder
-holder_of cell = record { regions = cell.memory_regions; loadable = false }
-
 -- what root's tables are made from: they depend on all cells
 abbrev pub root_claims : List Region → List CellConfig → Claims
 root_claims regions cells = record { regions = regions; root = true; holders = map holder_of cells; comm = 0 }
@@ -38,6 +34,10 @@ root_claims regions cells = record { regions = regions; root = true; holders = m
 abbrev pub cell_claims : CellConfig → Claims
 cell_claims cell = record { regions = cell.memory_regions; root = false; holders = []; comm = 0 }
 
+-- how many pages a cell besides root takes: its tables, and its communication page
+abbrev pub own_pages : CellConfig → ℕ
+own_pages cell = tables_of (cell_claims cell) + 1
+
 -- how many pages root takes with these cells live besides it: all tables, and a communication page for each of these
 abbrev pub pages_of : List Region → List CellConfig → ℕ
-pages_of regions cells = tables_of (root_claims regions cells) + sum_by (λ cell. tables_of (cell_claims cell) + 1) cells
+pages_of regions cells = tables_of (root_claims regions cells) + sum_by own_pages cells

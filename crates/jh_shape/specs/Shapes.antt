@@ -2,18 +2,19 @@
 -- granule).
 use Rattle.std.specs.Prelude.{ℕ, ◌%◌, Bool, ◌&&◌, ◌||◌, not, ◌==◌, nat_lt, List, Option, Some, None, if◌then◌else◌}
 use Rattle.std.specs.List.{find, list_any}
+use Rattle.jh_num.specs.declared.level.TheConstants.{LAST_LEVEL}
 use Rattle.jh_num.specs.Levels.{slot_size}
 use Rattle.jh_cellcfg.specs.declared.live.Live.{Live}
 use Rattle.jh_cellcfg.specs.declared.region.Region.{Region}
-use Rattle.jh_cellcfg.specs.Regions.{virt_end, phys_end, has_place, place_in, is_page_mapped, is_comm, is_unshared, is_loadable, is_device, may_have_blocks, rights_of}
+use Rattle.jh_cellcfg.specs.Regions.{virt_end, phys_end, has_size, has_place, place_in, is_page_mapped, is_comm, is_unshared, is_loadable, is_device, may_have_blocks, rights_of}
 use Rattle.jh_shape.specs.declared.want.Want.{Want}
 use Rattle.jh_shape.specs.declared.want.Want.TheVariants.{Nothing, Table, Leaf}
 use Rattle.jh_shape.specs.Claims.{Claims, Holder}
 use Rattle.jh_shape.specs.Intervals.{touches, spans}
 
--- tables map the regions whose addresses are whole pages; one of size 0 has no address
+-- tables map the regions whose addresses are whole pages and that have a size
 abbrev pub is_mapped : Region → Bool
-is_mapped region = nat_lt 0 region.size && is_page_mapped region
+is_mapped region = has_size region && is_page_mapped region
 
 -- the region of another cell is unshared, and has some of the places and not all of them
 abbrev pub meets_in_part : Region → ℕ → ℕ → Bool
@@ -46,7 +47,8 @@ is_aligned_alike level region = (region.phys_start % slot_size level) == (region
 abbrev pub fits_blocks : ℕ → Region → Bool
 fits_blocks level region = nat_lt 0 level && (may_have_blocks region && (not (is_comm region) && is_aligned_alike level region))
 
--- of root's slot of addresses from `start` on another cell's unshared region meets the places in part
+-- the cell is root, and another cell's unshared region has some of the places of the slot of addresses from `start` on,
+-- and not all of them
 abbrev pub is_cut_for_root : Claims → ℕ → ℕ → Region → Bool
 is_cut_for_root claims level start region = claims.root && are_cut claims.holders (place_in region start) (slot_size level)
 
@@ -57,7 +59,7 @@ may_be_block claims level start region = fits_blocks level region && not (is_cut
 -- one descriptor of that level maps the whole slot, by this region
 abbrev pub is_leaf_by : Claims → ℕ → ℕ → Region → Bool
 is_leaf_by claims level start region =
-    is_mapped region && (spans region.virt_start (virt_end region) start (slot_size level) && ((level == 3) || may_be_block claims level start region))
+    is_mapped region && (spans region.virt_start (virt_end region) start (slot_size level) && ((level == LAST_LEVEL) || may_be_block claims level start region))
 
 -- the region that makes the slot a leaf
 abbrev pub leaf_region : Claims → ℕ → ℕ → Option Region

@@ -5,7 +5,7 @@ ghost use Rattle.std.specs.List.{list_any};
 ghost use Rattle.jh_shape.specs.Claims.{claims_of};
 ghost use Rattle.jh_shape.specs.Private.Marks.{is_beyond, is_marked, marked_slots, past_slot, AreMarked, AreMarkedBelow, AreCuts};
 ghost use Rattle.jh_shape.specs.Pages.{tables_at, tables_of};
-ghost use Rattle.jh_cellcfg.specs.Regions.{place_in, virt_end};
+ghost use Rattle.jh_cellcfg.specs.Regions.{virt_end};
 ghost use Rattle.jh_shape.specs.Shapes.{are_cut, is_aligned_alike, is_cut_for_root, is_leaf, is_leaf_by, is_met};
 ghost use Rattle.jh_num.specs.Levels.{slot_size};
 
@@ -52,15 +52,16 @@ impl<'a> Target<'a> {
         self.are_cut(u128::from(n) * size, size)
     }
 
-    /// Whether blocks of the level don't serve the slot of that number, of a region that fits them and spans it.
-    fn is_kept_small(&self, cuts: &[u64], level: u8, region: &Region, n: usize) -> bool
+    /// Whether another cell cuts, for root, the slot of that number, of a region whose places are aligned like its
+    /// addresses and that begins no later.
+    fn is_cut_for_root(&self, cuts: &[u64], level: u8, region: &Region, n: usize) -> bool
         requires cells { length self.now.cells.now ≤ 15 }
         requires level { level < LAST_LEVEL }
         requires cuts { AreCuts cuts.now level (claims_of self.now) }
         requires few { n < SLOTS }
         requires alike { is_aligned_alike level region.now ≡ true }
         requires within { region.now.virt_start ≤ n * slot_size level }
-        ensures { result ≡ (self.now.root && are_cut (claims_of self.now).holders (place_in region.now (n * slot_size level)) (slot_size level)) }
+        ensures { result ≡ is_cut_for_root (claims_of self.now) level (n * slot_size level) region.now }
     {
         let places = slot_of(level, region.phys_start);
         let addresses = slot_of(level, region.virt_start);
@@ -86,7 +87,7 @@ impl<'a> Target<'a> {
         ensures { (n : ℕ) → is_marked words.new n ≡ (is_marked words.old n || ((nat_le slots.from n && nat_lt n slots.to) && not (is_cut_for_root (claims_of self.now) level (n * slot_size level) region.now))) }
     {
         for n in slots.from..slots.to {
-            if !self.is_kept_small(cuts, level, region, n) {
+            if !self.is_cut_for_root(cuts, level, region, n) {
                 mark(words, n);
             }
         }
@@ -138,6 +139,7 @@ impl<'a> Target<'a> {
         ensures bound { result ≤ SLOTS }
     {
         let mut more = 0;
+        // the addresses of the slots that the last region met: a region that lies within them marks no more
         let mut done = NO_SPAN;
         for region in self.regions {
             if !done.has_all(region.virt_start, region.size) && is_mapped(region) {
@@ -224,10 +226,9 @@ impl<'a> Target<'a> {
         ensures value { result ≡ tables_at (claims_of self.now) level }
         ensures bound { result ≤ SLOTS }
     {
-        if any_beyond(self.regions, level, LOW_SLOTS) {
-            return self.count_root_all(level);
-        }
-        if any_place_beyond(self.regions, level, LOW_SLOTS) {
+        if any_beyond(self.regions, level, LOW_SLOTS)
+            || any_place_beyond(self.regions, level, LOW_SLOTS)
+        {
             return self.count_root_all(level);
         }
         self.count_root_low(level)
@@ -253,7 +254,7 @@ impl<'a> Target<'a> {
         requires cells { length self.now.cells.now ≤ 15 }
         requires level { level < LAST_LEVEL }
         ensures value { result ≡ tables_at (claims_of self.now) level }
-        ensures bound { result ≤ ADDRESS_END }
+        ensures bound { result ≤ SLOTS }
     {
         if self.root {
             self.count_root(level)

@@ -13,10 +13,10 @@ pub(crate) const WORDS: usize = 4096;
 /// The words of marks of the slots of 2 MB below 16 GB, and of all larger slots.
 pub(crate) const LOW_WORDS: usize = 128;
 
-/// How many slots a list of all has.
+/// How many slots a list of all slots has.
 pub(crate) const SLOTS: usize = WORD_BITS * WORDS;
 
-/// How many a short one has.
+/// How many slots a short list has.
 pub(crate) const LOW_SLOTS: usize = WORD_BITS * LOW_WORDS;
 
 /// Whether the slot of that number is marked.

@@ -1,8 +1,7 @@
 //! The pages that root's tables take beside cells, those of a cell, and those of all together.
 ghost use Rattle.std.specs.Prelude.{◌≡◌, ◌≤◌, ◌+◌, ◌^◌, ◌++◌, length, sum_by, option_to_list};
 ghost use Rattle.std.specs.Option.{option_copied};
-ghost use Rattle.jh_cellcfg.specs.declared.config.CellConfig.{CellConfig as TheCell};
-ghost use Rattle.jh_shape.specs.Pages.{tables_of, root_claims, cell_claims, pages_of};
+ghost use Rattle.jh_shape.specs.Pages.{tables_of, root_claims, own_pages, pages_of};
 
 use crate::target::Target;
 use jh_cellcfg::{CellConfig, Region};
@@ -30,7 +29,7 @@ fn root_tables(root: &[Region], cells: &[CellConfig], extra: Option<&CellConfig>
 
 /// The pages of a cell that isn't root: its tables and its communication page.
 pub fn cell_pages(cell: &CellConfig) -> u64
-    ensures value { result ≡ tables_of (cell_claims cell.now) + 1 }
+    ensures value { result ≡ own_pages cell.now }
     ensures bound { result ≤ 2 ^ 20 + 1 }
 {
     let target = Target {
@@ -53,7 +52,7 @@ pub fn pages_of(
     extra: Option<&CellConfig>,
 ) -> u64
     requires few { length cells.now ≤ 15 }
-    requires taken { taken ≡ sum_by (λ (cell : TheCell). tables_of (cell_claims cell) + 1) cells.now }
+    requires taken { taken ≡ sum_by own_pages cells.now }
     ensures { result ≡ pages_of root.now (cells.now ++ option_to_list (option_copied extra.entry)) }
 {
     let pages = root_tables(root, cells, extra) + taken;

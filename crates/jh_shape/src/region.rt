@@ -198,6 +198,8 @@ pub(crate) fn mark_cuts(words: &mut [u64], level: u8, regions: &[Region], limit:
     requires room { limit ≤ WORD_BITS * length words.old }
     ensures { AreMarkedBelow limit words.new level (λ n. is_marked words.old n || list_any (λ region. meets_in_part region (n * slot_size level) (slot_size level)) regions.now) }
 {
+    // the places of the slot that the last region begins in, where that is marked: a region that lies within it cuts no
+    // other
     let mut done = NO_SPAN;
     for region in regions {
         if !done.has_all(region.phys_start, region.size) {

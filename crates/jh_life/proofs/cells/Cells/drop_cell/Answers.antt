@@ -2,7 +2,8 @@
 use Rattle.std.proofs.Common.{◌≡◌, ℕ, ◌+◌, ◌-◌, ◌<◌, List, length, remove, sum_by, vec_len, rules, ap, ◌∙◌, arith}
 use Rattle.std.proofs.lemmas.List.{length-map}
 use Rattle.jh_life.proofs.JoinedLemmas.{own_among, stands_remove}
-use Rattle.jh_shape.proofs.Public.{own_pages, length_joined, joined_remove}
+use Rattle.jh_shape.specs.Pages.{own_pages}
+use Rattle.jh_shape.proofs.Public.{length_joined, joined_remove}
 use Rattle.jh_life.proofs.cells.Cells.drop_cell.Goals as goal
 
 pub remove-gone-requires : goal.remove-gone-requires

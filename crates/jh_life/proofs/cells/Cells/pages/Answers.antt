@@ -4,8 +4,8 @@ use Rattle.std.specs.Prelude.{option_to_list}
 use Rattle.std.specs.Option.{option_copied}
 use Rattle.jh_cellcfg.specs.declared.config.CellConfig.{CellConfig}
 use Rattle.jh_cellcfg.specs.declared.region.Region.{Region}
-use Rattle.jh_shape.specs.Pages.{pages_of}
-use Rattle.jh_shape.proofs.Public.{own_pages, configs_joined}
+use Rattle.jh_shape.specs.Pages.{own_pages, pages_of}
+use Rattle.jh_shape.proofs.Public.{configs_joined}
 use Rattle.jh_life.proofs.cells.Cells.pages.Goals as goal
 
 pub pages_of-requires-clause-taken : goal.pages_of-requires-clause-taken

@@ -6,7 +6,7 @@ use Rattle.jh_shape.specs.Shapes.{is_cut_for_root}
 use Rattle.jh_num.specs.Levels.{slot_size}
 use Rattle.jh_shape.proofs.MarkLemmas.{is_from, leaf_step, leaf_skip, leaf_end}
 use Rattle.jh_shape.proofs.target.Target.mark_each_leaf.Goals as goal
-use Rattle.jh_shape.proofs.target.Target.mark_each_leaf.Goals.{then-not-is_kept_small, else-not-is_kept_small}
+use Rattle.jh_shape.proofs.target.Target.mark_each_leaf.Goals.{then-not-is_cut_for_root, else-not-is_cut_for_root}
 
 pub loop-n-preserved : goal.loop-n-preserved
 loop-n-preserved c =
@@ -15,12 +15,12 @@ loop-n-preserved c =
     let n = c.loop-n.n in
     let low : from ≤ n = c.loop-n.auto.n in
     let test = c.loop-n-test.true in
-    elim c.if-not-is_kept_small.branch [
-      | then-not-is_kept_small w ↦
-          let free : kept n ≡ false = sym c.is_kept_small.ensures ∙ w.if-not-is_kept_small.true in
+    elim c.if-not-is_cut_for_root.branch [
+      | then-not-is_cut_for_root w ↦
+          let free : kept n ≡ false = sym c.is_cut_for_root.ensures ∙ w.if-not-is_cut_for_root.true in
           (omega arith, λ k. ap (λ ws. is_marked ws k) w.words-is ∙ leaf_step kept k from n (is_marked c.args.words.now k) (is_marked c.loop-n.words k) _ low free (c.loop-n.invariant.1 k) (w.mark.ensures k))
-      | else-not-is_kept_small w ↦
-          let held : kept n ≡ true = sym c.is_kept_small.ensures ∙ w.if-not-is_kept_small.false in
+      | else-not-is_cut_for_root w ↦
+          let held : kept n ≡ true = sym c.is_cut_for_root.ensures ∙ w.if-not-is_cut_for_root.false in
           (omega arith, λ k. ap (λ ws. is_marked ws k) w.words-is ∙ leaf_skip kept k from n (is_marked c.args.words.now k) (is_marked c.loop-n.words k) low held (c.loop-n.invariant.1 k))
     ]
 

@@ -7,7 +7,7 @@ use Rattle.jh_shape.specs.Shapes.{are_cut}
 use Rattle.jh_num.specs.Levels.{slot_size}
 use Rattle.jh_shape.proofs.LawLemmas.{size_some}
 use Rattle.jh_shape.proofs.MarkLemmas.{far_slot, place_of_slot}
-use Rattle.jh_shape.proofs.target.Target.is_kept_small.Goals as goal
+use Rattle.jh_shape.proofs.target.Target.is_cut_for_root.Goals as goal
 
 pub overflow_add-n : goal.overflow_add-n
 overflow_add-n c =
