@@ -43,7 +43,7 @@ pub struct Board {
     limit: u32,
     held: Box<Held>,
     journal: Journal,
-    /// The CPU that made the last entry: it mostly has the next one due.
+    /// The CPU that made the last entry, which mostly has the next one due; 0 before the first.
     last: u8,
 }
 

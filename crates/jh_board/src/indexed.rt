@@ -10,7 +10,8 @@ ghost use Rattle.jh_history.specs.Access.{region_of};
 ghost use Rattle.jh_history.specs.Admitted.{IsAdmitted, pool_pages};
 ghost use Rattle.jh_history.specs.Facts.{Facts};
 ghost use Rattle.jh_history.specs.Lives.{is_on_board, is_program_of, ops_in, op_at};
-ghost use Rattle.jh_board.specs.Indexed.{ops_at, AreRootPrograms, AreProgramIndices};
+ghost use Rattle.jh_board.specs.Indexed.{ops_at, AreProgramIndices};
+ghost use Rattle.jh_board.specs.Private.RootPrograms.{AreRootPrograms};
 
 use crate::cells::LiveCells;
 use jh_cellcfg::{CellConfig, MAX_CPUS, Region};
