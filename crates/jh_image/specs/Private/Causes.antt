@@ -43,8 +43,8 @@ pub record IsNoProgram (contents : Contents) (name file : List ℕ) (fault : Scr
 
 -- why a program's file gives no program: it can't be read, is too large, or its text has a fault
 abbrev pub IsProgramCause : Contents → List ℕ → List ℕ → ImageCause → Type 0
-IsProgramCause contents name file ReadFault = file ≡ name
-IsProgramCause contents name file Oversize = (file ≡ name) × IsOversize contents name
+IsProgramCause contents name file ReadFault = HandsOutNothing contents name file ReadFault
+IsProgramCause contents name file Oversize = HandsOutNothing contents name file Oversize
 IsProgramCause contents name file (BadProgram fault) = IsNoProgram contents name file fault
 IsProgramCause contents name file _ = ⊥
 
