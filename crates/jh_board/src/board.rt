@@ -1,5 +1,5 @@
 //! The board.
-ghost use Rattle.std.specs.Prelude.{◌≡◌, ℕ, ◌+◌, ◌<◌, ◌≤◌, ◌↔◌, [], ◌∷◌, ◌++◌, length, Some, None, IsSome, IfSome, IsTrue, IfOk, IfErr, OnErr, option_copied, slice_get, is_none};
+ghost use Rattle.std.specs.Prelude.{◌≡◌, ℕ, ◌<◌, ◌≤◌, ◌↔◌, [], length, Some, None, IsSome, IfSome, IsTrue, IfOk, IfErr, OnErr, option_copied, slice_get, is_none};
 ghost use Rattle.jh_history.specs.Lives.{is_on_board};
 ghost use Rattle.jh_history.specs.Due.{due, IsLegal, IsQuiet};
 ghost use Rattle.jh_history.specs.Bytes.{loaded_byte};

@@ -1,6 +1,5 @@
 //! An image with what turns look up in it, found once.
-ghost use Rattle.std.specs.Prelude.{◌≡◌, ℕ, ◌<◌, ◌≤◌, Bool, List, [], All, IsTrue, find, slice_get, IfSome, IfOk, IfErr};
-ghost use Rattle.jh_cellcfg.specs.Cells.{name_of};
+ghost use Rattle.std.specs.Prelude.{◌≡◌, ℕ, ◌<◌, Bool, List, [], All, IsTrue, find, slice_get, IfSome, IfOk, IfErr};
 ghost use Rattle.jh_cellcfg.specs.declared.region.Region.{Region as TheRegion};
 ghost use Rattle.jh_cellcfg.specs.Regions.{has_address, IsInRange, IsEmptyOrInRange};
 ghost use Rattle.jh_mmio.specs.Dispatch.{takes_all, unless_closed};

@@ -30,11 +30,7 @@ pub fn cell_at<'a>(
 }
 
 /// The configuration of the live cell with the id.
-pub fn cell_of<'a>(
-    image: &'a IndexedImage,
-    cells: &'a LiveCells,
-    id: u64,
-) -> Option<&'a CellConfig>
+pub fn cell_of<'a>(image: &'a IndexedImage, cells: &'a LiveCells, id: u64) -> Option<&'a CellConfig>
     ensures { option_copied result ≡ cell_in image.now cells.now.lives id }
 {
     if id == u64::from(image.root()) {

@@ -1,5 +1,5 @@
 //! Writing the configuration that a SPEC describes.
-ghost use Rattle.std.specs.Prelude.{◌≡◌, ◌≤◌, ◌++◌, codes, IfOk, IfErr, ◌∷◌, [], OnOk};
+ghost use Rattle.std.specs.Prelude.{◌≡◌, ◌≤◌, IfOk, IfErr, ◌∷◌, [], OnOk};
 ghost use Rattle.jh_spec.specs.Specs.{MayBeWritten};
 ghost use Rattle.jh_outside.specs.Trail.{AsksAll};
 ghost use Rattle.jh_cli.specs.Order.{AsksUntilEnd, AsksIn};

@@ -1,5 +1,5 @@
 //! The maps of all live cells after a schedule.
-ghost use Rattle.std.specs.Prelude.{◌≡◌, ◌++◌, ℕ, All, Contains, IsTrue, IfOk, OnOk, List};
+ghost use Rattle.std.specs.Prelude.{◌≡◌, ◌++◌, All, Contains, IsTrue, IfOk, OnOk, List};
 ghost use Rattle.jh_map.specs.declared.run.Run.{Run as TheRun};
 ghost use Rattle.jh_history.specs.Admitted.{IsAdmitted};
 ghost use Rattle.jh_history.specs.History.{facts};

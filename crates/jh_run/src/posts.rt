@@ -1,5 +1,5 @@
 //! Posts. A worker has one at a time, or none while it rests. The others that were left lie here.
-ghost use Rattle.std.specs.Prelude.{◌≡◌, ℕ, Option, Some, None, Result, vec_len};
+ghost use Rattle.std.specs.Prelude.{◌≡◌, Option, Some, None, Result, vec_len};
 ghost use Rattle.std.specs.Option.{ForSome};
 ghost use Rattle.jh_history.specs.declared.entry.Entry.{Entry as TheEntry};
 ghost use Rattle.jh_board.specs.declared.turn.Turn.{Turn as TheTurn};
