@@ -39,7 +39,7 @@ fn try_entry(board: &mut Board, entry: &Entry) -> Result<Option<Entry>, NoMemory
 }
 
 /// Whether the entry is the one that was due.
-fn is_due(expected: Option<Entry>, entry: &Entry) -> bool
+fn is_expected(expected: Option<Entry>, entry: &Entry) -> bool
     ensures { IsTrue result ↔ (expected ≡ Some entry.now) }
 {
     match expected {
@@ -70,7 +70,7 @@ fn compare(board: &mut Board, entry: &Entry) -> Result<Compared, NoMemory>
     // for the proof: the entries so far are legal
     let _ = board.journal();
     let expected = try_entry(board, entry)?;
-    if is_due(expected, entry) {
+    if is_expected(expected, entry) {
         Ok(Compared::Same)
     } else {
         Ok(Compared::Differs { expected })

@@ -23,7 +23,8 @@ use Rattle.std.proofs.lemmas.List.{drop_more, drop_all}
 use Rattle.jh_history.specs.Admitted.{IsAdmitted}
 use Rattle.jh_history.proofs.Public.{within, gives_has}
 use Rattle.jh_board.specs.declared.indexed.ProgramIndex.{ProgramIndex}
-use Rattle.jh_board.specs.Indexed.{ops_at, AreRootPrograms, AreProgramIndices}
+use Rattle.jh_board.specs.Indexed.{ops_at, AreProgramIndices}
+use Rattle.jh_board.specs.Private.RootPrograms.{AreRootPrograms}
 
 -- the first element that passes, where a search has come to it
 pub find_here : {X : Type 0} (p : X → Bool) (xs : List X) (k : ℕ) (x : X) → k < length xs → x ≡ get_or xs k x → p x ≡ true → find p (drop k xs) ≡ find p xs → find p xs ≡ slice_get xs k

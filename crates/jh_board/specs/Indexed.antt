@@ -1,18 +1,12 @@
--- Where programs are in an image: root's, by the image alone; and each CPU's, for the cell that it was found for,
--- found again at each Commit.
-use Rattle.std.specs.Prelude.{◌≡◌, ℕ, ◌<◌, List, [], find, slice_get, slice_index, Some}
+-- Where each CPU's program is in an image, for the cell that it was found for. It is found again at each Commit.
+use Rattle.std.specs.Prelude.{◌≡◌, ℕ, List, [], slice_get, Some}
 use Rattle.std.specs.Option.{option_map_or}
-use Rattle.jh_cellcfg.specs.Cells.{name_of}
 use Rattle.jh_cellcfg.specs.declared.live.Live.{Live}
 use Rattle.jh_script.specs.declared.image.Image.{Image}
 use Rattle.jh_script.specs.declared.image.Program.{Program}
 use Rattle.jh_script.specs.declared.op.Op.{Op}
-use Rattle.jh_history.specs.Lives.{is_program_of, ops_in}
+use Rattle.jh_history.specs.Lives.{ops_in}
 use Rattle.jh_board.specs.declared.indexed.ProgramIndex.{ProgramIndex}
-
--- the indices are those of root's programs, one of each CPU
-abbrev pub AreRootPrograms : Image → List ℕ → Type 0
-AreRootPrograms image indices = (cpu : ℕ) → cpu < 16 → find (is_program_of (name_of image.system.root) cpu) image.programs ≡ slice_get image.programs (slice_index indices cpu)
 
 -- the operations of the program at the index, none where there is no such program
 abbrev pub ops_at : Image → ℕ → List Op

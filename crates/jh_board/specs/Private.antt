@@ -3,6 +3,7 @@
 pub mod Closed
 pub mod IsCellRegions
 pub mod IsIndexed
+pub mod RootPrograms
 pub mod FoundCreation
 pub mod KeptCells
 pub mod Pages

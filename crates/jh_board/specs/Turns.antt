@@ -16,7 +16,7 @@ MakesDue old cpu (Some entry) new = (due old.image old.entries cpu ≡ Some entr
 
 -- from old, a turn of the CPU may answer this and leave new; no turn edits tables
 abbrev pub Turns : BoardView → ℕ → Turn → BoardView → Type 0
-Turns old cpu (Made entry) new = (due old.image old.entries cpu ≡ Some entry) × (length old.entries < old.limit) × (new ≡ record old { entries = old.entries ++ entry ∷ [] })
+Turns old cpu (Made entry) new = MakesDue old cpu (Some entry) new
 Turns old cpu (Edited left) new = ⊥
 Turns old cpu (NotNow other) new = (due old.image old.entries cpu ≡ None) × IsSome (due old.image old.entries other) × (new ≡ old)
 Turns old cpu Done new = IsQuiet old.image old.entries × (new ≡ old)

@@ -1,5 +1,5 @@
 //! The board.
-ghost use Rattle.std.specs.Prelude.{◌≡◌, ℕ, ◌+◌, ◌<◌, ◌≤◌, ◌↔◌, [], ◌∷◌, ◌++◌, length, Some, None, IsSome, IfSome, IsTrue, IfOk, IfErr, OnErr, option_copied, slice_get, is_none};
+ghost use Rattle.std.specs.Prelude.{◌≡◌, ℕ, ◌<◌, ◌≤◌, ◌↔◌, [], length, Some, None, IsSome, IfSome, IsTrue, IfOk, IfErr, OnErr, option_copied, slice_get, is_none};
 ghost use Rattle.jh_history.specs.Lives.{is_on_board};
 ghost use Rattle.jh_history.specs.Due.{due, IsLegal, IsQuiet};
 ghost use Rattle.jh_history.specs.Bytes.{loaded_byte};
@@ -43,7 +43,7 @@ pub struct Board {
     limit: u32,
     held: Box<Held>,
     journal: Journal,
-    /// The CPU that made the last entry: it mostly has the next one due.
+    /// The CPU that made the last entry, which mostly has the next one due; 0 before the first.
     last: u8,
 }
 

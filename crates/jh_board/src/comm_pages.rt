@@ -30,7 +30,7 @@ impl Model for CommPages {
 
 /// So many bytes of the communication page of the cell with the id, from the offset on.
 #[derive(Clone, Copy)]
-pub struct Word {
+pub struct PagePiece {
     pub cell: u32,
     pub offset: usize,
     pub count: usize,
@@ -57,8 +57,8 @@ impl CommPages {
         }
     }
 
-    /// The number that the bytes of the word spell, the lowest first.
-    pub fn value(&self, word: Word) -> u64
+    /// The number that the bytes of the piece spell, the lowest first.
+    pub fn value(&self, word: PagePiece) -> u64
         requires within { word.offset + word.count ≤ 4096 }
         requires few { word.count ≤ 8 }
         ensures spells { result ≡ spelled (bytes_from (comm_byte self.now word.cell) word.offset word.count) }

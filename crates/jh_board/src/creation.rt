@@ -1,5 +1,5 @@
 //! What comes of a configuration that a create has read.
-ghost use Rattle.std.specs.Prelude.{◌≡◌, ℕ, ◌<◌, ◌==◌, ◌&&◌, Some, false, true, slice_get, IfOk};
+ghost use Rattle.std.specs.Prelude.{◌≡◌, ℕ, ◌<◌, ◌==◌, ◌&&◌, false, true, IfOk};
 ghost use Rattle.jh_num.specs.Bits.{has_bit};
 ghost use Rattle.jh_history.specs.declared.reading.ReadCell.TheVariants.{Reads};
 ghost use Rattle.jh_history.specs.Cpus.{ListsCpus};

@@ -56,7 +56,7 @@ impl<'a> Grants for Granted<'a> {
 }
 
 /// Whether one of so many places in a row is closed to root.
-fn closes_row(cells: &LiveCells, first: Place, count: u16) -> bool
+fn closes_places(cells: &LiveCells, first: Place, count: u16) -> bool
     requires { number_of first + count < 2 ^ 64 }
     ensures { (i : TheImage) → result ≡ list_any (is_closed_to i cells.now.lives i.system.root.id) (places_in_row first count) }
 {
@@ -70,11 +70,11 @@ fn closes_row(cells: &LiveCells, first: Place, count: u16) -> bool
 }
 
 /// Whether a place of the row is closed to root.
-fn closes_any_of(cells: &LiveCells, row: Row) -> bool
+fn closes_row(cells: &LiveCells, row: Row) -> bool
     requires { IsRow row }
     ensures { (i : TheImage) → result ≡ list_any (is_closed_to i cells.now.lives i.system.root.id) (places_of_row row) }
 {
-    closes_row(cells, row.first, u16::from(row.count))
+    closes_places(cells, row.first, u16::from(row.count))
 }
 
 /// Whether one of the places is closed to the cell: it is root, and another cell takes the place.
@@ -85,12 +85,12 @@ fn closes_any(image: &IndexedImage, cells: &LiveCells, cell: u32, places: &Place
         return false;
     }
     let (low, high) = places.rows();
-    closes_any_of(cells, low) || closes_any_of(cells, high)
+    closes_row(cells, low) || closes_row(cells, high)
 }
 
 /// The places of memory that the cell's access reaches, where these cells live besides root; `None` where some byte
 /// isn't granted.
-pub fn memory(image: &IndexedImage, cells: &LiveCells, cell: u32, wanted: &Wanted) -> Option<Places>
+fn memory(image: &IndexedImage, cells: &LiveCells, cell: u32, wanted: &Wanted) -> Option<Places>
     requires { wanted.now.width ≤ 8 }
     ensures { memory_or_nothing result ≡ reach_by (granted_in image.now cells.now.lives cell wanted.now.access) wanted.now.at wanted.now.width }
 {
@@ -118,7 +118,7 @@ pub fn row_of_root(image: &IndexedImage, cells: &LiveCells, at: u64, count: u16)
     let granted = Granted { image, cells };
     match first_of_row(&granted, image.root(), Access::Read, at, count) {
         Some(first) => {
-            if closes_row(cells, first, count) {
+            if closes_places(cells, first, count) {
                 None
             } else {
                 Some(first)

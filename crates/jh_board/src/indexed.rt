@@ -1,6 +1,5 @@
 //! An image with what turns look up in it, found once.
-ghost use Rattle.std.specs.Prelude.{◌≡◌, ℕ, ◌<◌, ◌≤◌, Bool, List, [], All, IsTrue, find, slice_get, IfSome, IfOk, IfErr};
-ghost use Rattle.jh_cellcfg.specs.Cells.{name_of};
+ghost use Rattle.std.specs.Prelude.{◌≡◌, ℕ, ◌<◌, Bool, List, [], All, IsTrue, find, slice_get, IfSome, IfOk, IfErr};
 ghost use Rattle.jh_cellcfg.specs.declared.region.Region.{Region as TheRegion};
 ghost use Rattle.jh_cellcfg.specs.Regions.{has_address, IsInRange, IsEmptyOrInRange};
 ghost use Rattle.jh_mmio.specs.Dispatch.{takes_all, unless_closed};
@@ -10,7 +9,8 @@ ghost use Rattle.jh_history.specs.Access.{region_of};
 ghost use Rattle.jh_history.specs.Admitted.{IsAdmitted, pool_pages};
 ghost use Rattle.jh_history.specs.Facts.{Facts};
 ghost use Rattle.jh_history.specs.Lives.{is_on_board, is_program_of, ops_in, op_at};
-ghost use Rattle.jh_board.specs.Indexed.{ops_at, AreRootPrograms, AreProgramIndices};
+ghost use Rattle.jh_board.specs.Indexed.{ops_at, AreProgramIndices};
+ghost use Rattle.jh_board.specs.Private.RootPrograms.{AreRootPrograms};
 
 use crate::cells::LiveCells;
 use jh_cellcfg::{CellConfig, MAX_CPUS, Region};

@@ -9,7 +9,7 @@ ghost use Rattle.jh_board.specs.Pages.{byte_of, HoldsComm, HoldsPlace, HoldsEndp
 ghost use Rattle.jh_board.specs.Private.Pages.{MayHold};
 ghost use Rattle.jh_num.specs.Pages.{paged_byte};
 
-use crate::comm_pages::{CommPages, Word};
+use crate::comm_pages::{CommPages, PagePiece};
 use crate::physical::{Physical, Piece};
 use jh_history::{Bytes, PageWrite, Place, Places, Row, endpoint_word_places, value_of};
 use jh_ivshmem::EndpointWord;
@@ -52,8 +52,8 @@ fn piece_of(places: &Places) -> Option<Piece>
     }
 }
 
-/// The word of a communication page that the places are, if they are one.
-fn word_of_page(places: &Places) -> Option<Word>
+/// The piece of a communication page that the places are, if they are one.
+fn piece_of_page(places: &Places) -> Option<PagePiece>
     ensures within { IfSome result (λ word. word.offset + word.count ≤ 4096) }
     ensures few { IfSome result (λ word. word.count ≤ 8) }
     ensures places { IfSome result (λ word. places.now ≡ places_in_row (ThePlace.Page word.cell word.offset) word.count) }
@@ -63,7 +63,7 @@ fn word_of_page(places: &Places) -> Option<Word>
         Place::Page { cell, offset } => {
             let count = usize::from(low.count);
             if high.count == 0 && offset <= PAGE_SIZE - count as u64 {
-                Some(Word {
+                Some(PagePiece {
                     cell,
                     offset: offset as usize,
                     count,
@@ -95,7 +95,7 @@ impl Memory {
         if let Some(piece) = piece_of(places) {
             return self.physical.value(piece);
         }
-        match word_of_page(places) {
+        match piece_of_page(places) {
             Some(word) => self.comms.value(word),
             None => value_of(self, places),
         }

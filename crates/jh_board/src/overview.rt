@@ -30,13 +30,13 @@ pub fn cell_at<'a>(
 }
 
 /// The configuration of the live cell with the id.
-fn cell_of<'a>(image: &'a IndexedImage, cells: &'a LiveCells, id: u32) -> Option<&'a CellConfig>
+pub fn cell_of<'a>(image: &'a IndexedImage, cells: &'a LiveCells, id: u64) -> Option<&'a CellConfig>
     ensures { option_copied result ≡ cell_in image.now cells.now.lives id }
 {
-    if id == image.root() {
+    if id == u64::from(image.root()) {
         Some(image.config())
     } else {
-        cells.live(u64::from(id))
+        cells.live(id)
     }
 }
 
@@ -49,7 +49,7 @@ fn regions_of<'a>(image: &'a IndexedImage, cells: &'a LiveCells, id: u32) -> Opt
     ensures within { IfSome result (λ regions. AreInRange regions.now) }
     ensures apart { IfSome result (λ regions. AllPairs SharesNoAddress regions.now) }
 {
-    match cell_of(image, cells, id) {
+    match cell_of(image, cells, u64::from(id)) {
         Some(cell) => Some(cell.memory_regions.as_slice()),
         None => None,
     }

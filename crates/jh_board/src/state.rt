@@ -12,6 +12,7 @@ use crate::creation::creation_from;
 use crate::granted::{reach, row_of_root};
 use crate::held::Held;
 use crate::indexed::IndexedImage;
+use crate::overview::cell_of;
 use jh_call::Call;
 use jh_cellcfg::CellConfig;
 use jh_cpu::Cpu;
@@ -114,11 +115,7 @@ impl<'a> Known for State<'a> {
     }
 
     fn cell(&self, id: u64) -> Option<&CellConfig> {
-        if id == u64::from(self.image.root()) {
-            Some(self.image.config())
-        } else {
-            self.held.cells.live(id)
-        }
+        cell_of(self.image, &self.held.cells, id)
     }
 
     fn live(&self, id: u64) -> Option<&CellConfig> {

@@ -38,11 +38,11 @@ use Rattle.jh_image.specs.Causes.{IsCauseOf}
 use Rattle.jh_image.specs.Images.{IsImage}
 use Rattle.jh_image.specs.Laws.{AreKnown}
 use Rattle.jh_image.proofs.Public.{SpellingsAreFaultless}
-use Rattle.jh_run.specs.Maps.{IsMappedBoard}
+use Rattle.jh_run.specs.Maps.{IsMapsAnswer}
 use Rattle.jh_run.specs.Soak.{soak_board}
 use Rattle.jh_cli.specs.declared.status.Status.{Status}
 use Rattle.jh_cli.specs.declared.status.Status.TheVariants.{Good, Found, ReadFault, WriteFault, NoMemory, Full}
-use Rattle.jh_cli.specs.Limits.{most_of_a_file, most_of_a_journal}
+use Rattle.jh_cli.specs.Limits.{asked_of_a_file, asked_of_a_journal}
 use Rattle.jh_cli.specs.Lines.{exit_number, fault_line}
 use Rattle.jh_cli.specs.Words.{Request, CheckOf, PackOf, PlayOf, RunOf, MapOf, AuditOf, SoakOf}
 use Rattle.jh_image.specs.Files.{Contents}
@@ -119,19 +119,19 @@ some_none o x h k = cc
 
 -- ---- check
 
-pub system_sound : SpellingsAreFaultless → (system : SystemConfig) → IsSound SystemRefusal IsSystemFile most_of_a_file system
-system_sound faultless system bytes words within form (inl over) = no_more most_of_a_file bytes within over.0
+pub system_sound : SpellingsAreFaultless → (system : SystemConfig) → IsSound SystemRefusal IsSystemFile asked_of_a_file system
+system_sound faultless system bytes words within form (inl over) = no_more asked_of_a_file bytes within over.0
 system_sound faultless system bytes words within form (inr bad) =
     some_none (system_fault bytes) bad.fault (ap system_fault form.spelled ∙ faultless system form.typed form.limits) bad.first
 
-pub cell_sound : CellsAreFaultless → (cell : CellConfig) → IsSound CellRefusal IsCellFile most_of_a_file cell
-cell_sound faultless cell bytes words within form (inl over) = no_more most_of_a_file bytes within over.0
+pub cell_sound : CellsAreFaultless → (cell : CellConfig) → IsSound CellRefusal IsCellFile asked_of_a_file cell
+cell_sound faultless cell bytes words within form (inl over) = no_more asked_of_a_file bytes within over.0
 cell_sound faultless cell bytes words within form (inr bad) =
     some_none (first_fault bytes) bad.fault (ap first_fault form.spelled ∙ faultless cell form.typed form.limits) bad.first
 
 -- each of the files holds a cell
 one_of_cells : (contents : Contents) (before : List (List ℕ)) (name : List ℕ) (rest : List (List ℕ)) (cells : List CellConfig)
-    → HoldCells contents (before ++ name ∷ rest) cells → (cell : CellConfig) × FileSpells most_of_a_file contents name IsCellFile cell
+    → HoldCells contents (before ++ name ∷ rest) cells → (cell : CellConfig) × FileSpells asked_of_a_file contents name IsCellFile cell
 one_of_cells contents [] name rest [] held = absurd held
 one_of_cells contents [] name rest (cell ∷ cells) held = (cell, held.0)
 one_of_cells contents (b ∷ before) name rest [] held = absurd held
@@ -141,7 +141,7 @@ among_unrefused : CellsAreFaultless → (contents : Contents) (names : List (Lis
 among_unrefused faultless contents names cells reply held among =
     let split : HoldCells contents (among.before ++ among.name ∷ among.rest) cells = subst (λ (ns : List (List ℕ)). HoldCells contents ns cells) among.split held in
     let one = one_of_cells contents among.before among.name among.rest cells split in
-    stops_unrefused IsVerdict most_of_a_file contents among.name CellRefusal IsCellFile one.0 reply (cell_sound faultless one.0) one.1 among.stops
+    stops_unrefused IsVerdict asked_of_a_file contents among.name CellRefusal IsCellFile one.0 reply (cell_sound faultless one.0) one.1 among.stops
 
 checked_unrefused : (any : Bool) → IsVerdict (cond any Found Good)
 checked_unrefused true = inr refl
@@ -159,8 +159,8 @@ check_unrefused cells_faultless systems_faultless contents system cells reply go
 
 -- ---- pack
 
-pub spec_sound : (spec : Spec) → IsSound SpecRefusal IsSpecFile most_of_a_file spec
-spec_sound spec bytes words within form (inl over) = no_more most_of_a_file bytes within over.0
+pub spec_sound : (spec : Spec) → IsSound SpecRefusal IsSpecFile asked_of_a_file spec
+spec_sound spec bytes words within form (inl over) = no_more asked_of_a_file bytes within over.0
 spec_sound spec bytes words within form (inr (inl bad)) =
     let told = form.1 in
     ok_err (spec_told told.0) spec specs.Json told.2 (bad.1 told.0 told.1)
@@ -209,8 +209,8 @@ same_schedule one other same text = ap (λ (items : List (Option ℕ)). unless (
 pub same_for_image : (image : Image) (one other : ℕ) (text : List ℕ) → AreCpus image one → AreCpus image other → schedule_of one text ≡ schedule_of other text
 same_for_image image one other text h k = same_schedule one other (λ n lt. h n lt ∙ sym (k n lt)) text
 
-pub schedule_sound : (image : Image) (items : List ℕ) → IsSound (ScheduleRefusal image) (IsSchedule image) most_of_a_file items
-schedule_sound image items bytes words within form (inl over) = no_more most_of_a_file bytes within over.0
+pub schedule_sound : (image : Image) (items : List ℕ) → IsSound (ScheduleRefusal image) (IsSchedule image) asked_of_a_file items
+schedule_sound image items bytes words within form (inl over) = no_more asked_of_a_file bytes within over.0
 schedule_sound image items bytes words within form (inr bad) =
     ok_err (schedule_of form.cpus bytes) items bad.fault form.spelled (same_for_image image form.cpus bad.cpus bytes form.are bad.are ∙ bad.first)
 
@@ -225,7 +225,7 @@ played_unrefused : (image : Image) (items other : List ℕ) (reply : Reply) → 
 played_unrefused image items other reply same is =
     inl (ap (λ (s : Reply). s.status) is.told ∙ ap (λ (xs : List ℕ). played_status (played image max_entries xs).full) (sym same))
 
-plays_unrefused : (contents : Contents) (schedule : List ℕ) (image : Image) (items : List ℕ) (reply : Reply) → FileSpells most_of_a_file contents schedule (IsSchedule image) items
+plays_unrefused : (contents : Contents) (schedule : List ℕ) (image : Image) (items : List ℕ) (reply : Reply) → FileSpells asked_of_a_file contents schedule (IsSchedule image) items
     → PlaysBy contents schedule image reply → IsAnswered (IsPlayOf image items) reply
 plays_unrefused contents schedule image items reply held h =
     reads_unrefused (IsPlayOf image items) contents schedule (schedule_file image) (IsPlayed image) items reply (schedule_sound image items) held
@@ -241,8 +241,8 @@ play_unrefused one_image unrefused contents board schedule reply good (inr (imag
 
 -- ---- audit
 
-pub journal_sound : NoBadLine → NotLong → (entries : List Entry) → IsSound JournalRefusal IsJournalFile most_of_a_journal entries
-journal_sound no_bad not_long entries bytes words within form (inl over) = no_more most_of_a_journal bytes within over.0
+pub journal_sound : NoBadLine → NotLong → (entries : List Entry) → IsSound JournalRefusal IsJournalFile asked_of_a_journal entries
+journal_sound no_bad not_long entries bytes words within form (inl over) = no_more asked_of_a_journal bytes within over.0
 journal_sound no_bad not_long entries bytes words within form (inr bad) = faultless bad.fault bad.is_of_text bad.first where
   faultless : (fault : JournalFault) → fault ≢ journals.NoMemory → IsFault bytes fault → ⊥
   faultless (journals.Line number) other first = no_bad bytes entries number form.spelled first
@@ -253,7 +253,7 @@ verdict_unrefused : (verdict : Verdict) → IsVerdict (verdict_status verdict)
 verdict_unrefused (Legal count quiet) = inl refl
 verdict_unrefused (Illegal line expected) = inr refl
 
-audits_unrefused : NoBadLine → NotLong → (contents : Contents) (journal : List ℕ) (image : Image) (entries : List Entry) (reply : Reply) → FileSpells most_of_a_journal contents journal IsJournalFile entries
+audits_unrefused : NoBadLine → NotLong → (contents : Contents) (journal : List ℕ) (image : Image) (entries : List Entry) (reply : Reply) → FileSpells asked_of_a_journal contents journal IsJournalFile entries
     → AuditsBy contents journal image reply → IsAnswered IsVerdict reply
 audits_unrefused no_bad not_long contents journal image entries reply held h =
     reads_unrefused IsVerdict contents journal journal_file (IsAudited image) entries reply (journal_sound no_bad not_long entries) held
@@ -270,7 +270,7 @@ audit_unrefused unrefused no_bad not_long contents board journal reply good (inr
 abbrev IsMapOf : Image → List ℕ → Status → Type 0
 IsMapOf image cpus status = status ≡ played_status (items image max_entries cpus []).full
 
-mapped_status : (image : Image) (cpus : List ℕ) (found : Option (List ℕ)) → IsMappedBoard image max_entries cpus found → IsMapOf image cpus (map_reply found).status
+mapped_status : (image : Image) (cpus : List ℕ) (found : Option (List ℕ)) → IsMapsAnswer image max_entries cpus found → IsMapOf image cpus (map_reply found).status
 mapped_status image cpus (Some text) is = ap played_status (sym is.0)
 mapped_status image cpus None is = ap played_status (sym is.0)
 
@@ -278,7 +278,7 @@ mapped_unrefused : (image : Image) (cpus other : List ℕ) (reply : Reply) → c
 mapped_unrefused image cpus other reply same (found, is, told) =
     inl (ap (λ (s : Reply). s.status) told ∙ mapped_status image other found is ∙ ap (λ (xs : List ℕ). played_status (items image max_entries xs []).full) (sym same))
 
-maps_unrefused : (contents : Contents) (schedule : List ℕ) (image : Image) (cpus : List ℕ) (reply : Reply) → FileSpells most_of_a_file contents schedule (IsSchedule image) cpus
+maps_unrefused : (contents : Contents) (schedule : List ℕ) (image : Image) (cpus : List ℕ) (reply : Reply) → FileSpells asked_of_a_file contents schedule (IsSchedule image) cpus
     → MapsBy contents schedule image reply → IsAnswered (IsMapOf image cpus) reply
 maps_unrefused contents schedule image cpus reply held h =
     reads_unrefused (IsMapOf image cpus) contents schedule (schedule_file image) (IsMapped image) cpus reply (schedule_sound image cpus) held

@@ -5,7 +5,7 @@ use Rattle.jh_text.specs.declared.fault.JournalFault.{JournalFault}
 use Rattle.jh_text.specs.declared.fault.JournalFault.TheVariants.{Line, TooLong, NoMemory}
 use Rattle.jh_text.specs.Faults.{IsFirstBadLine, IsTooLong, IsFault}
 use Rattle.jh_text.specs.FaultText.{fault_text}
-use Rattle.jh_cli.specs.Limits.{most_of_a_journal}
+use Rattle.jh_cli.specs.Limits.{asked_of_a_journal}
 use Rattle.jh_cli.specs.declared.status.Status.TheVariants.{Refused}
 use Rattle.jh_cli.specs.declared.ending.CallFault.{CallFault}
 use Rattle.jh_cli.specs.declared.ending.CallFault.TheVariants as stop
@@ -46,19 +46,19 @@ is_fault text (Line number) r memory is wanted line long other = (line (is_other
 is_fault text TooLong r memory is wanted line long other = (long (is_other TooLong r memory is wanted other)).0 is
 is_fault text NoMemory r memory is wanted line long other = tt
 
-stops_for : (contents : Contents) (name text : List ℕ) (fault : JournalFault) → fault ≢ NoMemory → IsTrueFault text fault → HandsOut (contents name) most_of_a_journal text → length text < most_of_a_journal
-    → (s : CallFault) → OnEnded s (Refuses name fault) → OnEnded s (EndsAt most_of_a_journal contents name JournalRefusal)
+stops_for : (contents : Contents) (name text : List ℕ) (fault : JournalFault) → fault ≢ NoMemory → IsTrueFault text fault → HandsOut (contents name) asked_of_a_journal text → length text < asked_of_a_journal
+    → (s : CallFault) → OnEnded s (Refuses name fault) → OnEnded s (EndsAt asked_of_a_journal contents name JournalRefusal)
 stops_for contents name text fault other told handed within s h =
-    refuses most_of_a_journal contents name JournalRefusal text (fault_text fault) handed
+    refuses asked_of_a_journal contents name JournalRefusal text (fault_text fault) handed
     (inr (record { within = within; fault = fault; is_of_text = other; first = told other; told = refl })) s h
 
 -- the call ends at a text with a fault
-pub ends_there : (contents : Contents) (name text : List ℕ) (fault : JournalFault) → IsTrueFault text fault → HandsOut (contents name) most_of_a_journal text → length text < most_of_a_journal
-    → (s : CallFault) → OnEnded s (Refuses name fault) → (fault ≡ NoMemory → s ≡ stop.NoMemory) → OnEnded s (EndsAt most_of_a_journal contents name JournalRefusal)
+pub ends_there : (contents : Contents) (name text : List ℕ) (fault : JournalFault) → IsTrueFault text fault → HandsOut (contents name) asked_of_a_journal text → length text < asked_of_a_journal
+    → (s : CallFault) → OnEnded s (Refuses name fault) → (fault ≡ NoMemory → s ≡ stop.NoMemory) → OnEnded s (EndsAt asked_of_a_journal contents name JournalRefusal)
 unfolding tag
 ends_there contents name text (Line number) told handed within s h memory = stops_for contents name text (Line number) (λ e. let same : 1 ≡ 0 = ap tag e in omega arith) told handed within s h
 ends_there contents name text TooLong told handed within s h memory = stops_for contents name text TooLong (λ e. let same : 1 ≡ 0 = ap tag e in omega arith) told handed within s h
-ends_there contents name text NoMemory told handed within s h memory = nothing (EndsAt most_of_a_journal contents name JournalRefusal) s (memory refl)
+ends_there contents name text NoMemory told handed within s h memory = nothing (EndsAt asked_of_a_journal contents name JournalRefusal) s (memory refl)
 
 -- and no fault of reading is told
 pub no_fault_there : (old new : ℕ) (failed name : List ℕ) (fault : JournalFault) (s : CallFault) → OnEnded s (Refuses name fault) → OnEnded s (IsCountedFault old new failed)

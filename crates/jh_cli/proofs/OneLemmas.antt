@@ -30,7 +30,7 @@ use Rattle.jh_audit.specs.declared.verdict.Verdict.TheVariants.{Legal, Illegal}
 use Rattle.jh_audit.specs.Judges.{Judges, IsFirstIllegal}
 use Rattle.jh_image.proofs.Public.{OneSpelling, hands_one}
 use Rattle.jh_cli.specs.declared.status.Status.TheVariants.{ReadFault}
-use Rattle.jh_cli.specs.Limits.{most_of_a_file, most_of_a_journal}
+use Rattle.jh_cli.specs.Limits.{asked_of_a_file, asked_of_a_journal}
 use Rattle.jh_image.specs.Files.{Contents}
 use Rattle.jh_cli.specs.Reading.{Reply, EndsAt, SpellsAt, Reads}
 use Rattle.jh_cli.specs.Check.{IsCellFile, CellRefusal, IsSystemFile, SystemRefusal, SpellCells, ChecksCells, checked}
@@ -104,14 +104,14 @@ err_one r a b h k = cc
 
 pub system_words : (bytes v w : List ℕ) → SystemRefusal bytes v → SystemRefusal bytes w → v ≡ w
 system_words bytes v w (inl h) (inl k) = h.1 ∙ sym k.1
-system_words bytes v w (inl h) (inr k) = absurd (no_more most_of_a_file bytes k.within h.0)
-system_words bytes v w (inr h) (inl k) = absurd (no_more most_of_a_file bytes h.within k.0)
+system_words bytes v w (inl h) (inr k) = absurd (no_more asked_of_a_file bytes k.within h.0)
+system_words bytes v w (inr h) (inl k) = absurd (no_more asked_of_a_file bytes h.within k.0)
 system_words bytes v w (inr h) (inr k) = h.told ∙ ap config_text (some_one (system_fault bytes) h.fault k.fault h.first k.first) ∙ sym k.told
 
 cell_words : (bytes v w : List ℕ) → CellRefusal bytes v → CellRefusal bytes w → v ≡ w
 cell_words bytes v w (inl h) (inl k) = h.1 ∙ sym k.1
-cell_words bytes v w (inl h) (inr k) = absurd (no_more most_of_a_file bytes k.within h.0)
-cell_words bytes v w (inr h) (inl k) = absurd (no_more most_of_a_file bytes h.within k.0)
+cell_words bytes v w (inl h) (inr k) = absurd (no_more asked_of_a_file bytes k.within h.0)
+cell_words bytes v w (inr h) (inl k) = absurd (no_more asked_of_a_file bytes h.within k.0)
 cell_words bytes v w (inr h) (inr k) = h.told ∙ ap config_text (some_one (first_fault bytes) h.fault k.fault h.first k.first) ∙ sym k.told
 
 pub system_values : OneSpelling → (bytes : List ℕ) (a b : SystemConfig) → IsSystemFile bytes a → IsSystemFile bytes b → a ≡ b
@@ -124,8 +124,8 @@ module _ (faultless : CellsAreFaultless) (one_cell : OneCell) (contents : Conten
   cell_apart : (bytes : List ℕ) (cell : CellConfig) (words : List ℕ) → IsCellFile bytes cell → CellRefusal bytes words → ⊥
   cell_apart bytes cell words form why = cell_sound faultless cell bytes words form.within form why
 
-  not_both : (name : List ℕ) → contents name ≢ None → (cell : CellConfig) (reply : Reply) → SpellsAt most_of_a_file contents name IsCellFile cell → EndsAt most_of_a_file contents name CellRefusal reply → IsRead reply → ⊥
-  not_both name told cell reply = spelled_or_stopped most_of_a_file contents name told CellRefusal IsCellFile cell_apart cell reply
+  not_both : (name : List ℕ) → contents name ≢ None → (cell : CellConfig) (reply : Reply) → SpellsAt asked_of_a_file contents name IsCellFile cell → EndsAt asked_of_a_file contents name CellRefusal reply → IsRead reply → ⊥
+  not_both name told cell reply = spelled_or_stopped asked_of_a_file contents name told CellRefusal IsCellFile cell_apart cell reply
 
   one_cells : (names : List (List ℕ)) → AreKnownNames contents names → (a b : List CellConfig) → SpellCells contents names a → SpellCells contents names b → a ≡ b
   one_cells [] told [] [] h k = refl
@@ -134,13 +134,13 @@ module _ (faultless : CellsAreFaultless) (one_cell : OneCell) (contents : Conten
   one_cells (n ∷ ns) told [] b h k = absurd h
   one_cells (n ∷ ns) told (a ∷ us) [] h k = absurd k
   one_cells (n ∷ ns) told (a ∷ us) (b ∷ bs) h k =
-      let first : a ≡ b = one_spelled most_of_a_file contents n told.0 CellRefusal IsCellFile (cell_values one_cell) a b h.0 k.0 in
+      let first : a ≡ b = one_spelled asked_of_a_file contents n told.0 CellRefusal IsCellFile (cell_values one_cell) a b h.0 k.0 in
       let rest : us ≡ bs = one_cells ns told.1 us bs h.1 k.1 in
       ap (λ (x : CellConfig). x ∷ us) first ∙ ap (λ (xs : List CellConfig). b ∷ xs) rest
 
   -- a file that stops the call isn't among those that spell cells
   stop_among : (before : List (List ℕ)) (name : List ℕ) (rest : List (List ℕ)) (cells : List CellConfig) (reply : Reply) → AreKnownNames contents (before ++ name ∷ rest)
-      → SpellCells contents (before ++ name ∷ rest) cells → EndsAt most_of_a_file contents name CellRefusal reply → IsRead reply → ⊥
+      → SpellCells contents (before ++ name ∷ rest) cells → EndsAt asked_of_a_file contents name CellRefusal reply → IsRead reply → ⊥
   stop_among [] name rest [] reply told h k read = h
   stop_among [] name rest (c ∷ cs) reply told h k read = not_both name told.0 c reply h.0 k read
   stop_among (b ∷ bs) name rest [] reply told h k read = h
@@ -149,18 +149,18 @@ module _ (faultless : CellsAreFaultless) (one_cell : OneCell) (contents : Conten
   -- the first file that stops the call is one
   one_among : (xs : List (List ℕ)) (x : List ℕ) (r ys : List (List ℕ)) (y : List ℕ) (s : List (List ℕ)) (us bs : List CellConfig) (one other : Reply) → AreKnownNames contents (xs ++ x ∷ r)
       → xs ++ x ∷ r ≡ ys ++ y ∷ s → SpellCells contents xs us → SpellCells contents ys bs
-      → EndsAt most_of_a_file contents x CellRefusal one → EndsAt most_of_a_file contents y CellRefusal other → IsRead one → IsRead other → one ≡ other
+      → EndsAt asked_of_a_file contents x CellRefusal one → EndsAt asked_of_a_file contents y CellRefusal other → IsRead one → IsRead other → one ≡ other
   one_among [] x r [] y s us bs one other told same h k stops also read read_also =
       let head : x ≡ y = cc same in
-      one_stop most_of_a_file contents x told.0 CellRefusal IsCellFile cell_words one other stops (subst (λ n. EndsAt most_of_a_file contents n CellRefusal other) (sym head) also) read read_also
+      one_stop asked_of_a_file contents x told.0 CellRefusal IsCellFile cell_words one other stops (subst (λ n. EndsAt asked_of_a_file contents n CellRefusal other) (sym head) also) read read_also
   one_among [] x r (y1 ∷ ys) y s us [] one other told same h k stops also read read_also = absurd k
   one_among [] x r (y1 ∷ ys) y s us (b ∷ bs) one other told same h k stops also read read_also =
       let head : x ≡ y1 = cc same in
-      absurd (not_both x told.0 b one (subst (λ n. SpellsAt most_of_a_file contents n IsCellFile b) (sym head) k.0) stops read)
+      absurd (not_both x told.0 b one (subst (λ n. SpellsAt asked_of_a_file contents n IsCellFile b) (sym head) k.0) stops read)
   one_among (x1 ∷ xs) x r [] y s [] bs one other told same h k stops also read read_also = absurd h
   one_among (x1 ∷ xs) x r [] y s (a ∷ us) bs one other told same h k stops also read read_also =
       let head : x1 ≡ y = cc same in
-      absurd (not_both x1 told.0 a other h.0 (subst (λ n. EndsAt most_of_a_file contents n CellRefusal other) (sym head) also) read_also)
+      absurd (not_both x1 told.0 a other h.0 (subst (λ n. EndsAt asked_of_a_file contents n CellRefusal other) (sym head) also) read_also)
   one_among (x1 ∷ xs) x r (y1 ∷ ys) y s [] bs one other told same h k stops also read read_also = absurd h
   one_among (x1 ∷ xs) x r (y1 ∷ ys) y s (a ∷ us) [] one other told same h k stops also read read_also = absurd k
   one_among (x1 ∷ xs) x r (y1 ∷ ys) y s (a ∷ us) (b ∷ bs) one other told same h k stops also read read_also =
@@ -188,12 +188,12 @@ one_member r a b h k = cc
 
 pub spec_words : (bytes v w : List ℕ) → SpecRefusal bytes v → SpecRefusal bytes w → v ≡ w
 spec_words bytes v w (inl h) (inl k) = h.1 ∙ sym k.1
-spec_words bytes v w (inl h) (inr (inl k)) = absurd (no_more most_of_a_file bytes k.0 h.0)
-spec_words bytes v w (inl h) (inr (inr k)) = absurd (no_more most_of_a_file bytes k.within h.0)
-spec_words bytes v w (inr (inl h)) (inl k) = absurd (no_more most_of_a_file bytes h.0 k.0)
+spec_words bytes v w (inl h) (inr (inl k)) = absurd (no_more asked_of_a_file bytes k.0 h.0)
+spec_words bytes v w (inl h) (inr (inr k)) = absurd (no_more asked_of_a_file bytes k.within h.0)
+spec_words bytes v w (inr (inl h)) (inl k) = absurd (no_more asked_of_a_file bytes h.0 k.0)
 spec_words bytes v w (inr (inl h)) (inr (inl k)) = h.2 ∙ sym k.2
 spec_words bytes v w (inr (inl h)) (inr (inr k)) = absurd (json_or_member (spec_told k.faulty.0) k.name (h.1 k.faulty.0 k.faulty.1) k.faulty.2)
-spec_words bytes v w (inr (inr h)) (inl k) = absurd (no_more most_of_a_file bytes h.within k.0)
+spec_words bytes v w (inr (inr h)) (inl k) = absurd (no_more asked_of_a_file bytes h.within k.0)
 spec_words bytes v w (inr (inr h)) (inr (inl k)) = absurd (json_or_member (spec_told h.faulty.0) h.name (k.1 h.faulty.0 h.faulty.1) h.faulty.2)
 spec_words bytes v w (inr (inr h)) (inr (inr k)) =
     let read : Some h.faulty.0 ≡ Some k.faulty.0 = sym h.faulty.1.value ∙ k.faulty.1.value in
@@ -211,8 +211,8 @@ spec_values bytes a b h k =
 
 pub schedule_words : (image : Image) (bytes v w : List ℕ) → ScheduleRefusal image bytes v → ScheduleRefusal image bytes w → v ≡ w
 schedule_words image bytes v w (inl h) (inl k) = h.1 ∙ sym k.1
-schedule_words image bytes v w (inl h) (inr k) = absurd (no_more most_of_a_file bytes k.within h.0)
-schedule_words image bytes v w (inr h) (inl k) = absurd (no_more most_of_a_file bytes h.within k.0)
+schedule_words image bytes v w (inl h) (inr k) = absurd (no_more asked_of_a_file bytes k.within h.0)
+schedule_words image bytes v w (inr h) (inl k) = absurd (no_more asked_of_a_file bytes h.within k.0)
 schedule_words image bytes v w (inr h) (inr k) =
     h.told ∙ ap schedule_fault_text (err_one (schedule_of h.cpus bytes) h.fault k.fault h.first (same_for_image image h.cpus k.cpus bytes h.are k.are ∙ k.first)) ∙ sym k.told
 
@@ -227,8 +227,8 @@ one_fault not_both one_line bytes journals.TooLong journals.NoMemory h k x y = a
 
 pub journal_words : NotBoth → OneLine → (bytes v w : List ℕ) → JournalRefusal bytes v → JournalRefusal bytes w → v ≡ w
 journal_words not_both one_line bytes v w (inl h) (inl k) = h.1 ∙ sym k.1
-journal_words not_both one_line bytes v w (inl h) (inr k) = absurd (no_more most_of_a_journal bytes k.within h.0)
-journal_words not_both one_line bytes v w (inr h) (inl k) = absurd (no_more most_of_a_journal bytes h.within k.0)
+journal_words not_both one_line bytes v w (inl h) (inr k) = absurd (no_more asked_of_a_journal bytes k.within h.0)
+journal_words not_both one_line bytes v w (inr h) (inl k) = absurd (no_more asked_of_a_journal bytes h.within k.0)
 journal_words not_both one_line bytes v w (inr h) (inr k) =
     h.told ∙ ap journal_fault_text (one_fault not_both one_line bytes h.fault k.fault h.is_of_text k.is_of_text h.first k.first) ∙ sym k.told
 

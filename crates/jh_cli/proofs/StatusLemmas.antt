@@ -27,7 +27,7 @@ use Rattle.jh_cli.specs.Run.{EndsRun, IsRan}
 use Rattle.jh_cli.specs.Map.{IsMapped, map_reply, MapsBy}
 use Rattle.jh_cli.specs.Audit.{journal_file, IsAudited, AuditsBy, verdict_status}
 use Rattle.jh_cli.specs.Soak.{Soaks}
-use Rattle.jh_cli.specs.Limits.{most_of_a_file}
+use Rattle.jh_cli.specs.Limits.{asked_of_a_file}
 use Rattle.jh_cli.specs.Outcome.{Outcome}
 
 abbrev IsOther : Reply → Type 0
@@ -55,7 +55,7 @@ checked_other true = omega arith
 checked_other false = omega arith
 
 cells_other : (contents : Contents) (names : List (List ℕ)) (system : SystemConfig) (reply : Reply) → ChecksCells contents names system reply → IsOther reply
-cells_other contents names system reply (inl among) = stops_other most_of_a_file contents among.name CellRefusal reply among.stops
+cells_other contents names system reply (inl among) = stops_other asked_of_a_file contents among.name CellRefusal reply among.stops
 cells_other contents names system reply (inr all) =
     other reply (checked_status (capped (findings system all.0))) (ap (λ (s : Reply). s.status) all.2) (checked_other (is_any (capped (findings system all.0))))
 

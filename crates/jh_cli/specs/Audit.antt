@@ -11,20 +11,20 @@ use Rattle.jh_audit.specs.declared.verdict.Verdict.{Verdict}
 use Rattle.jh_audit.specs.declared.verdict.Verdict.TheVariants.{Legal, Illegal}
 use Rattle.jh_audit.specs.Judges.{Judges}
 use Rattle.jh_image.specs.Files.{Contents}
-use Rattle.jh_cli.specs.Reading.{Reply, FileKind, Reads, IsOversizeAt}
+use Rattle.jh_cli.specs.Reading.{Reply, FileKind, Reads, RefusesOversizeAt}
 use Rattle.jh_cli.specs.Boards.{Opens}
 use Rattle.jh_cli.specs.declared.status.Status.{Status}
 use Rattle.jh_cli.specs.declared.status.Status.TheVariants.{Good, Found}
-use Rattle.jh_cli.specs.Limits.{most_of_a_journal}
+use Rattle.jh_cli.specs.Limits.{asked_of_a_journal}
 
 -- the bytes are the text of a journal with these entries
 pub record IsJournalFile (bytes : List ℕ) (entries : List Entry) : Type 0 where
-  pub within : length bytes < most_of_a_journal
+  pub within : length bytes < asked_of_a_journal
   pub spelled : IsJournalText bytes entries
 
 -- the bytes are no journal's text, for the fault that these words tell
 pub record IsNoJournal (bytes words : List ℕ) : Type 0 where
-  pub within : length bytes < most_of_a_journal
+  pub within : length bytes < asked_of_a_journal
   pub fault : JournalFault
   pub is_of_text : fault ≢ NoMemory
   pub first : IsFault bytes fault
@@ -32,11 +32,11 @@ pub record IsNoJournal (bytes words : List ℕ) : Type 0 where
 
 -- a journal's file of these bytes is refused by these words: it is too large, or no journal's text
 abbrev pub JournalRefusal : List ℕ → List ℕ → Type 0
-JournalRefusal bytes words = IsOversizeAt most_of_a_journal bytes words ⊎ IsNoJournal bytes words
+JournalRefusal bytes words = RefusesOversizeAt asked_of_a_journal bytes words ⊎ IsNoJournal bytes words
 
 -- a journal's file
 abbrev pub journal_file : FileKind (List Entry)
-journal_file = record { most = most_of_a_journal; Refusal = JournalRefusal; Form = IsJournalFile }
+journal_file = record { most = asked_of_a_journal; Refusal = JournalRefusal; Form = IsJournalFile }
 
 -- the line that tells that the entry was due instead of the one in this line
 abbrev pub due_text : ℕ → Entry → List ℕ

@@ -16,50 +16,50 @@ use Rattle.jh_check.specs.Findings.{findings}
 use Rattle.jh_check.specs.Lists.{capped, is_any}
 use Rattle.jh_check.specs.Texts.{finding_text}
 use Rattle.jh_image.specs.Files.{Contents}
-use Rattle.jh_cli.specs.Reading.{Reply, FileKind, Spells, EndsAtFile, Reads, IsOversize}
+use Rattle.jh_cli.specs.Reading.{Reply, FileKind, Spells, EndsAtFile, Reads, RefusesOversize}
 use Rattle.jh_cli.specs.declared.status.Status.{Status}
 use Rattle.jh_cli.specs.declared.status.Status.TheVariants.{Good, Found}
-use Rattle.jh_cli.specs.Limits.{most_of_a_file}
+use Rattle.jh_cli.specs.Limits.{asked_of_a_file}
 
 -- the bytes of a file are those of this cell
 pub record IsCellFile (bytes : List ℕ) (cell : CellConfig) : Type 0 where
-  pub within : length bytes < most_of_a_file
+  pub within : length bytes < asked_of_a_file
   pub typed : IsCell cell
   pub limits : IsWithinLimits cell
   pub spelled : bytes ≡ spelling cell
 
 -- the bytes of a file are no cell's, for the fault that these words tell
 pub record IsNoCell (bytes words : List ℕ) : Type 0 where
-  pub within : length bytes < most_of_a_file
+  pub within : length bytes < asked_of_a_file
   pub fault : ConfigFault
   pub first : first_fault bytes ≡ Some fault
   pub told : words ≡ fault_text fault
 
 -- a cell's file of these bytes is refused by these words: it is too large, or no cell's
 abbrev pub CellRefusal : List ℕ → List ℕ → Type 0
-CellRefusal bytes words = IsOversize bytes words ⊎ IsNoCell bytes words
+CellRefusal bytes words = RefusesOversize bytes words ⊎ IsNoCell bytes words
 
 -- the bytes of a file are those of this system
 pub record IsSystemFile (bytes : List ℕ) (system : SystemConfig) : Type 0 where
-  pub within : length bytes < most_of_a_file
+  pub within : length bytes < asked_of_a_file
   pub typed : IsSystem system
   pub limits : IsSystemWithinLimits system
   pub spelled : bytes ≡ system_spelling system
 
 -- the bytes of a file are no system's, for the fault that these words tell
 pub record IsNoSystem (bytes words : List ℕ) : Type 0 where
-  pub within : length bytes < most_of_a_file
+  pub within : length bytes < asked_of_a_file
   pub fault : ConfigFault
   pub first : system_fault bytes ≡ Some fault
   pub told : words ≡ fault_text fault
 
 -- a system's file of these bytes is refused by these words: it is too large, or no system's
 abbrev pub SystemRefusal : List ℕ → List ℕ → Type 0
-SystemRefusal bytes words = IsOversize bytes words ⊎ IsNoSystem bytes words
+SystemRefusal bytes words = RefusesOversize bytes words ⊎ IsNoSystem bytes words
 
 -- a system's file
 abbrev pub system_file : FileKind SystemConfig
-system_file = record { most = most_of_a_file; Refusal = SystemRefusal; Form = IsSystemFile }
+system_file = record { most = asked_of_a_file; Refusal = SystemRefusal; Form = IsSystemFile }
 
 -- the files of these names spell these cells, one each
 abbrev pub SpellCells : Contents → List (List ℕ) → List CellConfig → Type 0

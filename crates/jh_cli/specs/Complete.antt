@@ -21,7 +21,7 @@ use Rattle.jh_cli.specs.Audit.{IsJournalFile}
 use Rattle.jh_cli.specs.Soak.{AreRounds}
 use Rattle.jh_cli.specs.declared.status.Status.{Status}
 use Rattle.jh_cli.specs.declared.status.Status.TheVariants.{Good, Found, Full}
-use Rattle.jh_cli.specs.Limits.{most_of_a_file, most_of_a_journal}
+use Rattle.jh_cli.specs.Limits.{asked_of_a_file, asked_of_a_journal}
 
 module _ {A : Type 0} where
   -- the file of this name holds these bytes, fewer than `most`, and they spell the value
@@ -34,7 +34,7 @@ module _ {A : Type 0} where
 -- the files of these names hold these cells, one each
 abbrev pub HoldCells : Contents → List (List ℕ) → List CellConfig → Type 0
 HoldCells contents [] [] = ⊤
-HoldCells contents (name ∷ names) (cell ∷ cells) = FileSpells most_of_a_file contents name IsCellFile cell × HoldCells contents names cells
+HoldCells contents (name ∷ names) (cell ∷ cells) = FileSpells asked_of_a_file contents name IsCellFile cell × HoldCells contents names cells
 HoldCells contents _ _ = ⊥
 
 -- the files tell of each of these names all the bytes that it holds, or that it is missing
@@ -60,14 +60,14 @@ AreKnownFiles contents (Some (SoakOf rounds)) = ⊤
 -- the files of a check hold a system and a cell each, whatever the check finds in them
 pub record AreGoodToCheck (contents : Contents) (system : List ℕ) (cells : List (List ℕ)) : Type 0 where
   pub of_system : SystemConfig
-  pub system_held : FileSpells most_of_a_file contents system IsSystemFile of_system
+  pub system_held : FileSpells asked_of_a_file contents system IsSystemFile of_system
   pub of_cells : List CellConfig
   pub cells_held : HoldCells contents cells of_cells
 
 -- the file of a pack holds a configuration's SPEC
 pub record IsGoodToPack (contents : Contents) (name : List ℕ) : Type 0 where
   pub spec : Spec
-  pub spells : FileSpells most_of_a_file contents name IsSpecFile spec
+  pub spells : FileSpells asked_of_a_file contents name IsSpecFile spec
 
 -- the board's files make an image, and the schedule's holds items for it
 pub record AreGoodToPlay (contents : Contents) (board schedule : List ℕ) : Type 0 where
@@ -75,7 +75,7 @@ pub record AreGoodToPlay (contents : Contents) (board schedule : List ℕ) : Typ
   pub image : Image
   pub is : IsImage contents board image
   pub items : List ℕ
-  pub spells : FileSpells most_of_a_file contents schedule (IsSchedule image) items
+  pub spells : FileSpells asked_of_a_file contents schedule (IsSchedule image) items
 
 -- the board's files make an image
 pub record AreGoodToRun (contents : Contents) (board : List ℕ) : Type 0 where
@@ -89,7 +89,7 @@ pub record AreGoodToAudit (contents : Contents) (board journal : List ℕ) : Typ
   pub image : Image
   pub is : IsImage contents board image
   pub entries : List Entry
-  pub spells : FileSpells most_of_a_journal contents journal IsJournalFile entries
+  pub spells : FileSpells asked_of_a_journal contents journal IsJournalFile entries
 
 -- the words have a command, and its files are good for it
 abbrev pub AreGood : Contents → Option Request → Type 0
@@ -102,9 +102,9 @@ AreGood contents (Some (MapOf board schedule)) = AreGoodToPlay contents board sc
 AreGood contents (Some (AuditOf board journal)) = AreGoodToAudit contents board journal
 AreGood contents (Some (SoakOf rounds)) = (n : ℕ) × AreRounds rounds n
 
--- what a call with good words and files ends with: a check with whether something is found, a play with whether the
--- journal stopped at its limit, a map with whether that of the schedule alone did, an audit with whether the journal is
--- legal; a run or a soak ends with `Good` or `Full`, which its outcome parts
+-- what a call with good words and files ends with: a check with whether something is found, a pack with `Good`, a play
+-- with whether the journal stopped at its limit, a map with whether that of the schedule alone did, an audit with whether
+-- the journal is legal; a run or a soak ends with `Good` or `Full`, which its outcome parts
 abbrev pub MayEndWith : (contents : Contents) (request : Option Request) → AreGood contents request → Status → Type 0
 MayEndWith contents None good status = ⊥
 MayEndWith contents (Some (CheckOf system cells)) good status = (status ≡ Good) ⊎ (status ≡ Found)

@@ -1,7 +1,7 @@
 -- What `map` ends with.
 use Rattle.std.specs.Prelude.{◌≡◌, ℕ, List, [], Option, Some, None}
 use Rattle.jh_script.specs.declared.image.Image.{Image}
-use Rattle.jh_run.specs.Maps.{IsMappedBoard}
+use Rattle.jh_run.specs.Maps.{IsMapsAnswer}
 use Rattle.jh_image.specs.Files.{Contents}
 use Rattle.jh_text.specs.Faults.{max_entries}
 use Rattle.jh_cli.specs.Reading.{Reply, Reads}
@@ -16,7 +16,7 @@ map_reply None = record { status = Full; text = [] }
 
 -- the reply to a map of the image after the items alone: the maps, or that the limit stopped an item
 abbrev pub IsMapped : Image → List ℕ → Reply → Type 0
-IsMapped image cpus reply = (found : Option (List ℕ)) × IsMappedBoard image max_entries cpus found × (reply ≡ map_reply found)
+IsMapped image cpus reply = (found : Option (List ℕ)) × IsMapsAnswer image max_entries cpus found × (reply ≡ map_reply found)
 
 -- what a map of the image after the schedule ends with
 abbrev pub MapsBy : Contents → List ℕ → Image → Reply → Type 0

@@ -11,11 +11,11 @@ use Rattle.jh_text.specs.Faults.{max_entries}
 use Rattle.jh_text.specs.Text.{journal_text}
 use Rattle.jh_run.specs.Plays.{IsFullAtCpu}
 use Rattle.jh_image.specs.Files.{Contents}
-use Rattle.jh_cli.specs.Reading.{Reply, FileKind, Reads, IsOversize}
+use Rattle.jh_cli.specs.Reading.{Reply, FileKind, Reads, RefusesOversize}
 use Rattle.jh_cli.specs.Boards.{Opens}
 use Rattle.jh_cli.specs.declared.status.Status.{Status}
 use Rattle.jh_cli.specs.declared.status.Status.TheVariants.{Good, Full}
-use Rattle.jh_cli.specs.Limits.{most_of_a_file}
+use Rattle.jh_cli.specs.Limits.{asked_of_a_file}
 
 -- bit n of the set says whether the board has CPU n
 abbrev pub AreCpus : Image → ℕ → Type 0
@@ -23,14 +23,14 @@ AreCpus image cpus = (n : ℕ) → n < 16 → has_cpu cpus n ≡ is_on_board ima
 
 -- the bytes are the text of a schedule for the board, and these are its items
 pub record IsSchedule (image : Image) (bytes items : List ℕ) : Type 0 where
-  pub within : length bytes < most_of_a_file
+  pub within : length bytes < asked_of_a_file
   pub cpus : ℕ
   pub are : AreCpus image cpus
   pub spelled : schedule_of cpus bytes ≡ Ok items
 
 -- the bytes are no text of a schedule for the board, for the fault that these words tell
 pub record IsNoSchedule (image : Image) (bytes words : List ℕ) : Type 0 where
-  pub within : length bytes < most_of_a_file
+  pub within : length bytes < asked_of_a_file
   pub cpus : ℕ
   pub are : AreCpus image cpus
   pub fault : ScheduleFault
@@ -39,11 +39,11 @@ pub record IsNoSchedule (image : Image) (bytes words : List ℕ) : Type 0 where
 
 -- a schedule's file of these bytes is refused by these words: it is too large, or no schedule for the board
 abbrev pub ScheduleRefusal : Image → List ℕ → List ℕ → Type 0
-ScheduleRefusal image bytes words = IsOversize bytes words ⊎ IsNoSchedule image bytes words
+ScheduleRefusal image bytes words = RefusesOversize bytes words ⊎ IsNoSchedule image bytes words
 
 -- a schedule's file for the board
 abbrev pub schedule_file : Image → FileKind (List ℕ)
-schedule_file image = record { most = most_of_a_file; Refusal = ScheduleRefusal image; Form = IsSchedule image }
+schedule_file image = record { most = asked_of_a_file; Refusal = ScheduleRefusal image; Form = IsSchedule image }
 
 -- the status of a play, by whether the journal stopped at its limit
 abbrev pub played_status : Bool → Status

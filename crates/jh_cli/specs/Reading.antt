@@ -6,7 +6,7 @@ use Rattle.jh_image.specs.Files.{Contents}
 use Rattle.jh_cli.specs.Lines.{fault_line, refusal_line}
 use Rattle.jh_cli.specs.declared.status.Status.{Status}
 use Rattle.jh_cli.specs.declared.status.Status.TheVariants.{Refused, ReadFault}
-use Rattle.jh_cli.specs.Limits.{most_of_a_file}
+use Rattle.jh_cli.specs.Limits.{asked_of_a_file}
 
 -- what a call says: a status, and the text that is written before it
 pub record Reply : Type 0 where
@@ -31,7 +31,7 @@ EndsAt most contents name Why reply = (reply ≡ record { status = ReadFault; te
 
 -- the call ends at this file, which may have at most 1 MiB: it could not be read, or is refused
 abbrev pub EndsAtFile : Contents → List ℕ → (List ℕ → List ℕ → Type 0) → Reply → Type 0
-EndsAtFile contents name Why reply = EndsAt most_of_a_file contents name Why reply
+EndsAtFile contents name Why reply = EndsAt asked_of_a_file contents name Why reply
 
 -- a kind of file: how many bytes are asked of one, which bytes are refused by which words, and which spell which value
 pub record FileKind (A : Type 0) : Type 1 where
@@ -48,17 +48,17 @@ module _ {A : Type 0} where
 
   -- the file, which may have at most 1 MiB, hands out bytes that spell this value
   abbrev pub Spells : Contents → List ℕ → (List ℕ → A → Type 0) → A → Type 0
-  Spells contents name Form value = SpellsAt most_of_a_file contents name Form value
+  Spells contents name Form value = SpellsAt asked_of_a_file contents name Form value
 
   -- a file of this kind is read: the call ends at it, or goes on with what it spells
   abbrev pub Reads : Contents → List ℕ → FileKind A → (A → Reply → Type 0) → Reply → Type 0
   Reads contents name kind next reply =
       EndsAt kind.most contents name kind.Refusal reply ⊎ ((value : A) × SpellsAt kind.most contents name kind.Form value × next value reply)
 
--- the file has more bytes than it may have: all those that were asked, of which one is too many
-abbrev pub IsOversizeAt : ℕ → List ℕ → List ℕ → Type 0
-IsOversizeAt most bytes words = (most ≤ length bytes) × (words ≡ codes "oversize")
+-- the bytes are all that were asked, of which one is too many: the words are `oversize`
+abbrev pub RefusesOversizeAt : ℕ → List ℕ → List ℕ → Type 0
+RefusesOversizeAt most bytes words = (most ≤ length bytes) × (words ≡ codes "oversize")
 
--- the file has more than the 1 MiB that it may have
-abbrev pub IsOversize : List ℕ → List ℕ → Type 0
-IsOversize bytes words = IsOversizeAt most_of_a_file bytes words
+-- so for a file, which may have 1 MiB
+abbrev pub RefusesOversize : List ℕ → List ℕ → Type 0
+RefusesOversize bytes words = RefusesOversizeAt asked_of_a_file bytes words

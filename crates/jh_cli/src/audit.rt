@@ -5,7 +5,7 @@ ghost use Rattle.jh_text.specs.FaultText.{fault_text};
 ghost use Rattle.jh_text.specs.declared.fault.JournalFault.TheVariants.{NoMemory as for_memory};
 ghost use Rattle.jh_outside.specs.Trail.{AsksAll};
 ghost use Rattle.jh_cli.specs.Order.{AsksUntilEnd, AsksIn, AsksBoardAnd};
-ghost use Rattle.jh_cli.specs.Limits.{most_of_a_journal};
+ghost use Rattle.jh_cli.specs.Limits.{asked_of_a_journal};
 ghost use Rattle.jh_cli.specs.Lines.{refusal_line};
 ghost use Rattle.jh_cli.specs.Reading.{EndsAt, IsCountedFault};
 ghost use Rattle.jh_cli.specs.Audit.{JournalRefusal, AuditsBy, Audits, due_text, verdict_text, verdict_status};
@@ -44,7 +44,7 @@ fn judge<F: Files>(
 ) -> Result<Verdict, CallFault>
     requires admitted { IsAdmitted image }
     ensures ok { IfOk result (JudgesFile (F.contents files.old) name.now image) }
-    ensures err { IfErr result (λ stop. OnEnded stop (EndsAt most_of_a_journal (F.contents files.old) name.now JournalRefusal)) }
+    ensures err { IfErr result (λ stop. OnEnded stop (EndsAt asked_of_a_journal (F.contents files.old) name.now JournalRefusal)) }
     ensures counted { IfErr result (λ stop. OnEnded stop (IsCountedFault (F.faults files.old) (F.faults files.new) (F.failed files.new))) }
     ensures asked { OnOk result (AsksAll F.Files (name.now ∷ []) files.old files.new) }
     ensures asked_until { IfErr result (λ stop. OnEnded stop (AsksUntilEnd F.Files files.old files.new (name.now ∷ []))) }

@@ -1,5 +1,5 @@
 //! The words of the command line.
-ghost use Rattle.std.specs.Prelude.{◌≡◌, ◌==◌, IfSome, None, map, string_bytes, not, slice_get, Bool};
+ghost use Rattle.std.specs.Prelude.{◌≡◌, ◌==◌, IfSome, None, map, string_bytes};
 ghost use Rattle.std.specs.List.{list_all};
 ghost use Rattle.std.specs.Option.{option_map};
 ghost use Rattle.jh_cli.specs.Words.{is_operand, check_of, pack_of, play_of, run_of, map_of, audit_of, soak_of, command_for, command_of, request_by, HasFewCells};

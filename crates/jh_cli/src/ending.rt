@@ -4,7 +4,7 @@ ghost use Rattle.jh_outside.specs.Reads.{HandsOut};
 ghost use Rattle.jh_outside.specs.Trail.{AsksAll};
 ghost use Rattle.jh_cli.specs.Order.{AsksUntilEnd};
 ghost use Rattle.jh_cli.specs.Lines.{fault_line, refusal_line};
-ghost use Rattle.jh_cli.specs.Reading.{EndsAt, IsOversizeAt, IsCountedFault};
+ghost use Rattle.jh_cli.specs.Reading.{EndsAt, RefusesOversizeAt, IsCountedFault};
 ghost use Rattle.jh_cli.specs.Private.Endings.{OnEnded};
 
 use crate::lines::{fault_line, refusal_line};
@@ -84,7 +84,7 @@ pub fn read_below<F: Files>(
 ) -> Result<Seq<u8>, CallFault>
     ensures ok { IfOk result (λ bytes. HandsOut (F.contents files.old name.now) most bytes) }
     ensures within { IfOk result (λ bytes. length bytes < most) }
-    ensures err { IfErr result (λ stop. OnEnded stop (EndsAt most (F.contents files.old) name.now (IsOversizeAt most))) }
+    ensures err { IfErr result (λ stop. OnEnded stop (EndsAt most (F.contents files.old) name.now (RefusesOversizeAt most))) }
     ensures counted { IfErr result (λ stop. OnEnded stop (IsCountedFault (F.faults files.old) (F.faults files.new) (F.failed files.new))) }
     ensures never_falls { F.faults files.old ≤ F.faults files.new }
     ensures kept { F.contents files.new ≡ F.contents files.old }

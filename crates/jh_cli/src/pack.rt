@@ -1,5 +1,5 @@
 //! Writing the configuration that a SPEC describes.
-ghost use Rattle.std.specs.Prelude.{◌≡◌, ◌≤◌, ◌++◌, codes, IfOk, IfErr, ◌∷◌, [], OnOk};
+ghost use Rattle.std.specs.Prelude.{◌≡◌, ◌≤◌, IfOk, IfErr, ◌∷◌, [], OnOk};
 ghost use Rattle.jh_spec.specs.Specs.{MayBeWritten};
 ghost use Rattle.jh_outside.specs.Trail.{AsksAll};
 ghost use Rattle.jh_cli.specs.Order.{AsksUntilEnd, AsksIn};
@@ -11,21 +11,12 @@ use crate::ending::{CallFault, Ending, read_below, refused};
 use crate::limits::MAX_READ;
 use crate::status::Status;
 use jh_cellcfg::write_cell;
+use jh_image::words;
 use jh_num::NoMemory;
 use jh_outside::Files;
 use jh_spec::{JsonFault, Spec, read_spec};
 use jh_syscfg::write_system;
 use std::alloc::Global;
-
-/// The words that refuse a SPEC for a member that has a fault.
-fn member_words(alloc: Global, member: &[u8]) -> Result<Vec<u8>, NoMemory>
-    ensures { IfOk result (λ words. words.items ≡ codes "member " ++ member.now) }
-{
-    let mut words = Vec::new(alloc);
-    words.extend_from_slice(b"member ")?;
-    words.extend_from_slice(member)?;
-    Ok(words)
-}
 
 /// The configuration that the file of this name describes.
 fn spec<F: Files>(alloc: Global, files: &mut F, name: &str) -> Result<Spec, CallFault>
@@ -42,7 +33,7 @@ fn spec<F: Files>(alloc: Global, files: &mut F, name: &str) -> Result<Spec, Call
         Ok(spec) => Ok(spec),
         Err(JsonFault::Json) => Err(refused(alloc, name.as_bytes(), b"json")),
         Err(JsonFault::Member(member)) => {
-            let words = member_words(alloc, member.as_slice())?;
+            let words = words(alloc, "member ", member.as_slice())?;
             Err(refused(alloc, name.as_bytes(), words.as_slice()))
         }
         Err(JsonFault::NoMemory) => Err(CallFault::NoMemory),

@@ -10,7 +10,7 @@ pub enum Status {
     Found,
     /// The words have no command.
     Usage,
-    /// A file is outside its grammar or a limit, or the word of `soak` tells no number of rounds.
+    /// A file is refused, for a cause that the text tells, or the word of `soak` tells no number of rounds.
     Refused,
     ReadFault,
     WriteFault,

@@ -80,11 +80,12 @@ unsound_stops contents board listing system read spells file (Findings found) h 
     = record { stage = with_listing listing; read = read; stops = by_system listing (Findings (capped (findings system []))) (has_findings system spells h.2) } in
     subst (λ f. IsCauseOf contents board f (Findings found)) (sym h.0) (subst (λ k. IsCauseOf contents board listing.system (Findings k)) (sym h.1) stops)
 unsound_stops contents board listing system read spells file (PoolSmall need have) h =
-    let few : pool_pages system < root_pages system = subst (λ n. pool_pages system < n) h.2 (subst (λ n. n < need) h.3 h.4) in
+    let small : IsPoolSmall board system file (PoolSmall need have) = h.1 in
+    let few : pool_pages system < root_pages system = subst (λ n. pool_pages system < n) small.1 (subst (λ n. n < need) small.2 small.3) in
     let stops : IsCauseOf contents board board (PoolSmall (root_pages system) (pool_pages system))
-    = record { stage = with_listing listing; read = read; stops = by_pool listing system (record { spells = spells; clean = h.1; small = few }) } in
-    subst (λ f. IsCauseOf contents board f (PoolSmall need have)) (sym h.0)
-    (subst (λ n. IsCauseOf contents board board (PoolSmall n have)) (sym h.2) (subst (λ n. IsCauseOf contents board board (PoolSmall (root_pages system) n)) (sym h.3) stops))
+    = record { stage = with_listing listing; read = read; stops = by_pool listing system (record { spells = spells; clean = h.0; small = few }) } in
+    subst (λ f. IsCauseOf contents board f (PoolSmall need have)) (sym small.0)
+    (subst (λ n. IsCauseOf contents board board (PoolSmall n have)) (sym small.1) (subst (λ n. IsCauseOf contents board board (PoolSmall (root_pages system) n)) (sym small.2) stops))
 unsound_stops contents board listing system read spells file _ h = absurd h
 
 -- the next preload has a fault
@@ -106,7 +107,7 @@ program_stops contents board so_far entry read next file _ h = absurd h
 
 -- where nothing is found, a system with a small pool isn't admitted
 small_unsound : (board name : List ℕ) (system : SystemConfig) → findings system [] ≡ [] → (file : List ℕ) (cause : ImageCause) → IsPoolSmall board system file cause → IsUnsound board name system file cause
-small_unsound board name system clean file (PoolSmall need have) h = (h.0, clean, h.1, h.2, h.3)
+small_unsound board name system clean file (PoolSmall need have) h = (clean, h)
 small_unsound board name system clean file _ h = absurd h
 
 pub checked_ok : {X : Type 0} (system : SystemConfig) → findings system [] ≡ [] → (r : Result X ImageFault) → OnOk r (root_pages system ≤ pool_pages system) → OnOk r (IsAdmittedSystem system)

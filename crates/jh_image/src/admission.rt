@@ -1,7 +1,5 @@
 //! What is asked of a system before a board is opened.
-ghost use Rattle.std.specs.Prelude.{◌≡◌, ◌≤◌, ◌<◌, ◌↔◌, [], IsTrue, IfOk, IfErr, OnOk};
-ghost use Rattle.jh_check.specs.Findings.{findings};
-ghost use Rattle.jh_check.specs.Lists.{capped};
+ghost use Rattle.std.specs.Prelude.{◌≤◌, ◌<◌, [], IfErr, OnOk};
 ghost use Rattle.jh_history.specs.Admitted.{root_pages, pool_pages, IsAdmittedSystem};
 ghost use Rattle.jh_image.specs.Causes.{OnRefused};
 ghost use Rattle.jh_image.specs.Private.Causes.{IsUnsound, IsPoolSmall};

@@ -1,6 +1,6 @@
 //! Preloads beside one another and beside the hypervisor's memory.
-ghost use Rattle.std.specs.Prelude.{◌↔◌, ◌≤◌, ◌+◌, IsTrue, All, length};
-ghost use Rattle.jh_history.specs.Admitted.{IsSoundPreload, IsOtherPreload};
+ghost use Rattle.std.specs.Prelude.{◌↔◌, IsTrue, All};
+ghost use Rattle.jh_history.specs.Admitted.{IsOtherPreload};
 ghost use Rattle.jh_script.specs.declared.image.Preload.{Preload as ThePreload};
 ghost use Rattle.jh_image.specs.Preloads.{IsFaultless};
 

@@ -24,7 +24,7 @@ use jh_script::{Image, Preload, Program};
 use std::alloc::Global;
 
 /// The system that the board names, where it is admitted.
-fn read_ready<F: Files>(
+fn read_admitted<F: Files>(
     alloc: Global,
     files: &mut F,
     board: &str,
@@ -45,7 +45,7 @@ fn read_ready<F: Files>(
     Ok(system)
 }
 
-/// The preload whose turn comes behind those that are read, where it has no fault.
+/// The preload that is next behind those that are read, where it has no fault.
 fn next_preload<F: Files>(
     alloc: Global,
     files: &mut F,
@@ -148,7 +148,7 @@ pub fn read_image<F: Files>(alloc: Global, files: &mut F, name: &str) -> Result<
     ensures asked_until { IfErr result (OnRefused (λ _ cause. AsksBoardUntil F.Files (F.contents files.old) name.now cause files.old files.new)) }
 {
     let listing = read_listing(alloc, files, name)?;
-    let system = read_ready(alloc, files, name, &listing)?;
+    let system = read_admitted(alloc, files, name, &listing)?;
     let preloads = read_preloads(alloc, files, name, &listing, &system)?;
     let programs = read_programs(alloc, files, name, &listing, &system, preloads.as_slice())?;
     Ok(Image {

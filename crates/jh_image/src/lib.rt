@@ -24,4 +24,4 @@ pub use laws::{
     boards_have_one_cause, boards_make_one_image, boards_that_make_an_image_are_not_refused,
 };
 pub use read::MAX_FILE_SIZE;
-pub use text::cause_text;
+pub use text::{cause_text, words};

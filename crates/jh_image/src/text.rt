@@ -7,7 +7,7 @@ use jh_num::NoMemory;
 use std::alloc::Global;
 
 /// The word, and the bytes behind it.
-fn words(alloc: Global, word: &str, behind: &[u8]) -> Result<Vec<u8>, NoMemory>
+pub fn words(alloc: Global, word: &str, behind: &[u8]) -> Result<Vec<u8>, NoMemory>
     ensures { IfOk result (λ text. text.items ≡ word.now ++ behind.now) }
 {
     let mut text = Vec::from_slice(alloc, word.as_bytes())?;

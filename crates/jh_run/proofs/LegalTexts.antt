@@ -76,13 +76,11 @@ readable_act (Noted id how) fit told = told
 readable_act (Finish answer) fit told = told
 
 readable_entry : (laws : JournalLaws) (m : AdmittedMoment) → HasTypedNumbers m.image → IsReadable m.entry
-readable_entry laws m numbers =
-    let opens : IsTypedImage m.image = record { root = numbers.root; bytes = numbers.bytes } in
-    record {
-      cpu = laws.cpu m;
-      cell = laws.cell m opens;
-      act = readable_act m.entry.act (λ op is. fit_op laws m op numbers is) (laws.told m opens);
-    }
+readable_entry laws m numbers = record {
+  cpu = laws.cpu m;
+  cell = laws.cell m numbers.image_typed;
+  act = readable_act m.entry.act (λ op is. fit_op laws m op numbers is) (laws.told m numbers.image_typed);
+}
 
 readable_from : (laws : JournalLaws) (image : Image) → IsAdmitted image → HasTypedNumbers image → (rest before : List Entry) → IsLegal image (before ++ rest) → AllByRecursion IsReadable rest
 readable_from laws image admitted numbers [] before legal = tt

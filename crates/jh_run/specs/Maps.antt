@@ -23,7 +23,7 @@ abbrev pub IsMapsText : Image → List Entry → List ℕ → Type 0
 IsMapsText image entries = AreMaps image (facts image entries).cells (all_cells image (facts image entries).cells)
 
 -- what is told after the items of the schedule alone: the maps, or nothing where the limit stopped an item
-abbrev pub IsMappedBoard : Image → ℕ → List ℕ → Option (List ℕ) → Type 0
-IsMappedBoard image limit schedule None = ((items image limit schedule []).full ≡ true) × IsFullAtItem image limit schedule (items image limit schedule []).entries
-IsMappedBoard image limit schedule (Some text) =
+abbrev pub IsMapsAnswer : Image → ℕ → List ℕ → Option (List ℕ) → Type 0
+IsMapsAnswer image limit schedule None = ((items image limit schedule []).full ≡ true) × IsFullAtItem image limit schedule (items image limit schedule []).entries
+IsMapsAnswer image limit schedule (Some text) =
     ((items image limit schedule []).full ≡ false) × IsLegal image (items image limit schedule []).entries × IsMapsText image (items image limit schedule []).entries text

@@ -19,7 +19,7 @@ whose_entry entry = entry.cpu
 abbrev pub origin_of : Running → Origin
 origin_of running = record { image = running.board.image; limit = running.board.limit }
 
--- the CPUs of the board are served
+-- the CPU is served: it is one of the board's
 abbrev pub Serves : Origin → ℕ → Type 0
 Serves origin cpu = IsTrue (is_on_board origin.image cpu)
 

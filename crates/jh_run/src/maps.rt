@@ -1,12 +1,12 @@
 //! The maps of all live cells after a schedule.
-ghost use Rattle.std.specs.Prelude.{◌≡◌, ◌++◌, ℕ, All, Contains, IsTrue, IfOk, OnOk, List};
+ghost use Rattle.std.specs.Prelude.{◌≡◌, ◌++◌, All, Contains, IsTrue, IfOk, OnOk, List};
 ghost use Rattle.jh_map.specs.declared.run.Run.{Run as TheRun};
 ghost use Rattle.jh_history.specs.Admitted.{IsAdmitted};
 ghost use Rattle.jh_history.specs.History.{facts};
 ghost use Rattle.jh_history.specs.Lives.{is_on_board};
 ghost use Rattle.jh_text.specs.Maps.{map_text};
 ghost use Rattle.jh_board.specs.Maps.{all_cells, IsMapIn};
-ghost use Rattle.jh_run.specs.Maps.{IsMapsText, IsMappedBoard};
+ghost use Rattle.jh_run.specs.Maps.{IsMapsText, IsMapsAnswer};
 
 use crate::ended::Ended;
 use crate::schedule::follow;
@@ -59,7 +59,7 @@ pub fn map(
 ) -> Result<Option<Seq<u8>>, NoMemory>
     requires admitted { IsAdmitted image }
     requires schedule { All (λ cpu. IsTrue (is_on_board image cpu)) schedule.now }
-    ensures { IfOk result (IsMappedBoard image limit schedule.now) }
+    ensures { IfOk result (IsMapsAnswer image limit schedule.now) }
 {
     let (board, ended) = follow(alloc, image, schedule, limit)?;
     match ended {

@@ -1,5 +1,5 @@
 //! Posts. A worker has one at a time, or none while it rests. The others that were left lie here.
-ghost use Rattle.std.specs.Prelude.{◌≡◌, ℕ, Option, Some, None, Result, vec_len};
+ghost use Rattle.std.specs.Prelude.{◌≡◌, Option, Some, None, Result, vec_len};
 ghost use Rattle.std.specs.Option.{ForSome};
 ghost use Rattle.jh_history.specs.declared.entry.Entry.{Entry as TheEntry};
 ghost use Rattle.jh_board.specs.declared.turn.Turn.{Turn as TheTurn};
@@ -21,7 +21,7 @@ use std::sync::atomic::{AtomicBool, Ordering};
 use std::sync::{Mutex, Wait};
 use std::thread;
 
-/// How many numbers a caller may have.
+/// How many callers there may be: their numbers are below this.
 const CALLERS: u16 = 256;
 
 /// How often a worker that rests looks whether the run has ended. Then it takes a post all the same, since
@@ -160,10 +160,11 @@ impl<H: Home> Posts<H> {
             drop(left);
             thread::yield_now();
         }
+        // the tries have no end of their own
         unreachable!()
     }
 
-    /// Leaves the post and takes that of the other caller, unless a worker is at it. Then the own one comes back.
+    /// Leaves the post and takes that of the other caller. Where a worker is at that one, the post comes back and isn't left.
     pub fn trade<R: Wait>(&self, rt: &R, post: Post<H>, other: u8) -> Result<Post<H>, Post<H>> {
         let mut left = self.left.lock(rt);
         match left.take(other) {
@@ -205,6 +206,7 @@ impl<H: Home> Posts<H> {
     {
         for _ in rt.forever() {
             if let Some(post) = self.take_left(rt, caller) {
+                // for the proof: a post lies at its caller's index, which `Left` doesn't say
                 if post.port.caller() == caller {
                     return post;
                 }
@@ -212,6 +214,7 @@ impl<H: Home> Posts<H> {
             }
             thread::yield_now();
         }
+        // the tries have no end of their own
         unreachable!()
     }
 }

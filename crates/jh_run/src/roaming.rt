@@ -69,6 +69,7 @@ fn stay<H: Home, R: Wait, G: Gate>(
             return answer;
         }
     }
+    // the turns have no end of their own
     unreachable!()
 }
 

@@ -17,7 +17,7 @@ pub record IsJournalText (text : List ℕ) (entries : List Entry) : Type 0 where
   pub within : length entries ≤ max_entries
   pub whole : text ≡ journal_text entries
 
--- the text begins with the line of this entry, and then comes the rest
+-- the text begins with the line of an entry, and then comes the rest
 pub record BeginsWithLine (text : List ℕ) : Type 0 where
   pub entry : Entry
   pub rest : List ℕ

@@ -1,12 +1,12 @@
 -- The text of the maps of cells.
 use Rattle.std.specs.Prelude.{ℕ, Bool, true, false, List, [], ◌∷◌, ◌++◌, codes}
-use Rattle.std.specs.List.{join_with_byte, flat_map}
+use Rattle.std.specs.List.{flat_map}
 use Rattle.std.specs.Fmt.{decimal}
 use Rattle.jh_num.specs.declared.rights.Rights.{Rights}
 use Rattle.jh_cellcfg.specs.declared.config.CellConfig.{CellConfig}
 use Rattle.jh_cellcfg.specs.Cells.{name_of}
 use Rattle.jh_map.specs.declared.run.Run.{Run}
-use Rattle.jh_text.specs.Text.{hexadecimal}
+use Rattle.jh_text.specs.Text.{hexadecimal, words_line}
 
 -- `phys` where a run leads to physical places, `comm` where it leads to the communication page
 abbrev pub place_text : Bool → List ℕ
@@ -44,10 +44,6 @@ run_words run = (hexadecimal run.start ++ codes "-" ++ hexadecimal run.end) ∷ 
 -- the words for a cell: its id and its name
 abbrev pub cell_words : CellConfig → List (List ℕ)
 cell_words cell = codes "cell" ∷ decimal cell.id ∷ name_of cell ∷ []
-
--- the words with one space between each two, ended by a line feed
-abbrev pub words_line : List (List ℕ) → List ℕ
-words_line words = join_with_byte 32 words ++ 10 ∷ []
 
 -- the line of a run
 abbrev pub run_line : Run → List ℕ

@@ -71,9 +71,13 @@ entry_words entry = decimal entry.cpu ∷ decimal entry.cell ∷ act_words entry
 abbrev pub entry_text : Entry → List ℕ
 entry_text entry = join_with_byte 32 (entry_words entry)
 
--- the line of an entry: its text, ended by a line feed
+-- the words with one space between each two, ended by a line feed
+abbrev pub words_line : List (List ℕ) → List ℕ
+words_line words = join_with_byte 32 words ++ 10 ∷ []
+
+-- the line of an entry: that of its words
 abbrev pub line : Entry → List ℕ
-line entry = entry_text entry ++ 10 ∷ []
+line entry = words_line (entry_words entry)
 
 -- the text of a journal: one line for each entry, in order
 abbrev pub journal_text : List Entry → List ℕ

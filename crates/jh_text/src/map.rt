@@ -1,7 +1,8 @@
 //! From the map of a cell to its text.
 ghost use Rattle.std.specs.Prelude.{◌≡◌, ◌++◌, OnOk, IfOk, string_bytes};
 ghost use Rattle.std.specs.List.{flat_map, join_with_byte};
-ghost use Rattle.jh_text.specs.Maps.{place_text, read_text, write_text, execute_text, kind_text, rights_text, run_words, run_line, cell_words, words_line, map_text};
+ghost use Rattle.jh_text.specs.Maps.{place_text, read_text, write_text, execute_text, kind_text, rights_text, run_words, run_line, cell_words, map_text};
+ghost use Rattle.jh_text.specs.Text.{words_line};
 
 use jh_cellcfg::CellConfig;
 use jh_map::Run;

@@ -1,7 +1,7 @@
 -- What is true of every image with an index.
 use Rattle.std.specs.Prelude.{◌≡◌}
 use Rattle.jh_history.specs.Admitted.{IsAdmitted}
-use Rattle.jh_board.specs.Indexed.{AreRootPrograms}
+use Rattle.jh_board.specs.Private.RootPrograms.{AreRootPrograms}
 use Rattle.jh_board.specs.declared.indexed.IndexedImage.TheInside.{Inside}
 
 -- the image is admitted, and its index has root's programs and root's regions

@@ -28,10 +28,15 @@ IsBoardRefusal name boards.Json file cause = IsRefusal name Json file cause
 IsBoardRefusal name (boards.Member member) file cause = IsRefusal name (Member member) file cause
 IsBoardRefusal name boards.NoMemory file cause = ⊥
 
+-- the pool has fewer pages than root takes, which is the board's fault
+abbrev pub IsPoolSmall : List ℕ → SystemConfig → List ℕ → ImageCause → Type 0
+IsPoolSmall board system file (PoolSmall need have) = (file ≡ board) × (need ≡ root_pages system) × (have ≡ pool_pages system) × (have < need)
+IsPoolSmall board system file _ = ⊥
+
 -- the system isn't admitted: the check finds something in it alone, or the pool has fewer pages than root takes
 abbrev pub IsUnsound : List ℕ → List ℕ → SystemConfig → List ℕ → ImageCause → Type 0
 IsUnsound board name system file (Findings found) = (file ≡ name) × (found ≡ capped (findings system [])) × (findings system [] ≢ [])
-IsUnsound board name system file (PoolSmall need have) = (file ≡ board) × (findings system [] ≡ []) × (need ≡ root_pages system) × (have ≡ pool_pages system) × (have < need)
+IsUnsound board name system file (PoolSmall need have) = (findings system [] ≡ []) × IsPoolSmall board system file (PoolSmall need have)
 IsUnsound board name system file _ = ⊥
 
 -- the text of a program's file has this fault
@@ -43,12 +48,7 @@ pub record IsNoProgram (contents : Contents) (name file : List ℕ) (fault : Scr
 
 -- why a program's file gives no program: it can't be read, is too large, or its text has a fault
 abbrev pub IsProgramCause : Contents → List ℕ → List ℕ → ImageCause → Type 0
-IsProgramCause contents name file ReadFault = file ≡ name
-IsProgramCause contents name file Oversize = (file ≡ name) × IsOversize contents name
+IsProgramCause contents name file ReadFault = HandsOutNothing contents name file ReadFault
+IsProgramCause contents name file Oversize = HandsOutNothing contents name file Oversize
 IsProgramCause contents name file (BadProgram fault) = IsNoProgram contents name file fault
 IsProgramCause contents name file _ = ⊥
-
--- the pool has fewer pages than root takes, which is the board's fault
-abbrev pub IsPoolSmall : List ℕ → SystemConfig → List ℕ → ImageCause → Type 0
-IsPoolSmall board system file (PoolSmall need have) = (file ≡ board) × (need ≡ root_pages system) × (have ≡ pool_pages system) × (have < need)
-IsPoolSmall board system file _ = ⊥

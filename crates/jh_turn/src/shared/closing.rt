@@ -35,6 +35,7 @@ impl<T: Turner> Shared<T> {
         ensures hands { HasHands result.me.0.hands ports.items }
     {
         let Some(last) = ports.pop() else {
+            // there is a port
             unreachable!()
         };
         let mut all = last.into_seat();
@@ -56,7 +57,10 @@ impl<T: Turner> Shared<T> {
         let mut closed = table.close_with(seat);
         let slot = closed.take(VALUE);
         closed.free();
-        let Some(value) = slot else { unreachable!() };
+        let Some(value) = slot else {
+            // no caller holds the turn, so the value is at home
+            unreachable!()
+        };
         Box::into_inner(value)
     }
 }

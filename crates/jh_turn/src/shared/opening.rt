@@ -36,10 +36,14 @@ fn unboxed<T>(mut slots: Vec<Option<Box<T>>>) -> T
     ensures { (b : Box T Global) → slots.items ≡ Some b ∷ [] → result ≡ b.value }
 {
     let Some(slot) = slots.pop() else {
+        // there is one slot
         unreachable!()
     };
     slots.destroy_empty();
-    let Some(value) = slot else { unreachable!() };
+    let Some(value) = slot else {
+        // the value is in it
+        unreachable!()
+    };
     Box::into_inner(value)
 }
 

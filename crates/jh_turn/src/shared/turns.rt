@@ -49,6 +49,7 @@ impl<T: Turner> Shared<T> {
             }
             thread::yield_now();
         }
+        // the tries have no end of their own
         unreachable!()
     }
 
@@ -62,6 +63,7 @@ impl<T: Turner> Shared<T> {
     {
         match self.table.shared.exchange(seat, VALUE, None) {
             Some(value) => value,
+            // whoever has the turn finds the value
             None => unreachable!(),
         }
     }
@@ -83,6 +85,7 @@ impl<T: Turner> Shared<T> {
     {
         match self.table.shared.exchange(seat, VALUE, Some(value)) {
             None => {}
+            // the slot is empty while the seat is at work
             Some(_) => unreachable!(),
         }
         self.table.shared.store::<Note>(seat, LENGTH, entries);

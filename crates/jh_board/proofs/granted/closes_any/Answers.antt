@@ -7,12 +7,12 @@ use Rattle.jh_board.proofs.granted.closes_any.Goals as goal
 pub returns-then-cell-root : goal.returns-then-cell-root
 returns-then-cell-root c = kept_others c.args.image.now c.args.cells.now.lives c.args.cell c.args.places.now (λ e. c.if-cell-root.true (e ∙ sym c.root.ensures))
 
-pub returns-then-closes_any_of : goal.returns-then-closes_any_of
-returns-then-closes_any_of c =
-    kept_low c.args.image.now c.args.cells.now.lives c.args.cell (places_of_row c.rows.result.0) (places_of_row c.rows.result.1) c.args.places.now c.closes_any_of.result (c.if-cell-root.false ∙ c.root.ensures) c.rows.ensures.places
-    (c.closes_any_of.ensures c.args.image.now) c.if-closes_any_of.true
+pub returns-then-closes_row : goal.returns-then-closes_row
+returns-then-closes_row c =
+    kept_low c.args.image.now c.args.cells.now.lives c.args.cell (places_of_row c.rows.result.0) (places_of_row c.rows.result.1) c.args.places.now c.closes_row.result (c.if-cell-root.false ∙ c.root.ensures) c.rows.ensures.places
+    (c.closes_row.ensures c.args.image.now) c.if-closes_row.true
 
-pub returns-else-closes_any_of : goal.returns-else-closes_any_of
-returns-else-closes_any_of c =
-    kept_high c.args.image.now c.args.cells.now.lives c.args.cell (places_of_row c.rows.result.0) (places_of_row c.rows.result.1) c.args.places.now c.closes_any_of.result c.closes_any_of-else-closes_any_of.result (c.if-cell-root.false ∙ c.root.ensures)
-    c.rows.ensures.places (c.closes_any_of.ensures c.args.image.now) c.if-closes_any_of.false (c.closes_any_of-else-closes_any_of.ensures c.args.image.now)
+pub returns-else-closes_row : goal.returns-else-closes_row
+returns-else-closes_row c =
+    kept_high c.args.image.now c.args.cells.now.lives c.args.cell (places_of_row c.rows.result.0) (places_of_row c.rows.result.1) c.args.places.now c.closes_row.result c.closes_row-else-closes_row.result (c.if-cell-root.false ∙ c.root.ensures)
+    c.rows.ensures.places (c.closes_row.ensures c.args.image.now) c.if-closes_row.false (c.closes_row-else-closes_row.ensures c.args.image.now)

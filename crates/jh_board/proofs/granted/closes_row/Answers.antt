@@ -1,9 +1,9 @@
--- Of physical memory the closed places are kept, of a communication page none.
-use Rattle.jh_board.proofs.GrantedLemmas.{kept_run, kept_pages}
+-- Its places are those of a row.
+use Rattle.std.proofs.Common.{ℕ, ap, ◌∙◌}
+use Rattle.std.specs.List.{list_any}
+use Rattle.jh_history.specs.Grants.{is_closed_to}
+use Rattle.jh_history.specs.Places.{places_in_row}
 use Rattle.jh_board.proofs.granted.closes_row.Goals as goal
 
-pub returns-in-Physical : goal.returns-in-Physical
-returns-in-Physical c = λ i. rw c.in-Physical.is (kept_run i c.args.cells.now.lives c.in-Physical.start c.args.count c.from.result c.closes.result c.from.ensures c.closes.ensures)
-
-pub returns-in-Page : goal.returns-in-Page
-returns-in-Page c = λ i. rw c.in-Page.is (kept_pages i c.args.cells.now.lives c.in-Page.cell c.in-Page.offset c.args.count)
+pub returns : goal.returns
+returns c = λ i. c.closes_places.ensures i ∙ ap (λ (n : ℕ). list_any (is_closed_to i c.args.cells.now.lives i.system.root.id) (places_in_row c.args.row.first n)) c.from.ensures

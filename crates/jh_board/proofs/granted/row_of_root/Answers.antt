@@ -8,21 +8,21 @@ use Rattle.jh_history.specs.Places.{places_in_row}
 use Rattle.jh_board.proofs.GrantedLemmas.{row_kept, row_granted, row_lacking}
 use Rattle.jh_board.proofs.granted.row_of_root.Goals as goal
 
-pub returns-then-closes_row-clause-places : goal.returns-then-closes_row-clause-places
-returns-then-closes_row-clause-places c =
+pub returns-then-closes_places-clause-places : goal.returns-then-closes_places-clause-places
+returns-then-closes_places-clause-places c =
     let image = c.args.image.now in
     let lives = c.args.cells.now.lives in
     let row : List Place = places_in_row c.in-Some.first c.args.count in
     let P : ℕ → Type 0 = λ id. Some row ≡ places_from (place_of id (regions_in image lives id) Read) c.args.at c.args.count in
-    row_kept image lives image.system.root.id Read c.args.at c.args.count row c.closes_row.result (subst P c.root.ensures c.in-Some.ensures.places) (c.closes_row.ensures image) c.if-closes_row.true
+    row_kept image lives image.system.root.id Read c.args.at c.args.count row c.closes_places.result (subst P c.root.ensures c.in-Some.ensures.places) (c.closes_places.ensures image) c.if-closes_places.true
 
-pub returns-else-closes_row-clause-places : goal.returns-else-closes_row-clause-places
-returns-else-closes_row-clause-places c =
+pub returns-else-closes_places-clause-places : goal.returns-else-closes_places-clause-places
+returns-else-closes_places-clause-places c =
     let image = c.args.image.now in
     let lives = c.args.cells.now.lives in
     let row : List Place = places_in_row c.in-Some.first c.args.count in
     let P : ℕ → Type 0 = λ id. Some row ≡ places_from (place_of id (regions_in image lives id) Read) c.args.at c.args.count in
-    row_granted image lives image.system.root.id Read c.args.at c.args.count row c.closes_row.result (subst P c.root.ensures c.in-Some.ensures.places) (c.closes_row.ensures image) c.if-closes_row.false
+    row_granted image lives image.system.root.id Read c.args.at c.args.count row c.closes_places.result (subst P c.root.ensures c.in-Some.ensures.places) (c.closes_places.ensures image) c.if-closes_places.false
 
 pub returns-in-None-clause-places : goal.returns-in-None-clause-places
 returns-in-None-clause-places c =

@@ -3,7 +3,7 @@ use Rattle.std.proofs.Common.{List, ℕ, Err, refl, subst, inl, inr}
 use Rattle.std.specs.Prelude.{codes}
 use Rattle.jh_spec.specs.Specs.{IsSpecAnswer}
 use Rattle.jh_spec.specs.declared.fault.JsonFault.TheVariants.{Json}
-use Rattle.jh_cli.specs.Limits.{most_of_a_file}
+use Rattle.jh_cli.specs.Limits.{asked_of_a_file}
 use Rattle.jh_cli.specs.Pack.{SpecRefusal}
 use Rattle.jh_cli.proofs.OrderLemmas.{refuses_one}
 use Rattle.jh_cli.proofs.StopLemmas.{refuses}
@@ -13,7 +13,7 @@ pub returns-in-Err-Json-clause-err : goal.returns-in-Err-Json-clause-err
 returns-in-Err-Json-clause-err g c =
     let bytes = c.in_ok-bytes.bytes in
     let told : IsSpecAnswer bytes (Err Json) = subst (λ (b : List ℕ). IsSpecAnswer b (Err Json)) c.as_slice.ensures.value (rw (c.in-Err-Json.is, c.in-Err-Json.field-0-is) at c.read_spec.ensures.told) in
-    refuses most_of_a_file (g.F.Files.contents c.args.files.now) c.args.name.now SpecRefusal bytes (codes "json") c.in_ok-bytes.ensures.ok
+    refuses asked_of_a_file (g.F.Files.contents c.args.files.now) c.args.name.now SpecRefusal bytes (codes "json") c.in_ok-bytes.ensures.ok
     (inr (inl (c.in_ok-bytes.ensures.within, told, refl))) c.refused.result (rw c.as_bytes.ensures.value at c.refused.ensures)
 
 pub returns-in-Err-Json-clause-asked_until : goal.returns-in-Err-Json-clause-asked_until

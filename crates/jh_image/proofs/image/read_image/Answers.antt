@@ -9,8 +9,8 @@ use Rattle.jh_image.proofs.OrderLemmas.{at_the_board, at_the_system, to_the_syst
 use Rattle.jh_image.proofs.StopLemmas.{on_refused, board_read}
 use Rattle.jh_image.proofs.image.read_image.Goals as goal
 
-pub read_ready-requires : goal.read_ready-requires
-read_ready-requires g c =
+pub read_admitted-requires : goal.read_admitted-requires
+read_admitted-requires g c =
     let contents = g.F.Files.contents c.args.files.now in
     let board = c.args.name.now in
     let listing = c.in_ok-listing.listing in
@@ -35,7 +35,7 @@ returns-in_err-system-clause-asked_until g c =
     let listing = c.in_ok-listing.listing in
     let s = c.args.files.now in
     let t = c.read_listing.new.files in
-    let u = c.read_ready.new.files in
+    let u = c.read_admitted.new.files in
     passed_up c.from_residual-in_err-system.result c.in_err-system.field-0.0 (λ e. OnRefused (λ _ cause. AsksBoardUntil files contents board cause s u) e) c.from_residual-in_err-system.ensures.1
     (on_refused (λ _ cause. Asks files t (ask_for cause listing.system ∷ []) u) (λ _ cause. AsksBoardUntil files contents board cause s u) c.in_err-system.field-0.0
     (λ _ cause asked. at_the_system files contents board listing c.in_ok-listing.ensures.ok s t u cause c.in_ok-listing.ensures.asked asked) c.in_err-system.ensures.asked_until)
@@ -48,7 +48,7 @@ returns-in_err-preloads-clause-asked_until g c =
     let listing = c.in_ok-listing.listing in
     let lists = c.in_ok-listing.ensures.ok in
     let s = c.args.files.now in
-    let t = c.read_ready.new.files in
+    let t = c.read_admitted.new.files in
     let u = c.read_preloads.new.files in
     let first = to_the_system files contents board listing lists s c.read_listing.new.files t c.in_ok-listing.ensures.asked c.in_ok-system.ensures.asked in
     passed_up c.from_residual-in_err-preloads.result c.in_err-preloads.field-0.0 (λ e. OnRefused (λ _ cause. AsksBoardUntil files contents board cause s u) e) c.from_residual-in_err-preloads.ensures.1
@@ -65,8 +65,8 @@ returns-in_err-programs-clause-asked_until g c =
     let s = c.args.files.now in
     let t = c.read_preloads.new.files in
     let u = c.read_programs.new.files in
-    let first = to_the_system files contents board listing lists s c.read_listing.new.files c.read_ready.new.files c.in_ok-listing.ensures.asked c.in_ok-system.ensures.asked in
-    let loaded = to_the_preloads files contents board listing lists s c.read_ready.new.files t first c.in_ok-preloads.ensures.asked in
+    let first = to_the_system files contents board listing lists s c.read_listing.new.files c.read_admitted.new.files c.in_ok-listing.ensures.asked c.in_ok-system.ensures.asked in
+    let loaded = to_the_preloads files contents board listing lists s c.read_admitted.new.files t first c.in_ok-preloads.ensures.asked in
     passed_up c.from_residual-in_err-programs.result c.in_err-programs.field-0.0 (λ e. OnRefused (λ _ cause. AsksBoardUntil files contents board cause s u) e) c.from_residual-in_err-programs.ensures.1
     (on_refused (λ _ cause. AsksUntil files (map program_name listing.programs) (ask_for cause) t u) (λ _ cause. AsksBoardUntil files contents board cause s u) c.in_err-programs.field-0.0
     (λ _ cause until. at_a_program files contents board listing lists s t u cause loaded until) c.in_err-programs.ensures.asked_until)
@@ -80,6 +80,6 @@ returns-clause-asked g c =
     let lists = c.in_ok-listing.ensures.ok in
     let s = c.args.files.now in
     let u = c.read_programs.new.files in
-    let first = to_the_system files contents board listing lists s c.read_listing.new.files c.read_ready.new.files c.in_ok-listing.ensures.asked c.in_ok-system.ensures.asked in
-    let loaded = to_the_preloads files contents board listing lists s c.read_ready.new.files c.read_preloads.new.files first c.in_ok-preloads.ensures.asked in
+    let first = to_the_system files contents board listing lists s c.read_listing.new.files c.read_admitted.new.files c.in_ok-listing.ensures.asked c.in_ok-system.ensures.asked in
+    let loaded = to_the_preloads files contents board listing lists s c.read_admitted.new.files c.read_preloads.new.files first c.in_ok-preloads.ensures.asked in
     record { listing = listing; lists = lists; all = to_the_programs files contents board listing lists s c.read_preloads.new.files u loaded c.in_ok-programs.ensures.asked }

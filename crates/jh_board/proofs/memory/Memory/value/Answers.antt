@@ -15,13 +15,13 @@ returns-in-Some-clause-value c =
 pub returns-in-Some-clause-fits : goal.returns-in-Some-clause-fits
 returns-in-Some-clause-fits c = fits_in_row c.value.result c.in-Some.piece.count (Physical c.in-Some.piece.at) c.args.places.now c.in-Some.ensures.places c.value.ensures.fits
 
-pub returns-in-Some-word_of_page-clause-value : goal.returns-in-Some-word_of_page-clause-value
-returns-in-Some-word_of_page-clause-value c =
+pub returns-in-Some-piece_of_page-clause-value : goal.returns-in-Some-piece_of_page-clause-value
+returns-in-Some-piece_of_page-clause-value c =
     let memory : MemoryView = record { physical = c.self.inside.physical; comms = c.self.inside.comms } in
-    let word = c.in-Some-word_of_page.word in
-    rw (c.in-Some-word_of_page.ensures.places, ← c.self.view_is) (c.value-in-Some-word_of_page.ensures.spells ∙ ap spelled (sym (row_of_comm memory word.cell word.offset word.count)))
+    let word = c.in-Some-piece_of_page.word in
+    rw (c.in-Some-piece_of_page.ensures.places, ← c.self.view_is) (c.value-in-Some-piece_of_page.ensures.spells ∙ ap spelled (sym (row_of_comm memory word.cell word.offset word.count)))
 
-pub returns-in-Some-word_of_page-clause-fits : goal.returns-in-Some-word_of_page-clause-fits
-returns-in-Some-word_of_page-clause-fits c =
-    let word = c.in-Some-word_of_page.word in
-    fits_in_row c.value-in-Some-word_of_page.result word.count (Page word.cell word.offset) c.args.places.now c.in-Some-word_of_page.ensures.places c.value-in-Some-word_of_page.ensures.fits
+pub returns-in-Some-piece_of_page-clause-fits : goal.returns-in-Some-piece_of_page-clause-fits
+returns-in-Some-piece_of_page-clause-fits c =
+    let word = c.in-Some-piece_of_page.word in
+    fits_in_row c.value-in-Some-piece_of_page.result word.count (Page word.cell word.offset) c.args.places.now c.in-Some-piece_of_page.ensures.places c.value-in-Some-piece_of_page.ensures.fits

@@ -3,7 +3,7 @@ use Rattle.jh_num.proofs.Public.{passed_up}
 use Rattle.jh_image.specs.Causes.{OnRefused, IsCauseOf}
 use Rattle.jh_image.specs.Private.Causes.{IsUnsound}
 use Rattle.jh_image.proofs.StopLemmas.{on_refused, system_read, unsound_stops}
-use Rattle.jh_image.proofs.image.read_ready.Goals as goal
+use Rattle.jh_image.proofs.image.read_admitted.Goals as goal
 
 pub returns-in_err-check_system-clause-err : goal.returns-in_err-check_system-clause-err
 returns-in_err-check_system-clause-err g c =
