@@ -58,14 +58,14 @@ impl CommPages {
     }
 
     /// The number that the bytes of the piece spell, the lowest first.
-    pub fn value(&self, word: PagePiece) -> u64
-        requires within { word.offset + word.count ≤ 4096 }
-        requires few { word.count ≤ 8 }
-        ensures spells { result ≡ spelled (bytes_from (comm_byte self.now word.cell) word.offset word.count) }
-        ensures fits { result < 256 ^ word.count }
+    pub fn value(&self, piece: PagePiece) -> u64
+        requires within { piece.offset + piece.count ≤ 4096 }
+        requires few { piece.count ≤ 8 }
+        ensures spells { result ≡ spelled (bytes_from (comm_byte self.now piece.cell) piece.offset piece.count) }
+        ensures fits { result < 256 ^ piece.count }
     {
-        match self.pages.get(&word.cell) {
-            Some(page) => page.value(word.offset, word.count),
+        match self.pages.get(&piece.cell) {
+            Some(page) => page.value(piece.offset, piece.count),
             None => 0,
         }
     }

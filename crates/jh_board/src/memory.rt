@@ -54,9 +54,9 @@ fn piece_of(places: &Places) -> Option<Piece>
 
 /// The piece of a communication page that the places are, if they are one.
 fn piece_of_page(places: &Places) -> Option<PagePiece>
-    ensures within { IfSome result (λ word. word.offset + word.count ≤ 4096) }
-    ensures few { IfSome result (λ word. word.count ≤ 8) }
-    ensures places { IfSome result (λ word. places.now ≡ places_in_row (ThePlace.Page word.cell word.offset) word.count) }
+    ensures within { IfSome result (λ piece. piece.offset + piece.count ≤ 4096) }
+    ensures few { IfSome result (λ piece. piece.count ≤ 8) }
+    ensures places { IfSome result (λ piece. places.now ≡ places_in_row (ThePlace.Page piece.cell piece.offset) piece.count) }
 {
     let (low, high) = places.rows();
     match low.first {
@@ -96,7 +96,7 @@ impl Memory {
             return self.physical.value(piece);
         }
         match piece_of_page(places) {
-            Some(word) => self.comms.value(word),
+            Some(piece) => self.comms.value(piece),
             None => value_of(self, places),
         }
     }

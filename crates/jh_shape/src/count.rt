@@ -1,6 +1,6 @@
 //! How many pages a cell's tables take. All slots of a level are told at once, by marks: those of places that other
 //! cells cut, the leaves, and those that are met.
-ghost use Rattle.std.specs.Prelude.{◌≡◌, ℕ, ◌+◌, ◌*◌, ◌^◌, ◌<◌, ◌≤◌, ◌&&◌, ◌||◌, false, true, not, nat_le, nat_lt, length};
+ghost use Rattle.std.specs.Prelude.{◌≡◌, ℕ, ◌+◌, ◌*◌, ◌<◌, ◌≤◌, ◌&&◌, ◌||◌, false, true, not, nat_le, nat_lt, length};
 ghost use Rattle.std.specs.List.{list_any};
 ghost use Rattle.jh_shape.specs.Claims.{claims_of};
 ghost use Rattle.jh_shape.specs.Private.Marks.{is_beyond, is_marked, marked_slots, past_slot, AreMarked, AreMarkedBelow, AreCuts};

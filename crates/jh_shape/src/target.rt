@@ -1,5 +1,5 @@
 //! The tables that a cell is to have.
-ghost use Rattle.std.specs.Prelude.{◌≡◌, ℕ, ◌+◌, ◌*◌, ◌^◌, ◌<◌, ◌≤◌, [], ◌∷◌, false, length};
+ghost use Rattle.std.specs.Prelude.{◌≡◌, ◌+◌, ◌*◌, ◌^◌, ◌<◌, ◌≤◌, false, length};
 
 use crate::region::{addresses, any_in_part, any_met, any_takes, fits_blocks, is_mapped, place_in};
 use crate::want::Want;
@@ -26,7 +26,6 @@ pub struct Target<'a> {
 ghost use Rattle.jh_shape.specs.Claims.{claims_of};
 
 impl<'a> Target<'a> {
-    ghost use Rattle.jh_shape.specs.Claims.{held_from, holder_to_come};
     ghost use Rattle.jh_cellcfg.specs.Regions.{is_comm, place_in};
     ghost use Rattle.jh_shape.specs.Shapes.{are_cut, is_closed, may_be_block, is_leaf_by, leaf_region, is_met, leaf_of, want_of};
     ghost use Rattle.jh_shape.specs.Grants.{DescribesGrants};

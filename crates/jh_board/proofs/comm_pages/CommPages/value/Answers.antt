@@ -9,13 +9,13 @@ use Rattle.jh_board.proofs.comm_pages.CommPages.value.Goals as goal
 
 pub returns-in-Some-clause-spells : goal.returns-in-Some-clause-spells
 returns-in-Some-clause-spells c =
-    let there : Some c.in-Some.page.now ≡ page_at c.args.self.now c.args.word.cell = rw (← c.self.view_is) c.in-Some.ensures.value in
-    c.value.ensures.spells ∙ ap (λ p. spelled (bytes_from (byte_of_page p) c.args.word.offset c.args.word.count)) there
+    let there : Some c.in-Some.page.now ≡ page_at c.args.self.now c.args.piece.cell = rw (← c.self.view_is) c.in-Some.ensures.value in
+    c.value.ensures.spells ∙ ap (λ p. spelled (bytes_from (byte_of_page p) c.args.piece.offset c.args.piece.count)) there
 
 pub returns-in-None-clause-spells : goal.returns-in-None-clause-spells
 returns-in-None-clause-spells c =
-    let there : None ≡ page_at c.args.self.now c.args.word.cell = rw (← c.self.view_is) c.in-None.ensures.value in
-    sym (zeros_spell_nothing c.args.word.offset c.args.word.count) ∙ ap (λ p. spelled (bytes_from (byte_of_page p) c.args.word.offset c.args.word.count)) there
+    let there : None ≡ page_at c.args.self.now c.args.piece.cell = rw (← c.self.view_is) c.in-None.ensures.value in
+    sym (zeros_spell_nothing c.args.piece.offset c.args.piece.count) ∙ ap (λ p. spelled (bytes_from (byte_of_page p) c.args.piece.offset c.args.piece.count)) there
 
 pub returns-in-None-clause-fits : goal.returns-in-None-clause-fits
-returns-in-None-clause-fits c = zero_fits c.args.word.count
+returns-in-None-clause-fits c = zero_fits c.args.piece.count

@@ -1,4 +1,4 @@
--- The bytes of a piece, or of a word, are those of its places.
+-- The bytes of a piece, of memory or of a communication page, are those of its places.
 use Rattle.std.proofs.Common.{ap, sym, ◌∙◌}
 use Rattle.jh_num.specs.Memory.{spelled}
 use Rattle.jh_history.specs.declared.place.Place.TheVariants.{Physical, Page}
@@ -18,10 +18,10 @@ returns-in-Some-clause-fits c = fits_in_row c.value.result c.in-Some.piece.count
 pub returns-in-Some-piece_of_page-clause-value : goal.returns-in-Some-piece_of_page-clause-value
 returns-in-Some-piece_of_page-clause-value c =
     let memory : MemoryView = record { physical = c.self.inside.physical; comms = c.self.inside.comms } in
-    let word = c.in-Some-piece_of_page.word in
-    rw (c.in-Some-piece_of_page.ensures.places, ← c.self.view_is) (c.value-in-Some-piece_of_page.ensures.spells ∙ ap spelled (sym (row_of_comm memory word.cell word.offset word.count)))
+    let piece = c.in-Some-piece_of_page.piece in
+    rw (c.in-Some-piece_of_page.ensures.places, ← c.self.view_is) (c.value-in-Some-piece_of_page.ensures.spells ∙ ap spelled (sym (row_of_comm memory piece.cell piece.offset piece.count)))
 
 pub returns-in-Some-piece_of_page-clause-fits : goal.returns-in-Some-piece_of_page-clause-fits
 returns-in-Some-piece_of_page-clause-fits c =
-    let word = c.in-Some-piece_of_page.word in
-    fits_in_row c.value-in-Some-piece_of_page.result word.count (Page word.cell word.offset) c.args.places.now c.in-Some-piece_of_page.ensures.places c.value-in-Some-piece_of_page.ensures.fits
+    let piece = c.in-Some-piece_of_page.piece in
+    fits_in_row c.value-in-Some-piece_of_page.result piece.count (Page piece.cell piece.offset) c.args.places.now c.in-Some-piece_of_page.ensures.places c.value-in-Some-piece_of_page.ensures.fits
