@@ -11,6 +11,7 @@ abbrev pub is_full : Ended → Bool
 is_full Quiet = false
 is_full Full = true
 
--- the journal is at its limit and not quiet: an invariant of a type says so, and such names no CPU, as `IsFullAtCpu` does
+-- the journal is at its limit and not quiet. The CPU that has an entry due isn't named, as `IsFullAtCpu` names it: a type's
+-- invariant, which rests on this, can't choose one
 abbrev pub IsFullAndBusy : Image → ℕ → List Entry → Type 0
 IsFullAndBusy image limit entries = (length entries ≡ limit) × ¬ IsQuiet image entries
