@@ -14,7 +14,7 @@ use Rattle.jh_call.specs.declared.call.Call.TheVariants.{Create, Start, Loadable
 use Rattle.jh_ivshmem.specs.declared.endpoint.Endpoint.{Endpoint}
 use Rattle.jh_ivshmem.specs.declared.spec.EndpointSpec.{EndpointSpec}
 use Rattle.jh_ivshmem.specs.Specs.{AreEndpointsApart, is_device}
-use Rattle.jh_ivshmem.specs.Links.{endpoint_at, written}
+use Rattle.jh_ivshmem.specs.Links.{configured, endpoint_at, written}
 use Rattle.jh_ivshmem.proofs.Public.{device_turned, own_device}
 use Rattle.jh_script.specs.declared.image.Image.{Image}
 use Rattle.jh_history.specs.declared.access.Reach.{Reach}
