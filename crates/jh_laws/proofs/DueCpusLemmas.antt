@@ -145,7 +145,7 @@ program_state image f cpu admitted sound ready =
     ap (λ (b : Bool). is_some (cond b (Some Stop) (option_and_then (act_of image f state.owner) (pending_op image f state cpu)))) ready.at.calm.asked
     ∙ ap (λ (b : Bool). is_some (option_and_then (act_of image f state.owner) (cond b (op_at image f state cpu) None))) goes
     ∙ ap (λ (o : Option Op). is_some (option_and_then (act_of image f state.owner) o)) ready.at.at
-    ∙ due_op image f state.owner ready.op sound (well_formed_at image f cpu ready.op admitted ready.at) ready.due
+    ∙ due_op image f state.owner ready.op sound (well_formed_at image f cpu ready.op admitted ready.at.at) ready.due
 
 -- ---- nothing due to any other
 
