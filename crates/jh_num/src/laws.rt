@@ -1,5 +1,5 @@
 //! What a reader may rely on, each law the contract of a function that does nothing.
-ghost use Rattle.std.specs.Prelude.{◌≡◌, ℕ, ◌+◌, ◌-◌, ◌^◌, ◌<◌, ◌≤◌, List, length, negsuc, slice_index};
+ghost use Rattle.std.specs.Prelude.{◌≡◌, ℕ, ◌+◌, ◌^◌, ◌<◌, ◌≤◌, List, length, negsuc, slice_index};
 ghost use Rattle.jh_num.specs.Memory.{spelled, little_endian, stored};
 
 use crate::address::{ADDRESS_END, PAGE_SIZE};

@@ -1,5 +1,5 @@
 //! A sink in memory.
-ghost use Rattle.std.specs.Prelude.{◌≡◌, ◌≢◌, ◌-◌, ◌++◌, [], ◌<◌, ◌≤◌, ◌↔◌, Some, length, take, min, IfOk, OnErr, IsErr, ⊤};
+ghost use Rattle.std.specs.Prelude.{◌≡◌, ◌-◌, ◌++◌, [], ◌<◌, ◌≤◌, ◌↔◌, Some, length, take, min, IfOk, OnErr, IsErr};
 ghost use Rattle.jh_outside.specs.Count.{Rose};
 ghost use Rattle.jh_num.specs.Numbers.{counted_up};
 ghost use Rattle.jh_outside.specs.Writes.{Appended};
