@@ -17,20 +17,15 @@ use Rattle.std.specs.Prelude.{ℕ, ℤ, pos, Bool, true, false, ◌==◌, nat_le
 use Rattle.jh_num.specs.declared.error.TheConstants.{EPERM, ENOENT, EINVAL, ENOSYS}
 use Rattle.jh_call.specs.declared.call.Call.{Call}
 use Rattle.jh_call.specs.declared.call.Call.TheVariants.{Create, Start, Loadable, Destroy, Info, State, CpuInfo, Unknown}
+use Rattle.jh_call.specs.Calls.{is_management}
 use Rattle.jh_call.specs.declared.seen.Seen.{Seen}
 use Rattle.jh_call.specs.declared.seen.CpuSeen.{CpuSeen}
 use Rattle.jh_call.specs.declared.seen.CpuSeen.TheVariants.{Absent, Foreign, Fine, Failed}
 
--- root alone may make the call
+-- root alone may make the call: it manages cells, or asks for a cell's state
 abbrev pub is_roots : Call → Bool
-is_roots (Create at) = true
-is_roots (Start id) = true
-is_roots (Loadable id) = true
-is_roots (Destroy id) = true
-is_roots (Info kind) = false
 is_roots (State id) = true
-is_roots (CpuInfo cpu kind) = false
-is_roots Unknown = false
+is_roots call = is_management call
 
 -- what a request for information about the hypervisor is answered, by its kind
 abbrev pub info_of : ℕ → Seen → ℤ

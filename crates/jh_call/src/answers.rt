@@ -7,7 +7,7 @@ use crate::call::Call;
 use crate::seen::{CpuSeen, Seen};
 use jh_num::error::{EINVAL, ENOENT, ENOSYS, EPERM};
 
-/// What kinds of information tell.
+// The kinds of information about the hypervisor.
 const POOL_SIZE: u64 = 0;
 
 const POOL_USED: u64 = 1;
@@ -17,7 +17,7 @@ const CELL_COUNT: u64 = 4;
 /// The highest number of a state.
 const LAST_STATE: u32 = 4;
 
-/// What a CPU is said to be at.
+// The numbers that tell what a CPU is at.
 const CPU_RUNNING: i64 = 0;
 
 const CPU_FAILED: i64 = 2;
@@ -34,7 +34,7 @@ fn info(kind: u64, seen: &Seen) -> i64
     }
 }
 
-/// A cell's state, where a live cell has one that there is.
+/// The state of a live cell, if its word is one of a state; else the error.
 fn state_answer(state: Option<u32>) -> i64
     ensures { result ≡ state_answer state }
 {

@@ -21,7 +21,7 @@ refusal (Ok x) = None
 refusal (Err NoMemory) = None
 refusal (Err fault) = Some fault
 
--- the fault where the test fails the bytes
+-- the fault, where the test holds, and else none
 abbrev pub fault_if : Bool → ConfigFault → Option ConfigFault
 fault_if test fault = if test then Some fault else None
 

@@ -97,7 +97,7 @@ impl Counts {
             + u32::SIZE as u64 * u64::from(self.stream_ids)
     }
 
-    /// The bytes of the whole, from the signature on; or the first count past its limit.
+    /// The bytes of the whole, from the signature on; or the first count that isn't within its limits.
     #[tactic(auto, unfolding(crate::specs::Faults::count_fault))]
     pub fn size(&self) -> Result<u32, ConfigFault>
         ensures size { IfOk result (λ size. size ≡ whole_size self.now) }

@@ -1,4 +1,4 @@
-//! The records that a part of a configuration is a list of, read and written one by one.
+//! Records of a fixed number of bytes, read and written one by one, and lists of them.
 ghost use Rattle.std.specs.Prelude.{◌≡◌, ◌+◌, ◌*◌, ◌<◌, ◌≤◌, ◌^◌, ℕ, List, ◌++◌, length, OnOk, IfOk};
 ghost use Rattle.std.specs.List.{flat_map, AllByRecursion};
 ghost use Rattle.jh_cellcfg.specs.Spelling.{u32_bytes, region_bytes, irqchip_bytes, device_bytes, console_bytes, counts_bytes, header_bytes};

@@ -11,14 +11,14 @@ use Rattle.jh_cellcfg.specs.Cells.{is_cpu_set}
 use Rattle.jh_cellcfg.specs.Regions.{IsWithin, has_flags, has_address, has_place, virt_end, phys_end, place_in, is_page_mapped, is_comm, is_unshared, is_loadable, SharesNoAddress, IsInRange}
 use Rattle.jh_check.specs.Regions.{both_shared}
 use Rattle.jh_check.specs.Devices.{bars_of}
-use Rattle.jh_check.specs.Laws.{IsItem, EachCell, EachTwoCells, EachOtherCell, EachTwoOthers, EachItem, EachTwoItems, MeetOnlyIf, SharesNoPlace, AddressesAreSingle, HypervisorIsAlone}
+use Rattle.jh_check.specs.Laws.{IsItem, EachCell, EachTwoCells, EachOtherCell, EachTwoOthers, EachItem, EachTwoItems, MeetAtPlaceOnlyIf, SharesNoPlace, AddressesAreSingle, HypervisorIsAlone}
 
 -- ---- regions
 
 -- at most one region of a cell has a place, communication regions aside, which have none
 abbrev pub PlacesAreSingle : SystemConfig → List CellConfig → Type 0
 PlacesAreSingle system cells =
-    EachCell system cells (λ cell. EachTwoItems cell cell (λ r s x y. is_comm x ≡ false → is_comm y ≡ false → MeetOnlyIf x y (r ≡ s)))
+    EachCell system cells (λ cell. EachTwoItems cell cell (λ r s x y. is_comm x ≡ false → is_comm y ≡ false → MeetAtPlaceOnlyIf x y (r ≡ s)))
 
 -- P holds of each region of each cell, root too, that isn't empty
 abbrev pub EachRegion : SystemConfig → List CellConfig → (Region → Type 0) → Type 0
@@ -172,7 +172,7 @@ pub record IsSameSection (one : CellConfig) (r : ℕ) (other : CellConfig) (s : 
 abbrev pub CellsShareAsTheySay : SystemConfig → List CellConfig → Type 0
 CellsShareAsTheySay system cells =
     EachTwoOthers system cells (λ one other. EachTwoItems one other (λ r s x y.
-    is_comm x ≡ false → is_comm y ≡ false → MeetOnlyIf x y (both_shared x y ≡ false → IsSameSection one r other s)))
+    is_comm x ≡ false → is_comm y ≡ false → MeetAtPlaceOnlyIf x y (both_shared x y ≡ false → IsSameSection one r other s)))
 
 -- ---- CPUs
 

@@ -41,21 +41,21 @@ abbrev pub EachTwoItems : CellConfig → CellConfig → (ℕ → ℕ → Region 
 EachTwoItems one other P = (r s : ℕ) (x y : Region) → IsItem one r x → IsItem other s y → P r s x y
 
 -- the regions have an address together only where P holds
-abbrev pub GiveTogetherOnlyIf : Region → Region → Type 0 → Type 0
-GiveTogetherOnlyIf x y P = (at : ℕ) → has_address x at ≡ true → has_address y at ≡ true → P
+abbrev pub MeetAtAddressOnlyIf : Region → Region → Type 0 → Type 0
+MeetAtAddressOnlyIf x y P = (at : ℕ) → has_address x at ≡ true → has_address y at ≡ true → P
 
 -- the regions have a place together only where P holds
-abbrev pub MeetOnlyIf : Region → Region → Type 0 → Type 0
-MeetOnlyIf x y P = (place : ℕ) → has_place x place ≡ true → has_place y place ≡ true → P
+abbrev pub MeetAtPlaceOnlyIf : Region → Region → Type 0 → Type 0
+MeetAtPlaceOnlyIf x y P = (place : ℕ) → has_place x place ≡ true → has_place y place ≡ true → P
 
 -- no place is one of both regions
 abbrev pub SharesNoPlace : Region → Region → Type 0
-SharesNoPlace x y = MeetOnlyIf x y ⊥
+SharesNoPlace x y = MeetAtPlaceOnlyIf x y ⊥
 
 -- at most one region of a cell gives an address
 abbrev pub AddressesAreSingle : SystemConfig → List CellConfig → Type 0
 AddressesAreSingle system cells =
-    EachCell system cells (λ cell. EachTwoItems cell cell (λ r s x y. GiveTogetherOnlyIf x y (r ≡ s)))
+    EachCell system cells (λ cell. EachTwoItems cell cell (λ r s x y. MeetAtAddressOnlyIf x y (r ≡ s)))
 
 -- no region of any cell, root too, has a place of the hypervisor's memory
 abbrev pub HypervisorIsAlone : SystemConfig → List CellConfig → Type 0
@@ -67,4 +67,4 @@ HypervisorIsAlone system cells =
 abbrev pub CellsAreApart : SystemConfig → List CellConfig → Type 0
 CellsAreApart system cells =
     EachTwoOthers system cells (λ one other. EachTwoItems one other (λ r s x y.
-    is_unshared x ≡ true → is_unshared y ≡ true → MeetOnlyIf x y (are_same_section one r other s ≡ true)))
+    is_unshared x ≡ true → is_unshared y ≡ true → MeetAtPlaceOnlyIf x y (are_same_section one r other s ≡ true)))

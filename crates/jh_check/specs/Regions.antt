@@ -30,7 +30,7 @@ share_places one other = not (is_comm one) && (not (is_comm other) && phys_meet 
 abbrev pub takes_pages : Region → Region → Bool
 takes_pages one other = is_unshared one && (not (is_page_mapped one) && (is_page_mapped other && phys_meet one other))
 
--- An earlier and a later region of one cell have an address in common; or a place, where neither is a
+-- The two regions break the rule, which is about two: an earlier and a later region of one cell have an address in common; or a place, where neither is a
 -- communication region. A cell's subpage region that it holds unshared takes places from a page-mapped
 -- region of root, so that root would lose whole pages. Two cells besides root have a place in common that they
 -- don't both share with root, and that isn't at the same offset of two linked devices.
@@ -56,7 +56,7 @@ is_misshapen earlier region =
 abbrev pub is_out_of_range : Region → Bool
 is_out_of_range region = nat_lt ADDRESS_END (virt_end region) || (not (is_comm region) && nat_lt ADDRESS_END (phys_end region))
 
--- By the hypervisor's memory, the cell's number, the cell's earlier regions, and the region: it has a place
+-- The region breaks the rule, which is about one, by the hypervisor's memory, the cell's number and its earlier regions: it has a place
 -- in the hypervisor's memory; it ends past the addresses, or its places do; root's isn't mapped to itself; root
 -- has a communication region; another cell's isn't one page or isn't its first; one may execute what one
 -- can't read; its places aren't aligned to pages where its addresses are.

@@ -1,4 +1,4 @@
--- What a new cell is refused for: by the findings of the system, the live cells and the new one that name the
+-- What the check says of a new cell: by the findings of the system, the live cells and the new one that name the
 -- new one.
 use Rattle.std.specs.Prelude.{ℕ, ◌+◌, Bool, ◌&&◌, ◌||◌, not, ◌==◌, List, [], ◌∷◌, ◌++◌, length, if◌then◌else◌}
 use Rattle.std.specs.List.{list_any}

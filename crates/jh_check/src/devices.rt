@@ -1,6 +1,7 @@
 //! The rules of ivshmem devices, their links and their sections (ivshmem v2), and the rule of CPUs.
-ghost use Rattle.std.specs.Prelude.{◌≡◌, ◌==◌, ◌||◌, true, false, not, ◌≤◌, ◌<◌, length, take, Contains};
+ghost use Rattle.std.specs.Prelude.{◌≡◌, ℕ, ◌==◌, ◌||◌, true, false, not, ◌≤◌, ◌<◌, length, take, drop, slice_index, Contains};
 ghost use Rattle.std.specs.List.{list_any, list_all};
+ghost use Rattle.jh_cellcfg.specs.Limits.{is_zero};
 ghost use Rattle.jh_cellcfg.specs.Regions.{has_flags};
 ghost use Rattle.jh_check.specs.declared.seats.Seat.{Seat};
 ghost use Rattle.jh_check.specs.Private.Cells.{cells_of};
@@ -414,10 +415,18 @@ pub(crate) fn device_breaks(
             && agrees_with_lower(setup, number, regions, device, doubted))
 }
 
-/// Whether the bitmap names no CPU, or one above 15.
+/// Whether the bitmap names a CPU from 16 on.
+pub(crate) fn names_high(set: &[u8]) -> bool
+    ensures value { result ≡ not (list_all is_zero (drop 2 set.now)) }
+    ensures bytes { (i : ℕ) → slice_index set.now i < 256 }
+{
+    !are_zero(&set[set.len().min(2)..])
+}
+
+/// Whether the bitmap names no CPU, or one from 16 on.
 #[tactic(auto, unfolding(crate::specs::Devices::cpus_break))]
 pub(crate) fn cpus_break(set: &[u8]) -> bool
     ensures { result ≡ cpus_break set.now }
 {
-    are_zero(set) || !are_zero(&set[set.len().min(2)..])
+    are_zero(set) || names_high(set)
 }

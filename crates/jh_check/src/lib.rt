@@ -38,4 +38,4 @@ pub use mask::{mask_of, with_bit};
 pub use refusal::{refusal_of, refusal_without_cpus};
 pub use rule::Rule;
 pub use setup::MAX_CELLS;
-pub use verdict::{NewCell, clean_with};
+pub use verdict::{NewCell, verdict_of};

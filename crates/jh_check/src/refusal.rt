@@ -1,13 +1,13 @@
 //! What a new cell is refused for, once its configuration was read.
-ghost use Rattle.std.specs.Prelude.{◌≡◌, ℕ, ◌≤◌, ◌<◌, ◌∷◌, IsSome, false, not, drop, length, slice_index, IfOk};
-ghost use Rattle.std.specs.List.{list_any, list_all};
+ghost use Rattle.std.specs.Prelude.{◌≡◌, ℕ, ◌≤◌, ◌<◌, ◌∷◌, IsSome, length, IfOk};
+ghost use Rattle.std.specs.List.{list_any};
 ghost use Rattle.jh_num.specs.Bits.{has_bit};
-ghost use Rattle.jh_cellcfg.specs.Limits.{is_zero};
 ghost use Rattle.jh_check.specs.Refusals.{is_namesake, is_known, any_below, is_beyond, names_beyond, nobody, refusal_of};
 
+use crate::devices::names_high;
 use crate::laws::{beyond_is_a_cpu, sound_bitmaps_name_few_cpus};
-use crate::verdict::{NewCell, clean_with};
-use jh_cellcfg::{CellConfig, MAX_CPUS, SystemConfig, are_zero};
+use crate::verdict::{NewCell, verdict_of};
+use jh_cellcfg::{CellConfig, MAX_CPUS, SystemConfig};
 use jh_num::error::{EBUSY, EEXIST, EINVAL, ENOMEM};
 use jh_num::{NoMemory, has_bit};
 use std::alloc::Global;
@@ -53,14 +53,6 @@ fn any_beyond(may: u16, cell: &CellConfig) -> bool
     false
 }
 
-/// Whether the bitmap names a CPU from 16 on.
-fn names_high(set: &[u8]) -> bool
-    ensures value { result ≡ not (list_all is_zero (drop 2 set.now)) }
-    ensures bytes { (i : ℕ) → slice_index set.now i < 256 }
-{
-    !are_zero(&set[set.len().min(2)..])
-}
-
 /// Whether the new cell names a CPU that it mustn't. `may` has a bit for each of the first 16 that it may have; of
 /// those from 16 on it may have none.
 fn names_beyond(may: u16, cell: &CellConfig) -> bool
@@ -92,7 +84,7 @@ pub fn refusal_of(
     if names_beyond(may, new) {
         return Ok(Some(EBUSY));
     }
-    match clean_with(alloc, system, live, new)? {
+    match verdict_of(alloc, system, live, new)? {
         NewCell::Invalid => Ok(Some(EINVAL)),
         NewCell::Busy => Ok(Some(EBUSY)),
         NewCell::Clean if pool < pages => Ok(Some(ENOMEM)),
@@ -111,6 +103,7 @@ pub fn refusal_without_cpus(
     ensures some { IsSome result }
     ensures value { (pages pool : ℕ) → result ≡ refusal_of system.now live.now new.now nobody pages pool }
 {
+    // for the proof: two laws, by which a cell that names no CPU breaks the rule of CPUs
     sound_bitmaps_name_few_cpus(new.cpu_set.as_slice());
     beyond_is_a_cpu(new.cpu_set.as_slice());
     if is_known(&system.root, live, new) {

@@ -84,8 +84,8 @@ fn any_within(alloc: Global, rule: Rule, number: u32, cell: &CellConfig) -> Resu
     }
 }
 
-/// Whether a region overlaps with one of another cell, of whose places that is the index. `near` is where the last
-/// region was looked for.
+/// Whether a region overlaps with one of another cell, of whose places that is the index. `near` is how
+/// many of the spans lay before the last region, and becomes how many lie before this one.
 fn any_met(one: &Site, spans: &[Span], near: &mut usize, b: u32, other: &CellConfig) -> bool
     requires { IsIndex CellsOverlap other.now.memory_regions spans.now }
     ensures { result ≡ is_any (beside CellsOverlap (spot_of one.now) b other.now) }
@@ -248,7 +248,7 @@ fn is_busy(alloc: Global, setup: &Setup, number: u32, new: &CellConfig) -> Resul
 
 /// What the check of the system, the live cells and a new one, which comes last, says of the new one. It
 /// takes memory for an index of the new cell's regions, and for nothing else.
-pub fn clean_with(
+pub fn verdict_of(
     alloc: Global,
     system: &SystemConfig,
     live: &[CellConfig],

@@ -25,20 +25,19 @@ use Rattle.jh_history.specs.Grants.{is_closed_to}
 
 pub takes_all_size : (closed : ℕ → Bool) (at n : ℕ) (r : Region) → takes_all closed at n r ≡ true → 0 < r.size
 takes_all_size closed at n r h =
-    let whole = and_parts (has_size r && not (is_page_mapped r)) (lies_between r.virt_start (virt_end r) at n && not (is_at_closed closed at n r)) h in
-    ltb-true 0 r.size (and_parts (has_size r) (not (is_page_mapped r)) whole.0).0
+    let whole = and_parts (has_whole at n r) (not (is_at_closed closed at n r)) h in
+    let subpage = and_parts (has_size r && not (is_page_mapped r)) (lies_between r.virt_start (virt_end r) at n) whole.0 in
+    ltb-true 0 r.size (and_parts (has_size r) (not (is_page_mapped r)) subpage.0).0
 
 pub takes_all_subpage : (closed : ℕ → Bool) (at n : ℕ) (r : Region) → takes_all closed at n r ≡ true → is_page_mapped r ≡ false
 takes_all_subpage closed at n r h =
-    let whole = and_parts (has_size r && not (is_page_mapped r)) (lies_between r.virt_start (virt_end r) at n && not (is_at_closed closed at n r)) h in
-    not-true (is_page_mapped r) (and_parts (has_size r) (not (is_page_mapped r)) whole.0).1
+    let whole = and_parts (has_whole at n r) (not (is_at_closed closed at n r)) h in
+    let subpage = and_parts (has_size r && not (is_page_mapped r)) (lies_between r.virt_start (virt_end r) at n) whole.0 in
+    not-true (is_page_mapped r) (and_parts (has_size r) (not (is_page_mapped r)) subpage.0).1
 
 -- where it has all of it, it takes it unless a byte is at a closed place
 pub whole_takes : (closed : ℕ → Bool) (at n : ℕ) (r : Region) → has_whole at n r ≡ true → takes_all closed at n r ≡ not (is_at_closed closed at n r)
-whole_takes closed at n r h =
-    let parts = and_parts (has_size r && not (is_page_mapped r)) (lies_between r.virt_start (virt_end r) at n) h in
-    ap (λ (b : Bool). b && (lies_between r.virt_start (virt_end r) at n && not (is_at_closed closed at n r))) parts.0
-    ∙ ap (λ (b : Bool). b && not (is_at_closed closed at n r)) parts.1
+whole_takes closed at n r h = ap (λ (b : Bool). b && not (is_at_closed closed at n r)) h
 
 -- ---- its places, and what is kept of them
 

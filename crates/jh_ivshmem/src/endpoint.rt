@@ -52,7 +52,7 @@ impl Endpoint {
     {
         self.control
             && v < usize::from(self.spec.vector_count())
-            && self.space.open()
+            && self.space.is_open()
             && (!self.spec.function.has_vectors() || !self.vectors[v].masked)
     }
 

@@ -131,6 +131,7 @@ fn put<T: Drop>(list: &mut Vec<T>, index: usize, element: T)
 {
     match list.insert(index, element) {
         Ok(()) => {}
+        // there is room
         Err(_) => unreachable!(),
     }
 }
@@ -214,6 +215,7 @@ impl Endpoints {
     {
         match key_index(&self.keys, cell, device) {
             Some(i) => i,
+            // the device has an endpoint
             None => unreachable!(),
         }
     }

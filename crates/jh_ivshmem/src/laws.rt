@@ -52,8 +52,7 @@ pub fn the_same_state_changes_nothing(_links: &Endpoints, _cell: u32, _device: u
     let _ = &_links.keys;
 }
 
-/// A pending vector stays pending over every write of any endpoint, also where the write masks it: it goes by
-/// being taken, by a reset and by leaving alone.
+/// A pending vector stays pending over every write of any endpoint's registers, also where the write masks it.
 pub fn a_pending_vector_stays_over_writes()
     ensures { (e : Endpoint) (bar at value : ℕ) (list : List Endpoint) (k v : ℕ)
         → is_pending_at k v list ≡ true → is_pending_at k v (written e bar at value list) ≡ true }

@@ -16,7 +16,7 @@ use Rattle.jh_cellcfg.specs.Regions.{has_size, has_address, is_page_mapped, virt
 use Rattle.jh_cellcfg.proofs.Public.{has_address_from}
 use Rattle.jh_mmio.specs.declared.hitting.Hitting.TheVariants.{Ecam, Bar, Nothing as HitsNothing}
 use Rattle.jh_mmio.specs.declared.hitting.Window.{Window as TheWindow}
-use Rattle.jh_mmio.specs.Dispatch.{lies_between, is_at_closed, takes_all, has_right, lets_through, by_ecam, by_window, window_has}
+use Rattle.jh_mmio.specs.Dispatch.{lies_between, is_at_closed, takes_all, has_whole, has_right, lets_through, by_ecam, by_window, window_has}
 use Rattle.jh_num.specs.Numbers.{item_number}
 use Rattle.jh_mmio.proofs.Public.{lies_from, lies_parts}
 use Rattle.jh_ivshmem.specs.declared.endpoint.Endpoint.{Endpoint}
@@ -126,9 +126,9 @@ has_takes image cells id at width r sound some h =
     let C : List Region → Type 0 = λ rs. Contains rs r in
     let R : ℕ → Type 0 = λ i. regions_in image cells i ≡ h.cell.memory_regions in (
       subst C (sym (subst R h.named (regions_of_live image cells h.cell sound h.live))) h.among,
-      and_from (has_size r && not (is_page_mapped r)) (lies_between r.virt_start (virt_end r) at width && not (is_at_closed (kept_of image cells id) at width r))
-          (and_from (has_size r) (not (is_page_mapped r)) size (ap not h.part))
-          (and_from (lies_between r.virt_start (virt_end r) at width) (not (is_at_closed (kept_of image cells id) at width r)) lies (ap not open_is)),
+      and_from (has_whole at width r) (not (is_at_closed (kept_of image cells id) at width r))
+          (and_from (has_size r && not (is_page_mapped r)) (lies_between r.virt_start (virt_end r) at width) (and_from (has_size r) (not (is_page_mapped r)) size (ap not h.part)) lies)
+          (ap not open_is),
     )
 
 has_of_cell : (image : Image) (cells : List Live) (id at width : ℕ) (r : Region) (o : Option CellConfig) → 0 < width → cell_in image cells id ≡ o → Contains (option_map_or (λ (c : CellConfig). c.memory_regions) o []) r
@@ -137,10 +137,10 @@ has_of_cell image cells id at width r None some is held takes = let lt : held.0 
 has_of_cell image cells id at width r (Some cell) some is held takes =
     let kept : Place → Bool = is_closed_to image cells id in
     let live = cell_live image cells id cell is in
-    let whole = and_parts (has_size r && not (is_page_mapped r)) (lies_between r.virt_start (virt_end r) at width && not (is_at_closed (kept_of image cells id) at width r)) takes in
-    let lies = and_parts (lies_between r.virt_start (virt_end r) at width) (not (is_at_closed (kept_of image cells id) at width r)) whole.1 in
-    let parts = lies_parts r.virt_start (virt_end r) at width some lies.0 in
-    let free : list_any kept (places_in_row (place_in_cell id r at) width) ≡ false = kept_row image cells id at width r parts.0 ∙ not-true (is_at_closed (kept_of image cells id) at width r) lies.1 in
+    let open_whole = and_parts (has_whole at width r) (not (is_at_closed (kept_of image cells id) at width r)) takes in
+    let whole = and_parts (has_size r && not (is_page_mapped r)) (lies_between r.virt_start (virt_end r) at width) open_whole.0 in
+    let parts = lies_parts r.virt_start (virt_end r) at width some whole.1 in
+    let free : list_any kept (places_in_row (place_in_cell id r at) width) ≡ false = kept_row image cells id at width r parts.0 ∙ not-true (is_at_closed (kept_of image cells id) at width r) open_whole.1 in
     record {
       cell = cell;
       live = live.0;

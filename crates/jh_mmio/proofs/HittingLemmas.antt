@@ -20,9 +20,9 @@ use Rattle.jh_mmio.proofs.AccessLemmas.{lies_parts}
 -- a region that has all bytes has the first
 pub takes_all_has : (closed : ℕ → Bool) (at n : ℕ) (r : Region) → 0 < n → takes_all closed at n r ≡ true → IsTrue (has_address r at)
 takes_all_has closed at n r some h =
-    let whole = and_parts (has_size r && not (is_page_mapped r)) (lies_between r.virt_start (virt_end r) at n && not (is_at_closed closed at n r)) h in
-    let lies = and_parts (lies_between r.virt_start (virt_end r) at n) (not (is_at_closed closed at n r)) whole.1 in
-    let parts = lies_parts r.virt_start (virt_end r) at n some lies.0 in
+    let open_whole = and_parts (has_whole at n r) (not (is_at_closed closed at n r)) h in
+    let whole = and_parts (has_size r && not (is_page_mapped r)) (lies_between r.virt_start (virt_end r) at n) open_whole.0 in
+    let parts = lies_parts r.virt_start (virt_end r) at n some whole.1 in
     has_address_from r at parts.0 (omega arith)
 
 -- so it has the number that the index tells
@@ -52,15 +52,11 @@ subpage_none regions closed at n d some is =
 -- the one region that can have the address decides whether a subpage region has the access
 whole_parts : (closed : ℕ → Bool) (at n : ℕ) (r : Region) → takes_all closed at n r ≡ true → (has_whole at n r ≡ true) × (is_at_closed closed at n r ≡ false)
 whole_parts closed at n r h =
-    let whole = and_parts (has_size r && not (is_page_mapped r)) (lies_between r.virt_start (virt_end r) at n && not (is_at_closed closed at n r)) h in
-    let lies = and_parts (lies_between r.virt_start (virt_end r) at n) (not (is_at_closed closed at n r)) whole.1 in
-    (and_from (has_size r && not (is_page_mapped r)) (lies_between r.virt_start (virt_end r) at n) whole.0 lies.0, not-true (is_at_closed closed at n r) lies.1)
+    let parts = and_parts (has_whole at n r) (not (is_at_closed closed at n r)) h in (parts.0, not-true (is_at_closed closed at n r) parts.1)
 
 whole_from : (closed : ℕ → Bool) (at n : ℕ) (r : Region) → has_whole at n r ≡ true → is_at_closed closed at n r ≡ false → takes_all closed at n r ≡ true
 whole_from closed at n r h open_is =
-    let whole = and_parts (has_size r && not (is_page_mapped r)) (lies_between r.virt_start (virt_end r) at n) h in
-    and_from (has_size r && not (is_page_mapped r)) (lies_between r.virt_start (virt_end r) at n && not (is_at_closed closed at n r)) whole.0
-    (and_from (lies_between r.virt_start (virt_end r) at n) (not (is_at_closed closed at n r)) whole.1 (ap not open_is))
+    and_from (has_whole at n r) (not (is_at_closed closed at n r)) h (ap not open_is)
 
 found_is : (regions : List Region) (closed : ℕ → Bool) (at n : ℕ) (o : Option Region) (s : Region) → 0 < n → IsRegionAt regions at o → find (takes_all closed at n) regions ≡ Some s → o ≡ Some s
 found_is regions closed at n o s some is e =

@@ -13,7 +13,7 @@ use Rattle.jh_cellcfg.specs.Regions.{has_address, has_size, is_page_mapped, is_c
 use Rattle.jh_cellcfg.proofs.Public.{no_region}
 use Rattle.jh_mmio.specs.declared.hitting.Window.{Window}
 use Rattle.jh_mmio.specs.declared.hitting.Hitting.TheVariants.{Subpage, Ecam, Bar, Nothing}
-use Rattle.jh_mmio.specs.Dispatch.{lies_between, is_at_closed, takes_all, lets_through, by_subpage, by_ecam, by_window, window_has, hitting_behind_regions, hitting}
+use Rattle.jh_mmio.specs.Dispatch.{lies_between, is_at_closed, takes_all, has_whole, lets_through, by_subpage, by_ecam, by_window, window_has, hitting_behind_regions, hitting}
 use Rattle.jh_num.specs.Numbers.{item_number}
 use Rattle.jh_mmio.proofs.AccessLemmas.{byte_of}
 use Rattle.jh_mmio.proofs.IndexLemmas.{one_number}
@@ -89,8 +89,7 @@ refusal_ends regions closed ecam windows at n write k r apart some is takes refu
 -- a region of which a byte of the access is at a closed place doesn't have the access
 closed_lacks : (closed : ℕ → Bool) (at n : ℕ) (r : Region) (a : ℕ) → is_comm r ≡ false → at ≤ a → a < at + n → closed (place_in r a) ≡ true → takes_all closed at n r ≡ true → ⊥
 closed_lacks closed at n r a comm low high shut takes =
-    let whole = and_parts (has_size r && not (is_page_mapped r)) (lies_between r.virt_start (virt_end r) at n && not (is_at_closed closed at n r)) takes in
-    let parts = and_parts (lies_between r.virt_start (virt_end r) at n) (not (is_at_closed closed at n r)) whole.1 in
+    let parts = and_parts (has_whole at n r) (not (is_at_closed closed at n r)) takes in
     let hit : list_any (λ x. closed (place_in r x)) (range_with_len at n) ≡ true = list_any_from_Contains (λ x. closed (place_in r x)) (range_with_len at n) a (byte_of at n a low high) shut in
     let shut_there : is_at_closed closed at n r ≡ true = ap (λ b. not b && list_any (λ x. closed (place_in r x)) (range_with_len at n)) comm ∙ hit in
     both_ways true (sym parts.1 ∙ ap not shut_there) refl

@@ -35,14 +35,13 @@ lies_between start end at width = list_all (is_between start end) (range_with_le
 abbrev pub is_at_closed : (ℕ → Bool) → ℕ → ℕ → Region → Bool
 is_at_closed closed at width r = not (is_comm r) && list_any (λ a. closed (place_in r a)) (range_with_len at width)
 
--- the region is a subpage region that has all bytes of the access, none of them at a closed place
-abbrev pub takes_all : (ℕ → Bool) → ℕ → ℕ → Region → Bool
-takes_all closed at width r =
-    (has_size r && not (is_page_mapped r)) && (lies_between r.virt_start (virt_end r) at width && not (is_at_closed closed at width r))
-
 -- the region is a subpage region that has all bytes of the access
 abbrev pub has_whole : ℕ → ℕ → Region → Bool
 has_whole at width r = (has_size r && not (is_page_mapped r)) && lies_between r.virt_start (virt_end r) at width
+
+-- the region has all bytes of the access, none of them at a closed place
+abbrev pub takes_all : (ℕ → Bool) → ℕ → ℕ → Region → Bool
+takes_all closed at width r = has_whole at width r && not (is_at_closed closed at width r)
 
 -- the region, where no byte of the access is at a closed place of it
 abbrev pub unless_closed : (ℕ → Bool) → ℕ → ℕ → Option Region → Option Region

@@ -55,10 +55,7 @@ pub(crate) fn takes_all(region: &Region, closed: &ByteSet, at: u64, width: u8) -
     requires range { IsEmptyOrInRange region.now }
     ensures { result ≡ takes_all (has_byte closed.now.ranges) at width region.now }
 {
-    region.size > 0
-        && !region.is_page_mapped()
-        && lies_in(region.virt_start, region.size, at, width)
-        && !meets_closed(region, closed, at, width)
+    has_whole(region, at, width) && !meets_closed(region, closed, at, width)
 }
 
 /// Whether the region lets an access that is its own through: by its right to read or to write, its widths, and the

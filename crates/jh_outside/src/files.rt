@@ -48,7 +48,7 @@ pub trait Files {
     // The name of the last read that answered `Fault`, and empty before the first.
     ghost failed: { Self → List ℕ };
 
-    // How many reads failed, up to 2^64 - 1.
+    // How many reads answered `Fault`, up to 2^64 - 1; an implementation may count want of memory too.
     ghost faults: { Self → ℕ };
 
     // What a read does to the files, by the name that is asked and what is answered.
@@ -69,7 +69,8 @@ pub trait Files {
     fn failed(&self) -> &str
         ensures { result.now ≡ failed self.now };
 
-    /// How many reads failed. The count never falls, and stands still at `u64::MAX`.
+    /// How many reads failed: each that answered `Fault`, and want of memory where an implementation counts it. The
+    /// count never falls, and stands still at `u64::MAX`.
     fn faults(&self) -> u64
         ensures { result ≡ faults self.now };
 }

@@ -19,7 +19,7 @@ use Rattle.jh_script.specs.declared.line.Line.TheVariants.{Blank, Operation, Syn
 use Rattle.jh_script.specs.Numbers.{are_digits, value_of, decimal_of, hexadecimal_of, number_written}
 use Rattle.jh_script.specs.Words.{words, line_gaps}
 use Rattle.jh_script.specs.Operations.{is_ascii, none_of, one_of, two_of, three_of, op_of, is_well_formed, IsWellFormed, line_of, line_of_op, line_of_words}
-use Rattle.jh_script.specs.Grammar.{IsDecimal, IsNumber, IsNameAlone, IsNameAndOne, IsNameAndTwo, IsNameAndThree, IsSkipped, IsTooWide, Writes}
+use Rattle.jh_script.specs.Grammar.{IsDecimal, IsNumber, IsNameAlone, IsNameAndOne, IsNameAndTwo, IsNameAndThree, IsSkipped, IsIllFormed, Writes}
 use Rattle.jh_script.proofs.OperationLemmas.{well_formed_by_test, test_from_well_formed}
 
 -- ---- numbers
@@ -330,19 +330,19 @@ words_wide (name ∷ behind) e = by (starts_with nat_eq name (codes "#")) e
         let wide = op_wide (op_of name behind) e in
         (wide.0, op_to name behind wide.0 wide.1, wide.2)
 
-pub width_to : (text : List ℕ) → line_of text ≡ Width → IsTooWide text
+pub width_to : (text : List ℕ) → line_of text ≡ Width → IsIllFormed text
 unfolding line_of
 width_to text e = by (is_ascii text) refl e
   where
-    by : (t : Bool) → is_ascii text ≡ t → cond t (line_of_words (words line_gaps text)) Syntax ≡ Width → IsTooWide text
+    by : (t : Bool) → is_ascii text ≡ t → cond t (line_of_words (words line_gaps text)) Syntax ≡ Width → IsIllFormed text
     by false h e = cc
     by true h e =
         let wide = words_wide (words line_gaps text) e in
-        record { ascii = h; op = wide.0; written = wide.1; wide = wide.2 }
+        record { ascii = h; op = wide.0; written = wide.1; ill = wide.2 }
 
-pub width_from : (text : List ℕ) → IsTooWide text → line_of text ≡ Width
+pub width_from : (text : List ℕ) → IsIllFormed text → line_of text ≡ Width
 unfolding line_of
-width_from text w = rw (w.ascii) (op_from (words line_gaps text) w.op w.written ∙ wide_line w.op w.wide)
+width_from text w = rw (w.ascii) (op_from (words line_gaps text) w.op w.written ∙ wide_line w.op w.ill)
 
 no_blank : (o : Option Op) → line_of_op o ≡ Blank → ⊥
 unfolding line_of_op

@@ -70,8 +70,8 @@ IsSkipped [] = Unit {0}
 IsSkipped (word ∷ more) = starts_with nat_eq word (codes "#") ≡ true
 
 -- the line is that of an operation that isn't within its limits
-pub record IsTooWide (text : List ℕ) : Type 0 where
+pub record IsIllFormed (text : List ℕ) : Type 0 where
   pub ascii : is_ascii text ≡ true
   pub op : Op
   pub written : Writes (words line_gaps text) op
-  pub wide : IsWellFormed op → ⊥
+  pub ill : IsWellFormed op → ⊥

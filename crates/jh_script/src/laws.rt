@@ -6,7 +6,7 @@ ghost use Rattle.jh_script.specs.declared.line.Line.TheVariants as lines;
 ghost use Rattle.jh_script.specs.declared.fault.ScriptFault.TheVariants as faults;
 ghost use Rattle.jh_script.specs.declared.fault.ScheduleFault.TheVariants as refusals;
 ghost use Rattle.jh_script.specs.Laws.{IsProgram, IsFirstBad, HasTooMany, HasOneMoreBlank, IsSchedule, IsFirstRefused, HasTooManyItems};
-ghost use Rattle.jh_script.specs.Grammar.{IsNumber, IsSkipped, IsTooWide, Writes};
+ghost use Rattle.jh_script.specs.Grammar.{IsNumber, IsSkipped, IsIllFormed, Writes};
 ghost use Rattle.jh_script.specs.Numbers.{number_written};
 ghost use Rattle.jh_script.specs.Operations.{IsWellFormed, is_ascii, line_of};
 ghost use Rattle.jh_script.specs.Programs.{program_of};
@@ -36,7 +36,7 @@ pub fn first_fault_of_a_schedule_decides()
 pub fn lines_are_words_of_operations()
     ensures operation { (text : List ℕ) (op : TheOp) → (line_of text ≡ lines.Operation op)
         ↔ ((is_ascii text ≡ true) × Writes (words line_gaps text) op × IsWellFormed op) }
-    ensures width { (text : List ℕ) → (line_of text ≡ lines.Width) ↔ IsTooWide text }
+    ensures width { (text : List ℕ) → (line_of text ≡ lines.Width) ↔ IsIllFormed text }
     ensures skipped { (text : List ℕ) → (line_of text ≡ lines.Blank)
         ↔ ((is_ascii text ≡ true) × IsSkipped (words line_gaps text)) }
 {}

@@ -7,7 +7,7 @@ use crate::fault::{MAX_ITEMS, ScheduleFault};
 use crate::number::decimal;
 use crate::words::next_word;
 use jh_cellcfg::MAX_CPUS;
-use jh_num::Seq;
+use jh_num::{Seq, has_bit};
 use std::alloc::Global;
 
 /// The bytes that part the items of a schedule.
@@ -59,7 +59,7 @@ fn cpu(word: &[u8], cpus: u16) -> Option<u8>
     ensures present { IfSome result (IsPresent cpus) }
 {
     let n = decimal(word)?;
-    if n < MAX_CPUS as u64 && (cpus >> n) & 1 == 1 {
+    if n < MAX_CPUS as u64 && has_bit(u32::from(cpus), n as usize) {
         Some(n as u8)
     } else {
         None

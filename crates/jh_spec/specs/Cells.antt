@@ -20,7 +20,7 @@ use Rattle.jh_spec.specs.declared.cell.Identity.{Identity}
 use Rattle.jh_spec.specs.declared.cell.Lists.{Lists}
 use Rattle.jh_spec.specs.declared.cell.Settings.{Settings}
 use Rattle.jh_spec.specs.Faults.{◌>>=◌, member_told, all_listed}
-use Rattle.jh_spec.specs.Json.{told_or, list_at}
+use Rattle.jh_spec.specs.Json.{told_at, told_or, list_at}
 use Rattle.jh_spec.specs.Fields.{u8_at, u16_at, u32_at, u64_at, u32_told, region_told, irqchip_told, device_told, console_told}
 use Rattle.jh_spec.specs.Cpus.{bitmap, cpus_told}
 
@@ -34,7 +34,7 @@ padded_name text =
 
 -- the name that the cell's member of that name tells
 abbrev pub cell_name : Data → Option (List ℕ)
-cell_name d = option_and_then padded_name (option_and_then as_str (get (codes "name") d))
+cell_name d = option_and_then padded_name (told_at as_str (codes "name") d)
 
 -- how many bytes a value says that the CPU bitmap has: 1 to 64
 abbrev pub size_told : Data → Option ℕ

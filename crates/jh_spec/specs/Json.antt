@@ -23,7 +23,7 @@ o >>= next = option_and_then next o
 abbrev pub told_at : {X : Type 0} → (Data → Option X) → List ℕ → Data → Option X
 told_at tells name d = option_and_then tells (get name d)
 
--- the value of a member, or what stands for it where it is missing
+-- what the value of a member tells, or what stands for it where the member is missing
 abbrev pub told_or : {X : Type 0} → (Data → Option X) → X → Option Data → Option X
 told_or tells missing None = Some missing
 told_or tells missing (Some d) = tells d

@@ -2,7 +2,7 @@
 use Rattle.std.specs.Prelude.{ℕ, nat_eq, List, codes, ◌∷◌, Option, Some, None, Result, Ok, Err, option_and_then, if◌then◌else◌, is_some}
 use Rattle.std.specs.Cmp.Lexicographic.{pointwise}
 use Rattle.serde_json.specs.Data.{Data}
-use Rattle.serde_json.specs.Find.{get, as_str, as_object}
+use Rattle.serde_json.specs.Find.{as_str, as_object}
 use Rattle.jh_cellcfg.specs.Limits.{IsWithinLimits}
 use Rattle.jh_syscfg.specs.Layout.{IsSystemWithinLimits}
 use Rattle.jh_spec.specs.declared.fault.JsonFault.{JsonFault}
@@ -12,6 +12,7 @@ use Rattle.jh_spec.specs.declared.spec.Spec.TheVariants.{Cell as CellSpec, Syste
 use Rattle.jh_spec.specs.declared.spec.Kind.{Kind}
 use Rattle.jh_spec.specs.declared.spec.Kind.TheVariants.{Cell, System}
 use Rattle.jh_spec.specs.Faults.{◌>>=◌, IsJsonAnswer}
+use Rattle.jh_spec.specs.Json.{told_at}
 use Rattle.jh_spec.specs.Cells.{cell_names, cell_told, system_told}
 
 -- the kind that the text names
@@ -23,7 +24,7 @@ kind_named text =
 
 -- the kind that the member `kind` tells, which must be there
 abbrev pub kind_told : Data → Option Kind
-kind_told d = option_and_then kind_named (option_and_then as_str (get (codes "kind") d))
+kind_told d = option_and_then kind_named (told_at as_str (codes "kind") d)
 
 -- the names of a cell's members, with that of its kind
 abbrev pub names_with_kind : List (List ℕ)

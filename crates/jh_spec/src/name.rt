@@ -4,6 +4,7 @@ ghost use Rattle.jh_cellcfg.specs.Limits.{is_name};
 ghost use Rattle.serde_json.specs.View.{view};
 ghost use Rattle.jh_spec.specs.Cells.{padded_name, cell_name};
 
+use crate::json::text_at;
 use jh_cellcfg::is_name;
 use serde_json::Value;
 
@@ -26,6 +27,6 @@ pub fn cell_name(object: &Value) -> Option<[u8; 32]>
     ensures told { result ≡ cell_name (view object.now) }
     ensures limits { IfSome result (λ name. IsTrue (is_name name)) }
 {
-    let text = object.get("name")?.as_str()?;
+    let text = text_at(object, "name")?;
     padded_name(text.as_bytes())
 }

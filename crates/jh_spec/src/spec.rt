@@ -6,7 +6,7 @@ ghost use Rattle.jh_spec.specs.Private.Faults.{IsAsWanted};
 
 use crate::cell::{CELL_NAMES, cell};
 use crate::fault::{JsonFault, fault_of};
-use crate::json::object;
+use crate::json::{object, text_at};
 use crate::system::system;
 use jh_cellcfg::{CellConfig, SystemConfig};
 use serde_json::Value;
@@ -52,7 +52,7 @@ fn spec_of(alloc: Global, object: &Value) -> Result<Spec, JsonFault>
 fn kind_of(object: &Value) -> Option<Kind>
     ensures { result ≡ kind_told (view object.now) }
 {
-    match object.get("kind")?.as_str()? {
+    match text_at(object, "kind")? {
         "cell" => Some(Kind::Cell),
         "system" => Some(Kind::System),
         _ => None,

@@ -226,7 +226,7 @@ impl ConfigSpace {
 
     /// Whether a vector that isn't masked itself may be raised: always without MSI-X vectors, else where
     /// the function is bus master, MSI-X is enabled and the function isn't masked.
-    pub fn open(&self) -> bool
+    pub fn is_open(&self) -> bool
         ensures { result ≡ is_open self.now }
     {
         !self.spec.has_vectors() || self.bus_master && self.enabled && !self.masked

@@ -58,7 +58,7 @@ fn a_function_without_vectors_has_a_pin(rt: HostRuntime) {
     space.write(0x62, 2, 0xffff);
     assert_eq!(rt; space.read(0x60, 4), 0);
     assert_eq!(rt; space.read(0x64, 4), 0);
-    assert!(rt; space.open());
+    assert!(rt; space.is_open());
 }
 
 #[test]
@@ -98,12 +98,12 @@ fn a_reset_is_as_new(rt: HostRuntime) {
     space.write(0x04, 2, 0x6);
     space.write(0x62, 2, 0x8000);
     space.write(0x43, 1, 0xff);
-    assert!(rt; space.open());
+    assert!(rt; space.is_open());
     assert!(rt; space.one_shot());
     assert_eq!(rt; space.read(0x40, 4), 0x0120_6009);
     assert_eq!(rt; space.read(0x60, 4), 0x8002_0011);
     space.write(0x62, 2, 0xc000);
-    assert!(rt; !space.open());
+    assert!(rt; !space.is_open());
     space.reset();
     assert_eq!(rt; space.read(0x04, 4), 0x0010_0000);
     assert_eq!(rt; space.read(0x60, 4), 0x0002_0011);

@@ -1,11 +1,12 @@
-//! Parts of a word of 32 bits: the bytes of one access, its halves, and bits by facts.
+//! Words of 32 bits: the bytes of one access, bits by facts, the halves of a number of 64 bits, and windows from a word
+//! on.
 ghost use Rattle.std.specs.Prelude.{◌≡◌, ◌+◌, ◌*◌, ◌/◌, ◌%◌, ◌^◌, ◌<◌, ◌≤◌};
 ghost use Rattle.jh_num.specs.Bits.{bits_where};
 ghost use Rattle.jh_vpci.specs.Writes.{spliced};
 
 use jh_num::Range;
 
-/// What the lowest byte from `at` on counts in its word.
+/// What the byte at `at` counts in its word.
 fn unit(at: u16) -> u64
     ensures value { result ≡ 2 ^ (8 * (at % 4)) }
     ensures bound { result ≤ 2 ^ 24 }
@@ -13,7 +14,7 @@ fn unit(at: u16) -> u64
     1u64 << (u32::from(at % 4) * 8)
 }
 
-/// The numbers of so many bytes.
+/// How many numbers so many bytes can spell.
 fn span(width: u8) -> u64
     requires { width ≤ 4 }
     ensures value { result ≡ 2 ^ (8 * width) }
@@ -51,14 +52,14 @@ pub(crate) fn bits_where(fact: bool, bits: u32) -> u32
     if fact { bits } else { 0 }
 }
 
-/// The lower half.
+/// The lower half of a number of 64 bits.
 pub(crate) fn low(n: u64) -> u32
     ensures { result ≡ n % 2 ^ 32 }
 {
     (n % 0x1_0000_0000) as u32
 }
 
-/// The upper half.
+/// The upper half of a number of 64 bits.
 pub(crate) fn high(n: u64) -> u32
     ensures { result ≡ n / 2 ^ 32 }
 {

@@ -11,7 +11,7 @@ use Rattle.jh_desc.specs.Levels.{index_of}
 use Rattle.jh_num.specs.declared.level.TheConstants.{LAST_LEVEL}
 use Rattle.jh_num.specs.Levels.{slot_size}
 use Rattle.jh_walk.specs.Walks.{walk_of, walk_on, slot_at}
-use Rattle.jh_walk.specs.Pages.{sum_below, by_next, count, is_page, times, Grows, IsKept}
+use Rattle.jh_walk.specs.Pages.{sum_below, by_next, count, page_weight, times, Grows, IsKept}
 use Rattle.jh_walk.proofs.WalkLemmas.{below_end, past_end}
 use Rattle.jh_walk.proofs.LiftLemmas.{slot_counts, count_more, count_none}
 
@@ -45,20 +45,20 @@ sum_le (suc n) f g h =
     let rest : sum_below n f ≤ sum_below n g = sum_le n f g (λ i lt. h i (omega arith)) in
     let last : f n ≤ g n = h n (omega arith) in omega arith
 
-slot_by : (w w' : ℕ → ℕ) (n q level slot : ℕ) (d : Descriptor) → read_of (w slot) level ≡ d → IsKept (Grows w w' n) d (w' slot ≡ w slot) → ((next : ℕ) → Grows w w' n next → times w n next q ≤ times w' n next q) → by_next (count (is_page q) w n) d ≤ by_next (count (is_page q) w' n) (read_of (w' slot) level)
+slot_by : (w w' : ℕ → ℕ) (n q level slot : ℕ) (d : Descriptor) → read_of (w slot) level ≡ d → IsKept (Grows w w' n) d (w' slot ≡ w slot) → ((next : ℕ) → Grows w w' n next → times w n next q ≤ times w' n next q) → by_next (count (page_weight q) w n) d ≤ by_next (count (page_weight q) w' n) (read_of (w' slot) level)
 slot_by w w' n q level slot Invalid is kept rest = omega arith
 slot_by w w' n q level slot (Leaf out rights device) is kept rest = omega arith
 slot_by w w' n q level slot (Table next) is kept rest =
-    let same : by_next (count (is_page q) w' n) (read_of (w' slot) level) ≡ times w' n next q = ap (λ z. by_next (count (is_page q) w' n) (read_of z level)) kept.0 ∙ ap (by_next (count (is_page q) w' n)) is in
+    let same : by_next (count (page_weight q) w' n) (read_of (w' slot) level) ≡ times w' n next q = ap (λ z. by_next (count (page_weight q) w' n) (read_of z level)) kept.0 ∙ ap (by_next (count (page_weight q) w' n)) is in
     let more : times w n next q ≤ times w' n next q = rest next kept.1 in
     omega arith
 
 pub grown_times : (w w' : ℕ → ℕ) (n t q : ℕ) → Grows w w' n t → times w n t q ≤ times w' n t q
 grown_times w w' zero t q grows =
-    let a : times w 0 t q ≡ 0 = count_none (is_page q) w t in omega arith
+    let a : times w 0 t q ≡ 0 = count_none (page_weight q) w t in omega arith
 grown_times w w' (suc n) t q grows =
-    let a : times w (suc n) t q ≡ is_page q w n t + sum_below 512 (slot_counts (is_page q) w n t) = count_more (is_page q) w n t in
-    let b : times w' (suc n) t q ≡ is_page q w' n t + sum_below 512 (slot_counts (is_page q) w' n t) = count_more (is_page q) w' n t in
-    let slots : sum_below 512 (slot_counts (is_page q) w n t) ≤ sum_below 512 (slot_counts (is_page q) w' n t) = sum_le 512 (slot_counts (is_page q) w n t) (slot_counts (is_page q) w' n t) (λ i lt.
+    let a : times w (suc n) t q ≡ page_weight q w n t + sum_below 512 (slot_counts (page_weight q) w n t) = count_more (page_weight q) w n t in
+    let b : times w' (suc n) t q ≡ page_weight q w' n t + sum_below 512 (slot_counts (page_weight q) w' n t) = count_more (page_weight q) w' n t in
+    let slots : sum_below 512 (slot_counts (page_weight q) w n t) ≤ sum_below 512 (slot_counts (page_weight q) w' n t) = sum_le 512 (slot_counts (page_weight q) w n t) (slot_counts (page_weight q) w' n t) (λ i lt.
     slot_by w w' n q (LAST_LEVEL - n) (t + 8 * i) (read_of (w (t + 8 * i)) (LAST_LEVEL - n)) refl (grows i lt) (λ next more. grown_times w w' n next q more)) in
     omega arith

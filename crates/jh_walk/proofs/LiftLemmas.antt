@@ -2,7 +2,7 @@
 use Rattle.std.proofs.Common.{◌≡◌, ◌≢◌, ℕ, ◌+◌, ◌-◌, ◌*◌, ◌%◌, ◌<◌, ◌≤◌, inl, inr, zero, suc, ap, ◌∙◌, sym, subst, arith, refl}
 use Rattle.jh_desc.specs.Descriptors.{read_of}
 use Rattle.jh_num.specs.declared.level.TheConstants.{LAST_LEVEL}
-use Rattle.jh_walk.specs.Pages.{sum_below, by_next, count, is_page, times, Weight, AlikeBut, AreAligned, IsReached}
+use Rattle.jh_walk.specs.Pages.{sum_below, by_next, count, page_weight, times, Weight, AlikeBut, AreAligned, IsReached}
 use Rattle.jh_desc.specs.declared.descriptor.Descriptor.{Descriptor}
 use Rattle.jh_desc.specs.declared.descriptor.Descriptor.TheVariants.{Invalid, Table, Leaf}
 use Rattle.jh_walk.proofs.SumLemmas.{sum_same, sum_falls, term_le, others_none}
@@ -25,12 +25,12 @@ next_same f g (Leaf out rights device) e = refl
 next_same f g (Table next) e = e next refl
 
 pub self_times : (word : ℕ → ℕ) (n page q : ℕ) → page ≡ q → 0 < times word (suc n) page q
-self_times word n page q e = rw (count_more (is_page q) word n page) (grind arith)
+self_times word n page q e = rw (count_more (page_weight q) word n page) (grind arith)
 
 other_page : (word : ℕ → ℕ) (n page q : ℕ) → times word (suc n) page q ≡ 0 → page ≢ q
 other_page word n page q none e = let some : 0 < times word (suc n) page q = self_times word n page q e in omega arith
 
-ne_from_weight : (page inner : ℕ) (word : ℕ → ℕ) (n : ℕ) → is_page inner word n page ≡ 0 → page ≢ inner
+ne_from_weight : (page inner : ℕ) (word : ℕ → ℕ) (n : ℕ) → page_weight inner word n page ≡ 0 → page ≢ inner
 ne_from_weight page inner word n none e = grind arith
 
 -- what a slot's table counts, the slot counts
@@ -44,12 +44,12 @@ slot_le w word n page i lt =
 
 aligned_below : (word : ℕ → ℕ) (n page i next : ℕ) → i < 512 → read_of (word (page + 8 * i)) (LAST_LEVEL - n) ≡ Table next → AreAligned word (suc n) page → AreAligned word n next
 aligned_below word n page i next lt is all q some =
-    let le : is_page q word n page + slot_counts (is_page q) word n page i ≤ times word (suc n) page q = slot_le (is_page q) word n page i lt in
-    let e : slot_counts (is_page q) word n page i ≡ times word n next q = slot_is (is_page q) word n page i next is in
+    let le : page_weight q word n page + slot_counts (page_weight q) word n page i ≤ times word (suc n) page q = slot_le (page_weight q) word n page i lt in
+    let e : slot_counts (page_weight q) word n page i ≡ times word n next q = slot_is (page_weight q) word n page i next is in
     all q (omega arith)
 
-none_below : (word : ℕ → ℕ) (n page q i next : ℕ) → i < 512 → read_of (word (page + 8 * i)) (LAST_LEVEL - n) ≡ Table next → slot_counts (is_page q) word n page i ≡ 0 → times word n next q ≡ 0
-none_below word n page q i next lt is none = sym (slot_is (is_page q) word n page i next is) ∙ none
+none_below : (word : ℕ → ℕ) (n page q i next : ℕ) → i < 512 → read_of (word (page + 8 * i)) (LAST_LEVEL - n) ≡ Table next → slot_counts (page_weight q) word n page i ≡ 0 → times word n next q ≡ 0
+none_below word n page q i next lt is none = sym (slot_is (page_weight q) word n page i next is) ∙ none
 
 -- where the page isn't reached, nothing changes
 pub count_same : (w : Weight) (word word' : ℕ → ℕ) (inner : ℕ) → AlikeBut inner w word word' → (n page : ℕ) → AreAligned word n page → times word n page inner ≡ 0 → count w word' n page ≡ count w word n page
@@ -61,7 +61,7 @@ count_same w word word' inner alike (suc n) page all none =
     let slots : sum_below 512 (slot_counts w word' n page) ≡ sum_below 512 (slot_counts w word n page) = sum_same 512 (slot_counts w word' n page) (slot_counts w word n page) (λ i lt.
     ap (λ x. by_next (count w word' n) (read_of x (LAST_LEVEL - n))) (alike.words page i is ne lt)
     ∙ next_same (count w word' n) (count w word n) (read_of (word (page + 8 * i)) (LAST_LEVEL - n)) (λ next leads.
-    let le : is_page inner word n page + slot_counts (is_page inner) word n page i ≤ times word (suc n) page inner = slot_le (is_page inner) word n page i lt in
+    let le : page_weight inner word n page + slot_counts (page_weight inner) word n page i ≤ times word (suc n) page inner = slot_le (page_weight inner) word n page i lt in
     count_same w word word' inner alike n next (aligned_below word n page i next lt leads all) (none_below word n page inner i next lt leads (omega arith)))) in
     count_more w word' n page ∙ (ap (λ x. x + sum_below 512 (slot_counts w word' n page)) own ∙ (ap (λ x. w word n page + x) slots ∙ sym (count_more w word n page)))
 
@@ -73,8 +73,8 @@ on_times word (suc n) page m inner (inr (next, (names, on))) =
     let lt : i < 512 = names.within in
     let leads : read_of (word (page + 8 * i)) (LAST_LEVEL - n) ≡ Table next = names.descriptor in
     let below : 0 < times word n next inner = on_times word n next m inner on in
-    let e : slot_counts (is_page inner) word n page i ≡ times word n next inner = slot_is (is_page inner) word n page i next leads in
-    let le : is_page inner word n page + slot_counts (is_page inner) word n page i ≤ times word (suc n) page inner = slot_le (is_page inner) word n page i lt in
+    let e : slot_counts (page_weight inner) word n page i ≡ times word n next inner = slot_is (page_weight inner) word n page i next leads in
+    let le : page_weight inner word n page + slot_counts (page_weight inner) word n page i ≤ times word (suc n) page inner = slot_le (page_weight inner) word n page i lt in
     omega arith
 
 -- what falls by one at a page that is reached once falls by one in all
@@ -87,9 +87,9 @@ count_falls w word word' inner m alike fall (suc n) page all once (inr (next, (n
     let lt : i < 512 = names.within in
     let leads : read_of (word (page + 8 * i)) (LAST_LEVEL - n) ≡ Table next = names.descriptor in
     let some : 0 < times word n next inner = on_times word n next m inner on in
-    let e : slot_counts (is_page inner) word n page i ≡ times word n next inner = slot_is (is_page inner) word n page i next leads in
-    let le : is_page inner word n page + slot_counts (is_page inner) word n page i ≤ times word (suc n) page inner = slot_le (is_page inner) word n page i lt in
-    let more : times word (suc n) page inner ≡ is_page inner word n page + sum_below 512 (slot_counts (is_page inner) word n page) = count_more (is_page inner) word n page in
+    let e : slot_counts (page_weight inner) word n page i ≡ times word n next inner = slot_is (page_weight inner) word n page i next leads in
+    let le : page_weight inner word n page + slot_counts (page_weight inner) word n page i ≤ times word (suc n) page inner = slot_le (page_weight inner) word n page i lt in
+    let more : times word (suc n) page inner ≡ page_weight inner word n page + sum_below 512 (slot_counts (page_weight inner) word n page) = count_more (page_weight inner) word n page in
     let ne : page ≢ inner = ne_from_weight page inner word n (omega arith) in
     let is : page % 4096 ≡ 0 = all page (self_times word n page page refl) in
     let own : w word' n page ≡ w word n page = alike.weights n page is ne in
@@ -102,7 +102,7 @@ count_falls w word word' inner m alike fall (suc n) page all once (inr (next, (n
     ap (λ x. by_next (count w word' n) (read_of x (LAST_LEVEL - n))) (alike.words page j is ne small)
     ∙ next_same (count w word' n) (count w word n) (read_of (word (page + 8 * j)) (LAST_LEVEL - n)) (λ next' leads'.
     count_same w word word' inner alike n next' (aligned_below word n page j next' small leads' all)
-    (none_below word n page inner j next' small leads' (others_none 512 (slot_counts (is_page inner) word n page) i j lt small other (omega arith) (omega arith)))) in
+    (none_below word n page inner j next' small leads' (others_none 512 (slot_counts (page_weight inner) word n page) i j lt small other (omega arith) (omega arith)))) in
     let slots : sum_below 512 (slot_counts w word' n page) + 1 ≡ sum_below 512 (slot_counts w word n page) = sum_falls 512 (slot_counts w word n page) (slot_counts w word' n page) i lt here there in
     let a : count w word' (suc n) page ≡ w word' n page + sum_below 512 (slot_counts w word' n page) = count_more w word' n page in
     let b : count w word (suc n) page ≡ w word n page + sum_below 512 (slot_counts w word n page) = count_more w word n page in omega arith

@@ -10,7 +10,7 @@ use Rattle.jh_desc.specs.Levels.{index_of}
 use Rattle.jh_num.specs.declared.level.TheConstants.{LAST_LEVEL}
 use Rattle.jh_num.specs.Levels.{slot_size}
 use Rattle.jh_walk.specs.Walks.{walk_of, walk_on, probes_of, probes_on, slot_at}
-use Rattle.jh_walk.specs.Pages.{sum_below, by_next, count, is_page, times, SameTables}
+use Rattle.jh_walk.specs.Pages.{sum_below, by_next, count, page_weight, times, SameTables}
 use Rattle.jh_walk.proofs.SumLemmas.{sum_same}
 use Rattle.jh_walk.proofs.LiftLemmas.{slot_counts, count_more, count_none, next_same, self_times, slot_is, slot_le}
 use Rattle.jh_walk.proofs.GrowLemmas.{index_small}
@@ -19,8 +19,8 @@ use Rattle.jh_walk.proofs.GrowLemmas.{index_small}
 same_below : (w w' : ℕ → ℕ) (n t i next : ℕ) → SameTables w w' (suc n) t → i < 512 → read_of (w (t + 8 * i)) (LAST_LEVEL - n) ≡ Table next → SameTables w w' n next
 same_below w w' n t i next same lt leads = record {
   words = λ q j some small.
-      let e : slot_counts (is_page q) w n t i ≡ times w n next q = slot_is (is_page q) w n t i next leads in
-      let le : is_page q w n t + slot_counts (is_page q) w n t i ≤ times w (suc n) t q = slot_le (is_page q) w n t i lt in
+      let e : slot_counts (page_weight q) w n t i ≡ times w n next q = slot_is (page_weight q) w n t i next leads in
+      let le : page_weight q w n t + slot_counts (page_weight q) w n t i ≤ times w (suc n) t q = slot_le (page_weight q) w n t i lt in
       same.words q j (omega arith) small;
 }
 
@@ -59,10 +59,10 @@ probes_same w w' (suc n) t at same =
     probes_same w w' n next at (same_below w w' n t (index_of (LAST_LEVEL - n) at) next same small leads)))
 
 pub times_same : (w w' : ℕ → ℕ) (n t q : ℕ) → SameTables w w' n t → times w' n t q ≡ times w n t q
-times_same w w' zero t q same = count_none (is_page q) w' t ∙ sym (count_none (is_page q) w t)
+times_same w w' zero t q same = count_none (page_weight q) w' t ∙ sym (count_none (page_weight q) w t)
 times_same w w' (suc n) t q same =
-    let slots : sum_below 512 (slot_counts (is_page q) w' n t) ≡ sum_below 512 (slot_counts (is_page q) w n t) = sum_same 512 (slot_counts (is_page q) w' n t) (slot_counts (is_page q) w n t) (λ i lt.
-    ap (λ z. by_next (count (is_page q) w' n) (read_of z (LAST_LEVEL - n))) (same_here w w' n t i same lt)
-    ∙ next_same (count (is_page q) w' n) (count (is_page q) w n) (read_of (w (t + 8 * i)) (LAST_LEVEL - n)) (λ next leads.
+    let slots : sum_below 512 (slot_counts (page_weight q) w' n t) ≡ sum_below 512 (slot_counts (page_weight q) w n t) = sum_same 512 (slot_counts (page_weight q) w' n t) (slot_counts (page_weight q) w n t) (λ i lt.
+    ap (λ z. by_next (count (page_weight q) w' n) (read_of z (LAST_LEVEL - n))) (same_here w w' n t i same lt)
+    ∙ next_same (count (page_weight q) w' n) (count (page_weight q) w n) (read_of (w (t + 8 * i)) (LAST_LEVEL - n)) (λ next leads.
     times_same w w' n next q (same_below w w' n t i next same lt leads))) in
-    count_more (is_page q) w' n t ∙ ap (λ x. is_page q w n t + x) slots ∙ sym (count_more (is_page q) w n t)
+    count_more (page_weight q) w' n t ∙ ap (λ x. page_weight q w n t + x) slots ∙ sym (count_more (page_weight q) w n t)

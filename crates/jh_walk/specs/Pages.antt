@@ -28,12 +28,12 @@ count weight word (suc n) table =
     weight word n table + sum_below 512 (λ slot. by_next (count weight word n) (read_of (word (table + 8 * slot)) (LAST_LEVEL - n)))
 
 -- the weight of a page: 1 where it is this one, else 0
-abbrev pub is_page : ℕ → Weight
-is_page page word n other = if nat_eq other page then 1 else 0
+abbrev pub page_weight : ℕ → Weight
+page_weight page word n other = if nat_eq other page then 1 else 0
 
 -- how often the page is reached from a table with so many levels left
 abbrev pub times : (ℕ → ℕ) → ℕ → ℕ → ℕ → ℕ
-times word n table page = count (is_page page) word n table
+times word n table page = count (page_weight page) word n table
 
 -- the 512 words of each page that is reached are the same
 pub record SameTables (word word' : ℕ → ℕ) (n table : ℕ) : Type 0 where

@@ -1,7 +1,7 @@
 -- Invalid goes before busy, and a cell that is neither is clean.
 use Rattle.std.proofs.Common.{◌≡◌, ◌+◌, true, false, length, sym, ◌∙◌, arith}
 use Rattle.jh_check.proofs.VerdictLemmas.{verdict_from, verdict_invalid}
-use Rattle.jh_check.proofs.verdict.clean_with.Goals as goal
+use Rattle.jh_check.proofs.verdict.verdict_of.Goals as goal
 
 pub returns-then-branch : goal.returns-then-branch
 returns-then-branch c =
