@@ -1,6 +1,5 @@
 //! The translations of one CPU.
 ghost use Rattle.std.specs.Prelude.{◌≡◌, ◌≤◌, [], ◌∷◌, ◌++◌, IfOk, length};
-ghost use Rattle.std.specs.List.{list_any};
 ghost use Rattle.std.specs.VecDeque.{deque_capacity};
 ghost use Rattle.jh_cache.specs.Translations.{filled, flushed, is_for, looked, newest, without};
 
@@ -32,22 +31,13 @@ impl Model for Row {
     ghost invariant = { λ r. (length r.translations.items ≤ 64) × (64 ≤ deque_capacity r.translations) };
 }
 
-/// Whether the list has a translation of the page in the tables with the tag.
-fn has(list: &VecDeque<Translation>, tag: u8, page: u64) -> bool
-    ensures { result ≡ list_any (is_for tag page) list.now.items }
-{
-    list.iter().any(|t| t.is_for(tag, page))
-}
-
 /// Takes the translation of the page in the tables with the tag out, where there is one.
 fn take_out(list: &mut VecDeque<Translation>, tag: u8, page: u64)
     ensures items { list.new.items ≡ without (is_for tag page) list.old.items }
     ensures few { length list.new.items ≤ length list.old.items }
     ensures room { deque_capacity list.new ≡ deque_capacity list.old }
 {
-    if has(list, tag, page) {
-        list.retain(|t| !t.is_for(tag, page));
-    }
+    list.retain(|t| !t.is_for(tag, page));
 }
 
 /// Takes the oldest out where the list is full.

@@ -28,13 +28,13 @@ happened cpu Fail = failed cpu
 abbrev pub after_all : Cpu → List Happening → Cpu
 after_all = fold happened
 
--- the CPU is root's again and at the position: it would run, is stopped until the call that gave it back is over, and
--- keeps nothing of another time
+-- the CPU is root's again and at the position: it would run, is stopped until the call that gave it back is over and not
+-- asked to stop, and keeps nothing of another time
 pub record IsBackInRoot (root position : ℕ) (cpu : Cpu) : Type 0 where
   pub owner : cpu.owner ≡ root
   pub mode : cpu.mode ≡ Running
   pub asked : cpu.asked ≡ false
   pub stopped : cpu.stopped ≡ true
   pub there : cpu.position ≡ position
-  pub kept : cpu.root_position ≡ 0
+  pub root_position : cpu.root_position ≡ 0
   pub failed : cpu.failed_in_root ≡ false

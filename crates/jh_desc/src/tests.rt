@@ -1,4 +1,4 @@
-//! The words of the format's examples, each right and kind of memory at each level, and words that nothing here writes.
+//! The words of a block and of a page, each right and kind of memory at each level, and words that nothing here writes.
 ghost use Rattle.std.specs.Prelude.{◌≡◌, ◌≤◌, ◌%◌};
 ghost use Rattle.jh_num.specs.Levels.{slot_size};
 
@@ -6,7 +6,7 @@ use crate::{Descriptor, index, offset, read, word};
 use jh_num::{FIRST_LEVEL, LAST_LEVEL, Rights, slot_size};
 use std::process::Abort;
 
-/// A 2 MB block at 0x40000000, rwx, normal memory.
+/// A block at 0x40000000, rwx, normal memory, of 2 MB at level 2 and of 1 GB at level 1.
 const BLOCK: u64 = 0x0000_0000_4000_07fd;
 
 /// A page at 0x9000000, rw-, device memory.
@@ -174,7 +174,6 @@ fn a_page_of_a_device_has_its_word(rt: HostRuntime) {
 #[test]
 fn a_block_stands_above_the_last_level(rt: HostRuntime) {
     assert_eq!(rt; read(BLOCK, 3), Descriptor::Invalid);
-    assert_eq!(rt; read(0, 1), Descriptor::Invalid);
     assert_eq!(rt; read(BLOCK - 1, 2), Descriptor::Invalid);
 }
 
@@ -192,6 +191,7 @@ fn nothing_is_mapped_by_a_word_of_zero(rt: HostRuntime) {
     assert_eq!(rt; word(Descriptor::Invalid, 1), 0);
     assert_eq!(rt; word(Descriptor::Invalid, 2), 0);
     assert_eq!(rt; word(Descriptor::Invalid, 3), 0);
+    assert_eq!(rt; read(0, 1), Descriptor::Invalid);
     assert_eq!(rt; read(0, 2), Descriptor::Invalid);
     assert_eq!(rt; read(0, 3), Descriptor::Invalid);
 }
@@ -202,7 +202,8 @@ fn a_leaf_may_grant_nothing(rt: HostRuntime) {
     assert_eq!(rt; read(0x0040_0000_0000_073f, 3), CLOSED_PAGE);
 }
 
-/// Addresses below the slot's size, contiguous hints and other memory kinds.
+/// Address bits below the slot's size, contiguous hints, other memory kinds, a block's word at the last level, and a
+/// table's other bits.
 #[test]
 fn words_that_nothing_writes_are_read(rt: HostRuntime) {
     assert_eq!(rt;

@@ -56,7 +56,7 @@ impl Endpoint {
             && (!self.spec.function.has_vectors() || !self.vectors[v].masked)
     }
 
-    /// Makes the vector pending, where it is open.
+    /// Makes the vector pending where it is open, and then one-shot turns interrupt control off; else nothing changes.
     #[tactic(auto, unfolding(crate::specs::Endpoint::raised))]
     fn raise(&mut self, v: u16)
         requires sound { IsWholeEndpoint self.old }

@@ -7,8 +7,8 @@ ghost use Rattle.jh_mmio.specs.declared.hitting.Hitting.TheVariants.{Subpage as 
 ghost use Rattle.jh_mmio.specs.Lookups.{HasFirstByte, IsAmongApart, IsLetThrough, IsPartlyClosed, Lookup, TakesAccess, hitting_of_lookup, lets_lookup_through};
 ghost use Rattle.jh_num.specs.Numbers.{item_number};
 
-/// The region that answers has the whole access and lets it through, and where no two regions share an
-/// address no other has the first byte.
+/// The region that answers is a subpage region that has the whole access, none of its bytes at a closed place, and lets it
+/// through; and where no two regions share an address, one that has the first byte has the number that is answered.
 pub fn the_region_that_answers_is_the_only_one()
     ensures it { (l : Lookup) (number : ℕ) → hitting_of_lookup l ≡ TheSubpage number
         → (k : ℕ) × (number ≡ item_number k) × IsLetThrough l k }

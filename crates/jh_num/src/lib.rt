@@ -1,6 +1,6 @@
 //! Numbers and lists that every layer speaks of: where addresses end, levels of tables, bits, rights, numbers that
 //! stop at their last, numbers that bytes spell, lists as contracts see them and room in them, sets of bytes,
-//! counted descriptor reads, want of memory, and that a value may be sent to another thread.
+//! ranges, counted descriptor reads, error numbers, want of memory, and that a value may be sent to another thread.
 #![tactic(auto)]
 
 mod address;

@@ -1,8 +1,8 @@
-//! Want of memory, the one answer that no contract ties to a cause.
+//! Want of memory: an answer that no contract ties to a cause.
 
 use std::alloc::{AllocError, AllocFailed};
 
-/// The allocator gave no memory. Whatever the call would have changed is as it was.
+/// The allocator gave no memory. What is as it was then, the contract of the call says.
 #[derive(Clone, Copy, PartialEq, Eq, Debug)]
 pub struct NoMemory;
 

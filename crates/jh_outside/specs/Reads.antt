@@ -8,7 +8,8 @@ use Rattle.jh_outside.specs.Ask.{ask_of, kept_name}
 abbrev pub KnownFile : Type 0
 KnownFile = Option (Option (List ℕ))
 
--- these bytes may be handed out: the first `most` that the name holds, none for a name that is missing, and any where nothing is told
+-- these bytes may be handed out: the first `most` that the name holds; for a name that is missing no list, not even the
+-- empty one; and any where nothing is told
 abbrev pub HandsOut : KnownFile → ℕ → List ℕ → Type 0
 HandsOut None most bytes = ⊤
 HandsOut (Some None) most bytes = ⊥

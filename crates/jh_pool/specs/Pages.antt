@@ -9,7 +9,7 @@ pub record PoolView : Type 0 where
   pub size : ℕ
   pub free : List ℕ
 
--- the address begins a page of the range, which begins at the base and is of so many pages
+-- the address begins a page of the range, which begins at the base, a multiple of 4,096, and is of so many pages
 pub record IsPageIn (base size page : ℕ) : Type 0 where
   pub aligned : page % 4096 ≡ 0
   pub above : base ≤ page
@@ -28,9 +28,9 @@ pub record IsTakenPage (pool : PoolView) (page : ℕ) : Type 0 where
   pub in_range : IsPageOf pool page
   pub taken : is_free pool page ≡ false
 
--- the pages of the pool, from the lowest on
-abbrev pub pages_of : PoolView → List ℕ
-pages_of pool = map (λ k. pool.base + 4096 * k) (range_with_len 0 pool.size)
+-- the addresses of the pages of the pool, from the lowest on
+abbrev pub page_addresses : PoolView → List ℕ
+page_addresses pool = map (λ k. pool.base + 4096 * k) (range_with_len 0 pool.size)
 
 -- how many pages of the pool are taken, where none is twice among the free ones
 abbrev pub used_of : PoolView → ℕ

@@ -1,7 +1,7 @@
 //! The pages of one range: those that are free, and those that somebody took.
 ghost use Rattle.std.specs.Prelude.{◌≡◌, ◌≢◌, ℕ, ◌+◌, ◌*◌, ◌%◌, ◌≤◌, ◌↔◌, true, not, IsNone, IfNone, IfSome, OnSome, IfOk, count_by, sum_by};
 ghost use Rattle.jh_num.specs.declared.address.TheConstants.{ADDRESS_END};
-ghost use Rattle.jh_pool.specs.Pages.{is_free, pages_of, used_of, AreHadOnce, IsPageOf, IsTakenPage};
+ghost use Rattle.jh_pool.specs.Pages.{is_free, page_addresses, used_of, AreHadOnce, IsPageOf, IsTakenPage};
 
 use jh_num::{NoMemory, PAGE_SIZE};
 use std::alloc::Global;
@@ -79,7 +79,7 @@ impl Pool {
     /// How many pages are taken.
     pub fn used(&self) -> u32
         ensures value { result ≡ used_of self.now }
-        ensures exact { result ≡ count_by (λ page. not (is_free self.now page)) (pages_of self.now) }
+        ensures exact { result ≡ count_by (λ page. not (is_free self.now page)) (page_addresses self.now) }
     {
         self.size - self.free.len() as u32
     }
@@ -95,7 +95,7 @@ impl Pool {
 /// Where each page that is taken is had once, and no other page is had, the sum over all pages of how
 /// often each is had is how many are taken.
 pub fn pages_taken_once_are_counted(pool: &Pool)
-    ensures { (had : ℕ → ℕ) → AreHadOnce pool.now had → sum_by had (pages_of pool.now) ≡ used_of pool.now }
+    ensures { (had : ℕ → ℕ) → AreHadOnce pool.now had → sum_by had (page_addresses pool.now) ≡ used_of pool.now }
 {
     // for the proof: the invariant of the pool
     let _ = &pool.free;

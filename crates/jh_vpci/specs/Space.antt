@@ -11,7 +11,7 @@ pub record Space : Type 0 where
   pub memory : Bool
   -- command, bit 2: the function may send MSI-X vectors
   pub bus_master : Bool
-  -- command, bit 10: the function's interrupts are off
+  -- command, bit 10, interrupts off: it is kept and read back, and changes nothing else
   pub interrupts_off : Bool
   pub bar0 : ℕ
   pub bar1 : ℕ

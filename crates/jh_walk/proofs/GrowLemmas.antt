@@ -10,7 +10,7 @@ use Rattle.jh_desc.specs.Descriptors.{read_of}
 use Rattle.jh_desc.specs.Levels.{index_of}
 use Rattle.jh_num.specs.declared.level.TheConstants.{LAST_LEVEL}
 use Rattle.jh_num.specs.Levels.{slot_size}
-use Rattle.jh_walk.specs.Walks.{walk_of, walk_on, slot_at}
+use Rattle.jh_walk.specs.Walks.{walk_of, walk_on, descriptor_at}
 use Rattle.jh_walk.specs.Pages.{sum_below, by_next, count, page_weight, times, Grows, IsKept}
 use Rattle.jh_walk.proofs.WalkLemmas.{below_end, past_end}
 use Rattle.jh_walk.proofs.LiftLemmas.{slot_counts, count_more, count_none}
@@ -35,7 +35,7 @@ unfolding walk_of
 grown_walk w w' zero t at hit grows e = cc
 grown_walk w w' (suc n) t at hit grows e =
     let small : index_of (LAST_LEVEL - n) at < 512 = index_small (at / slot_size (LAST_LEVEL - n)) in
-    grow_by w w' n (LAST_LEVEL - n) (slot_at (LAST_LEVEL - n) t at) at hit (read_of (w (slot_at (LAST_LEVEL - n) t at)) (LAST_LEVEL - n)) refl (grows (index_of (LAST_LEVEL - n) at) small)
+    grow_by w w' n (LAST_LEVEL - n) (descriptor_at (LAST_LEVEL - n) t at) at hit (read_of (w (descriptor_at (LAST_LEVEL - n) t at)) (LAST_LEVEL - n)) refl (grows (index_of (LAST_LEVEL - n) at) small)
     (λ next more found. grown_walk w w' n next at hit more found) e
 
 sum_le : (n : ℕ) (f g : ℕ → ℕ) → ((i : ℕ) → i < n → f i ≤ g i) → sum_below n f ≤ sum_below n g

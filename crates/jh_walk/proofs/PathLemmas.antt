@@ -8,7 +8,7 @@ use Rattle.jh_desc.specs.declared.descriptor.Descriptor.TheVariants.{Invalid, Ta
 use Rattle.jh_desc.specs.declared.descriptor.Hit.{Hit}
 use Rattle.jh_desc.specs.Descriptors.{read_of}
 use Rattle.jh_num.specs.declared.level.TheConstants.{LAST_LEVEL}
-use Rattle.jh_walk.specs.Walks.{walk_of, walk_on, probes_of, probes_on, slot_at}
+use Rattle.jh_walk.specs.Walks.{walk_of, walk_on, probes_of, probes_on, descriptor_at}
 use Rattle.jh_walk.specs.Paths.{EndsAtLeaf, IsLeafAt, LeadsTo}
 use Rattle.jh_walk.proofs.WalkLemmas.{below_end, past_end}
 
@@ -24,12 +24,12 @@ ends_found w (suc n) t at hit (inr (next, (leads, ends))) =
 abbrev EndsOrLeads : (ℕ → ℕ) → ℕ → ℕ → ℕ → ℕ → Hit → Type 0
 EndsOrLeads w n t at level hit = IsLeafAt w level t at hit ⊎ ((next : ℕ) × (LeadsTo w level t at next × EndsAtLeaf w n next at hit))
 
-found_end : (w : ℕ → ℕ) (n t at level next : ℕ) (hit : Hit) → read_of (w (slot_at level t at)) level ≡ Table next → (walk_of w n next at ≡ Some hit → EndsAtLeaf w n next at hit) → (if nat_lt next ADDRESS_END then walk_of w n next at else None) ≡ Some hit → (next < ADDRESS_END) ⊎ (ADDRESS_END ≤ next) → EndsOrLeads w n t at level hit
+found_end : (w : ℕ → ℕ) (n t at level next : ℕ) (hit : Hit) → read_of (w (descriptor_at level t at)) level ≡ Table next → (walk_of w n next at ≡ Some hit → EndsAtLeaf w n next at hit) → (if nat_lt next ADDRESS_END then walk_of w n next at else None) ≡ Some hit → (next < ADDRESS_END) ⊎ (ADDRESS_END ≤ next) → EndsOrLeads w n t at level hit
 found_end w n t at level next hit is on e (inl lt) = inr (next, (record { descriptor = is; place = lt }, on (below_end next (walk_of w n next at) None lt ∙ e)))
 found_end w n t at level next hit is on e (inr le) =
     let wrong : None ≡ Some hit = past_end next (walk_of w n next at) None le ∙ e in cc
 
-found_by : (w : ℕ → ℕ) (n t at level : ℕ) (hit : Hit) (d : Descriptor) → read_of (w (slot_at level t at)) level ≡ d → ((next : ℕ) → walk_of w n next at ≡ Some hit → EndsAtLeaf w n next at hit) → walk_on (λ next. walk_of w n next at) level at d ≡ Some hit → EndsOrLeads w n t at level hit
+found_by : (w : ℕ → ℕ) (n t at level : ℕ) (hit : Hit) (d : Descriptor) → read_of (w (descriptor_at level t at)) level ≡ d → ((next : ℕ) → walk_of w n next at ≡ Some hit → EndsAtLeaf w n next at hit) → walk_on (λ next. walk_of w n next at) level at d ≡ Some hit → EndsOrLeads w n t at level hit
 found_by w n t at level hit Invalid is on e = cc
 found_by w n t at level hit (Leaf out rights device) is on e = inl (record { out = out; rights = rights; device = device; descriptor = is; gives = cc })
 found_by w n t at level hit (Table next) is on e = found_end w n t at level next hit is (on next) e (cases_lt next ADDRESS_END)
@@ -38,7 +38,7 @@ pub only_ends : (w : ℕ → ℕ) (n t at : ℕ) (hit : Hit) → walk_of w n t a
 unfolding walk_of
 only_ends w zero t at hit found = cc
 only_ends w (suc n) t at hit found =
-    found_by w n t at (LAST_LEVEL - n) hit (read_of (w (slot_at (LAST_LEVEL - n) t at)) (LAST_LEVEL - n)) refl (λ next rest. only_ends w n next at hit rest) found
+    found_by w n t at (LAST_LEVEL - n) hit (read_of (w (descriptor_at (LAST_LEVEL - n) t at)) (LAST_LEVEL - n)) refl (λ next rest. only_ends w n next at hit rest) found
 
 few_of : (b : Bool) (probes : List Probe) (n : ℕ) → length probes ≤ n → length (if b then probes else []) ≤ n
 few_of true probes n le = le
@@ -53,5 +53,5 @@ pub few_probes : (w : ℕ → ℕ) (n t at : ℕ) → length (probes_of w n t at
 unfolding probes_of
 few_probes w zero t at = omega arith
 few_probes w (suc n) t at =
-    let rest : length (probes_on (λ next. probes_of w n next at) (read_of (w (slot_at (LAST_LEVEL - n) t at)) (LAST_LEVEL - n))) ≤ n = few_on (λ next. probes_of w n next at) (read_of (w (slot_at (LAST_LEVEL - n) t at)) (LAST_LEVEL - n)) n (λ next. few_probes w n next at) in
+    let rest : length (probes_on (λ next. probes_of w n next at) (read_of (w (descriptor_at (LAST_LEVEL - n) t at)) (LAST_LEVEL - n))) ≤ n = few_on (λ next. probes_of w n next at) (read_of (w (descriptor_at (LAST_LEVEL - n) t at)) (LAST_LEVEL - n)) n (λ next. few_probes w n next at) in
     omega arith

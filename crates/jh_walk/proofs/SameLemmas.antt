@@ -9,7 +9,7 @@ use Rattle.jh_desc.specs.Descriptors.{read_of}
 use Rattle.jh_desc.specs.Levels.{index_of}
 use Rattle.jh_num.specs.declared.level.TheConstants.{LAST_LEVEL}
 use Rattle.jh_num.specs.Levels.{slot_size}
-use Rattle.jh_walk.specs.Walks.{walk_of, walk_on, probes_of, probes_on, slot_at}
+use Rattle.jh_walk.specs.Walks.{walk_of, walk_on, probes_of, probes_on, descriptor_at}
 use Rattle.jh_walk.specs.Pages.{sum_below, by_next, count, page_weight, times, SameTables}
 use Rattle.jh_walk.proofs.SumLemmas.{sum_same}
 use Rattle.jh_walk.proofs.LiftLemmas.{slot_counts, count_more, count_none, next_same, self_times, slot_is, slot_le}
@@ -37,9 +37,9 @@ unfolding walk_of
 walk_same w w' zero t at same = refl
 walk_same w w' (suc n) t at same =
     let small : index_of (LAST_LEVEL - n) at < 512 = index_small (at / slot_size (LAST_LEVEL - n)) in
-    let word : w' (slot_at (LAST_LEVEL - n) t at) ≡ w (slot_at (LAST_LEVEL - n) t at) = same_here w w' n t (index_of (LAST_LEVEL - n) at) same small in
+    let word : w' (descriptor_at (LAST_LEVEL - n) t at) ≡ w (descriptor_at (LAST_LEVEL - n) t at) = same_here w w' n t (index_of (LAST_LEVEL - n) at) same small in
     ap (λ z. walk_on (λ next. walk_of w' n next at) (LAST_LEVEL - n) at (read_of z (LAST_LEVEL - n))) word
-    ∙ on_same (λ next. walk_of w n next at) (λ next. walk_of w' n next at) (LAST_LEVEL - n) at (read_of (w (slot_at (LAST_LEVEL - n) t at)) (LAST_LEVEL - n)) (λ next leads.
+    ∙ on_same (λ next. walk_of w n next at) (λ next. walk_of w' n next at) (LAST_LEVEL - n) at (read_of (w (descriptor_at (LAST_LEVEL - n) t at)) (LAST_LEVEL - n)) (λ next leads.
     walk_same w w' n next at (same_below w w' n t (index_of (LAST_LEVEL - n) at) next same small leads))
 
 probes_on_same : (on on' : ℕ → List Probe) (d : Descriptor) → ((next : ℕ) → d ≡ Table next → on' next ≡ on next) → probes_on on' d ≡ probes_on on d
@@ -52,10 +52,10 @@ unfolding probes_of
 probes_same w w' zero t at same = refl
 probes_same w w' (suc n) t at same =
     let small : index_of (LAST_LEVEL - n) at < 512 = index_small (at / slot_size (LAST_LEVEL - n)) in
-    let word : w' (slot_at (LAST_LEVEL - n) t at) ≡ w (slot_at (LAST_LEVEL - n) t at) = same_here w w' n t (index_of (LAST_LEVEL - n) at) same small in
-    let first : Probe = record { at = slot_at (LAST_LEVEL - n) t at; word = w (slot_at (LAST_LEVEL - n) t at) } in
-    ap (λ z. record { at = slot_at (LAST_LEVEL - n) t at; word = z } ∷ probes_on (λ next. probes_of w' n next at) (read_of z (LAST_LEVEL - n))) word
-    ∙ ap (λ l. first ∷ l) (probes_on_same (λ next. probes_of w n next at) (λ next. probes_of w' n next at) (read_of (w (slot_at (LAST_LEVEL - n) t at)) (LAST_LEVEL - n)) (λ next leads.
+    let word : w' (descriptor_at (LAST_LEVEL - n) t at) ≡ w (descriptor_at (LAST_LEVEL - n) t at) = same_here w w' n t (index_of (LAST_LEVEL - n) at) same small in
+    let first : Probe = record { at = descriptor_at (LAST_LEVEL - n) t at; word = w (descriptor_at (LAST_LEVEL - n) t at) } in
+    ap (λ z. record { at = descriptor_at (LAST_LEVEL - n) t at; word = z } ∷ probes_on (λ next. probes_of w' n next at) (read_of z (LAST_LEVEL - n))) word
+    ∙ ap (λ l. first ∷ l) (probes_on_same (λ next. probes_of w n next at) (λ next. probes_of w' n next at) (read_of (w (descriptor_at (LAST_LEVEL - n) t at)) (LAST_LEVEL - n)) (λ next leads.
     probes_same w w' n next at (same_below w w' n t (index_of (LAST_LEVEL - n) at) next same small leads)))
 
 pub times_same : (w w' : ℕ → ℕ) (n t q : ℕ) → SameTables w w' n t → times w' n t q ≡ times w n t q

@@ -10,7 +10,7 @@ use Rattle.jh_walk.specs.declared.walking.Onward.{Onward}
 use Rattle.jh_walk.specs.declared.walking.Onward.TheVariants.{Nowhere, Below}
 use Rattle.jh_walk.specs.Private.Onwards.{found_on, onward_of, reads_on}
 use Rattle.jh_desc.specs.Descriptors.{read_of}
-use Rattle.jh_walk.specs.Walks.{walk_of, walk_on, probes_of, probes_on, slot_at}
+use Rattle.jh_walk.specs.Walks.{walk_of, walk_on, probes_of, probes_on, descriptor_at}
 
 pub walk_none : (w : ℕ → ℕ) (n t at : ℕ) → n ≡ 0 → walk_of w n t at ≡ None
 unfolding walk_of
@@ -20,14 +20,14 @@ pub probes_none : (w : ℕ → ℕ) (n t at : ℕ) → n ≡ 0 → probes_of w n
 unfolding probes_of
 probes_none w n t at e = rw e refl
 
-pub walk_more : (w : ℕ → ℕ) (n t at level word : ℕ) → 0 < n → level ≡ 4 - n → word ≡ w (slot_at level t at) → walk_of w n t at ≡ walk_on (λ next. walk_of w (n - 1) next at) level at (read_of word level)
+pub walk_more : (w : ℕ → ℕ) (n t at level word : ℕ) → 0 < n → level ≡ 4 - n → word ≡ w (descriptor_at level t at) → walk_of w n t at ≡ walk_on (λ next. walk_of w (n - 1) next at) level at (read_of word level)
 unfolding walk_of
 walk_more w zero t at level word p e h = elim p [ ]
 walk_more w (suc n) t at level word p e h =
     let e' : level ≡ 3 - n = omega arith in
     let d : suc n - 1 ≡ n = omega arith in rw h (rw d (rw e' refl))
 
-pub probes_more : (w : ℕ → ℕ) (n t at level word : ℕ) → 0 < n → level ≡ 4 - n → word ≡ w (slot_at level t at) → probes_of w n t at ≡ record { at = slot_at level t at; word = word } ∷ probes_on (λ next. probes_of w (n - 1) next at) (read_of word level)
+pub probes_more : (w : ℕ → ℕ) (n t at level word : ℕ) → 0 < n → level ≡ 4 - n → word ≡ w (descriptor_at level t at) → probes_of w n t at ≡ record { at = descriptor_at level t at; word = word } ∷ probes_on (λ next. probes_of w (n - 1) next at) (read_of word level)
 unfolding probes_of
 probes_more w zero t at level word p e h = elim p [ ]
 probes_more w (suc n) t at level word p e h =
@@ -59,12 +59,12 @@ reads_onward on level at (Leaf out rights device) = refl
 reads_onward on level at (Table next) = reads_if (nat_lt next ADDRESS_END) on next
 
 -- what one step leads to is what the walk finds and reads
-pub step_found : (w : ℕ → ℕ) (n t at level word : ℕ) (o : Onward) → 0 < n → level ≡ 4 - n → word ≡ w (slot_at level t at) → o ≡ onward_of level at (read_of word level) → found_on (λ next. walk_of w (n - 1) next at) o ≡ walk_of w n t at
+pub step_found : (w : ℕ → ℕ) (n t at level word : ℕ) (o : Onward) → 0 < n → level ≡ 4 - n → word ≡ w (descriptor_at level t at) → o ≡ onward_of level at (read_of word level) → found_on (λ next. walk_of w (n - 1) next at) o ≡ walk_of w n t at
 step_found w n t at level word o p e h is =
     ap (found_on (λ next. walk_of w (n - 1) next at)) is ∙ found_onward (λ next. walk_of w (n - 1) next at) level at (read_of word level) ∙ sym (walk_more w n t at level word p e h)
 
-pub step_reads : (w : ℕ → ℕ) (n t at level word : ℕ) (o : Onward) → 0 < n → level ≡ 4 - n → word ≡ w (slot_at level t at) → o ≡ onward_of level at (read_of word level) → record { at = slot_at level t at; word = word } ∷ reads_on (λ next. probes_of w (n - 1) next at) o ≡ probes_of w n t at
+pub step_reads : (w : ℕ → ℕ) (n t at level word : ℕ) (o : Onward) → 0 < n → level ≡ 4 - n → word ≡ w (descriptor_at level t at) → o ≡ onward_of level at (read_of word level) → record { at = descriptor_at level t at; word = word } ∷ reads_on (λ next. probes_of w (n - 1) next at) o ≡ probes_of w n t at
 step_reads w n t at level word o p e h is =
-    let first : Probe = record { at = slot_at level t at; word = word } in
+    let first : Probe = record { at = descriptor_at level t at; word = word } in
     ap (λ (l : List Probe). first ∷ l) (ap (reads_on (λ next. probes_of w (n - 1) next at)) is ∙ reads_onward (λ next. probes_of w (n - 1) next at) level at (read_of word level))
     ∙ sym (probes_more w n t at level word p e h)

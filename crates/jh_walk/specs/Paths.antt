@@ -6,11 +6,11 @@ use Rattle.jh_desc.specs.declared.descriptor.Descriptor.TheVariants.{Table, Leaf
 use Rattle.jh_desc.specs.declared.descriptor.Hit.{Hit}
 use Rattle.jh_desc.specs.Descriptors.{read_of}
 use Rattle.jh_num.specs.declared.level.TheConstants.{LAST_LEVEL}
-use Rattle.jh_walk.specs.Walks.{slot_at, hit_of}
+use Rattle.jh_walk.specs.Walks.{descriptor_at, hit_of}
 
 -- the descriptor of the address in the table of the level leads to that table of the next level
 pub record LeadsTo (word : ℕ → ℕ) (level table at next : ℕ) : Type 0 where
-  pub descriptor : read_of (word (slot_at level table at)) level ≡ Table next
+  pub descriptor : read_of (word (descriptor_at level table at)) level ≡ Table next
   pub place : next < ADDRESS_END
 
 -- the descriptor of the address in the table of the level is a leaf, which gives that
@@ -18,7 +18,7 @@ pub record IsLeafAt (word : ℕ → ℕ) (level table at : ℕ) (hit : Hit) : Ty
   pub out : ℕ
   pub rights : Rights
   pub device : Bool
-  pub descriptor : read_of (word (slot_at level table at)) level ≡ Leaf out rights device
+  pub descriptor : read_of (word (descriptor_at level table at)) level ≡ Leaf out rights device
   pub gives : hit ≡ hit_of level at out rights device
 
 -- with so many levels left, table descriptors lead the address from the table to a leaf, which gives that

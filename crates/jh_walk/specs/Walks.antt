@@ -19,10 +19,11 @@ abbrev pub levels : ℕ
 levels = LAST_LEVEL + 1 - FIRST_LEVEL
 
 -- where the descriptor of the address stands in its table of the level
-abbrev pub slot_at : ℕ → ℕ → ℕ → ℕ
-slot_at level table at = table + 8 * index_of level at
+abbrev pub descriptor_at : ℕ → ℕ → ℕ → ℕ
+descriptor_at level table at = table + 8 * index_of level at
 
--- what a leaf of the level gives the address: its place, its offset in the slot behind it
+-- what a leaf of the level gives the address: the leaf's place and behind it the address's offset in the slot, the leaf's
+-- rights and kind of memory, and the slot's size
 abbrev pub hit_of : ℕ → ℕ → ℕ → Rights → Bool → Hit
 hit_of level at out rights device = record { out = out + at % slot_size level; rights = rights; device = device; span = slot_size level }
 
@@ -36,7 +37,7 @@ walk_on on level at (Table next) = if nat_lt next ADDRESS_END then on next else 
 unfoldable pub walk_of : (ℕ → ℕ) → ℕ → ℕ → ℕ → Option Hit
 walk_of word zero table at = None
 walk_of word (suc n) table at =
-    walk_on (λ next. walk_of word n next at) (LAST_LEVEL - n) at (read_of (word (slot_at (LAST_LEVEL - n) table at)) (LAST_LEVEL - n))
+    walk_on (λ next. walk_of word n next at) (LAST_LEVEL - n) at (read_of (word (descriptor_at (LAST_LEVEL - n) table at)) (LAST_LEVEL - n))
 
 -- the reads that a descriptor leads to
 abbrev pub probes_on : (ℕ → List Probe) → Descriptor → List Probe
@@ -48,8 +49,8 @@ probes_on on (Table next) = if nat_lt next ADDRESS_END then on next else []
 unfoldable pub probes_of : (ℕ → ℕ) → ℕ → ℕ → ℕ → List Probe
 probes_of word zero table at = []
 probes_of word (suc n) table at =
-    record { at = slot_at (LAST_LEVEL - n) table at; word = word (slot_at (LAST_LEVEL - n) table at) }
-    ∷ probes_on (λ next. probes_of word n next at) (read_of (word (slot_at (LAST_LEVEL - n) table at)) (LAST_LEVEL - n))
+    record { at = descriptor_at (LAST_LEVEL - n) table at; word = word (descriptor_at (LAST_LEVEL - n) table at) }
+    ∷ probes_on (λ next. probes_of word n next at) (read_of (word (descriptor_at (LAST_LEVEL - n) table at)) (LAST_LEVEL - n))
 
 -- counted reads after one more
 abbrev pub counted : Counted → Probe → Counted

@@ -5,7 +5,7 @@ ghost use Rattle.jh_desc.specs.Descriptors.{read_of};
 ghost use Rattle.jh_num.specs.Levels.{slot_size};
 ghost use Rattle.jh_frames.specs.Memory.{byte_at, word_in};
 ghost use Rattle.jh_walk.specs.Private.Onwards.{found_on, onward_of, reads_on, IsTablePlace, LeadsToPlace};
-ghost use Rattle.jh_walk.specs.Walks.{all_counted, counted, levels, probes_of, slot_at, walk_of};
+ghost use Rattle.jh_walk.specs.Walks.{all_counted, counted, levels, probes_of, descriptor_at, walk_of};
 
 use jh_desc::{Descriptor, Hit, index, offset, read};
 use jh_frames::Frames;
@@ -28,8 +28,8 @@ enum Onward {
 fn descriptor_word(f: &Frames, level: u8, table: u64, ipa: u64, steps: &mut Steps) -> u64
     requires level { level ≤ LAST_LEVEL }
     requires table { IsTablePlace table }
-    ensures word { result ≡ word_in (byte_at f.now) (slot_at level table ipa) }
-    ensures steps { steps.new ≡ counted steps.old (record { at = slot_at level table ipa; word = word_in (byte_at f.now) (slot_at level table ipa) }) }
+    ensures word { result ≡ word_in (byte_at f.now) (descriptor_at level table ipa) }
+    ensures steps { steps.new ≡ counted steps.old (record { at = descriptor_at level table ipa; word = word_in (byte_at f.now) (descriptor_at level table ipa) }) }
 {
     let at = table + 8 * index(level, ipa);
     let word = f.word(at);

@@ -11,6 +11,6 @@ returns c = λ cpu owner root end hs. record {
   asked = refl;
   stopped = refl;
   there = position_in_root_after_all end (lent owner cpu) hs;
-  kept = refl;
+  root_position = refl;
   failed = refl;
 }
