@@ -81,7 +81,7 @@ fn advance(
     ensures within { length journal.new.entries ≤ limit }
     ensures last { last.new < 16 }
 {
-    image.has_few_cpus();
+    image.no_cpu_is_above_15();
     legal_journals_are_sound();
     let mut found = None;
     find_create(image, held, cpu, &mut found)?;
@@ -189,7 +189,7 @@ impl Board {
         ensures admitted { IsAdmitted self.now.image }
         ensures few { (cpu : ℕ) → IsTrue (is_on_board self.now.image cpu) → cpu < 16 }
     {
-        self.image.has_few_cpus();
+        self.image.no_cpu_is_above_15();
         &self.journal
     }
 
@@ -258,7 +258,7 @@ impl Board {
         ensures ok { IfOk result (λ made. MakesDue self.old cpu made self.new) }
         ensures err { IfErr result (λ fault. RefusesTurn self.old cpu fault self.new) }
     {
-        self.image.has_few_cpus();
+        self.image.no_cpu_is_above_15();
         advance(
             &self.image,
             &mut *self.held,

@@ -27,7 +27,7 @@ fn is_of_root(image: &IndexedImage, state: Cpu, cpu: u8) -> bool
 fn cpus_of_root(image: &IndexedImage, cpus: &[Cpu; MAX_CPUS]) -> u16
     ensures { (f : Facts) → ListsCpus cpus.now f.cpu → (cpu : ℕ) → has_bit result cpu ≡ (is_on_board image.now cpu && ((f.cpu cpu).owner == image.now.system.root.id)) }
 {
-    image.has_few_cpus();
+    image.no_cpu_is_above_15();
     let mut owned = 0;
     for cpu in 0..MAX_CPUS as u8 {
         let index = usize::from(cpu);
@@ -60,7 +60,8 @@ pub fn creation_from(
 {
     let owned = cpus_of_root(image, &held.cpus);
     let cells = held.cells.cells();
-    // Fifteen cells and the caller have a CPU each, so none is left to be given away.
+    // For the proof: the verdict asks that no CPU may be given away beside fifteen cells. No board comes here, since these
+    // and the caller have a CPU each.
     if cells.list().len() == MAX_CELLS && has_another(owned, caller) {
         return Err(NoMemory);
     }

@@ -74,7 +74,7 @@ pub fn prepare_devices(
     Ok(())
 }
 
-/// Makes the change at the device of that number, where it is an ivshmem device, and writes its word of the state table.
+/// Makes the change at the device of that number, where it is an ivshmem device, and writes 0 as its word of the state table.
 /// It takes no memory.
 fn change_device(
     memory: &mut Memory,
@@ -104,7 +104,7 @@ fn change_device(
     }
 }
 
-/// Makes the change at all devices of the cell, in order, and writes their words of the state tables. It takes no memory.
+/// Makes the change at all devices of the cell, in order, and writes 0 as their words of the state tables. It takes no memory.
 pub fn change_devices(
     memory: &mut Memory,
     endpoints: &mut Endpoints,

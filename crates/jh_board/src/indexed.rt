@@ -126,8 +126,8 @@ impl IndexedImage {
         }
     }
 
-    /// The board has no CPU above 15. It does nothing; its contract is what holds of each image.
-    pub fn has_few_cpus(&self)
+    /// The image is admitted, and its board has no CPU above 15. It does nothing; its contract is what holds of each image.
+    pub fn no_cpu_is_above_15(&self)
         ensures cpus { (cpu : ℕ) → IsTrue (is_on_board self.now cpu) → cpu < 16 }
         ensures admitted { IsAdmitted self.now }
     {

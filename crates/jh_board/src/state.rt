@@ -72,7 +72,7 @@ impl<'a> State<'a> {
             return Ok(Creation::Refused { number: EPERM });
         }
         // root's grants are those of an admitted image
-        self.image.has_few_cpus();
+        self.image.no_cpu_is_above_15();
         let read = read_config(self.held.alloc, self, at)?;
         match read {
             ReadCell::Reads { config } => creation_from(self.image, self.held, caller, config),
@@ -90,7 +90,7 @@ impl<'a> RootBytes for State<'a> {
     ghost readable = { λ s at. memory_read (byte_of s.held.memory) (reach_by (granted_in s.image s.held.cells.lives s.image.system.root.id Read) at 1) };
 
     fn append(&self, bytes: &mut Vec<u8>, at: u64, count: u16) -> Result<bool, NoMemory> {
-        self.image.has_few_cpus();
+        self.image.no_cpu_is_above_15();
         rows_are_read_byte_by_byte();
         match row_of_root(self.image, &self.held.cells, at, count) {
             Some(first) => {
@@ -156,8 +156,8 @@ impl<'a> Known for State<'a> {
         &self.held.endpoints
     }
 
-    fn has_few_cpus(&self) {
-        self.image.has_few_cpus();
+    fn no_cpu_is_above_15(&self) {
+        self.image.no_cpu_is_above_15();
     }
 
     fn has_cpu(&self, cpu: u8) -> bool {
@@ -286,7 +286,7 @@ pub fn any_cpu_due(image: &IndexedImage, held: &Held, first: u8) -> Option<u8>
     ensures due { (f : Facts) → Means image.now held.now f → IfSome result (λ cpu. IsSome (due_at image.now f cpu)) }
     ensures quiet { (f : Facts) → Means image.now held.now f → IsTrue (is_none result) ↔ ((cpu : ℕ) → due_at image.now f cpu ≡ None) }
 {
-    image.has_few_cpus();
+    image.no_cpu_is_above_15();
     let unknown = None;
     any_due(&State::new(image, held, &unknown), first)
 }

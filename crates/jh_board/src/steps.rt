@@ -158,7 +158,8 @@ fn make_ready(held: &mut Held, config: &CellConfig) -> Result<(), NoMemory>
     Ok(())
 }
 
-/// Takes all memory that the entry needs, and tells the configuration that it reads.
+/// Takes all memory that the entry and the rest of its call need, but for its write, and tells the configuration that it
+/// reads.
 fn prepare(
     image: &IndexedImage,
     held: &mut Held,
@@ -250,7 +251,7 @@ fn make_devices(image: &IndexedImage, held: &mut Held, entry: &Entry, reach: &Re
     }
 }
 
-/// Changes the devices of the cell that a Commit is about, with their words of the state tables. It takes no memory.
+/// Changes the devices of the cell that a Commit is about, and writes 0 as their words of the state tables. It takes no memory.
 fn make_commit(held: &mut Held, act: &Act)
     requires { MayCommit held.old act.now }
     ensures bytes { (f : Facts) → f.cells ≡ held.old.cells.lives → f.call ≡ held.old.call → (q : ThePlace)
@@ -266,7 +267,8 @@ fn make_commit(held: &mut Held, act: &Act)
     }
 }
 
-/// The cells after the entry: the one that it creates joins them, with its regions.
+/// Makes what the entry does to the live cells: the one that it creates joins them, with its regions; where it creates
+/// none, the change is made.
 fn make_cells(
     cells: &mut LiveCells,
     regions: &mut Option<CellRegions>,

@@ -11,7 +11,7 @@ use Rattle.jh_check.specs.declared.rule.Rule.TheVariants.{VirtOverlap, PhysOverl
 use Rattle.jh_check.specs.declared.spans.Span.{Span}
 use Rattle.jh_check.specs.Regions.{Spot, pair_breaks, share_places, takes_pages, both_shared}
 use Rattle.jh_check.specs.Devices.{are_same_section}
-use Rattle.jh_check.specs.Private.Spans.{takes_part, span_of, spans_meet, joins, is_within, IsIndex, AreSpansApart, AreDisjoint}
+use Rattle.jh_check.specs.Private.Spans.{takes_part, span_of, spans_meet, joins, is_within, AreSpansOf, AreSpansApart, AreDisjoint}
 use Rattle.jh_check.specs.Lists.{only_if, is_any}
 use Rattle.jh_check.specs.Findings.{spot, beside, beside_at, between, between_at, finding_of}
 use Rattle.jh_check.proofs.ListLemmas.{found_none0, any_at, any_only}
@@ -153,7 +153,7 @@ meet_swap one other h =
     and_from second first ((and_parts first second h).1) ((and_parts first second h).0)
 
 -- a region that overlaps with none of those that meet it in the cell's index
-pub beside_unmet : (one : Spot) (b : ℕ) (other : CellConfig) (spans met : List Span) → IsIndex CellsOverlap other.memory_regions spans → ((x : Span) → Contains spans x → spans_meet x (span_of CellsOverlap one.item one.region) ≡ true → Contains met x) → ((x : Span) (d : Region) → Contains met x → pair_breaks CellsOverlap one (spot b other x.item (get_or other.memory_regions x.item d)) ≡ false) → beside CellsOverlap one b other ≡ []
+pub beside_unmet : (one : Spot) (b : ℕ) (other : CellConfig) (spans met : List Span) → AreSpansOf CellsOverlap other.memory_regions spans → ((x : Span) → Contains spans x → spans_meet x (span_of CellsOverlap one.item one.region) ≡ true → Contains met x) → ((x : Span) (d : Region) → Contains met x → pair_breaks CellsOverlap one (spot b other x.item (get_or other.memory_regions x.item d)) ≡ false) → beside CellsOverlap one b other ≡ []
 beside_unmet one b other spans met index each none =
     beside_none CellsOverlap one b other (λ s d j t.
     let y = get_or other.memory_regions s d in
@@ -203,7 +203,7 @@ meeting_same PhysOverlap r s x y spans apart p q m = span_same spans (span_of Ph
 meeting_same rule r s x y spans apart p q m = span_same spans (span_of rule r x) (span_of rule s y) apart p q m
 
 -- one cell, whose regions are in an index
-pub between_indexed : (rule : Rule) (a : ℕ) (one : CellConfig) (spans : List Span) → is_within rule ≡ true → IsIndex rule one.memory_regions spans → between rule a one a one ≡ []
+pub between_indexed : (rule : Rule) (a : ℕ) (one : CellConfig) (spans : List Span) → is_within rule ≡ true → AreSpansOf rule one.memory_regions spans → between rule a one a one ≡ []
 between_indexed rule a one spans w index =
     between_none rule a one a one (λ r s d i j t.
     let x = get_or one.memory_regions r d in

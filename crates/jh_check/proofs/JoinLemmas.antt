@@ -14,7 +14,7 @@ use Rattle.jh_check.specs.declared.verdict.NewCell.TheVariants.{Clean}
 use Rattle.jh_check.specs.Regions.{hypervisor_breaks}
 use Rattle.jh_check.specs.Devices.{device_breaks}
 use Rattle.jh_check.specs.Findings.{finding_of, findings}
-use Rattle.jh_check.specs.Verdicts.{names, is_overlap, is_invalid, is_busy, verdict_by, verdict_of}
+use Rattle.jh_check.specs.Verdicts.{names, is_cells_overlap, is_invalid, is_busy, verdict_by, verdict_of}
 use Rattle.jh_check.proofs.Tested.{OfPair, OfRegion, OfMemory, OfDevice, OfCpus, OfRule, IsTested}
 use Rattle.jh_check.specs.Clean.{IsClean}
 use Rattle.jh_num.proofs.Public.{list_any_from_Contains}
@@ -205,9 +205,9 @@ clean_parts false false h = (refl, refl)
 
 unnamed : (xs : List Finding) (n : ℕ) → list_any (is_invalid n) xs ≡ false → list_any (is_busy n) xs ≡ false → (f : Finding) → Contains xs f → names n f ≡ true → ⊥
 unnamed xs n i b f c t =
-    elim (cases_Bool (is_overlap f)) [
-      | inl o ↦ both_ways (list_any (is_busy n) xs) b (list_any_from_Contains (is_busy n) xs f c (and_from (names n f) (is_overlap f) t o))
-      | inr o ↦ both_ways (list_any (is_invalid n) xs) i (list_any_from_Contains (is_invalid n) xs f c (and_from (names n f) (not (is_overlap f)) t (not_from_false (is_overlap f) o)))
+    elim (cases_Bool (is_cells_overlap f)) [
+      | inl o ↦ both_ways (list_any (is_busy n) xs) b (list_any_from_Contains (is_busy n) xs f c (and_from (names n f) (is_cells_overlap f) t o))
+      | inr o ↦ both_ways (list_any (is_invalid n) xs) i (list_any_from_Contains (is_invalid n) xs f c (and_from (names n f) (not (is_cells_overlap f)) t (not_from_false (is_cells_overlap f) o)))
     ]
 
 pub joins_clean : (system : SystemConfig) (live : List CellConfig) (new : CellConfig) → IsClean system live → verdict_of system live new ≡ Clean → IsClean system (live ++ new ∷ [])

@@ -6,20 +6,20 @@ use Rattle.jh_cellcfg.specs.declared.region.Region.{Region}
 use Rattle.jh_cellcfg.specs.declared.config.CellConfig.{CellConfig}
 use Rattle.jh_check.specs.declared.rule.Rule.{Rule}
 use Rattle.jh_check.specs.declared.envelope.Window.{Window}
-use Rattle.jh_check.specs.declared.rising.Row.{Row}
+use Rattle.jh_check.specs.declared.rising.Scan.{Scan}
 use Rattle.jh_check.specs.Private.Spans.{takes_part, span_of, is_within, joins}
 use Rattle.jh_check.specs.declared.finding.Finding.{Finding}
 use Rattle.jh_check.specs.Lists.{found_from}
 use Rattle.jh_check.specs.Findings.{spot, beside, between, from_cell}
 use Rattle.jh_check.specs.Private.Envelopes.{HasHits}
-use Rattle.jh_check.specs.Private.Rising.{TakesPart, start_at, end_at, IsRisingTo, IsStretch, IsRowTo, IsJoined, IsRowMore, EndsBefore}
+use Rattle.jh_check.specs.Private.Rising.{TakesPart, start_at, end_at, IsRisingTo, IsStretch, IsScanTo, IsJoined, IsScanMore, EndsBefore}
 use Rattle.jh_check.proofs.SpanLemmas.{span_ordered}
 use Rattle.jh_check.proofs.BreakLemmas.{pair_order, pair_second, pair_takes_part, pair_meets, met_before, beside_none, between_apart, joins_same}
 use Rattle.jh_check.proofs.ListLemmas.{found_none}
 
 -- none, and one more
-pub row_none : (rule : Rule) (regions : List Region) (row : Row) → IsRowTo rule regions 0 row
-row_none rule regions row = record {
+pub scan_none : (rule : Rule) (regions : List Region) (scan : Scan) → IsScanTo rule regions 0 scan
+scan_none rule regions scan = record {
   stand = record {
     rising = λ i j d h k t u. absurd (omega arith);
     before = λ i j d h k f t u. absurd (omega arith);
@@ -30,8 +30,8 @@ row_none rule regions row = record {
   latest = λ i d h t. absurd (omega arith);
 }
 
-row_same : (rule : Rule) (regions : List Region) (n : ℕ) (x : Region) (row : Row) → n < length regions → x ≡ get_or regions n x → takes_part rule x ≡ false → IsRowTo rule regions n row → IsRowTo rule regions (n + 1) row
-row_same rule regions n x row within is idle before =
+scan_same : (rule : Rule) (regions : List Region) (n : ℕ) (x : Region) (scan : Scan) → n < length regions → x ≡ get_or regions n x → takes_part rule x ≡ false → IsScanTo rule regions n scan → IsScanTo rule regions (n + 1) scan
+scan_same rule regions n x scan within is idle before =
     let below : (i : ℕ) (d : Region) → i < n + 1 → TakesPart rule regions d i → i < n = λ i d h t. elim (cases_eq i n) [
       | inl e ↦
           let same : x ≡ get_or regions i d = is ∙ get_or_default regions n x d within ∙ ap (λ k. get_or regions k d) (sym e) in
@@ -50,10 +50,10 @@ row_same rule regions n x row within is idle before =
       latest = λ i d h t. let l = before.latest i d (below i d h t) t in (l.0, omega arith, l.2);
     }
 
--- those of the row begin no later than one that joins it, and end before it begins, where they stand before the first
+-- those of the scan begin no later than one that joins it, and end before it begins, where they stand before the first
 -- or it stands behind the last
-joined_starts : (rule : Rule) (regions : List Region) (n : ℕ) (x : Region) (row more : Row) → IsJoined rule n x row more → IsRowTo rule regions n row → (i : ℕ) (d : Region) → i < n → TakesPart rule regions d i → start_at rule regions d i ≤ (span_of rule n x).start
-joined_starts rule regions n x row more joined before i d h t =
+joined_starts : (rule : Rule) (regions : List Region) (n : ℕ) (x : Region) (scan more : Scan) → IsJoined rule n x scan more → IsScanTo rule regions n scan → (i : ℕ) (d : Region) → i < n → TakesPart rule regions d i → start_at rule regions d i ≤ (span_of rule n x).start
+joined_starts rule regions n x scan more joined before i d h t =
     elim joined.apart [
       | inl far ↦
           let a = before.ends i d h t in
@@ -65,8 +65,8 @@ joined_starts rule regions n x row more joined before i d h t =
           omega arith
     ]
 
-joined_first : (rule : Rule) (regions : List Region) (n : ℕ) (x : Region) (row more : Row) → IsJoined rule n x row more → IsRowTo rule regions n row → (i : ℕ) (d : Region) → i < n → i < more.first → TakesPart rule regions d i → end_at rule regions d i ≤ (span_of rule n x).start
-joined_first rule regions n x row more joined before i d h f t =
+joined_first : (rule : Rule) (regions : List Region) (n : ℕ) (x : Region) (scan more : Scan) → IsJoined rule n x scan more → IsScanTo rule regions n scan → (i : ℕ) (d : Region) → i < n → i < more.first → TakesPart rule regions d i → end_at rule regions d i ≤ (span_of rule n x).start
+joined_first rule regions n x scan more joined before i d h f t =
     elim joined.apart [
       | inl far ↦
           let a = before.ends i d h t in
@@ -76,14 +76,14 @@ joined_first rule regions n x row more joined before i d h f t =
           let within = l.1 in
           let low = near.1 in
           let first = joined.first in
-          let a = before.stand.before i row.item d (omega arith) within (omega arith) t l.2 in
-          let b = before.starts row.item d within l.2 in
+          let a = before.stand.before i scan.item d (omega arith) within (omega arith) t l.2 in
+          let b = before.starts scan.item d within l.2 in
           let c = near.0 in
           omega arith
     ]
 
-joined_last : (rule : Rule) (regions : List Region) (n : ℕ) (x : Region) (row more : Row) → IsJoined rule n x row more → IsRowTo rule regions n row → (i : ℕ) (d : Region) → i < n → more.last < n → TakesPart rule regions d i → end_at rule regions d i ≤ (span_of rule n x).start
-joined_last rule regions n x row more joined before i d h f t =
+joined_last : (rule : Rule) (regions : List Region) (n : ℕ) (x : Region) (scan more : Scan) → IsJoined rule n x scan more → IsScanTo rule regions n scan → (i : ℕ) (d : Region) → i < n → more.last < n → TakesPart rule regions d i → end_at rule regions d i ≤ (span_of rule n x).start
+joined_last rule regions n x scan more joined before i d h f t =
     elim joined.apart [
       | inl far ↦
           let a = before.ends i d h t in
@@ -93,8 +93,8 @@ joined_last rule regions n x row more joined before i d h f t =
           absurd (omega arith)
     ]
 
-row_joined : (rule : Rule) (regions : List Region) (n : ℕ) (x : Region) (row more : Row) → n < length regions → x ≡ get_or regions n x → takes_part rule x ≡ true → IsJoined rule n x row more → IsRowTo rule regions n row → IsRowTo rule regions (n + 1) more
-row_joined rule regions n x row more within is part joined before =
+scan_joined : (rule : Rule) (regions : List Region) (n : ℕ) (x : Region) (scan more : Scan) → n < length regions → x ≡ get_or regions n x → takes_part rule x ≡ true → IsJoined rule n x scan more → IsScanTo rule regions n scan → IsScanTo rule regions (n + 1) more
+scan_joined rule regions n x scan more within is part joined before =
     let same : (k : ℕ) (d : Region) → k ≡ n → x ≡ get_or regions k d = λ k d e. is ∙ get_or_default regions n x d within ∙ ap (λ k. get_or regions k d) (sym e) in
     let starts : (k : ℕ) (d : Region) → k ≡ n → (span_of rule n x).start ≡ start_at rule regions d k = λ k d e. ap (λ j. (span_of rule j x).start) (sym e) ∙ ap (λ y. (span_of rule k y).start) (same k d e) in
     let ends : (k : ℕ) (d : Region) → k ≡ n → (span_of rule n x).end ≡ end_at rule regions d k = λ k d e. ap (λ j. (span_of rule j x).end) (sym e) ∙ ap (λ y. (span_of rule k y).end) (same k d e) in
@@ -103,14 +103,14 @@ row_joined rule regions n x row more within is part joined before =
         rising = λ i j d h k t u. elim (cases_eq j n) [
           | inl e ↦
               let s = starts j d e in
-              let a = joined_starts rule regions n x row more joined before i d (omega arith) t in
+              let a = joined_starts rule regions n x scan more joined before i d (omega arith) t in
               omega arith
           | inr m ↦ before.stand.rising i j d h (omega arith) t u
         ];
         before = λ i j d h k f t u. elim (cases_eq j n) [
           | inl e ↦
               let s = starts j d e in
-              let a = joined_first rule regions n x row more joined before i d (omega arith) f t in
+              let a = joined_first rule regions n x scan more joined before i d (omega arith) f t in
               omega arith
           | inr m ↦
               let g = joined.first in
@@ -119,7 +119,7 @@ row_joined rule regions n x row more within is part joined before =
         behind = λ i j d h k f t u. elim (cases_eq j n) [
           | inl e ↦
               let s = starts j d e in
-              let a = joined_last rule regions n x row more joined before i d (omega arith) (omega arith) t in
+              let a = joined_last rule regions n x scan more joined before i d (omega arith) (omega arith) t in
               omega arith
           | inr m ↦ elim joined.last [
             | inl g ↦ before.stand.behind i j d h (omega arith) (omega arith) t u
@@ -133,7 +133,7 @@ row_joined rule regions n x row more within is part joined before =
             let g = joined.start in
             omega arith
         | inr m ↦
-            let a = joined_starts rule regions n x row more joined before i d (omega arith) t in
+            let a = joined_starts rule regions n x scan more joined before i d (omega arith) t in
             let g = joined.start in
             omega arith
       ];
@@ -152,16 +152,16 @@ row_joined rule regions n x row more within is part joined before =
           (omega arith, omega arith, subst (λ y. takes_part rule y ≡ true) (same more.item d g) part);
     }
 
-pub row_more : (rule : Rule) (regions : List Region) (n : ℕ) (x : Region) (row more : Row) → n < length regions → x ≡ get_or regions n x → IsRowMore rule n x row more → IsRowTo rule regions n row → IsRowTo rule regions (n + 1) more
-row_more rule regions n x row more within is joins before =
+pub scan_more : (rule : Rule) (regions : List Region) (n : ℕ) (x : Region) (scan more : Scan) → n < length regions → x ≡ get_or regions n x → IsScanMore rule n x scan more → IsScanTo rule regions n scan → IsScanTo rule regions (n + 1) more
+scan_more rule regions n x scan more within is joins before =
     elim (cases_Bool (takes_part rule x)) [
-      | inl t ↦ row_joined rule regions n x row more within is t (joins.0 t) before
-      | inr f ↦ subst (λ r. IsRowTo rule regions (n + 1) r) (sym (joins.1 f)) (row_same rule regions n x row within is f before)
+      | inl t ↦ scan_joined rule regions n x scan more within is t (joins.0 t) before
+      | inr f ↦ subst (λ r. IsScanTo rule regions (n + 1) r) (sym (joins.1 f)) (scan_same rule regions n x scan within is f before)
     ]
 
 -- at the end of all
-pub row_done : (rule : Rule) (regions : List Region) (n : ℕ) (row : Row) → length regions ≤ n → IsRowTo rule regions n row → IsRisingTo rule regions (length regions) row.first row.last
-row_done rule regions n row all is = record {
+pub scan_done : (rule : Rule) (regions : List Region) (n : ℕ) (scan : Scan) → length regions ≤ n → IsScanTo rule regions n scan → IsRisingTo rule regions (length regions) scan.first scan.last
+scan_done rule regions n scan all is = record {
   rising = λ i j d h k t u. is.stand.rising i j d h (omega arith) t u;
   before = λ i j d h k f t u. is.stand.before i j d h (omega arith) f t u;
   behind = λ i j d h k f t u. is.stand.behind i j d h (omega arith) f t u;
@@ -190,8 +190,8 @@ pub beside_behind : (rule : Rule) (a : ℕ) (one : CellConfig) (stretch : Window
 beside_behind rule a one stretch r d w is high = beside_early rule a one r d w (λ s h k t u. is.behind r s d h k (omega arith) t u)
 
 -- those that break the rule with a region have their numbers behind it, up to the last
-pub row_hits : (rule : Rule) (a : ℕ) (one : CellConfig) (stretch window : Window) (r : ℕ) (d : Region) → is_within rule ≡ true → IsStretch rule one.memory_regions stretch → ((s : ℕ) → r < s → s < 2 ^ 64 → window.first ≤ s) → EndsBefore rule one.memory_regions r stretch.last (end_at rule one.memory_regions d r) window.last → HasHits rule (spot a one r (get_or one.memory_regions r d)) a one window
-row_hits rule a one stretch window r d w is begins stops = λ s e within small breaks.
+pub scan_hits : (rule : Rule) (a : ℕ) (one : CellConfig) (stretch window : Window) (r : ℕ) (d : Region) → is_within rule ≡ true → IsStretch rule one.memory_regions stretch → ((s : ℕ) → r < s → s < 2 ^ 64 → window.first ≤ s) → EndsBefore rule one.memory_regions r stretch.last (end_at rule one.memory_regions d r) window.last → HasHits rule (spot a one r (get_or one.memory_regions r d)) a one window
+scan_hits rule a one stretch window r d w is begins stops = λ s e within small breaks.
     let regions = one.memory_regions in
     let x = get_or regions r d in
     let y = get_or regions s e in

@@ -29,7 +29,8 @@ rule_number Shmem = 11
 rule_number NoCpu = 12
 rule_number PhysAlign = 13
 
--- the finding that the rule is broken by these: an item of a cell, and one of another cell
+-- the finding that the rule is broken by these: an item of a cell, and another of the same cell or of another one; 0 for
+-- what the rule doesn't speak of
 unfoldable pub finding_of : Rule → ℕ → ℕ → ℕ → ℕ → Finding
 finding_of rule cell item other_cell other_item =
     record { number = rule_number rule; cell = cell; item = item_number item; other_cell = other_cell; other_item = item_number other_item }

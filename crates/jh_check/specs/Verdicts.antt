@@ -13,17 +13,17 @@ use Rattle.jh_check.specs.Findings.{findings}
 abbrev pub names : ℕ → Finding → Bool
 names cell finding = (finding.cell == cell) || (finding.other_cell == cell)
 
--- the finding says that two cells have a place in common
-abbrev pub is_overlap : Finding → Bool
-is_overlap finding = finding.number == 10
+-- the finding is of the rule CellsOverlap: two cells besides root have a place in common that they may not share
+abbrev pub is_cells_overlap : Finding → Bool
+is_cells_overlap finding = finding.number == 10
 
--- the finding names the cell, and isn't that two cells have a place in common
+-- the finding names the cell, and is of another rule than CellsOverlap
 abbrev pub is_invalid : ℕ → Finding → Bool
-is_invalid cell finding = names cell finding && not (is_overlap finding)
+is_invalid cell finding = names cell finding && not (is_cells_overlap finding)
 
--- the finding names the cell, and is that two cells have a place in common
+-- the finding names the cell, and is of the rule CellsOverlap
 abbrev pub is_busy : ℕ → Finding → Bool
-is_busy cell finding = names cell finding && is_overlap finding
+is_busy cell finding = names cell finding && is_cells_overlap finding
 
 -- the verdict by whether a finding makes the new cell invalid, and else whether one makes it busy
 abbrev pub verdict_by : Bool → Bool → NewCell

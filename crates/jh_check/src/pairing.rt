@@ -19,7 +19,7 @@ use crate::finding::Finding;
 use crate::gaps::{Gaps, before_gap, first_gaps, lie_in, may_be_met_within, may_meet};
 use crate::links::{find_partners, holders_of, partner_of};
 use crate::pairs::Site;
-use crate::rising::{last_before, stretch_of};
+use crate::rising::{first_behind, stretch_of};
 use crate::rule::Rule;
 use crate::search::beside;
 use crate::setup::Setup;
@@ -268,7 +268,7 @@ fn look_behind(
     };
     let window = Window {
         first: item.saturating_add(1),
-        last: last_before(
+        last: first_behind(
             rule,
             regions,
             item,

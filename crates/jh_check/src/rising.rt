@@ -2,7 +2,7 @@
 ghost use Rattle.std.specs.Prelude.{◌<◌, IfSome};
 ghost use Rattle.jh_cellcfg.specs.declared.region.Region.{Region};
 ghost use Rattle.jh_check.specs.Private.Spans.{takes_part, span_of};
-ghost use Rattle.jh_check.specs.Private.Rising.{IsStretch, IsRowMore, EndsBefore};
+ghost use Rattle.jh_check.specs.Private.Rising.{IsStretch, IsScanMore, EndsBefore};
 
 use crate::envelope::Window;
 use crate::rule::Rule;
@@ -11,7 +11,7 @@ use jh_cellcfg::Region;
 
 /// What is known of the first regions of a cell, of which those that take part begin in the order of their numbers.
 #[derive(Clone, Copy)]
-pub(crate) struct Row {
+pub(crate) struct Scan {
     /// Where the last of them begins that takes part.
     pub(crate) start: u64,
     /// The last of their ends.
@@ -24,42 +24,43 @@ pub(crate) struct Row {
     pub(crate) last: usize,
 }
 
-/// The row with the region of that number behind it; none, if the region begins before the last.
-fn extended(row: Row, rule: Rule, item: usize, region: &Region) -> Option<Row>
-    ensures { IfSome result (λ more. IsRowMore rule item region.now row more) }
+/// The scan with the region of that number behind it, or as it was where that takes no part; none, if the region begins
+/// before the last.
+fn extended(scan: Scan, rule: Rule, item: usize, region: &Region) -> Option<Scan>
+    ensures { IfSome result (λ more. IsScanMore rule item region.now scan more) }
 {
     if !takes_part(rule, region) {
-        return Some(row);
+        return Some(scan);
     }
     let span = span_of(rule, item, region);
-    if row.end <= u128::from(span.start) {
-        return Some(Row {
+    if scan.end <= u128::from(span.start) {
+        return Some(Scan {
             start: span.start,
             end: span.end,
             item,
-            first: row.first,
-            last: row.last,
+            first: scan.first,
+            last: scan.last,
         });
     }
-    if span.start < row.start {
+    if span.start < scan.start {
         return None;
     }
-    Some(Row {
+    Some(Scan {
         start: span.start,
-        end: span.end.max(row.end),
+        end: span.end.max(scan.end),
         item,
-        first: row.item.min(row.first),
+        first: scan.item.min(scan.first),
         last: item,
     })
 }
 
-/// From the first region to the last that may meet another of the cell; none, where the regions don't begin in the
-/// order of their numbers.
+/// From the first region to the last that may meet another of the cell; none, where those that take part
+/// don't begin in the order of their numbers.
 #[inline(never)]
 pub(crate) fn stretch_of(rule: Rule, regions: &[Region]) -> Option<Window>
     ensures { IfSome result (λ stretch. IsStretch rule regions.now stretch) }
 {
-    let mut row = Row {
+    let mut scan = Scan {
         start: 0,
         end: 0,
         item: 0,
@@ -67,20 +68,20 @@ pub(crate) fn stretch_of(rule: Rule, regions: &[Region]) -> Option<Window>
         last: 0,
     };
     for (item, region) in regions.iter().enumerate() {
-        match extended(row, rule, item, region) {
-            Some(more) => row = more,
+        match extended(scan, rule, item, region) {
+            Some(more) => scan = more,
             None => return None,
         }
     }
     Some(Window {
-        first: row.first,
-        last: row.last,
+        first: scan.first,
+        last: scan.last,
     })
 }
 
 /// The first number behind `item` and below `last` of a region that takes part and begins at `end` or behind it; `last`,
 /// where there is none.
-pub(crate) fn last_before(
+pub(crate) fn first_behind(
     rule: Rule,
     regions: &[Region],
     item: usize,

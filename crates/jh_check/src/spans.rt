@@ -1,7 +1,7 @@
 //! An index of a cell's regions, by which pairs that can't break a rule are told at once.
 ghost use Rattle.std.specs.Prelude.{◌≡◌, ◌≢◌, ◌-◌, ◌<◌, ◌≤◌, true, length, slice_index_or, OnOk, IfOk, IfSome, Contains};
 ghost use Rattle.jh_check.specs.declared.spans.Span.{Span};
-ghost use Rattle.jh_check.specs.Private.Spans.{takes_part, span_of, spans_meet, HasEach, HasOnly, AreSpansApart, LiesWithin, AreDisjoint, IsIndex};
+ghost use Rattle.jh_check.specs.Private.Spans.{takes_part, span_of, spans_meet, HasEach, HasOnly, AreSpansApart, LiesWithin, AreDisjoint, AreSpansOf};
 
 use crate::rule::Rule;
 use jh_cellcfg::Region;
@@ -132,7 +132,7 @@ pub(crate) fn index(
     rule: Rule,
     regions: &[Region],
 ) -> Result<Option<Vec<Span>>, NoMemory>
-    ensures { IfOk result (λ index. IfSome index (λ spans. IsIndex rule regions.now spans.items)) }
+    ensures { IfOk result (λ index. IfSome index (λ spans. AreSpansOf rule regions.now spans.items)) }
 {
     let spans = sorted(alloc, rule, regions)?;
     if are_apart(spans.as_slice()) {

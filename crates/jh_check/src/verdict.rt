@@ -4,7 +4,7 @@ ghost use Rattle.std.specs.List.{list_any};
 ghost use Rattle.jh_check.specs.Private.Cells.{cells_of};
 ghost use Rattle.jh_check.specs.Private.Sites.{spot_of};
 ghost use Rattle.jh_check.specs.Lists.{is_any, found_from};
-ghost use Rattle.jh_check.specs.Private.Spans.{is_within, IsIndex};
+ghost use Rattle.jh_check.specs.Private.Spans.{is_within, AreSpansOf};
 ghost use Rattle.jh_check.specs.Findings.{beside, between, in_cell, in_devices_of, found_by, found_at, in_pairs, rules_in_order};
 ghost use Rattle.jh_check.specs.Private.Sound.{AreSound};
 ghost use Rattle.jh_check.specs.Verdicts.{is_invalid, is_busy, verdict_of};
@@ -87,7 +87,7 @@ fn any_within(alloc: Global, rule: Rule, number: u32, cell: &CellConfig) -> Resu
 /// Whether a region overlaps with one of another cell, of whose places that is the index. `near` is how
 /// many of the spans lay before the last region, and becomes how many lie before this one.
 fn any_met(one: &Site, spans: &[Span], near: &mut usize, b: u32, other: &CellConfig) -> bool
-    requires { IsIndex CellsOverlap other.now.memory_regions spans.now }
+    requires { AreSpansOf CellsOverlap other.now.memory_regions spans.now }
     ensures { result ≡ is_any (beside CellsOverlap (spot_of one.now) b other.now) }
 {
     let regions = other.memory_regions.as_slice();
@@ -109,7 +109,7 @@ fn any_met(one: &Site, spans: &[Span], near: &mut usize, b: u32, other: &CellCon
 
 /// Whether a region of the one cell overlaps with one of the other, of whose places that is the index.
 fn any_indexed(a: u32, one: &CellConfig, spans: &[Span], b: u32, other: &CellConfig) -> bool
-    requires { IsIndex CellsOverlap other.now.memory_regions spans.now }
+    requires { AreSpansOf CellsOverlap other.now.memory_regions spans.now }
     ensures { result ≡ is_any (between CellsOverlap a one.now b other.now) }
 {
     let mut near = 0;
@@ -135,7 +135,7 @@ fn any_overlap(
     b: u32,
     other: &CellConfig,
 ) -> bool
-    requires { IfSome index.now (λ spans. IsIndex CellsOverlap other.now.memory_regions spans.items) }
+    requires { IfSome index.now (λ spans. AreSpansOf CellsOverlap other.now.memory_regions spans.items) }
     ensures { result ≡ is_any (between CellsOverlap a one.now b other.now) }
 {
     match index {
@@ -225,7 +225,7 @@ fn is_invalid(alloc: Global, setup: &Setup, number: u32, new: &CellConfig) -> Re
 fn overlaps(setup: &Setup, index: &Option<Vec<Span>>, number: u32, new: &CellConfig) -> bool
     requires count { length setup.now.cells.now ≤ 15 }
     requires number { number ≡ length (cells_of setup.now) }
-    requires index { IfSome index.now (λ spans. IsIndex CellsOverlap new.now.memory_regions spans.items) }
+    requires index { IfSome index.now (λ spans. AreSpansOf CellsOverlap new.now.memory_regions spans.items) }
     ensures { result ≡ list_any (is_busy number) (in_pairs CellsOverlap (cells_of setup.now ++ new.now ∷ [])) }
 {
     for a in 0..number {

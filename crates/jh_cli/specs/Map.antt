@@ -9,7 +9,7 @@ use Rattle.jh_cli.specs.Boards.{Opens}
 use Rattle.jh_cli.specs.Play.{schedule_file}
 use Rattle.jh_cli.specs.declared.status.Status.TheVariants.{Good, Full}
 
--- the maps that were told, or, where the limit stopped an item, nothing
+-- the reply that tells these maps, or, where the limit stopped an item, that has the status Full and no text
 abbrev pub map_reply : Option (List ℕ) → Reply
 map_reply (Some text) = record { status = Good; text = text }
 map_reply None = record { status = Full; text = [] }

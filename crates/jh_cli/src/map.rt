@@ -18,7 +18,7 @@ use jh_script::Image;
 use jh_text::MAX_ENTRIES;
 use std::alloc::Global;
 
-/// Makes the items of the schedule, and tells the maps of the cells that live then.
+/// Makes the items of the schedule, and tells the maps of the cells that live then, or that the limit stopped an item.
 fn render(alloc: Global, image: Image, cpus: &[u8]) -> Result<Ending, NoMemory>
     requires admitted { IsAdmitted image }
     requires cpus { All (λ cpu. IsTrue (is_on_board image cpu)) cpus.now }

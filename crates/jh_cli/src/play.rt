@@ -19,7 +19,7 @@ use jh_script::Image;
 use jh_text::{MAX_ENTRIES, print_journal};
 use std::alloc::Global;
 
-/// The status of a play or a run, by how it ended.
+/// The status of a play, a run or a soak, by how it ended.
 pub fn status_of(ended: Ended) -> Status
     ensures { result ≡ played_status (is_full ended) }
 {

@@ -5,7 +5,7 @@ use Rattle.jh_num.specs.declared.address.TheConstants.{ADDRESS_END}
 use Rattle.jh_num.specs.Memory.{spelled}
 use Rattle.jh_cellcfg.specs.declared.region.Region.{Region}
 use Rattle.jh_cellcfg.specs.Regions.{has_flags, has_address, is_page_mapped, is_comm, place_in, byte_in}
-use Rattle.jh_vpci.specs.Words.{read_of as config_read}
+use Rattle.jh_vpci.specs.Words.{read_of as space_read}
 use Rattle.jh_ivshmem.specs.declared.endpoint.Endpoint.{Endpoint}
 use Rattle.jh_ivshmem.specs.declared.spec.EndpointWord.{EndpointWord}
 use Rattle.jh_ivshmem.specs.Registers.{register_of}
@@ -82,7 +82,7 @@ byte_read byte place at = memory_read byte (reach_by place at 1)
 -- what the cell reads of configuration space: of a function that is present its bytes, of an absent one all ones
 abbrev pub config_value : Devices → InConfig → ℕ
 config_value devices bytes =
-    option_map_or (λ (e : Endpoint). config_read e.space (bytes.at % 4096) bytes.width) (function_at devices bytes.at) (256 ^ bytes.width - 1)
+    option_map_or (λ (e : Endpoint). space_read e.space (bytes.at % 4096) bytes.width) (function_at devices bytes.at) (256 ^ bytes.width - 1)
 
 -- what the cell reads of a register of its device
 abbrev pub register_value : Devices → InWindow → ℕ

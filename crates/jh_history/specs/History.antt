@@ -18,8 +18,8 @@ use Rattle.jh_history.specs.Devices.{specs_of}
 use Rattle.jh_history.specs.Endpoints.{endpoints_changed, endpoints_after}
 use Rattle.jh_history.specs.Configs.{read_at, config_read}
 
--- the facts at opening: each CPU is root's and runs from its program's beginning; no cell lives besides
--- root, whose devices have joined their links, and no call is open
+-- the facts at opening: memory is as the preloads put it; each CPU is root's and runs from its program's beginning; no
+-- cell lives besides root, whose devices have joined their links, and no call is open
 abbrev pub start : Image → Facts
 start image = record {
   byte = opening_byte image;

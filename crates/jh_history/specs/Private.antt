@@ -2,4 +2,4 @@
 pub mod Apart
 pub mod PlainView
 pub mod Wanted
-pub mod DeviceViews
+pub mod DeviceWindows

@@ -7,7 +7,7 @@ ghost use Rattle.jh_history.specs.Places.{places_in_row};
 ghost use Rattle.jh_history.specs.Access.{place_in_cell};
 ghost use Rattle.jh_mmio.specs.Dispatch.{hitting_behind_regions};
 ghost use Rattle.jh_history.specs.Behind.{ecam_start, ecam_end, is_write, by_region, in_window, asked_windows, by_device, without_region, window_of_access, region_or_window, answer_behind};
-ghost use Rattle.jh_history.specs.Private.DeviceViews.{IsGoodWindow};
+ghost use Rattle.jh_history.specs.Private.DeviceWindows.{IsGoodWindow};
 
 use crate::access::{Access, ConfigBytes, Reach, Register, Wanted};
 use crate::devices::Devices;

@@ -4,7 +4,7 @@ ghost use Rattle.jh_mmio.specs.Dispatch.{window_has};
 ghost use Rattle.jh_history.specs.Access.{config_value, register_value};
 ghost use Rattle.jh_history.specs.Behind.{window_of_access};
 ghost use Rattle.jh_history.specs.Devices.{Devices as TheDevices, number_from, number_at, space_window, device_windows};
-ghost use Rattle.jh_history.specs.Private.DeviceViews.{IsGoodWindow};
+ghost use Rattle.jh_history.specs.Private.DeviceWindows.{IsGoodWindow};
 
 use crate::access::{ConfigBytes, Register, Wanted};
 use crate::device_specs::is_endpoint;

@@ -53,7 +53,7 @@ fn cpu_seen_by<K: Known>(known: &K, cell: u32, root: bool, cpu: u64) -> CpuSeen
     ensures told { (i : TheImage) (f : Facts) → K.Knows known.now i f → root ≡ nat_eq cell i.system.root.id → result ≡ cpu_seen_by i f cell cpu }
     ensures own { root ≡ true → result ≢ CpuSeen.Foreign }
 {
-    known.has_few_cpus();
+    known.no_cpu_is_above_15();
     if cpu >= MAX_CPUS as u64 || !known.has_cpu(cpu as u8) {
         return CpuSeen::Absent;
     }

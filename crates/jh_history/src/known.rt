@@ -68,7 +68,7 @@ pub trait Known {
         ensures { (i : Image) (f : Facts) → Knows self.now i f → result.now.list ≡ f.endpoints };
 
     /// The board has no CPU above 15. It does nothing; its contract is what holds of each image.
-    fn has_few_cpus(&self)
+    fn no_cpu_is_above_15(&self)
         ensures { (i : Image) (f : Facts) → Knows self.now i f → HasFewCpus i };
 
     /// Whether the board has the CPU.

@@ -146,7 +146,7 @@ impl<'a> Known for Plain<'a> {
         &self.endpoints
     }
 
-    fn has_few_cpus(&self) {
+    fn no_cpu_is_above_15(&self) {
         admitted_roots_are_sound(self.image);
     }
 

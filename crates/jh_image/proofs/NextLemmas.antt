@@ -26,7 +26,7 @@ use Rattle.jh_image.specs.declared.fault.ImageCause.TheVariants.{ReadFault, Over
 use Rattle.jh_image.specs.Boards.{board_told, IsListingAnswer}
 use Rattle.jh_image.specs.Preloads.{IsFaultless}
 use Rattle.jh_image.specs.Files.{Contents, HasBytes, IsOversize}
-use Rattle.jh_image.specs.Images.{SoFar, Stage, nothing, with_listing, with_system, so_far_of, with_preload, with_program, IsNextPreload, HasPreloads, IsNextProgram, IsNextFile, the_board, the_system, a_preload, a_program, ReadsNext, reads_board, reads_system, reads_preload, reads_program}
+use Rattle.jh_image.specs.Images.{SoFar, Stage, nothing, with_listing, with_system, so_far_of, with_preload, with_program, IsNextPreload, HasAllPreloads, IsNextProgram, IsNextFile, the_board, the_system, a_preload, a_program, ReadsNext, reads_board, reads_system, reads_preload, reads_program}
 use Rattle.jh_image.specs.Laws.{AreKnown}
 use Rattle.jh_image.proofs.OneLemmas.{OneSpelling, bytes_one, text_one}
 
@@ -51,7 +51,7 @@ same_program one other file entry next more same =
     same_Some file entry (sym next.next ∙ ap (λ (s : SoFar). slice_get s.listing.programs (length s.programs)) same ∙ more.next)
 
 -- no preload is next where none is left
-pub no_preload : (one other : SoFar) (file : PreloadFile) → IsNextPreload one file → HasPreloads other → one ≡ other → ⊥
+pub no_preload : (one other : SoFar) (file : PreloadFile) → IsNextPreload one file → HasAllPreloads other → one ≡ other → ⊥
 no_preload one other file next all same =
     let moved : IsNextPreload other file = subst (λ (s : SoFar). IsNextPreload s file) same next in
     let within : length other.preloads < length other.listing.preloads = slice_get_within other.listing.preloads (length other.preloads) file moved in

@@ -44,17 +44,17 @@ abbrev pub IsNextPreload : SoFar → PreloadFile → Type 0
 IsNextPreload so_far file = slice_get so_far.listing.preloads (length so_far.preloads) ≡ Some file
 
 -- no preload is left to be read
-abbrev pub HasPreloads : SoFar → Type 0
-HasPreloads so_far = length so_far.preloads ≡ length so_far.listing.preloads
+abbrev pub HasAllPreloads : SoFar → Type 0
+HasAllPreloads so_far = length so_far.preloads ≡ length so_far.listing.preloads
 
 -- no file is left to be read
 pub record IsComplete (so_far : SoFar) : Type 0 where
-  pub preloads : HasPreloads so_far
+  pub preloads : HasAllPreloads so_far
   pub programs : length so_far.programs ≡ length so_far.listing.programs
 
 -- the program of this file is next: no preload is left to be read
 pub record IsNextProgram (so_far : SoFar) (file : ProgramFile) : Type 0 where
-  pub preloads : HasPreloads so_far
+  pub preloads : HasAllPreloads so_far
   pub next : slice_get so_far.listing.programs (length so_far.programs) ≡ Some file
 
 -- the file of this name is next

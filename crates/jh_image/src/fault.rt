@@ -15,7 +15,7 @@ pub enum ImageFault {
     NoMemory,
 }
 
-/// Why a file is refused. The first cause in the order of reading decides: the board, then the system, then
+/// Why a file can't be read or is refused. The first cause in the order of reading decides: the board, then the system, then
 /// each preload, then each program.
 #[derive(Drop)]
 pub enum ImageCause {

@@ -16,7 +16,7 @@ use Rattle.jh_mmio.specs.declared.hitting.Window.{Window}
 use Rattle.jh_mmio.specs.Dispatch.{window_has}
 use Rattle.jh_mmio.proofs.Public.{lies_from, lies_parts}
 use Rattle.jh_vpci.specs.Space.{Space, has_vectors, window_of}
-use Rattle.jh_vpci.specs.Words.{read_of as config_read}
+use Rattle.jh_vpci.specs.Words.{read_of as space_read}
 use Rattle.jh_ivshmem.specs.declared.endpoint.Endpoint.{Endpoint}
 use Rattle.jh_ivshmem.specs.Links.{endpoint_at}
 use Rattle.jh_ivshmem.specs.Registers.{register_of}
@@ -213,11 +213,11 @@ function_has image f id offset e is = function_by image f id offset e (number_fr
 -- ---- what is told
 
 function_told : (image : Image) (f : Facts) (id offset width : ℕ) (o : Option Endpoint) → function_at (devices_of image f id) offset ≡ o
-    → config_value (devices_of image f id) (record { at = offset; width = width }) ≡ option_map_or (λ (e : Endpoint). config_read e.space (offset % 4096) width) o (256 ^ width - 1)
-function_told image f id offset width o is = ap (λ (p : Option Endpoint). option_map_or (λ (e : Endpoint). config_read e.space (offset % 4096) width) p (256 ^ width - 1)) is
+    → config_value (devices_of image f id) (record { at = offset; width = width }) ≡ option_map_or (λ (e : Endpoint). space_read e.space (offset % 4096) width) o (256 ^ width - 1)
+function_told image f id offset width o is = ap (λ (p : Option Endpoint). option_map_or (λ (e : Endpoint). space_read e.space (offset % 4096) width) p (256 ^ width - 1)) is
 
 pub told_function : (image : Image) (f : Facts) (id offset width : ℕ) (e : Endpoint) → IsSound image f → HasFunction image f id offset e
-    → config_value (devices_of image f id) (record { at = offset; width = width }) ≡ config_read e.space (offset % 4096) width
+    → config_value (devices_of image f id) (record { at = offset; width = width }) ≡ space_read e.space (offset % 4096) width
 told_function image f id offset width e sound has = function_told image f id offset width (Some e) (function_is image f id offset e sound has)
 
 ones_by : (image : Image) (f : Facts) (id offset width : ℕ) (o : Option Endpoint) → function_at (devices_of image f id) offset ≡ o → ((e : Endpoint) → HasFunction image f id offset e → ⊥)

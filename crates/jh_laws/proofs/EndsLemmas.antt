@@ -44,7 +44,7 @@ use Rattle.jh_laws.proofs.RootLemmas.{op_well_formed}
 use Rattle.jh_laws.proofs.CallLemmas.{IsMadeBy, Stopping, Running, Calling, made_by}
 use Rattle.jh_laws.specs.Held.{IsGrantedTo, AreGrantedTo}
 use Rattle.jh_laws.proofs.HeldLemmas.{granted_to}
-use Rattle.jh_laws.specs.Ends.{IsAnsweredBy, IsAnsweredByWindow, IsAnsweredByRegister, HasFunction, IsAnswered, AreItsPlaces, GivesPlaces, offset_in, IsReadBy, IsGotBy, IsAwaitedBy, EndsAsGranted}
+use Rattle.jh_laws.specs.Ends.{IsAnsweredBy, IsAnsweredByConfig, IsAnsweredByRegister, HasFunction, IsAnswered, AreItsPlaces, GivesPlaces, offset_in, IsReadBy, IsGotBy, IsAwaitedBy, EndsAsGranted}
 use Rattle.jh_laws.proofs.DevicesLemmas.{function_is, function_has, told_function, told_ones, told_register, same_register}
 use Rattle.jh_laws.proofs.ReachedLemmas.{Way, OnMemory, OnRegion, OnWindow, OnRegister, OnNothing, way, places_of_memory, places_of_region, region_places, ByRegister}
 use Rattle.jh_laws.proofs.ListedLemmas.{listed, spelled_listed}
@@ -52,7 +52,7 @@ use Rattle.jh_laws.proofs.ListedLemmas.{listed, spelled_listed}
 -- ---- what a reading access gets
 
 -- an access that configuration space answers has no places
-pub window_places : (image : Image) (cells : List Live) (id : ℕ) (access : Access) (at width : ℕ) (place : ℕ → Place) → IsAnsweredByWindow image cells id access at width → AreItsPlaces image cells id access at width place → ⊥
+pub window_places : (image : Image) (cells : List Live) (id : ℕ) (access : Access) (at width : ℕ) (place : ℕ → Place) → IsAnsweredByConfig image cells id access at width → AreItsPlaces image cells id access at width place → ⊥
 window_places image cells id access at width place window are =
     ⊎_elim
     (λ each. window.behind.lacks (λ k lt. (place k, each k lt)))
@@ -143,7 +143,7 @@ granted_places image f id access at width sound each k lt =
     subst P (ap picked_place (sym (granted_to image f id access (at + k) (each k lt).0 sound (each k lt).1))) (each k lt).1
 
 -- an access that something answers reads one value
-window_value : (image : Image) (f : Facts) (id : ℕ) (access : Access) (at width n m : ℕ) (o : Option Endpoint) → IsAnsweredByWindow image f.cells id access at width → function_at (devices_of image f id) (offset_in image.system at) ≡ o
+window_value : (image : Image) (f : Facts) (id : ℕ) (access : Access) (at width n m : ℕ) (o : Option Endpoint) → IsAnsweredByConfig image f.cells id access at width → function_at (devices_of image f id) (offset_in image.system at) ≡ o
     → IsReadBy image f id access at width n → IsReadBy image f id access at width m → IsSound image f → n ≡ m
 window_value image f id access at width n m None window is one other sound =
     let none : (e : Endpoint) → HasFunction image f id (offset_in image.system at) e → ⊥ = λ e has. none-some e (sym is ∙ function_is image f id (offset_in image.system at) e sound has) in
@@ -165,7 +165,7 @@ one_value image f id access at width n m sound answered one other =
     let are : AreItsPlaces image f.cells id access at width place = region_places image f.cells id access at width by.0 by.1 in
     one.bytes place are ∙ sym (other.bytes place are))
     (λ more. ⊎_elim
-    (λ (window : IsAnsweredByWindow image f.cells id access at width). window_value image f id access at width n m (function_at (devices_of image f id) (offset_in image.system at)) window refl one other sound)
+    (λ (window : IsAnsweredByConfig image f.cells id access at width). window_value image f id access at width n m (function_at (devices_of image f id) (offset_in image.system at)) window refl one other sound)
     (λ (by : ByRegister image f id access at width). one.register by.0 by.1 by.2 by.3 by.4 ∙ sym (other.register by.0 by.1 by.2 by.3 by.4))
     more)
     rest)

@@ -39,7 +39,7 @@ use Rattle.jh_history.specs.Sound.{AreSoundCells, IsSound}
 use Rattle.jh_history.proofs.Public.{reach_by_within, reach_by_beyond, places_from_row, further_none, further_next, place_in_cell_further, takes_all_subpage, kept_row, answer_within, answer_beyond, nothing_memory}
 use Rattle.jh_laws.specs.Grants.{may}
 use Rattle.jh_laws.specs.Held.{IsRootOrLive, IsGrantedTo, AreGrantedTo}
-use Rattle.jh_laws.specs.Ends.{HasAccess, LetsThrough, IsBehindMemory, IsAnsweredBy, IsInEcam, IsAnsweredByWindow, IsAnsweredByRegister, IsAnswered, GivesPlaces, AreItsPlaces}
+use Rattle.jh_laws.specs.Ends.{HasAccess, LetsThrough, IsBehindMemory, IsAnsweredBy, IsInEcam, IsAnsweredByConfig, IsAnsweredByRegister, IsAnswered, GivesPlaces, AreItsPlaces}
 use Rattle.jh_laws.proofs.DevicesLemmas.{position_single, window_lies, window_none, found_passes}
 use Rattle.jh_laws.proofs.ListedLemmas.{places_from_listed, places_from_each, places_from_some, listed}
 use Rattle.jh_laws.proofs.HeldLemmas.{live_cell, cell_live, number_of_holds, granted_to, to_granted_holds, regions_of_live, left_free, free_left}
@@ -268,7 +268,7 @@ wanted_at access at width = record { access = access; at = at; width = width }
 pub data Way (image : Image) (f : Facts) (id : ℕ) (access : Access) (at width : ℕ) : Type 0 where
   OnMemory : (ps : List Place) → AreGrantedTo image f.cells id access at width → reach image f id access at width ≡ Memory ps → Way image f id access at width
   OnRegion : (r : Region) → IsAnsweredBy image f.cells id access at width r → reach image f id access at width ≡ Subpage (places_in_row (place_in_cell id r at) width) → Way image f id access at width
-  OnWindow : IsAnsweredByWindow image f.cells id access at width → reach image f id access at width ≡ Config (record { at = at - image.system.pci_mmconfig_base; width = width }) → Way image f id access at width
+  OnWindow : IsAnsweredByConfig image f.cells id access at width → reach image f id access at width ≡ Config (record { at = at - image.system.pci_mmconfig_base; width = width }) → Way image f id access at width
   OnRegister : (n bar offset : ℕ) (e : Endpoint) → IsAnsweredByRegister image f id access at width n bar offset e → reach image f id access at width ≡ Window (record { device = n; bar = bar; at = offset }) → Way image f id access at width
   OnNothing : (IsAnswered image f id access at width → ⊥) → reach image f id access at width ≡ Nothing → Way image f id access at width
 
@@ -278,7 +278,7 @@ ByRegister image f id access at width = (n : ℕ) × (bar : ℕ) × (offset : �
 
 -- nothing answers where memory doesn't, and neither a region nor the window nor a register does
 unanswered : (image : Image) (f : Facts) (id : ℕ) (access : Access) (at width : ℕ) → (AreGrantedTo image f.cells id access at width → ⊥) → ((r : Region) → IsAnsweredBy image f.cells id access at width r → ⊥)
-    → (IsAnsweredByWindow image f.cells id access at width → ⊥) → ((n bar offset : ℕ) (e : Endpoint) → IsAnsweredByRegister image f id access at width n bar offset e → ⊥) → IsAnswered image f id access at width → ⊥
+    → (IsAnsweredByConfig image f.cells id access at width → ⊥) → ((n bar offset : ℕ) (e : Endpoint) → IsAnsweredByRegister image f id access at width n bar offset e → ⊥) → IsAnswered image f id access at width → ⊥
 unanswered image f id access at width memory region window register h =
     ⊎_elim memory
     (λ rest. ⊎_elim

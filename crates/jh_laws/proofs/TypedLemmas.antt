@@ -49,7 +49,7 @@ use Rattle.jh_history.specs.Sound.{IsInPhase, IsOfDevice, IsSoundEndpoint, IsSou
 use Rattle.jh_history.proofs.Public.{IsActIn, phase_act_holds, due_split, IsLegal_begin, board_few, next_from_due, legal_sound, specs_device, call_open}
 use Rattle.jh_laws.specs.Grants.{place_behind}
 use Rattle.jh_laws.specs.Held.{IsGrantedTo}
-use Rattle.jh_laws.specs.Ends.{IsAnswered, IsAnsweredByWindow, IsReadBy, IsGotBy}
+use Rattle.jh_laws.specs.Ends.{IsAnswered, IsAnsweredByConfig, IsReadBy, IsGotBy}
 use Rattle.jh_laws.specs.Typed.{IsTypedImage, HasTypedAct}
 use Rattle.jh_laws.proofs.CallLemmas.{IsMadeBy, Stopping, Running, Calling, made_by, phase_of_due}
 use Rattle.jh_laws.proofs.DevicesLemmas.{endpoint_held}
@@ -87,7 +87,7 @@ cut_fits n width (inl is) = subst (λ w. n % 2 ^ (8 * w) < 256 ^ w) (sym is) (mo
 cut_fits n width (inr (inl is)) = subst (λ w. n % 2 ^ (8 * w) < 256 ^ w) (sym is) (mod-lt n (omega arith))
 cut_fits n width (inr (inr is)) = subst (λ w. n % 2 ^ (8 * w) < 256 ^ w) (sym is) (mod-lt n (omega arith))
 
-window_fits : (image : Image) (f : Facts) (id : ℕ) (access : Access) (at width value : ℕ) → IsAnsweredByWindow image f.cells id access at width → IsReadBy image f id access at width value → value < 256 ^ width
+window_fits : (image : Image) (f : Facts) (id : ℕ) (access : Access) (at width value : ℕ) → IsAnsweredByConfig image f.cells id access at width → IsReadBy image f id access at width value → value < 256 ^ width
 window_fits image f id access at width value window read = elim (cases_lt value (256 ^ width)) [
   | inl small ↦ small
   | inr large ↦

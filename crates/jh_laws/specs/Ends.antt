@@ -10,7 +10,7 @@ use Rattle.jh_cellcfg.specs.declared.region.Region.{Region}
 use Rattle.jh_cellcfg.specs.Regions.{is_page_mapped, allows_width, allows_unaligned}
 use Rattle.jh_check.specs.Clean.{IsShmem}
 use Rattle.jh_vpci.specs.Space.{window_of}
-use Rattle.jh_vpci.specs.Words.{read_of as config_read}
+use Rattle.jh_vpci.specs.Words.{read_of as space_read}
 use Rattle.jh_ivshmem.specs.declared.endpoint.Endpoint.{Endpoint}
 use Rattle.jh_ivshmem.specs.Links.{endpoint_at}
 use Rattle.jh_ivshmem.specs.Registers.{register_of}
@@ -63,7 +63,7 @@ pub record IsInEcam (system : SystemConfig) (at width : ℕ) : Type 0 where
 
 -- configuration space answers the access: no subpage region has it, and its width is 1, 2 or 4 and divides the offset
 -- from the window's start
-pub record IsAnsweredByWindow (image : Image) (cells : List Live) (id : ℕ) (access : Access) (at width : ℕ) : Type 0 where
+pub record IsAnsweredByConfig (image : Image) (cells : List Live) (id : ℕ) (access : Access) (at width : ℕ) : Type 0 where
   pub behind : IsBehindMemory image cells id access at width
   pub none : (region : Region) → HasAccess image cells id at width region → ⊥
   pub within : IsInEcam image.system at width
@@ -97,7 +97,8 @@ IsFirstBar image f id n bar at width =
     (m other : ℕ) (e : Endpoint) → (m < n) ⊎ ((m ≡ n) × (other < bar)) → LiesInBar image f id m other at width e → ⊥
 
 -- the register at the offset of the BAR of the cell's device answers the access: no subpage region has it, it lies
--- outside the ECAM window and in that window first of all, and it is of 4 bytes at a multiple of 4
+-- outside the ECAM window, and in the window of this BAR but in that of no earlier one, and it is of 4 bytes at a
+-- multiple of 4
 pub record IsAnsweredByRegister (image : Image) (f : Facts) (id : ℕ) (access : Access) (at width n bar offset : ℕ) (e : Endpoint) : Type 0 where
   pub behind : IsBehindMemory image f.cells id access at width
   pub none : (region : Region) → HasAccess image f.cells id at width region → ⊥
@@ -120,7 +121,7 @@ abbrev pub IsAnswered : Image → Facts → ℕ → Access → ℕ → ℕ → T
 IsAnswered image f id access at width =
     AreGrantedTo image f.cells id access at width
     ⊎ ((region : Region) × IsAnsweredBy image f.cells id access at width region)
-    ⊎ IsAnsweredByWindow image f.cells id access at width
+    ⊎ IsAnsweredByConfig image f.cells id access at width
     ⊎ ((n : ℕ) × (bar : ℕ) × (offset : ℕ) × (e : Endpoint) × IsAnsweredByRegister image f id access at width n bar offset e)
 
 -- the region, which answers the access of its cell, gives its bytes these places
@@ -143,10 +144,10 @@ offset_in system at = at - system.pci_mmconfig_base
 -- bytes of the function that is there, or the number whose bits are all set where none is; or the register of the device
 pub record IsReadBy (image : Image) (f : Facts) (id : ℕ) (access : Access) (at width value : ℕ) : Type 0 where
   pub bytes : (place : ℕ → Place) → AreItsPlaces image f.cells id access at width place → value ≡ little_endian width (λ k. f.byte (place k))
-  pub function : (e : Endpoint) → IsAnsweredByWindow image f.cells id access at width
+  pub function : (e : Endpoint) → IsAnsweredByConfig image f.cells id access at width
       → HasFunction image f id (offset_in image.system at) e
-      → value ≡ config_read e.space (offset_in image.system at % 4096) width
-  pub ones : IsAnsweredByWindow image f.cells id access at width → ((e : Endpoint) → HasFunction image f id (offset_in image.system at) e → ⊥) → value ≡ 256 ^ width - 1
+      → value ≡ space_read e.space (offset_in image.system at % 4096) width
+  pub ones : IsAnsweredByConfig image f.cells id access at width → ((e : Endpoint) → HasFunction image f id (offset_in image.system at) e → ⊥) → value ≡ 256 ^ width - 1
   pub register : (n bar offset : ℕ) (e : Endpoint) → IsAnsweredByRegister image f id access at width n bar offset e → value ≡ register_of e bar offset
 
 -- what a reading access got: a value exactly where something answers it, and then what is read there

@@ -8,8 +8,8 @@ use Rattle.jh_history.specs.declared.entry.Act.TheVariants.{Read, Write, Fetch, 
 use Rattle.jh_history.specs.History.{facts}
 use Rattle.jh_laws.specs.Ends.{EndsOr}
 
--- the act is an access that the cell makes after the entries, with the outcome that it has there, which is that of any
--- live cell. No image whose root has no device, and that has no hypercall, comes to any other act
+-- the act is an access, and has the outcome that such an access of the cell has after the entries; no other act passes,
+-- since an image whose root has no ivshmem device, and whose programs have no hypercall, comes to none
 abbrev pub HasItsOutcome : Image → List Entry → CellConfig → Act → Type 0
 HasItsOutcome image entries cell act = EndsOr ⊥ image (facts image entries) cell.id act
 

@@ -12,7 +12,7 @@ use Rattle.jh_cellcfg.specs.Cells.{name_of}
 use Rattle.jh_check.specs.declared.finding.Finding.{Finding}
 use Rattle.jh_check.specs.Findings.{findings}
 use Rattle.jh_check.specs.Refusals.{is_namesake, is_known, names_beyond, by_check, refusal_of}
-use Rattle.jh_check.specs.Verdicts.{names, is_overlap, is_invalid, is_busy, verdict_by, verdict_of}
+use Rattle.jh_check.specs.Verdicts.{names, is_cells_overlap, is_invalid, is_busy, verdict_by, verdict_of}
 use Rattle.jh_check.proofs.Public.{beyond_named, named_beyond, broken_from_listed, listed_from_broken}
 use Rattle.jh_num.specs.Bits.{has_bit}
 use Rattle.jh_life.specs.CellsView.{CellsView}
@@ -182,17 +182,17 @@ words_names n finding (inr same) = or_right (finding.cell == n) (finding.other_c
 
 -- what is found of the new cell, and tells of two cells or doesn't
 abbrev TestsKind : (Finding → Bool) → ℕ → Bool → Type 0
-TestsKind test n overlaps = (finding : Finding) → (test finding ≡ true) ↔ ((names n finding ≡ true) × (is_overlap finding ≡ overlaps))
+TestsKind test n overlaps = (finding : Finding) → (test finding ≡ true) ↔ ((names n finding ≡ true) × (is_cells_overlap finding ≡ overlaps))
 
 invalid_kind : (n : ℕ) → TestsKind (is_invalid n) n false
 invalid_kind n = λ finding. (
-  λ t. (let p = and_parts (names n finding) (not (is_overlap finding)) t in (p.0, not-true (is_overlap finding) p.1)),
-  λ p. and_from (names n finding) (not (is_overlap finding)) p.0 (not_from_false (is_overlap finding) p.1),
+  λ t. (let p = and_parts (names n finding) (not (is_cells_overlap finding)) t in (p.0, not-true (is_cells_overlap finding) p.1)),
+  λ p. and_from (names n finding) (not (is_cells_overlap finding)) p.0 (not_from_false (is_cells_overlap finding) p.1),
 )
 
 busy_kind : (n : ℕ) → TestsKind (is_busy n) n true
 busy_kind n = λ finding.
-    (λ t. and_parts (names n finding) (is_overlap finding) t, λ p. and_from (names n finding) (is_overlap finding) p.0 p.1)
+    (λ t. and_parts (names n finding) (is_cells_overlap finding) t, λ p. and_from (names n finding) (is_cells_overlap finding) p.0 p.1)
 
 found_words : (seen : CellsView) (new : CellConfig) (overlaps : Bool) (test : Finding → Bool) → TestsKind test (length (configs_of seen.lives) + 1) overlaps → list_any test (findings seen.system (configs_of seen.lives ++ new ∷ [])) ≡ true → BreaksRule seen new overlaps
 found_words seen new overlaps test kind t =

@@ -6,7 +6,7 @@ use Rattle.jh_cellcfg.specs.Cells.{name_of, is_cpu_set}
 use Rattle.jh_check.specs.declared.finding.Finding.{Finding}
 use Rattle.jh_check.specs.Broken.{IsBroken}
 use Rattle.jh_check.specs.Refusals.{IsAccepted}
-use Rattle.jh_check.specs.Verdicts.{is_overlap}
+use Rattle.jh_check.specs.Verdicts.{is_cells_overlap}
 use Rattle.jh_num.specs.Bits.{has_bit}
 use Rattle.jh_life.specs.CellsView.{CellsView}
 use Rattle.jh_life.specs.Lives.{numbered_cells}
@@ -78,7 +78,7 @@ pub record BreaksRule (seen : CellsView) (new : CellConfig) (overlaps : Bool) : 
   pub finding : Finding
   pub broken : IsBroken seen.system (configs_of seen.lives ++ new ∷ []) finding
   pub named : (finding.cell ≡ length (configs_of seen.lives) + 1) ⊎ (finding.other_cell ≡ length (configs_of seen.lives) + 1)
-  pub kind : is_overlap finding ≡ overlaps
+  pub kind : is_cells_overlap finding ≡ overlaps
 
 -- all cells with the new one need more pages than there are
 abbrev pub LacksPages : CellsView → Create → Type 0

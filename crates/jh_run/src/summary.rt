@@ -31,7 +31,7 @@ fn is_write(entry: &Entry) -> bool
     matches!(&entry.act, Act::Write { .. })
 }
 
-/// Whether the entry is a CPU that stopped.
+/// Whether the entry is a stop.
 fn is_stop(entry: &Entry) -> bool
     ensures { result ≡ is_stop entry.now }
 {

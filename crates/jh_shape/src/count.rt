@@ -37,7 +37,8 @@ impl<'a> Target<'a> {
         }
     }
 
-    /// Whether other cells cut the slot of places of that number, which is mostly among those that are marked.
+    /// Whether other cells cut the slot of places of that number: by its mark where the list has it, as it mostly does,
+    /// else by their regions.
     fn is_cut(&self, cuts: &[u64], level: u8, n: u64) -> bool
         requires cells { length self.now.cells.now ≤ 15 }
         requires level { level < LAST_LEVEL }
@@ -106,6 +107,7 @@ impl<'a> Target<'a> {
             let slots = addresses(region).spanned(level);
             if !self.root {
                 mark_span(words, slots.from, slots.to);
+                // for the proof: for root the list of cuts is as long as that of words, so it has these slots
             } else if region.phys_start == region.virt_start
                 && slots.to.div_ceil(WORD_BITS) <= cuts.len()
             {

@@ -178,7 +178,8 @@ fn mark_cut(words: &mut [u64], level: u8, region: &Region, limit: usize)
     }
 }
 
-/// The places of the slot that the place lies in, where that is marked; else none.
+/// Places whose slots below the limit are all marked: those of the slot that the place lies in, if that is marked, else
+/// none.
 fn marked_around(words: &[u64], level: u8, place: u64, limit: usize) -> Span
     requires level { level < LAST_LEVEL }
     requires room { limit ≤ WORD_BITS * length words.now }

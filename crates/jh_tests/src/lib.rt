@@ -1,4 +1,5 @@
-//! Tests of the board, the commands and the exchanges, by public calls. It has no code of its own.
+//! Tests of the board, of schedules and runs, of the commands and the exchanges, by public calls. It has no code but for
+//! tests.
 #![tactic(auto)]
 
 #[cfg(test)]

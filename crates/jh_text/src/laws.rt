@@ -25,7 +25,8 @@ pub fn texts_go_both_ways()
     ensures read { (text : List ℕ) (entries : List Entry) → IsJournalText text entries → journal_text entries ≡ text }
 {}
 
-/// No text has two answers: it is a journal's, or has one first bad line, or is too long.
+/// No text has two answers: a journal's has no first bad line and isn't too long, and one with a first bad line isn't too
+/// long and has no other.
 pub fn one_answer()
     ensures good_or_bad { (text : List ℕ) (entries : List Entry) (number : ℕ)
         → IsJournalText text entries → IsFirstBadLine text number → ⊥ }

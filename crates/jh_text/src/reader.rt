@@ -45,7 +45,7 @@ fn lower_digit(radix: u32, byte: u8) -> Option<u64>
     }
 }
 
-/// The number with one more digit.
+/// The number with one more digit; `None` where it is too large.
 #[inline(always)]
 fn with_digit(radix: u32, n: u64, digit: u64) -> Option<u64>
     ensures { result ≡ with_digit radix n digit }
@@ -120,7 +120,7 @@ fn number(radix: u32, end: u8, most: u64, text: &[u8]) -> Option<(u64, &[u8])>
     Some((n, rest))
 }
 
-/// The number whose decimal digits, one or more, are the word before the end, and what stands behind the end.
+/// As `decimal_number`, whatever digits there are.
 #[inline(never)]
 fn some_digits(end: u8, most: u64, text: &[u8]) -> Option<(u64, &[u8])>
     requires end { digit_value end ≡ 36 }
@@ -131,7 +131,8 @@ fn some_digits(end: u8, most: u64, text: &[u8]) -> Option<(u64, &[u8])>
     number(10, end, most, text)
 }
 
-/// The number whose decimal digits are the word before the end, and what stands behind the end. Most have one digit.
+/// The number whose decimal digits are the word before the end, where it is `most` at most, and what stands behind the
+/// end. The usual one has one digit.
 #[inline(always)]
 fn decimal_number(end: u8, most: u64, text: &[u8]) -> Option<(u64, &[u8])>
     requires end { digit_value end ≡ 36 }
@@ -163,7 +164,7 @@ fn width_digit(digit: u8) -> Option<u8>
     }
 }
 
-/// The number below 0 that has these digits behind its sign.
+/// The number below 0 that has these digits behind its sign, where it is one of 64 bits.
 fn negative(n: u64) -> Option<i64>
     ensures value { result ≡ negative n }
 {
@@ -214,7 +215,7 @@ impl<'a> Reader<'a> {
         }
     }
 
-    /// The number whose decimal digits are the word before the end.
+    /// The number whose decimal digits are the word before the end, where it is `most` at most.
     #[inline(always)]
     pub(crate) fn decimal(&mut self, end: u8, most: u64) -> Option<u64>
         requires end { digit_value end ≡ 36 }
@@ -227,7 +228,7 @@ impl<'a> Reader<'a> {
         Some(n)
     }
 
-    /// The number whose digits stand behind `0x` in the word before the end.
+    /// The number whose digits stand behind `0x` in the word before the end, where it is `most` at most.
     #[inline(always)]
     #[tactic(auto, unfolding(crate::specs::Private::Reading::hexadecimal_until))]
     pub(crate) fn hexadecimal(&mut self, end: u8, most: u64) -> Option<u64>

@@ -7,7 +7,7 @@ use Rattle.jh_check.specs.declared.seats.Seat.{Seat}
 use Rattle.jh_check.specs.Devices.{are_same_memory, sections_of, fits}
 use Rattle.jh_check.specs.Private.Seats.{IsSeatOf}
 
--- the seat is that of the device, which is of the cell of that number
+-- one of the seats is that of the device, which is of the cell of that number, and has the device's bdf
 pub record IsSeated (cells : List CellConfig) (seats : List Seat) (number : ℕ) (cell : CellConfig) (device : PciDevice) : Type 0 where
   pub seat : Seat
   pub is : Contains seats seat

@@ -3,7 +3,7 @@ use Rattle.std.specs.Prelude.{◌≡◌, ℕ, ◌<◌, ◌≤◌, ◌⊎◌, tru
 use Rattle.jh_cellcfg.specs.declared.region.Region.{Region}
 use Rattle.jh_check.specs.declared.rule.Rule.{Rule}
 use Rattle.jh_check.specs.declared.envelope.Window.{Window}
-use Rattle.jh_check.specs.declared.rising.Row.{Row}
+use Rattle.jh_check.specs.declared.rising.Scan.{Scan}
 use Rattle.jh_check.specs.Private.Spans.{takes_part, span_of}
 
 -- where the region of that number begins, as the rule compares it
@@ -29,27 +29,27 @@ pub record IsRisingTo (rule : Rule) (regions : List Region) (n first last : ℕ)
 abbrev pub IsStretch : Rule → List Region → Window → Type 0
 IsStretch rule regions stretch = IsRisingTo rule regions (length regions) stretch.first stretch.last
 
--- the row is that of the first regions
-pub record IsRowTo (rule : Rule) (regions : List Region) (n : ℕ) (row : Row) : Type 0 where
-  pub stand : IsRisingTo rule regions n row.first row.last
-  pub starts : (i : ℕ) (d : Region) → i < n → TakesPart rule regions d i → start_at rule regions d i ≤ row.start
-  pub ends : (i : ℕ) (d : Region) → i < n → TakesPart rule regions d i → end_at rule regions d i ≤ row.end
-  pub latest : (i : ℕ) (d : Region) → i < n → TakesPart rule regions d i → (i ≤ row.item) × (row.item < n) × TakesPart rule regions d row.item
+-- the scan is that of the first regions
+pub record IsScanTo (rule : Rule) (regions : List Region) (n : ℕ) (scan : Scan) : Type 0 where
+  pub stand : IsRisingTo rule regions n scan.first scan.last
+  pub starts : (i : ℕ) (d : Region) → i < n → TakesPart rule regions d i → start_at rule regions d i ≤ scan.start
+  pub ends : (i : ℕ) (d : Region) → i < n → TakesPart rule regions d i → end_at rule regions d i ≤ scan.end
+  pub latest : (i : ℕ) (d : Region) → i < n → TakesPart rule regions d i → (i ≤ scan.item) × (scan.item < n) × TakesPart rule regions d scan.item
 
--- the row has the region of that number behind it: either the region begins behind all, or it
+-- the scan has the region of that number behind it: either the region begins behind all, or it
 -- begins no earlier than the last
-pub record IsJoined (rule : Rule) (item : ℕ) (region : Region) (row more : Row) : Type 0 where
+pub record IsJoined (rule : Rule) (item : ℕ) (region : Region) (scan more : Scan) : Type 0 where
   pub latest : more.item ≡ item
   pub start : more.start ≡ (span_of rule item region).start
   pub own : (span_of rule item region).end ≤ more.end
-  pub grows : row.end ≤ more.end
-  pub first : more.first ≤ row.first
-  pub apart : row.end ≤ (span_of rule item region).start ⊎ ((row.start ≤ (span_of rule item region).start) × (more.first ≤ row.item) × (more.last ≡ item))
-  pub last : (more.last ≡ row.last) ⊎ (more.last ≡ item)
+  pub grows : scan.end ≤ more.end
+  pub first : more.first ≤ scan.first
+  pub apart : scan.end ≤ (span_of rule item region).start ⊎ ((scan.start ≤ (span_of rule item region).start) × (more.first ≤ scan.item) × (more.last ≡ item))
+  pub last : (more.last ≡ scan.last) ⊎ (more.last ≡ item)
 
--- the row is joined by the region where that takes part, and else stays the same
-abbrev pub IsRowMore : Rule → ℕ → Region → Row → Row → Type 0
-IsRowMore rule item region row more = (takes_part rule region ≡ true → IsJoined rule item region row more) × (takes_part rule region ≡ false → more ≡ row)
+-- the scan is joined by the region where that takes part, and else stays the same
+abbrev pub IsScanMore : Rule → ℕ → Region → Scan → Scan → Type 0
+IsScanMore rule item region scan more = (takes_part rule region ≡ true → IsJoined rule item region scan more) × (takes_part rule region ≡ false → more ≡ scan)
 
 -- where numbers up to `last` are above `stop`, the region of the number `stop` is behind `item`, takes part, and begins at
 -- `end` or behind it

@@ -72,7 +72,7 @@ abbrev pub spans_meet : Span → Span → Bool
 spans_meet one other = nat_lt one.start other.end && nat_lt other.start one.end
 
 -- the spans are those of the regions that take part, each of one of the regions, and stand apart
-pub record IsIndex (rule : Rule) (regions : List Region) (spans : List Span) : Type 0 where
+pub record AreSpansOf (rule : Rule) (regions : List Region) (spans : List Span) : Type 0 where
   pub each : HasEach rule regions spans
   pub only : HasOnly regions spans
   pub apart : AreSpansApart spans

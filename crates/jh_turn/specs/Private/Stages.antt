@@ -17,13 +17,13 @@ module _ {T E : Type 0} where
     pub waits : me.0.holding ≡ false
     pub empty : me.1 ≡ []
 
-  -- the seat has the turn, and the value is out of the slot
+  -- the seat is one caller's, has the turn and the slot, and the value is out of the slot
   pub record IsAtWork (who : ℕ) (me : Seated T E) : Type 0 where
     pub one_hand : me.0.hands ≡ hand who (seen_of me.0.hands) ∷ []
     pub holds : me.0.holding ≡ true
     pub taken : me.1 ≡ (0, None) ∷ []
 
-  -- the seat has given the turn up, and has seen this history
+  -- the seat is one caller's, has given the turn up and its slot, and has seen this history
   abbrev pub HasDone : ℕ → List E → Seated T E → Seated T E → Type 0
   HasDone who log before after = after ≡ (view before.0.opened (hand who log ∷ []) false, [])
 

@@ -47,7 +47,7 @@ returns c = λ f h k. elim (cases_lt k 16) [
   | inr le ↦ (
       let image = c.args.image.now in
       let off : is_on_board image k ≡ false = elim (cases_Bool (is_on_board image k)) [
-        | inl on ↦ absurd (let lt = c.has_few_cpus.ensures.cpus k on in omega arith)
+        | inl on ↦ absurd (let lt = c.no_cpu_is_above_15.ensures.cpus k on in omega arith)
         | inr off ↦ off
       ] in
       c.loop-cpu.invariant.rest k (omega arith) ∙ rw off refl)

@@ -6,7 +6,7 @@ use Rattle.jh_check.specs.Findings.{spot, beside}
 use Rattle.jh_check.proofs.BreakLemmas.{beside_idle}
 use Rattle.jh_check.proofs.EnvelopeLemmas.{capped_none_more}
 use Rattle.std.proofs.lemmas.List.{get_or_default}
-use Rattle.jh_check.proofs.RisingLemmas.{row_hits}
+use Rattle.jh_check.proofs.RisingLemmas.{scan_hits}
 use Rattle.jh_check.proofs.pairing.look_behind.Goals as goal
 
 pub returns-then-not-takes_part : goal.returns-then-not-takes_part
@@ -28,7 +28,7 @@ beside-requires-clause-hits c =
     let none : Region = record { phys_start = 0; virt_start = 0; size = 0; flags = 0 } in
     let v = c.as_slice-regions.ensures.value in
     let s = c.saturating_add.ensures in
-    let e = c.last_before.ensures in
+    let e = c.first_behind.ensures in
     let p = c.span_of.ensures in
-    let k = row_hits c.args.rule c.args.a one c.args.stretch (record { first = c.saturating_add.result; last = c.last_before.result }) c.args.item none c.requires.within c.requires.stretch (λ n h small. omega arith) (rw v at (rw p at e)) in
+    let k = scan_hits c.args.rule c.args.a one c.args.stretch (record { first = c.saturating_add.result; last = c.first_behind.result }) c.args.item none c.requires.within c.requires.stretch (λ n h small. omega arith) (rw v at (rw p at e)) in
     rw v k

@@ -25,7 +25,7 @@ refuses image limit old new cpu (Err NoMemory) full same = ap (board_with image 
 pub advance-requires-clause-cpu : goal.advance-requires-clause-cpu
 advance-requires-clause-cpu c =
     let P : BoardView → Type 0 = λ v. IsTrue (is_on_board v.image c.args.cpu) in
-    c.has_few_cpus.ensures.cpus c.args.cpu (subst P (sym c.self.view_is) c.requires)
+    c.no_cpu_is_above_15.ensures.cpus c.args.cpu (subst P (sym c.self.view_is) c.requires)
 
 pub invariant_of-self : goal.invariant_of-self
 invariant_of-self c = record {

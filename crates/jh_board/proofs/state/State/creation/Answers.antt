@@ -66,7 +66,7 @@ returns-in-Reads c = λ i f h.
     let locked = sym (locked_is i f s.held seen.1) ∙ sym (c.is_any_locked.ensures f.cells cells) ∙ c.if-is_any_locked.false in
     let read = c.in_ok-read.read in
     let reads = subst (λ (x : StateView). read ≡ read_by (read_held x.image x.held) c.args.at) (sym c.self.view_is) c.in_ok-read.ensures in
-    let is = ap (λ (r : ReadCell). creation_by s.image f c.args.caller r) (sym c.in-Reads.is) ∙ read_is s i f c.args.caller c.args.at read c.has_few_cpus.ensures.admitted seen locked reads in
+    let is = ap (λ (r : ReadCell). creation_by s.image f c.args.caller r) (sym c.in-Reads.is) ∙ read_is s i f c.args.caller c.args.at read c.no_cpu_is_above_15.ensures.admitted seen locked reads in
     subst (λ (x : Creation). IfOk c.creation_from.result (λ creation. creation ≡ x)) is (c.creation_from.ensures f (subst (λ (x : Image). Means x s.held f) seen.0 seen.1))
 
 pub returns-in-Refuses : goal.returns-in-Refuses
@@ -79,4 +79,4 @@ returns-in-Refuses c = λ i f h.
     let reads = subst (λ (x : StateView). read ≡ read_by (read_held x.image x.held) c.args.at) (sym c.self.view_is) c.in_ok-read.ensures in
     let fits : SFits w64 c.in-Refuses.number = search rules in
     ap Refused (to_z-of_z fits)
-    ∙ ap (λ (r : ReadCell). creation_by s.image f c.args.caller r) (sym c.in-Refuses.is) ∙ read_is s i f c.args.caller c.args.at read c.has_few_cpus.ensures.admitted seen locked reads
+    ∙ ap (λ (r : ReadCell). creation_by s.image f c.args.caller r) (sym c.in-Refuses.is) ∙ read_is s i f c.args.caller c.args.at read c.no_cpu_is_above_15.ensures.admitted seen locked reads

@@ -19,7 +19,7 @@ returns-in_ok-append-in-Some c =
     let row : List Place = places_in_row c.in-Some.first c.args.count in
     let put : Option (List ℕ) → Option (List ℕ) = option_map (λ (bs : List ℕ). old ++ bs) in
     rw (← c.self.view_is)
-    (ap put (c.rows_are_read_byte_by_byte.ensures (byte_of held.memory) place c.args.at c.args.count (λ a le. root_beyond image lives a c.has_few_cpus.ensures.admitted le)
+    (ap put (c.rows_are_read_byte_by_byte.ensures (byte_of held.memory) place c.args.at c.args.count (λ a le. root_beyond image lives a c.no_cpu_is_above_15.ensures.admitted le)
     ∙ ap (option_map (map (byte_of held.memory))) (sym c.in-Some.ensures.places))
     ∙ ap Some (sym c.in_ok-append-in-Some.ensures))
 
@@ -32,5 +32,5 @@ returns-in-None c =
     let old : List ℕ = c.args.bytes.now.items in
     let put : Option (List ℕ) → Option (List ℕ) = option_map (λ (bs : List ℕ). old ++ bs) in
     rw (← c.self.view_is)
-    (ap put (c.rows_are_read_byte_by_byte.ensures (byte_of held.memory) place c.args.at c.args.count (λ a le. root_beyond image lives a c.has_few_cpus.ensures.admitted le)
+    (ap put (c.rows_are_read_byte_by_byte.ensures (byte_of held.memory) place c.args.at c.args.count (λ a le. root_beyond image lives a c.no_cpu_is_above_15.ensures.admitted le)
     ∙ ap (option_map (map (byte_of held.memory))) (sym c.in-None.ensures.places)))
