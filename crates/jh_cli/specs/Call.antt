@@ -28,7 +28,9 @@ module _ {S : Type 0} (files : files_told.Ghosts S) where
 module _ {S K : Type 0} (files : files_told.Ghosts S) (sink : sink_told.Ghosts K) where
   -- the call ends with a reply that was sent, whole or a proper front of it, or with want of memory and nothing written
   abbrev pub Ends : Option Request → S → S → K → K → Status → Type 0
-  Ends request s t k l status = ((status ≡ NoMemory) × (sink.written l ≡ sink.written k)) ⊎ ((reply : Reply) × IsReplyTo files request s t reply × Sent (sink.written k) (sink.written l) reply status)
+  Ends request s t k l status =
+      ((status ≡ NoMemory) × (sink.written l ≡ sink.written k))
+      ⊎ ((reply : Reply) × IsReplyTo files request s t reply × Sent (sink.written k) (sink.written l) reply status)
 
   -- what a call with this request is: it takes the files from `s` to `t` and the sink from `k` to `l`
   pub record IsCall (request : Option Request) (s t : S) (k l : K) (status : Status) : Type 0 where
@@ -40,4 +42,6 @@ module _ {S K : Type 0} (files : files_told.Ghosts S) (sink : sink_told.Ghosts K
     -- with any other status but want of memory the name of the failed read is what it was
     pub unfailed : status ≢ ReadFault → status ≢ WriteFault → status ≢ NoMemory → files.failed t ≡ files.failed s
     -- good words and files give the command's answer or want of memory, unless a count rose in this call
-    pub complete : (good : AreGood (files.contents s) request) → MayEndWith (files.contents s) request good status ⊎ (status ≡ NoMemory) ⊎ Rose (files.faults s) (files.faults t) ⊎ Rose (sink.faults k) (sink.faults l)
+    pub complete : (good : AreGood (files.contents s) request)
+        → MayEndWith (files.contents s) request good status
+        ⊎ (status ≡ NoMemory) ⊎ Rose (files.faults s) (files.faults t) ⊎ Rose (sink.faults k) (sink.faults l)

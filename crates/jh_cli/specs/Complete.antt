@@ -69,7 +69,7 @@ pub record IsGoodToPack (contents : Contents) (name : List ℕ) : Type 0 where
   pub spec : Spec
   pub spells : FileSpells asked_of_a_file contents name IsSpecFile spec
 
--- the board's files make an image, and the schedule's holds items for it
+-- the files tell of the board and of what it lists, which make an image, and the schedule's holds items for it
 pub record AreGoodToPlay (contents : Contents) (board schedule : List ℕ) : Type 0 where
   pub known : IsKnownBoard contents board
   pub image : Image
@@ -77,13 +77,14 @@ pub record AreGoodToPlay (contents : Contents) (board schedule : List ℕ) : Typ
   pub items : List ℕ
   pub spells : FileSpells asked_of_a_file contents schedule (IsSchedule image) items
 
--- the board's files make an image
+-- the files tell of the board and of what it lists, which make an image
 pub record AreGoodToRun (contents : Contents) (board : List ℕ) : Type 0 where
   pub known : IsKnownBoard contents board
   pub image : Image
   pub is : IsImage contents board image
 
--- the board's files make an image, and the journal's holds a journal, whether it is legal or not
+-- the files tell of the board and of what it lists, which make an image, and the journal's holds a journal, whether it is
+-- legal or not
 pub record AreGoodToAudit (contents : Contents) (board journal : List ℕ) : Type 0 where
   pub known : IsKnownBoard contents board
   pub image : Image

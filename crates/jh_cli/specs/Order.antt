@@ -11,7 +11,7 @@ use Rattle.jh_cli.specs.Words.{Request, CheckOf, PackOf, PlayOf, RunOf, MapOf, A
 use Rattle.jh_cli.specs.declared.status.Status.{Status}
 use Rattle.jh_cli.specs.declared.status.Status.TheVariants.{Refused, ReadFault}
 
--- a call with this status ends at a file: it couldn't be read, or is refused
+-- a call that ends at a file has this status: the file couldn't be read, or is refused
 abbrev pub IsFileStatus : Status → Type 0
 IsFileStatus Refused = ⊤
 IsFileStatus ReadFault = ⊤

@@ -25,7 +25,8 @@ pub fn serial<F: Files, K: Sink>(
     out: &mut K,
 ) -> Status
     requires { IsSerial (command_of (map string_bytes words.now)) }
-    // the status and the text are those of the words' request, and each failure comes only where its count rose
+    // but for want of memory, the status and the text are those of the words' request, or a write failed; and a fault of
+    // reading or writing comes only where its count rose
     ensures { IsCall F.Files K.Sink (command_of (map string_bytes words.now)) files.old files.new out.old out.new result }
 {
     good_inputs_are_answered();

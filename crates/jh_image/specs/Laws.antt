@@ -5,7 +5,7 @@ use Rattle.jh_image.specs.declared.fault.ImageCause.TheVariants.{ReadFault}
 use Rattle.jh_image.specs.Files.{Contents}
 use Rattle.jh_image.specs.Causes.{IsCauseOf}
 
--- the files tell each name: all the bytes that it holds, or that it is missing
+-- the files tell of each name all the bytes that it holds, or that it is missing
 abbrev pub AreKnown : Contents → Type 0
 AreKnown contents = (name : List ℕ) → contents name ≢ None
 

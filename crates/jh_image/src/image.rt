@@ -143,7 +143,7 @@ pub fn read_image<F: Files>(alloc: Global, files: &mut F, name: &str) -> Result<
     ensures counted { IfErr result (IsCounted (F.faults files.old) (F.faults files.new) (F.failed files.new)) }
     ensures never_falls { F.faults files.old ≤ F.faults files.new }
     ensures kept { F.contents files.new ≡ F.contents files.old }
-    // each file is read once, in their order, and none but the last that is read can have failed
+    // the files are read in their order, each once, up to the one that stops the reading; only that one can have failed
     ensures asked { OnOk result (AsksBoard F.Files (F.contents files.old) name.now files.old files.new) }
     ensures asked_until { IfErr result (OnRefused (λ _ cause. AsksBoardUntil F.Files (F.contents files.old) name.now cause files.old files.new)) }
 {

@@ -74,7 +74,7 @@ fn program_list(alloc: Global, list: &Value) -> Result<Option<Seq<ProgramFile>>,
     }
 }
 
-/// The board's preloads; none where the member is missing.
+/// The board's preloads: an empty list where the member is missing, `None` where it is at fault.
 #[tactic(auto, unfolding(crate::specs::Boards::preloads_told))]
 pub(crate) fn preloads(alloc: Global, object: &Value) -> Result<Option<Seq<PreloadFile>>, NoMemory>
     ensures told { IfOk result (λ told. told ≡ preloads_told (view object.now)) }
@@ -112,7 +112,7 @@ fn are_distinct(files: &[ProgramFile]) -> bool
     true
 }
 
-/// The board's programs; none where the member is missing.
+/// The board's programs: an empty list where the member is missing, `None` where it is at fault.
 #[tactic(auto, unfolding(crate::specs::Boards::programs_told, crate::specs::Boards::are_distinct))]
 pub(crate) fn programs(alloc: Global, object: &Value) -> Result<Option<Seq<ProgramFile>>, NoMemory>
     ensures told { IfOk result (λ told. told ≡ programs_told (view object.now)) }

@@ -9,7 +9,7 @@ use Rattle.jh_script.specs.declared.op.Op.TheVariants.{Read, Write, Fetch, Await
 use Rattle.jh_script.specs.Operations.{IsWellFormed, is_ascii}
 use Rattle.jh_script.specs.Words.{line_gaps, words}
 
--- the word is the number in decimal
+-- the word is the number in decimal, and the number is below 2 ^ 64
 pub record IsDecimal (word : List ℕ) (n : ℕ) : Type 0 where
   pub small : n < 2 ^ 64
   pub text : word ≡ decimal n

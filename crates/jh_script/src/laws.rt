@@ -41,8 +41,8 @@ pub fn lines_are_words_of_operations()
         ↔ ((is_ascii text ≡ true) × IsSkipped (words line_gaps text)) }
 {}
 
-/// A word is a number exactly where it is the number in decimal, or `0x` and 1 to 16 hexadecimal digits that
-/// write it.
+/// A word is a number exactly where it is the number in decimal and the number is below 2^64, or `0x` and 1 to 16
+/// hexadecimal digits that write it.
 pub fn numbers_are_decimal_or_hexadecimal()
     ensures { (word : List ℕ) (n : ℕ) → (number_written word ≡ Some n) ↔ IsNumber word n }
 {}

@@ -20,7 +20,7 @@ pub(crate) enum Line {
     Blank,
     /// It is that of this operation.
     Operation(Op),
-    /// It is none of these, or has a byte above 0x7f.
+    /// It has words, but neither a comment's nor those of an operation; or it has a byte above 0x7f.
     Syntax,
     /// It has the words of an operation that isn't within its limits.
     Width,

@@ -163,7 +163,7 @@ abbrev pub first_at_fault : List (List ℕ × Bool) → Option (List ℕ)
 first_at_fault members = option_map (λ (member : List ℕ × Bool). member.0) (find (λ (member : List ℕ × Bool). member.1) members)
 
 -- the member of an object of this kind that is at fault: the first of those that are listed, else the first name that
--- isn't listed, in the order of an object's names, which is that of their bytes
+-- isn't listed, in the order of an object's names, which is that of their bytes; without a kind the member `kind` is
 abbrev pub blame : Option Kind → Data → Option (List ℕ)
 blame None d = Some (codes "kind")
 blame (Some Cell) d = option_or (first_at_fault (cell_members d)) (unlisted names_with_kind d)

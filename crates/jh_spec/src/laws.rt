@@ -17,7 +17,8 @@ ghost use Rattle.jh_spec.specs.Laws.{IsRegionOf, IsIrqchipOf, IsDeviceOf, IsCons
 
 use crate::fault::JsonFault;
 
-/// Each field of what is told is the number that its member tells, or 0 where there is no such member.
+/// Each field that is a number is the one that its member tells, or 0 where there is no such member. The other fields are
+/// what their members tell; those for which there is no member are empty, or zeros.
 pub fn each_field_is_its_members_number()
     ensures region { (d : Data) (told : TheRegion) → region_told d ≡ Some told → IsRegionOf d told }
     ensures irqchip { (d : Data) (told : TheIrqchip) → irqchip_told d ≡ Some told → IsIrqchipOf d told }

@@ -1,4 +1,4 @@
-//! Records of a configuration: objects with the names of their fields alone.
+//! Records of a configuration: objects with the names of their members alone.
 ghost use Rattle.jh_cellcfg.specs.Empty.{no_console};
 ghost use Rattle.jh_spec.specs.Fields.{region_told, irqchip_told, device_told, console_told};
 ghost use Rattle.jh_spec.specs.Cells.{no_region, no_irqchip, no_device};

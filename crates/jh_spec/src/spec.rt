@@ -26,8 +26,8 @@ enum Kind {
     System,
 }
 
-/// Reads a SPEC, all of the bytes: a JSON text of one object that tells a cell or a system, by its member `kind`. A
-/// refusal names the member at fault.
+/// Reads a SPEC, all of the bytes: a JSON text of one object that tells a cell or a system, by its member `kind`. An
+/// object that tells neither is refused by the name of the member at fault.
 pub fn read_spec(alloc: Global, bytes: &[u8]) -> Result<Spec, JsonFault>
     ensures told { IsSpecAnswer bytes.now result }
     ensures limits { IfOk result MayBeWritten }
