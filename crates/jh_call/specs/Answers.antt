@@ -1,4 +1,4 @@
--- What is answered at once, by what the caller's side shows:
+-- What is answered at once, by what is seen:
 --
 --   management by a cell besides root            -1
 --   information 0, 1, 4                          the pool's pages, those used, the live cells with root

@@ -1,4 +1,5 @@
-//! Every code by root and by another cell, with each state and each CPU that there may be.
+//! Every code by another cell than root, and by root each that is answered at once, with each state and each CPU that
+//! there may be.
 
 ghost use Rattle.std.specs.Prelude.{◌≡◌};
 

@@ -17,7 +17,7 @@ use Rattle.jh_cellcfg.specs.declared.fault.Part.{Part}
 use Rattle.jh_cellcfg.specs.declared.fault.Part.TheVariants.{CpuSet, MemoryRegions, CacheRegions, Irqchips, PioRegions, PciDevices, PciCaps, StreamIds, Total}
 use Rattle.jh_cellcfg.specs.declared.header.Counts.{Counts}
 use Rattle.jh_cellcfg.specs.declared.header.Header.{Header}
-use Rattle.jh_cellcfg.specs.Faults.{fault_if, first_of, over, u16_at, count_fault, limits_fault, length_fault, counts_at, start_fault, body_fault, header_fault, header_size, first_fault, refusal, Gives}
+use Rattle.jh_cellcfg.specs.Faults.{fault_if, first_of, over, u16_at, count_fault, limits_fault, length_fault, counts_at, start_fault, body_fault, header_fault, size_by_header, first_fault, refusal, Gives}
 use Rattle.jh_cellcfg.proofs.Headers.{header_name, header_counts}
 use Rattle.jh_cellcfg.specs.Spelling.{u16_bytes, u32_bytes, region_bytes, irqchip_bytes, device_bytes, counts_of, header_of, header_bytes, parts_bytes, body_bytes, spelling}
 use Rattle.jh_cellcfg.specs.Limits.{is_name, parts_size, whole_size, AreWithinLimits, IsWithinLimits}
@@ -201,11 +201,11 @@ counts_alone h fits = ap counts_at (sym (append-nil (header_bytes h))) ∙ heade
 name_alone : (h : Header) → IsHeader h → take 32 (header_bytes h) ≡ h.name
 name_alone h fits = ap (take 32) (sym (append-nil (header_bytes h))) ∙ header_name h [] fits
 
-pub header_sized : (c : CellConfig) → IsCell c → IsWithinLimits c → header_size (take 132 (spelling c)) ≡ length (spelling c)
+pub header_sized : (c : CellConfig) → IsCell c → IsWithinLimits c → size_by_header (take 132 (spelling c)) ≡ length (spelling c)
 header_sized c cell limits =
     let counts = counts_alone (header_of c) (header_fits c cell limits) in
     let sizes = ap parts_size counts in
-    ap header_size (header_in_front c cell limits) ∙ omega (arith, length_body_bytes c cell limits)
+    ap size_by_header (header_in_front c cell limits) ∙ omega (arith, length_body_bytes c cell limits)
 
 pub header_unfaulted : (c : CellConfig) → IsCell c → IsWithinLimits c → header_fault (take 132 (spelling c)) ≡ None
 header_unfaulted c cell limits =

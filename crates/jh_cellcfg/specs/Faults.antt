@@ -101,8 +101,8 @@ abbrev pub header_fault : List ℕ → Option ConfigFault
 header_fault header = first_of (start_fault (codes "JHCELL") header ∷ limits_fault (slice_range header 8 40) (counts_at (drop 8 header)) ∷ [])
 
 -- how many bytes the whole configuration has, by the counts of its header
-abbrev pub header_size : List ℕ → ℕ
-header_size header = whole_size (counts_at (drop 8 header))
+abbrev pub size_by_header : List ℕ → ℕ
+size_by_header header = whole_size (counts_at (drop 8 header))
 
 -- the first fault of all the bytes, if they have one
 abbrev pub first_fault : List ℕ → Option ConfigFault

@@ -13,7 +13,7 @@ is_printable byte = nat_le 0x20 byte && nat_le byte 0x7e
 abbrev pub is_zero : ℕ → Bool
 is_zero byte = byte == 0
 
--- the first zero byte stands at `len`: characters before it, and zero bytes from it on
+-- by where the first zero byte stands, if there is one: characters before it, one at least, and only zeros from it on
 abbrev pub is_name_to : List ℕ → Option ℕ → Bool
 is_name_to name None = false
 is_name_to name (Some len) = nat_lt 0 len && list_all is_printable (take len name) && list_all is_zero (drop len name)
@@ -33,7 +33,7 @@ parts_size n =
 abbrev pub whole_size : Counts → ℕ
 whole_size n = 132 + parts_size n
 
--- no part has more records than it may, and the whole is not too large
+-- no part has more records than it may, the CPU set has a byte at least, and the whole is not too large
 pub record AreWithinLimits (n : Counts) : Type 0 where
   pub some_cpus : 1 ≤ n.cpu_set
   pub cpu_set : n.cpu_set ≤ 64

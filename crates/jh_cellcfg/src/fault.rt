@@ -5,7 +5,8 @@ ghost use Rattle.jh_cellcfg.specs.declared.fault.ConfigFault.TheVariants.{NoMemo
 use jh_num::NoMemory;
 use std::fmt;
 
-/// The first fault of the bytes, in the order of the variants, or want of memory.
+/// The first fault of the bytes, or want of memory. The faults are looked for in the order of the variants, but for
+/// `Short` by the header's counts, which comes between `Count` and `Trailing`.
 #[derive(Clone, Copy, PartialEq, Eq, Debug)]
 pub enum ConfigFault {
     /// There are fewer bytes than the header has, or than the whole has by the header's counts.

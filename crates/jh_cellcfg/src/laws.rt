@@ -1,12 +1,12 @@
-//! What holds of all configurations, whoever reads or writes them. The functions do nothing; their
-//! contracts are the laws.
+//! What holds of all configurations that are within the limits, whoever reads or writes them. The functions do nothing;
+//! their contracts are the laws.
 ghost use Rattle.std.specs.Prelude.{◌≡◌, ◌<◌, ◌≤◌, ℕ, List, All, None, length, take};
 ghost use Rattle.jh_cellcfg.specs.declared.config.CellConfig.{CellConfig};
 ghost use Rattle.jh_cellcfg.specs.Spelling.{body_bytes, spelling};
 ghost use Rattle.jh_cellcfg.specs.Widths.{IsCell};
 ghost use Rattle.jh_cellcfg.specs.Limits.{IsWithinLimits};
 ghost use Rattle.jh_cellcfg.specs.Reading.{config_of, config_of_body};
-ghost use Rattle.jh_cellcfg.specs.Faults.{body_fault, header_fault, header_size, first_fault};
+ghost use Rattle.jh_cellcfg.specs.Faults.{body_fault, header_fault, size_by_header, first_fault};
 
 /// Two configurations with one spelling are one.
 pub fn one_spelling()
@@ -30,7 +30,7 @@ pub fn body_has_no_fault()
 
 /// The size by a spelling's header is the spelling's length, and the header has no fault.
 pub fn size_is_length()
-    ensures size { (config : CellConfig) → IsCell config → IsWithinLimits config → header_size (take 132 (spelling config)) ≡ length (spelling config) }
+    ensures size { (config : CellConfig) → IsCell config → IsWithinLimits config → size_by_header (take 132 (spelling config)) ≡ length (spelling config) }
     ensures fault { (config : CellConfig) → IsCell config → IsWithinLimits config → header_fault (take 132 (spelling config)) ≡ None }
 {}
 

@@ -99,7 +99,7 @@ impl Counts {
 
     /// The bytes of the whole, from the signature on; or the first count that isn't within its limits.
     #[tactic(auto, unfolding(crate::specs::Faults::count_fault))]
-    pub fn size(&self) -> Result<u32, ConfigFault>
+    pub fn whole_size(&self) -> Result<u32, ConfigFault>
         ensures size { IfOk result (λ size. size ≡ whole_size self.now) }
         ensures limits { OnOk result (AreWithinLimits self.now) }
         ensures fault { fault_of result ≡ count_fault self.now }
@@ -128,7 +128,7 @@ impl Counts {
 impl Header {
     /// The bytes of the whole, from the signature on; or the header's first fault from its name on.
     #[tactic(auto, unfolding(crate::specs::Faults::limits_fault))]
-    pub fn size(&self) -> Result<u32, ConfigFault>
+    pub fn whole_size(&self) -> Result<u32, ConfigFault>
         ensures size { IfOk result (λ size. size ≡ whole_size self.now.counts) }
         ensures limits { OnOk result (AreWithinLimits self.now.counts) }
         ensures name { OnOk result (IsTrue (is_name self.now.name)) }
@@ -138,7 +138,7 @@ impl Header {
         if !is_name(&self.name) {
             return Err(ConfigFault::Name);
         }
-        self.counts.size()
+        self.counts.whole_size()
     }
 }
 

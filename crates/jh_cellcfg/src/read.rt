@@ -3,7 +3,7 @@ ghost use Rattle.std.specs.Prelude.{◌≡◌, ◌+◌, ◌≤◌, ◌<◌, ◌^
 ghost use Rattle.jh_cellcfg.specs.Spelling.{u16_bytes, header_bytes, header_of, parts_bytes, body_bytes, spelling};
 ghost use Rattle.jh_cellcfg.specs.Widths.{IsHeader, IsCell};
 ghost use Rattle.jh_cellcfg.specs.Limits.{parts_size, IsWithinLimits};
-ghost use Rattle.jh_cellcfg.specs.Faults.{counts_at, fault_of, refusal, start_fault, body_fault, header_fault, header_size, first_fault, Gives};
+ghost use Rattle.jh_cellcfg.specs.Faults.{counts_at, fault_of, refusal, start_fault, body_fault, header_fault, size_by_header, first_fault, Gives};
 ghost use Rattle.jh_cellcfg.specs.Reading.{config_of};
 ghost use Rattle.jh_cellcfg.specs.declared.config.CellConfig.{CellConfig};
 
@@ -87,7 +87,7 @@ pub fn read_body(alloc: Global, front: u32, body: &[u8]) -> Result<CellConfig, C
     ensures fault { refusal result ≡ body_fault front body.now }
 {
     let (header, parts) = header_at(body);
-    let need = front + (header.size()? - START_SIZE as u32);
+    let need = front + (header.whole_size()? - START_SIZE as u32);
     let len = front as u64 + body.len() as u64;
     if len < need as u64 {
         return Err(ConfigFault::Short { need });
@@ -156,11 +156,11 @@ pub fn read_cell(alloc: Global, bytes: &[u8]) -> Result<CellConfig, ConfigFault>
 /// How many bytes the whole configuration has, by its header; or the header's first fault, from the signature to the
 /// total.
 pub fn cell_size(header: &[u8; HEADER_SIZE]) -> Result<u32, ConfigFault>
-    ensures size { IfOk result (λ size. size ≡ header_size header.now) }
+    ensures size { IfOk result (λ size. size ≡ size_by_header header.now) }
     ensures fault { fault_of result ≡ header_fault header.now }
 {
     let bytes = header.as_slice();
     check_start(bytes, SIGNATURE)?;
     let (header, _) = header_at(&bytes[START_SIZE..]);
-    header.size()
+    header.whole_size()
 }

@@ -19,7 +19,7 @@ pub trait Record: Copy {
     /// Its bytes.
     ghost bytes_of: { Self → List ℕ };
 
-    /// Its numbers are below the ends of their types.
+    /// Its numbers are below the ends of their types, and its arrays have their lengths.
     ghost Fits: { Self → Type 0 };
 
     /// How many bytes it has.

@@ -60,7 +60,7 @@ pub fn write_body(config: &CellConfig, out: Writer) -> Result<Writer, NoMemory>
     write_parts(config, out)
 }
 
-/// Puts a configuration's parts at the end, in the order of their sizes in the header.
+/// Puts a configuration's parts at the end, in the order in which the header has their counts.
 fn write_parts(config: &CellConfig, out: Writer) -> Result<Writer, NoMemory>
     ensures { IfOk result (λ more. more.written.items ≡ out.written.items ++ parts_bytes config.now) }
 {

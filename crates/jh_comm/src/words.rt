@@ -1,7 +1,7 @@
 //! What stands in the words of the page, by Jailhouse's `hypercall.h`. A cell writes its words itself, so
 //! any other number may stand there too.
 
-/// The cell runs, and may be shut down when it is asked for its consent.
+/// The cell runs and isn't locked. Before it is shut down it is asked, and it may deny.
 pub const STATE_RUNNING: u32 = 0;
 
 /// The cell runs and is locked: no cell may be created beside it, and no other destroyed.
@@ -10,7 +10,7 @@ pub const STATE_RUNNING_LOCKED: u32 = 1;
 /// The cell doesn't run, and needs no consent.
 pub const STATE_SHUT_DOWN: u32 = 2;
 
-/// The cell failed.
+/// The cell failed, or didn't reply in time. It needs no consent.
 pub const STATE_FAILED: u32 = 3;
 
 /// The cell found a revision of the page that it doesn't know.

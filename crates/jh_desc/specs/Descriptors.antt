@@ -58,8 +58,8 @@ word_of Invalid level = 0
 word_of (Table next) level = next + 3
 word_of (Leaf out rights device) level = out + leaf_bits level rights device
 
--- the level may have the descriptor: a table above the last level, at a multiple of 4,096, or a leaf from level 1 on,
--- at a multiple of the level's slots; either below 2^48
+-- the level may have the descriptor: an invalid one, a table above the last level, at a multiple of 4,096, or a leaf
+-- from level 1 on, at a multiple of the size of the level's slots; the latter two below 2^48
 abbrev pub IsWritable : Descriptor → ℕ → Type 0
 IsWritable Invalid level = Unit {0}
 IsWritable (Table next) level = (level < LAST_LEVEL) × (next % 4096 ≡ 0) × (next < 2 ^ 48)

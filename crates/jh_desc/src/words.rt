@@ -81,6 +81,7 @@ pub fn read(word: u64, level: u8) -> Descriptor
             }
         }
     } else if 0 < level && level < LAST_LEVEL {
+        // level 0 isn't read here: the test is that of `has_blocks`, as the definition has it
         leaf_in(level, word)
     } else {
         Descriptor::Invalid
@@ -107,8 +108,8 @@ fn leaf_bits(level: u8, rights: Rights, device: bool) -> u64
     kind + memory + access + INNER_SHAREABLE + ACCESSED + never
 }
 
-/// The word of the descriptor at the level, as `read` reads it. A table's place is a page's and a leaf's begins a slot
-/// of the level, each below 2^48.
+/// The word of the descriptor at the level, as `read` reads it. A table is above the last level and its place is a
+/// page's, a leaf's place begins a slot of the level, and each is below 2^48.
 pub fn word(d: Descriptor, level: u8) -> u64
     requires first { FIRST_LEVEL ≤ level }
     requires last { level ≤ LAST_LEVEL }

@@ -16,7 +16,7 @@ use std::marker::Model;
 
 /// The bytes of memory. Places end at `ADDRESS_END`, and each holds a byte, which is 0 until it is written.
 ///
-/// The pages of the hypervisor's range are held from opening on, a guest's page from its first write on,
+/// The pages of the hypervisor's range are held from opening on, a guest's page from its first write or `hold` on,
 /// and held pages are never given back. Only a page that isn't held yet can want memory: the pages of guests
 /// stand in one block, which doubles where a further page finds no room.
 #[derive(Drop)]
@@ -163,7 +163,8 @@ impl Frames {
         }
     }
 
-    /// Writes the bytes of a word of the hypervisor's memory.
+    /// Writes a word of the hypervisor's memory. It is `set_word` without the clauses of other words, which are proved from
+    /// its own.
     fn set_bytes(&mut self, at: u64, word: u64)
         requires { AreOwnBytes self.old.own at 8 }
         ensures base { self.new.own.base ≡ self.old.own.base }

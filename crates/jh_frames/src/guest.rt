@@ -12,7 +12,7 @@ use jh_num::{NoMemory, PAGE_SIZE};
 use std::alloc::Global;
 use std::marker::Model;
 
-/// Pages by number, in the map's one block, which has room for further ones.
+/// Pages by number, in a map that has the pages in one block, with room for further ones.
 #[derive(Drop)]
 pub struct Guest {
     pages: IndexMap<u64, Page>,

@@ -38,7 +38,7 @@ pub fn a_page_is_written_back()
 
 /// Of memory that has bytes stored from a place on, as many bytes from there on spell their number: what is
 /// written is read.
-pub fn what_is_written_is_read()
+pub fn bytes_stored_are_read()
     ensures { (before after : ℕ → ℕ) (at : ℕ) (bytes : List ℕ) → ((q : ℕ) → after q ≡ stored before at bytes q) → spelled (map after (range_with_len at (length bytes))) ≡ spelled bytes }
 {}
 

@@ -1,5 +1,5 @@
 //! Memory as bytes at places: the hypervisor's range, held from the start, and pages of guests, held
-//! from their first write on.
+//! from their first write or `hold` on.
 #![tactic(auto)]
 
 mod frames;
@@ -10,6 +10,6 @@ mod page;
 
 pub use frames::Frames;
 pub use laws::{
-    a_page_is_written_back, a_word_is_spelled, bytes_are_those_of_pages,
-    equal_bytes_make_equal_words, what_is_written_is_read, writing_elsewhere_changes_no_word,
+    a_page_is_written_back, a_word_is_spelled, bytes_are_those_of_pages, bytes_stored_are_read,
+    equal_bytes_make_equal_words, writing_elsewhere_changes_no_word,
 };

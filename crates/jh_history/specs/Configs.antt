@@ -5,7 +5,7 @@ use Rattle.jh_cellcfg.specs.declared.config.CellConfig.{CellConfig}
 use Rattle.jh_cellcfg.specs.declared.fault.ConfigFault.{ConfigFault}
 use Rattle.jh_cellcfg.specs.declared.fault.ConfigFault.TheVariants.{Count}
 use Rattle.jh_cellcfg.specs.declared.fault.Part.TheVariants.{Total}
-use Rattle.jh_cellcfg.specs.Faults.{header_fault, header_size}
+use Rattle.jh_cellcfg.specs.Faults.{header_fault, size_by_header}
 use Rattle.jh_cellcfg.specs.Reading.{config_of}
 use Rattle.jh_script.specs.declared.image.Image.{Image}
 use Rattle.jh_history.specs.declared.access.Access.TheVariants.{Read}
@@ -33,7 +33,7 @@ read_whole (Some bytes) = Reads (config_of bytes)
 -- what is read of a configuration behind its header, where so many of its bytes may be read as these: all of it,
 -- unless the header has a fault
 abbrev pub read_behind : (ℕ → Option (List ℕ)) → List ℕ → Option ConfigFault → ReadCell
-read_behind bytes header None = read_whole (bytes (header_size header))
+read_behind bytes header None = read_whole (bytes (size_by_header header))
 read_behind bytes header (Some fault) = Refuses (refused_for fault)
 
 -- what is read of a configuration whose header is read first, where that may be read

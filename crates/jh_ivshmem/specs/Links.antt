@@ -89,12 +89,12 @@ abbrev pub vector_for : ℕ → EndpointSpec → Option ℕ → Option (ℕ × �
 vector_for cell spec vector = if spec.cell == cell then option_map (λ v. (spec.device, v)) vector else None
 
 -- the endpoint's device with its lowest pending vector, where it is the cell's
-abbrev pub pending_at : ℕ → Endpoint → Option (ℕ × ℕ)
-pending_at cell e = vector_for cell e.spec (pending_in e)
+abbrev pub pending_for : ℕ → Endpoint → Option (ℕ × ℕ)
+pending_for cell e = vector_for cell e.spec (pending_in e)
 
 -- the cell's pending vector of the lowest device, then of the lowest number
 abbrev pub pending_of : ℕ → List Endpoint → Option (ℕ × ℕ)
-pending_of cell list = fold (λ best (e : Endpoint). earlier best (pending_at cell e)) None list
+pending_of cell list = fold (λ best (e : Endpoint). earlier best (pending_for cell e)) None list
 
 -- the endpoints after this pending vector of the cell, if there is one, is taken
 abbrev pub taken_of : ℕ → Option (ℕ × ℕ) → List Endpoint → List Endpoint

@@ -63,7 +63,7 @@ impl Key {
         }
     }
 
-    /// Whether no key behind it has a pending vector of the cell that comes first: it is another cell's, or has one.
+    /// Whether a search from the cell's first key on ends here: the key is another cell's, or has a pending vector.
     pub(crate) fn ends_search(&self, cell: u32) -> bool
         ensures { result ≡ is_search_end cell self.now }
     {

@@ -72,8 +72,8 @@ pub fn a_pending_vector_goes_only_by_its_own()
         → StaysPending p (taken_of from (pending_of from p.list) p.list) }
 {}
 
-/// What an endpoint does is never seen on another link: an endpoint of another bdf that isn't the writing one
-/// stays as it was.
+/// What an endpoint's register writes and its reset do is never seen on another link: an endpoint of another bdf that
+/// isn't the one written or reset stays as it was.
 pub fn links_never_see_each_other()
     ensures written { (e : Endpoint) (bar at value : ℕ) (list : List Endpoint) (k : ℕ) (d : Endpoint) → IsOnAnotherLink e list k d
         → slice_index_or (written e bar at value list) k d ≡ slice_index_or list k d }

@@ -4,7 +4,7 @@ ghost use Rattle.std.specs.Prelude.{◌≡◌, ◌+◌, ◌^◌, ◌<◌, ◌≤
 use jh_vpci::FunctionSpec;
 
 /// An endpoint that joins: the device of its cell, the link by its bdf, how many peers the link may have,
-/// its number among them, and the physical place of the state table.
+/// its number among them, the physical place of the state table, and what is fixed of its PCI function.
 #[derive(Clone, Copy, PartialEq, Eq, Debug)]
 pub struct EndpointSpec {
     pub cell: u32,

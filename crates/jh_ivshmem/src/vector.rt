@@ -2,8 +2,8 @@
 ghost use Rattle.std.specs.Prelude.{◌≡◌};
 
 /// One vector: the four words of its entry in the table of MSI-X (the low and the high half of the
-/// message's address, the message's data, and the mask), and whether it is pending. The words have no
-/// effect but to be read again.
+/// message's address, the message's data, and the mask), and whether it is pending. The first three have no
+/// effect but to be read again; with MSI-X, a vector whose mask is set isn't raised.
 #[derive(Clone, Copy, PartialEq, Eq, Debug)]
 pub struct Vector {
     pub address: u32,

@@ -10,7 +10,7 @@ use Rattle.jh_cellcfg.specs.declared.config.CellConfig.{CellConfig}
 use Rattle.jh_cellcfg.specs.declared.live.Live.{Live}
 use Rattle.jh_cellcfg.specs.declared.fault.ConfigFault.{ConfigFault}
 use Rattle.jh_cellcfg.specs.Lives.{id_of, has_id}
-use Rattle.jh_cellcfg.specs.Faults.{header_fault, header_size}
+use Rattle.jh_cellcfg.specs.Faults.{header_fault, size_by_header}
 use Rattle.jh_cellcfg.specs.Reading.{config_of}
 use Rattle.jh_check.specs.Refusals.{any_below, refusal_of}
 use Rattle.jh_check.proofs.Public.{accepted_to}
@@ -133,7 +133,7 @@ refused_of : (config : CellConfig) (o : Option ℤ) → refused_by (unless_refus
 refused_of config None = refl
 refused_of config (Some number) = refl
 
-read_whole_of : (image : Image) (f : Facts) (caller at : ℕ) (header bytes : List ℕ) → list_any (is_locked f) f.cells ≡ false → bytes_at image f at 132 ≡ Some header → header_fault header ≡ None → bytes_at image f at (header_size header) ≡ Some bytes
+read_whole_of : (image : Image) (f : Facts) (caller at : ℕ) (header bytes : List ℕ) → list_any (is_locked f) f.cells ≡ false → bytes_at image f at 132 ≡ Some header → header_fault header ≡ None → bytes_at image f at (size_by_header header) ≡ Some bytes
     → IsRefusedOf image f caller (config_of bytes) (refused_by (creation_of image f caller at))
 read_whole_of image f caller at header bytes free some is all =
     let config : CellConfig = config_of bytes in

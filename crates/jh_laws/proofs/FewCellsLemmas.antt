@@ -14,7 +14,7 @@ use Rattle.jh_cellcfg.specs.declared.live.Live.{Live}
 use Rattle.jh_cellcfg.specs.declared.fault.ConfigFault.{ConfigFault}
 use Rattle.jh_cellcfg.specs.Cells.{is_passive}
 use Rattle.jh_cellcfg.specs.Lives.{has_id}
-use Rattle.jh_cellcfg.specs.Faults.{header_fault, header_size}
+use Rattle.jh_cellcfg.specs.Faults.{header_fault, size_by_header}
 use Rattle.jh_cellcfg.specs.Reading.{config_of}
 use Rattle.jh_check.specs.Refusals.{any_below, AreTwo}
 use Rattle.jh_check.proofs.Public.{sound_set}
@@ -92,7 +92,7 @@ whole_typed image f (Some places) config small h =
     subst P (same_Some (config_of (map f.byte places)) config h) (config_typed (map f.byte places) (read_bytes f.byte places small))
 
 behind_typed : (image : Image) (f : Facts) (at : ℕ) (header : List ℕ) (fault : Option ConfigFault) (config : CellConfig) → ((q : Place) → f.byte q < 256) → config_read (read_behind (bytes_at image f at) header fault) ≡ Some config → IsTyped config
-behind_typed image f at header None config small h = whole_typed image f (places_from (granted image f image.system.root.id ToRead) at (header_size header)) config small h
+behind_typed image f at header None config small h = whole_typed image f (places_from (granted image f image.system.root.id ToRead) at (size_by_header header)) config small h
 behind_typed image f at header (Some fault) config small h = absurd (none-some config h)
 
 from_typed : (image : Image) (f : Facts) (at : ℕ) (o : Option (List ℕ)) (config : CellConfig) → ((q : Place) → f.byte q < 256) → config_read (read_from (bytes_at image f at) o) ≡ Some config → IsTyped config

@@ -11,7 +11,7 @@ use Rattle.jh_cellcfg.specs.declared.fault.ConfigFault.{ConfigFault}
 use Rattle.jh_cellcfg.specs.declared.fault.ConfigFault.TheVariants.{Short, Signature, Revision, Name, Count, Trailing, NoMemory}
 use Rattle.jh_cellcfg.specs.declared.fault.Part.{Part}
 use Rattle.jh_cellcfg.specs.declared.fault.Part.TheVariants.{CpuSet, MemoryRegions, CacheRegions, Irqchips, PioRegions, PciDevices, PciCaps, StreamIds, Total}
-use Rattle.jh_cellcfg.specs.Faults.{header_fault, header_size}
+use Rattle.jh_cellcfg.specs.Faults.{header_fault, size_by_header}
 use Rattle.jh_check.specs.Refusals.{is_known, names_beyond, by_check, refusal_of}
 use Rattle.jh_check.specs.declared.verdict.NewCell.{NewCell}
 use Rattle.jh_check.specs.declared.verdict.NewCell.TheVariants.{Clean, Invalid, Busy}
@@ -95,7 +95,7 @@ whole_fits None = invalid_fits
 whole_fits (Some bytes) = tt
 
 behind_fits : (image : Image) (f : Facts) (at : ℕ) (header : List ℕ) (fault : Option ConfigFault) → FitsRead (read_behind (bytes_at image f at) header fault)
-behind_fits image f at header None = whole_fits (bytes_at image f at (header_size header))
+behind_fits image f at header None = whole_fits (bytes_at image f at (size_by_header header))
 behind_fits image f at header (Some fault) = fault_fits fault
 
 from_fits : (image : Image) (f : Facts) (at : ℕ) (o : Option (List ℕ)) → FitsRead (read_from (bytes_at image f at) o)

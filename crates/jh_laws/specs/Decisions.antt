@@ -5,7 +5,7 @@ use Rattle.jh_cellcfg.specs.declared.config.CellConfig.{CellConfig}
 use Rattle.jh_cellcfg.specs.declared.live.Live.{Live}
 use Rattle.jh_cellcfg.specs.declared.fault.ConfigFault.{ConfigFault}
 use Rattle.jh_cellcfg.specs.Lives.{id_of}
-use Rattle.jh_cellcfg.specs.Faults.{header_fault, header_size}
+use Rattle.jh_cellcfg.specs.Faults.{header_fault, size_by_header}
 use Rattle.jh_cellcfg.specs.Reading.{config_of}
 use Rattle.jh_check.specs.Refusals.{IsAccepted}
 use Rattle.jh_shape.specs.Pages.{pages_of}
@@ -57,7 +57,7 @@ pub record IsDestroyDecision (image : Image) (f : Facts) (id : ℕ) (refused : O
 pub record IsReadRefusal (image : Image) (f : Facts) (at : ℕ) (refused : Option ℤ) : Type 0 where
   pub header : bytes_at image f at 132 ≡ None → refused ≡ Some EINVAL
   pub fault : (header : List ℕ) (fault : ConfigFault) → bytes_at image f at 132 ≡ Some header → header_fault header ≡ Some fault → refused ≡ Some (refused_for fault)
-  pub rest : (header : List ℕ) → bytes_at image f at 132 ≡ Some header → header_fault header ≡ None → bytes_at image f at (header_size header) ≡ None → refused ≡ Some EINVAL
+  pub rest : (header : List ℕ) → bytes_at image f at 132 ≡ Some header → header_fault header ≡ None → bytes_at image f at (size_by_header header) ≡ None → refused ≡ Some EINVAL
 
 -- what a configuration that was read is refused for: the first cause that holds, or none
 pub record IsRefusedOf (image : Image) (f : Facts) (caller : ℕ) (config : CellConfig) (refused : Option ℤ) : Type 0 where
@@ -71,7 +71,7 @@ pub record IsCreateDecision (image : Image) (f : Facts) (caller at : ℕ) (refus
   pub locked : (live : Live) → LivesLocked f live → refused ≡ Some EPERM
   pub unread : NoneIsLocked f → IsReadRefusal image f at refused
   pub read : NoneIsLocked f → (header bytes : List ℕ) → bytes_at image f at 132 ≡ Some header → header_fault header ≡ None
-      → bytes_at image f at (header_size header) ≡ Some bytes → IsRefusedOf image f caller (config_of bytes) refused
+      → bytes_at image f at (size_by_header header) ≡ Some bytes → IsRefusedOf image f caller (config_of bytes) refused
 
 -- what the call is refused for at its Decide, if for anything
 abbrev pub IsDecision : Image → Facts → ℕ → Call → Option ℤ → Type 0

@@ -74,8 +74,8 @@ by_window at width k = if width == 4 && (at % 4 == 0) then Bar (item_number k) e
 abbrev pub window_has : ℕ → ℕ → Window → Bool
 window_has at width w = lies_between w.start (w.start + w.size) at width
 
--- what answers where no subpage region has the access, by the ECAM window, which begins at the start and ends before the
--- end, and the windows of devices
+-- what answers where no subpage region takes the access, by the ECAM window, which begins at the start and ends before
+-- the end, and the windows of devices
 abbrev pub hitting_behind_regions : ℕ → ℕ → List Window → ℕ → ℕ → Hitting
 hitting_behind_regions start end windows at width =
     if lies_between start end at width

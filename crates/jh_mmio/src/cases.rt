@@ -116,7 +116,7 @@ fn by_window(number: usize, at: u64, width: u8) -> Hitting
     }
 }
 
-/// What answers an access that no subpage region has: the ECAM window, else the first of these windows that has it
+/// What answers an access that no subpage region takes: the ECAM window, else the first of these windows that has it
 /// whole, if the width and the address suit it; else nothing.
 pub fn hitting_behind_regions(ecam: Range, windows: &[Window], at: u64, width: u8) -> Hitting
     requires some { 0 < width }
@@ -131,7 +131,7 @@ pub fn hitting_behind_regions(ecam: Range, windows: &[Window], at: u64, width: u
     }
 }
 
-/// What answers where that is the first subpage region that has the access.
+/// What answers where that is the first subpage region that takes the access.
 pub(crate) fn by_first(
     regions: &[Region],
     first: Option<usize>,
@@ -150,7 +150,7 @@ pub(crate) fn by_first(
     }
 }
 
-/// The number of the first subpage region that has the access.
+/// The number of the first subpage region that takes the access: has it whole, and no byte at a closed place.
 fn first_subpage(regions: &[Region], closed: &ByteSet, at: u64, width: u8) -> Option<usize>
     requires some { 0 < width }
     requires ranges { AreInRange regions.now }

@@ -126,7 +126,7 @@ impl RegionIndex {
         }
     }
 
-    /// The number of the first subpage region that has the access, which is the only one.
+    /// The number of the first subpage region that takes the access, which is the only one.
     fn subpage_at(&self, closed: &ByteSet, at: u64, width: u8) -> Option<usize>
         requires some { 0 < width }
         requires ranges { AreInRange self.now }

@@ -56,7 +56,7 @@ pub(crate) fn starting_by(ranges: &[Range], limit: u64) -> usize
     ranges.partition_point(|x| x.start <= limit)
 }
 
-/// Whether one of the ranges has a byte of `r`: only the first that ends behind the start of `r` can.
+/// Whether one of the ranges has a byte of `r`: if any has, the first that ends behind the start of `r` has one.
 pub(crate) fn any_meets(ranges: &[Range], r: Range) -> bool
     requires apart { AreApart ranges.now }
     requires some { r.start < r.end }
@@ -66,7 +66,8 @@ pub(crate) fn any_meets(ranges: &[Range], r: Range) -> bool
     at < ranges.len() && ranges[at].start < r.end
 }
 
-/// Whether one of the ranges has all bytes of `r`: only the first that ends where `r` does or later can.
+/// Whether one of the ranges starts where `r` does or before and ends where `r` does or later: only the first that does
+/// the latter can.
 pub(crate) fn any_covers(ranges: &[Range], r: Range) -> bool
     requires { AreApart ranges.now }
     ensures { result ≡ list_any (λ x. nat_le x.start r.start && nat_le r.end x.end) ranges.now }
@@ -142,6 +143,7 @@ pub(crate) fn meeting(alloc: Global, xs: &[Range], ys: &[Range]) -> Result<Vec<R
     let mut met = Vec::new(alloc);
     let mut i = 0;
     let mut j = 0;
+    // the label names the loop for the proof
     'both_left: while i < xs.len() && j < ys.len() {
         let x = xs[i];
         let y = ys[j];
@@ -212,6 +214,7 @@ pub(crate) fn merge(ranges: &mut Vec<Range>, others: &[Range])
     let mut i = ranges.len() - others.len();
     let mut j = others.len();
     let mut at = ranges.len();
+    // the label names the loop for the proof
     'some_left: while i > 0 || j > 0 {
         if ends_last(ranges.as_slice(), i, others, j) {
             i -= 1;

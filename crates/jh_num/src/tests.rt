@@ -84,6 +84,7 @@ fn ranges_join_split_and_intersect(rt: HostRuntime) -> Result<(), Fail> {
 fn striped(alloc: Global, count: u64) -> Result<ByteSet, NoMemory> {
     let mut set = ByteSet::new(alloc);
     for stripe in 0..count {
+        // for the proof: the numbers below have 64 bits
         if stripe < 1 << 60 {
             let start = 4 * stripe;
             set.insert(Range {

@@ -3,7 +3,7 @@ use Rattle.std.specs.Prelude.{◌≡◌, ℕ, List}
 use Rattle.jh_num.specs.Numbers.{counted_up}
 use Rattle.jh_outside.specs.Ask.{Ask, ReadAnswer, Handed, Faulted, LackedMemory}
 
--- the count of faults, and the name of the read that failed last
+-- the count of faults, and the name of the last read that answered `Fault`
 pub record FailedReads : Type 0 where
   pub faults : ℕ
   -- the name of the last read that answered `Fault`

@@ -10,7 +10,7 @@ use Rattle.jh_outside.specs.Reads.{KnownFile}
 use Rattle.jh_outside.specs.Ask.{Ask, ReadAnswer, Handed, Faulted, LackedMemory}
 
 -- the bytes under each name, the numbers of the reads that fail and of the next one, the count of faults, and the name
--- that failed last
+-- of the last read that answered `Fault`
 pub record Shelf : Type 0 where
   -- the bytes under each name
   pub files : map.FinMap (slice_cmp nat_cmp) (List ℕ)

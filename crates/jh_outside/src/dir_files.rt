@@ -48,7 +48,7 @@ impl<'a, R: rt::Files> DirFiles<'a, R> {
         }
     }
 
-    /// A read that keeps the name where it fails, and counts nothing yet.
+    /// A read that keeps the name where it answers `Fault`, and counts nothing yet.
     fn read_naming(&mut self, name: &str, most: usize) -> Result<Seq<u8>, FileFault>
         ensures within { IfOk result (λ bytes. length bytes ≤ most) }
         ensures faults { self.new.faults ≡ self.old.faults }
@@ -124,6 +124,7 @@ pub(crate) fn read_front<T: Read>(
 {
     let mut buffer = [0u8; PIECE];
     let mut bytes = Vec::new(alloc);
+    // bounded, so that it ends: a reader that still isn't done after so many calls is a fault
     for _ in 0..u64::MAX {
         let room = (most - bytes.len()).min(PIECE);
         if room == 0 {

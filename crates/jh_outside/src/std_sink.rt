@@ -96,6 +96,7 @@ pub(crate) fn write_some<W: Write>(
     ensures err { OnErr result (faults.new ≡ counted_up faults.old) }
     ensures never_falls { faults.old ≤ faults.new }
 {
+    // bounded, so that it ends: a writer that interrupts so many calls is a fault
     for _ in 0..u64::MAX {
         if let Some(count) = write_once(out, piece, faults)? {
             return Ok(count);

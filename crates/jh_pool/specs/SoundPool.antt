@@ -8,7 +8,8 @@ abbrev pub often : ℕ → List ℕ → ℕ
 often page [] = 0
 often page (free ∷ rest) = (if free == page then 1 else 0) + often page rest
 
--- free pages are pages of the range, each once, and there is room for all pages among them
+-- the range is whole pages below the end of addresses, free pages are pages of it, each once, and there is room for all
+-- pages among them
 pub record IsSoundPool (base size : ℕ) (free : List ℕ) (capacity : ℕ) : Type 0 where
   pub aligned : base % 4096 ≡ 0
   pub place : base + 4096 * size ≤ ADDRESS_END

@@ -1,4 +1,4 @@
-//! What holds of all systems, whoever reads or writes them. The functions do nothing; their
+//! What holds of all systems that are within the limits, whoever reads or writes them. The functions do nothing; their
 //! contracts are the laws.
 ghost use Rattle.std.specs.Prelude.{◌≡◌, ◌<◌, ℕ, List, All, None};
 ghost use Rattle.jh_cellcfg.specs.declared.config.SystemConfig.{SystemConfig};

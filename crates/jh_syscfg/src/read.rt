@@ -70,7 +70,7 @@ fn read_whole(alloc: Global, bytes: &[u8]) -> Result<SystemConfig, ConfigFault>
 
 /// Reads a system's configuration, all of the bytes. A refusal is the first fault: fewer bytes than
 /// stand before root's parts, signature, revision, root's name, its counts in their order, the total
-/// (counted from root's head on), fewer bytes than the total, and more.
+/// (counted from root's head on), fewer bytes from the signature on than the counts ask for, and more.
 pub fn read_system(alloc: Global, bytes: &[u8]) -> Result<SystemConfig, ConfigFault>
     // What is read is spelled so.
     ensures typed { IfOk result IsSystem }

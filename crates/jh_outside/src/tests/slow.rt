@@ -1,4 +1,4 @@
-//! A reader and a writer of little at a time, whose first call is interrupted and of which one fails.
+//! A reader and a writer of little at a time, whose first call is interrupted and of whose calls one can fail.
 ghost use Rattle.std.specs.Prelude.{◌≤◌, IfOk};
 
 use crate::dir_files::read_front;

@@ -1,6 +1,6 @@
 -- The bytes from the place on are those of the list, one by one.
 use Rattle.jh_frames.proofs.WordLemmas.{stored_spelled}
-use Rattle.jh_frames.proofs.laws.what_is_written_is_read.Goals as goal
+use Rattle.jh_frames.proofs.laws.bytes_stored_are_read.Goals as goal
 
 pub returns : goal.returns
 returns c = λ before after at bytes is. stored_spelled before after at bytes is
