@@ -90,7 +90,8 @@ fn whole_verdict(board: &Board, count: u32) -> Verdict
     }
 }
 
-/// How many entries room is taken for at once: as many as the text can have by its length.
+/// How many entries room is taken for at once: as many as the text can have by its length, but no more than a journal may
+/// have.
 fn room_for(text: &[u8]) -> usize {
     (text.len() / SHORTEST_LINE).min(MAX_ENTRIES)
 }

@@ -116,7 +116,8 @@ fn load(alloc: Global, image: &Image) -> Result<Memory, NoMemory>
     Ok(memory)
 }
 
-/// What is held at opening: the preloads, each CPU as root's, and no cell besides it, whose devices have joined their links.
+/// What is held at opening: the preloads, each CPU as root's, no cell besides root, and root's devices, which have joined
+/// their links.
 fn held_at_opening(alloc: Global, image: &Image) -> Result<Held, NoMemory>
     requires { IsAdmitted image.now }
     ensures { IfOk result (λ held. Means image.now held (facts image.now [])) }

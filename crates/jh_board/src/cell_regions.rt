@@ -61,6 +61,7 @@ fn take_region(places: &mut ByteSet, region: &Region, loadable: bool) -> Result<
     if region.size == 0 || !takes_places(region, loadable) {
         return Ok(());
     }
+    // for the proof: no region of a cell that comes ends past the end of addresses
     if region.phys_end() > u128::from(u64::MAX) {
         return Ok(());
     }

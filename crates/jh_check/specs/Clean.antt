@@ -125,7 +125,7 @@ pub record IsGoodDevice (cell : CellConfig) (device : PciDevice) : Type 0 where
   -- the outputs of others can't be written, and all outputs have one size
   pub read_only : (p : ℕ) (x : Region) → p ≢ device.shmem_dev_id → IsSection cell device (2 + p) x → has_flags 0x2 x ≡ false
   pub alike : (p q : ℕ) (x y : Region) → IsSection cell device (2 + p) x → IsSection cell device (2 + q) y → x.size ≡ y.size
-  -- each section that isn't empty begins where the one that isn't before it ended
+  -- each section that isn't empty begins where the last one before it that isn't empty ended
   pub row : (j k : ℕ) (x y : Region) → j < k → IsSection cell device j x → IsSection cell device k y → 0 < x.size → 0 < y.size
       → ((i : ℕ) (z : Region) → j < i → i < k → IsSection cell device i z → z.size ≡ 0) → y.virt_start ≡ virt_end x
 

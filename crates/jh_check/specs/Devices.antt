@@ -69,7 +69,7 @@ has_good_table (table ∷ others) = is_good_table table
 abbrev pub is_section_region : Region → Bool
 is_section_region region = not (is_comm region) && (not (is_loadable region) && is_page_mapped region)
 
--- of these outputs, the first of which is that of the peer with the given number, those of other peers can't be written
+-- of these outputs, the first of which is that of the peer `peer`, those of peers other than `own` can't be written
 abbrev pub are_read_only : ℕ → ℕ → List Region → Bool
 are_read_only own peer [] = true
 are_read_only own peer (section ∷ sections) =

@@ -45,8 +45,9 @@ by_check Invalid rest = Some EINVAL
 by_check Busy rest = Some EBUSY
 by_check Clean rest = rest
 
--- What the new cell is refused for, the first that holds: a cell that lives, root too, has its name or its id; it names a CPU that the caller may not give away; the check
--- finds something that names it; the pages of all cells with it are more than there are.
+-- What the new cell is refused for, the first that holds: a cell that lives, root too, has its name or its id; it names
+-- a CPU that the caller may not give away; the check finds something that names it; the pages of all cells with it are
+-- more than there are.
 unfoldable pub refusal_of : SystemConfig → List CellConfig → CellConfig → (ℕ → Bool) → ℕ → ℕ → Option ℤ
 refusal_of system live new may pages pool =
     if is_known (system.root ∷ live) new then Some EEXIST

@@ -30,10 +30,10 @@ share_places one other = not (is_comm one) && (not (is_comm other) && phys_meet 
 abbrev pub takes_pages : Region → Region → Bool
 takes_pages one other = is_unshared one && (not (is_page_mapped one) && (is_page_mapped other && phys_meet one other))
 
--- The two regions break the rule, which is about two: an earlier and a later region of one cell have an address in common; or a place, where neither is a
--- communication region. A cell's subpage region that it holds unshared takes places from a page-mapped
--- region of root, so that root would lose whole pages. Two cells besides root have a place in common that they
--- don't both share with root, and that isn't at the same offset of two linked devices.
+-- The two regions break the rule, which is about two: an earlier and a later region of one cell have an address in
+-- common; or a place, where neither is a communication region. A cell's subpage region that it holds unshared takes
+-- places from a page-mapped region of root, so that root would lose whole pages. Two cells besides root have a place in
+-- common that they don't both share with root, and that isn't at the same offset of two linked devices.
 unfoldable pub pair_breaks : Rule → Spot → Spot → Bool
 pair_breaks VirtOverlap one other = (one.cell == other.cell) && (nat_lt one.item other.item && virt_meet one.region other.region)
 pair_breaks PhysOverlap one other = (one.cell == other.cell) && (nat_lt one.item other.item && share_places one.region other.region)
@@ -47,7 +47,7 @@ pair_breaks _ one other = false
 abbrev pub is_counted_comm : Region → Bool
 is_counted_comm region = has_size region && is_comm region
 
--- the communication region isn't one whole page, or is the cell's second
+-- the communication region isn't one whole page, or isn't the cell's first
 abbrev pub is_misshapen : List Region → Region → Bool
 is_misshapen earlier region =
     not (region.size == PAGE_SIZE) || (not (region.virt_start % PAGE_SIZE == 0) || list_any is_counted_comm earlier)
@@ -56,9 +56,9 @@ is_misshapen earlier region =
 abbrev pub is_out_of_range : Region → Bool
 is_out_of_range region = nat_lt ADDRESS_END (virt_end region) || (not (is_comm region) && nat_lt ADDRESS_END (phys_end region))
 
--- The region breaks the rule, which is about one, by the hypervisor's memory, the cell's number and its earlier regions: it has a place
--- in the hypervisor's memory; it ends past the addresses, or its places do; root's isn't mapped to itself; root
--- has a communication region; another cell's isn't one page or isn't its first; one may execute what one
+-- The region breaks the rule, which is about one, by the hypervisor's memory, the cell's number and its earlier regions:
+-- it has a place in the hypervisor's memory; it ends past the addresses, or its places do; root's isn't mapped to
+-- itself; root has a communication region; another cell's isn't one page or isn't its first; one may execute what one
 -- can't read; its places aren't aligned to pages where its addresses are.
 abbrev pub breaks_alone : Rule → Region → ℕ → List Region → Region → Bool
 breaks_alone Hypervisor memory cell earlier region = not (is_comm region) && phys_meet region memory

@@ -16,7 +16,8 @@ use std::alloc::Global;
 /// How many regions a block has; the last may have fewer.
 pub(crate) const BLOCK: usize = 32;
 
-/// Two spans that together have all regions that take part: `unshared` those that may meet shared ones, `any` the others.
+/// Two spans that together have all regions that take part. Each bears the name of the envelopes that it is held
+/// against: `unshared` has the regions that may meet shared ones, and so are shared themselves, `any` the others.
 #[derive(Clone, Copy)]
 pub(crate) struct Extents {
     pub(crate) any: Span,

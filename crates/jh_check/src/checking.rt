@@ -91,6 +91,7 @@ pub fn check(
     };
     let found = found_in(alloc, &setup)?;
     let mut first = found.into_vec();
+    // for the proof: `push` lets in no more than these
     first.truncate(MAX_FINDINGS);
     Ok(Seq::from_vec(first))
 }

@@ -325,7 +325,7 @@ fn around(envelopes: &[Envelope]) -> Window
     Window { first, last }
 }
 
-/// The numbers of the window that are greater than that one.
+/// The numbers greater than that one, up to the window's last, be they the window's or not.
 fn only_behind(window: Window, item: usize) -> Window
     ensures { (s : ℕ) → item < s → s ≤ window.last → IsIn result s }
 {

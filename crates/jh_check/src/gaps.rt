@@ -93,6 +93,7 @@ pub(crate) fn lie_in(gaps: &Gaps, extents: Extents) -> bool
 
 /// Whether the last of those before the gap begins before the span's end, and those behind the gap don't.
 fn is_last(envelopes: &[Envelope], gap: Gap, span: Span) -> bool {
+    // for the proof: `gap.before` is never more than the envelopes
     span.end <= gap.end
         && 0 < gap.before
         && gap.before <= envelopes.len()

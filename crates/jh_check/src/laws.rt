@@ -23,8 +23,8 @@ pub fn findings_tell_what_is_broken(
     ensures { Contains (findings _system.now _cells.now) _finding ↔ IsBroken _system.now _cells.now _finding }
 {}
 
-/// The findings stand in strict order: by rule, then the cells, then the regions or devices. (The parts of each
-/// cell of a configuration within its limits can be counted so.)
+/// The findings of at most 16 cells stand in strict order: by rule, then the cells, then the regions or devices. Each
+/// cell has at most 2^32 regions and 2^32 devices, as one within the limits of a configuration does.
 pub fn findings_are_ordered(_system: &SystemConfig, _cells: &[CellConfig])
     ensures { IsCountable (_system.now.root ∷ _cells.now) → AllPairs Precedes (findings _system.now _cells.now) }
 {}
@@ -55,7 +55,7 @@ pub fn clean_root_is_sound(_system: &SystemConfig, _cells: &[CellConfig])
     ensures { IsClean _system.now _cells.now → IsSoundRoot _system.now }
 {}
 
-/// What a cell besides root holds unshared takes whole pages from root's page-mapped regions.
+/// In what is clean, what a cell besides root holds unshared takes whole pages from root's page-mapped regions.
 pub fn pages_are_whole(_system: &SystemConfig, _cells: &[CellConfig])
     ensures { IsClean _system.now _cells.now → PagesAreWhole _system.now _cells.now }
 {}

@@ -23,6 +23,7 @@ fn holders_among(alloc: Global, devices: &[PciDevice]) -> Result<Vec<u16>, NoMem
     let mut holders = vec![in alloc; 0; bdfs_of(devices)]?;
     for n in 0..devices.len().min(MAX_BDFS) {
         let bdf = bdf_of(&devices[n]);
+        // for the proof: each bdf is below `bdfs_of`
         if devices[n].is_shmem() && bdf < holders.len() {
             holders[bdf] = n as u16;
         }
@@ -118,6 +119,7 @@ fn note_at(
         return;
     }
     let n = usize::from(holders[bdf]);
+    // for the proof: `holders` has numbers of the one cell's devices
     if n < one.pci_devices.len() {
         note(partners, one, n, other, m);
     }

@@ -64,6 +64,7 @@ pub(crate) fn at_bdf(seats: &[Seat], bdf: u16) -> &[Seat]
 {
     let end = seats.partition_point(|seat| seat.bdf <= bdf);
     let begin = seats.partition_point(|seat| seat.bdf < bdf);
+    // for the proof: `begin` is never above `end`
     &seats[begin.min(end)..end]
 }
 

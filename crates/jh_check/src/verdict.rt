@@ -221,7 +221,7 @@ fn is_invalid(alloc: Global, setup: &Setup, number: u32, new: &CellConfig) -> Re
     Ok(false)
 }
 
-/// Whether the new cell, of whose places that is the index, would hold a place that another holds.
+/// Whether a live cell and the new one, of whose places that is the index, break the rule CellsOverlap together.
 fn overlaps(setup: &Setup, index: &Option<Vec<Span>>, number: u32, new: &CellConfig) -> bool
     requires count { length setup.now.cells.now ≤ 15 }
     requires number { number ≡ length (cells_of setup.now) }
@@ -236,7 +236,7 @@ fn overlaps(setup: &Setup, index: &Option<Vec<Span>>, number: u32, new: &CellCon
     false
 }
 
-/// Whether the new cell, whose number is the next, would hold a place that another holds.
+/// Whether a live cell and the new one, whose number is the next, break the rule CellsOverlap together.
 fn is_busy(alloc: Global, setup: &Setup, number: u32, new: &CellConfig) -> Result<bool, NoMemory>
     requires count { length setup.now.cells.now ≤ 15 }
     requires number { number ≡ length (cells_of setup.now) }

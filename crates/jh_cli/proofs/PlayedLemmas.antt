@@ -11,19 +11,19 @@ use Rattle.jh_board.specs.BoardView.{BoardView}
 use Rattle.jh_run.specs.Plays.{IsPlayedBoard, IsFullAtCpu}
 use Rattle.jh_run.specs.Ends.{is_full}
 use Rattle.jh_run.specs.declared.ended.Ended.{Ended}
-use Rattle.jh_run.specs.declared.ended.Ended.TheVariants.{Quiet, Full}
+use Rattle.jh_run.specs.declared.ended.Ended.TheVariants.{Unstopped, Full}
 use Rattle.jh_cli.specs.declared.status.Status.{Status}
 use Rattle.jh_cli.specs.declared.status.Status.TheVariants.{Good, Full as FullStatus}
 use Rattle.jh_cli.specs.Reading.{Reply}
 use Rattle.jh_cli.specs.Play.{IsPlayed, played_status}
 
-good_is_quiet : (ended : Ended) → played_status (is_full ended) ≡ Good → ended ≡ Quiet
-good_is_quiet Quiet h = refl
+good_is_quiet : (ended : Ended) → played_status (is_full ended) ≡ Good → ended ≡ Unstopped
+good_is_quiet Unstopped h = refl
 good_is_quiet Full h = absurd (cc)
 
 -- the status is the full one exactly where the limit stopped the play
 full_is_full : (ended : Ended) → played_status (is_full ended) ≡ FullStatus → ended ≡ Full
-full_is_full Quiet h = absurd (cc)
+full_is_full Unstopped h = absurd (cc)
 full_is_full Full h = refl
 
 -- what is told of where the items ended
@@ -32,7 +32,7 @@ told_of reached = record { status = played_status reached.full; text = journal_t
 
 -- the board at the played journal, and how it ended, tell the play
 pub IsPlayed_from : (image : Image) (cpus : List ℕ) (board : BoardView) (ended : Ended) (status : Status) (text : List ℕ)
-    → IsPlayedBoard image max_entries cpus board ended → IsLegal image board.entries → ((ended ≡ Quiet) ↔ IsQuiet image board.entries) → ((ended ≡ Full) ↔ IsFullAtCpu image max_entries board.entries)
+    → IsPlayedBoard image max_entries cpus board ended → IsLegal image board.entries → ((ended ≡ Unstopped) ↔ IsQuiet image board.entries) → ((ended ≡ Full) ↔ IsFullAtCpu image max_entries board.entries)
     → status ≡ played_status (is_full ended) → text ≡ journal_text board.entries
     → IsPlayed image cpus (record { status = status; text = text })
 IsPlayed_from image cpus board ended status text plays legal quiet full is_status is_text =

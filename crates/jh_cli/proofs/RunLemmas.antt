@@ -6,7 +6,7 @@ use Rattle.jh_history.specs.Due.{IsLegal, IsQuiet}
 use Rattle.jh_run.specs.Ends.{is_full, IsFullAndBusy}
 use Rattle.jh_run.specs.Soak.{soak_board}
 use Rattle.jh_run.specs.declared.ended.Ended.{Ended}
-use Rattle.jh_run.specs.declared.ended.Ended.TheVariants.{Quiet, Full}
+use Rattle.jh_run.specs.declared.ended.Ended.TheVariants.{Unstopped, Full}
 use Rattle.jh_text.specs.Faults.{max_entries}
 use Rattle.jh_cli.specs.Lines.{exit_number}
 use Rattle.jh_cli.specs.Reading.{Reply, IsCountedFault}
@@ -17,12 +17,12 @@ use Rattle.jh_cli.specs.Run.{EndsRun, IsMadeByRun, IsRan}
 use Rattle.jh_cli.specs.Soak.{Soaks}
 use Rattle.jh_cli.proofs.StatusLemmas.{run_ends}
 
-ends_run : (image : Image) (entries : List Entry) (ended : Ended) → ((ended ≡ Quiet) ↔ IsQuiet image entries) → ((ended ≡ Full) ↔ IsFullAndBusy image max_entries entries)
+ends_run : (image : Image) (entries : List Entry) (ended : Ended) → ((ended ≡ Unstopped) ↔ IsQuiet image entries) → ((ended ≡ Full) ↔ IsFullAndBusy image max_entries entries)
     → EndsRun image entries (played_status (is_full ended))
-ends_run image entries Quiet quiet full = quiet.0 refl
+ends_run image entries Unstopped quiet full = quiet.0 refl
 ends_run image entries Full quiet full = full.0 refl
 
-pub made_by_run : (image : Image) (entries : List Entry) (ended : Ended) (status : Status) → IsLegal image entries → ((ended ≡ Quiet) ↔ IsQuiet image entries)
+pub made_by_run : (image : Image) (entries : List Entry) (ended : Ended) (status : Status) → IsLegal image entries → ((ended ≡ Unstopped) ↔ IsQuiet image entries)
     → ((ended ≡ Full) ↔ IsFullAndBusy image max_entries entries) → status ≡ played_status (is_full ended) → IsMadeByRun image entries status
 made_by_run image entries ended status legal quiet full is = record { legal = legal; ends = subst (EndsRun image entries) (sym is) (ends_run image entries ended quiet full) }
 

@@ -24,7 +24,7 @@ pub fn status_of(ended: Ended) -> Status
     ensures { result ≡ played_status (is_full ended) }
 {
     match ended {
-        Ended::Quiet => Status::Good,
+        Ended::Unstopped => Status::Good,
         Ended::Full => Status::Full,
     }
 }

@@ -41,7 +41,7 @@ pub record Windows : Type 0 where
   pub device : Option TheWindow
 
 -- what an access asks behind memory: by the cell with the id, the first of its subpage regions that has all of the
--- access, if one has, and the windows
+-- access, none of it at a place closed to the cell, if one has, and the windows
 pub record Asked : Type 0 where
   pub cell : ℕ
   pub region : Option Region

@@ -18,7 +18,7 @@ use Rattle.jh_history.specs.declared.entry.Settled.TheVariants.{Agreed, Denied, 
 use Rattle.jh_history.specs.declared.entry.Act.{Act}
 use Rattle.jh_history.specs.declared.entry.Act.TheVariants.{Begin, Decide, Settle, Commit, Note, Noted, Finish}
 
--- the call is about the cell with the id, which lives already
+-- the call is a start, a set loadable or a destroy of the cell with the id
 abbrev pub is_named : Call → ℕ → Bool
 is_named (Start cell) id = cell == id
 is_named (Loadable cell) id = cell == id
@@ -115,7 +115,8 @@ is_call (Noted id how) = true
 is_call (Finish answer) = true
 is_call _ = false
 
--- the call after an entry: opened by a Begin, closed by a Finish, and a phase further by the others
+-- the call after an entry: opened by a Begin, closed by a Finish, and else in the phase that the act leaves it in, which
+-- may be the same
 abbrev pub call_by : List Live → Option CellConfig → Option OpenCall → Entry → Act → Option OpenCall
 call_by cells coming call entry (Begin code a b) = Some (record { caller = entry.cpu; call = decoded code a b; phase = ToDecide })
 call_by cells coming call entry (Finish answer) = None

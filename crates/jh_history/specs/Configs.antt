@@ -30,8 +30,8 @@ abbrev pub read_whole : Option (List ℕ) → ReadCell
 read_whole None = Refuses EINVAL
 read_whole (Some bytes) = Reads (config_of bytes)
 
--- what is read of a configuration behind its header, where so many of its bytes may be read as these: all of it,
--- unless the header has a fault
+-- what is read of a configuration that begins with this header, where `bytes` tells so many of its first bytes, if root
+-- may read them: the whole of it, unless the header has a fault
 abbrev pub read_behind : (ℕ → Option (List ℕ)) → List ℕ → Option ConfigFault → ReadCell
 read_behind bytes header None = read_whole (bytes (size_by_header header))
 read_behind bytes header (Some fault) = Refuses (refused_for fault)

@@ -68,7 +68,7 @@ is_undenied Timeout = true
 abbrev pub cpu_by_settle : Bool → Call → Cpu → Cpu
 cpu_by_settle undenied call cpu = if undenied && is_named call cpu.owner && is_running cpu.mode then asked_of cpu else cpu
 
--- where in root's program a failed CPU goes on: at its end
+-- where in root's program a CPU goes on that had failed there before it was lent: at the end
 abbrev pub end_in_root : Image → ℕ → ℕ
 end_in_root image i = length (program_ops image (name_of image.system.root) i)
 

@@ -35,7 +35,7 @@ pub record IsInConfig (bytes : InConfig) : Type 0 where
   pub wide : (bytes.width ≡ 1) ⊎ (bytes.width ≡ 2) ⊎ (bytes.width ≡ 4)
   pub aligned : bytes.at % bytes.width ≡ 0
 
--- a register has 32 bits, and is one of the 4,096 bytes of BAR 0 or the 512 of BAR 1
+-- a register has 32 bits, and lies within the 4,096 bytes of BAR 0 or the 512 of BAR 1
 pub record IsInWindow (register : InWindow) : Type 0 where
   pub bar : register.bar < 2
   pub aligned : register.at % 4 ≡ 0
@@ -63,7 +63,7 @@ place_of_section region = option_map_or (λ (r : Region). r.phys_start) region 0
 abbrev pub address_of_section : Option Region → ℕ
 address_of_section region = option_map_or (λ (r : Region). r.virt_start) region 0
 
--- what the function of the device shows: the size of the first output, since all have one size
+-- what the function of the device shows; the size of the first output stands for all, since all have one size
 abbrev pub function_of : CellConfig → PciDevice → FunctionSpec
 function_of config device = record {
   protocol = device.shmem_protocol;

@@ -33,10 +33,16 @@ use Rattle.jh_history.specs.Lives.{live_in}
 
 -- ---- writes of guests
 
+-- the endpoints after a write of the value to the configuration space of this endpoint, which is that of the cell's
+-- device of that number
+abbrev pub function_put_at : Devices → InConfig → ℕ → ℕ → Endpoint → List Endpoint
+function_put_at devices bytes value n e =
+    configured devices.cell n (config_written e.space (bytes.at % 4096) bytes.width (value % 2 ^ 32)) devices.endpoints
+
 -- the endpoints after a write of the value to the configuration space of the cell's device of that number
 abbrev pub function_put : Devices → InConfig → ℕ → ℕ → List Endpoint
 function_put devices bytes value n =
-    option_map_or (λ (e : Endpoint). configured devices.cell n (config_written e.space (bytes.at % 4096) bytes.width (value % 2 ^ 32)) devices.endpoints) (endpoint_at devices.cell n devices.endpoints) devices.endpoints
+    option_map_or (function_put_at devices bytes value n) (endpoint_at devices.cell n devices.endpoints) devices.endpoints
 
 -- the endpoints after a write of the value to configuration space; a function that is absent takes nothing
 abbrev pub config_put : Devices → InConfig → ℕ → List Endpoint

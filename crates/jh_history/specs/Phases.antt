@@ -107,7 +107,8 @@ decision image facts caller call = None
 abbrev pub is_down : ℕ → Bool
 is_down state = (state == STATE_SHUT_DOWN) || (state == STATE_FAILED)
 
--- the cell has had its time: so many entries of its CPUs, where it has a time-out, or nothing is due to any other CPU
+-- the cell has had its time: so many entries of its CPUs, where it has a time-out, or nothing is due to any CPU but the
+-- caller
 abbrev pub is_over : ℕ → ℕ → Bool → Bool
 is_over timeout waited idle = (not (timeout == 0) && nat_le timeout waited) || idle
 

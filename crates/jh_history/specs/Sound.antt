@@ -206,7 +206,7 @@ pub record IsSound (image : Image) (facts : Facts) : Type 0 where
 abbrev pub AreBytes : List ℕ → Type 0
 AreBytes numbers = All (λ (b : ℕ). b < 256) numbers
 
--- what an image holds as bytes are bytes: so it is of each image that a program can have
+-- the bytes of root's CPU set and of the preloads are bytes: so it is of each image that code can hold
 pub record IsMadeOfBytes (image : Image) : Type 0 where
   pub set : AreBytes image.system.root.cpu_set
   pub preloads : All (λ (p : Preload). AreBytes p.bytes) image.preloads

@@ -22,7 +22,7 @@ reach_of image facts cell wanted = reach image facts cell wanted.access wanted.a
 abbrev pub goes_on : Cpu → Bool
 goes_on state = not state.asked && not state.stopped && is_running state.mode
 
--- the operation that a CPU in this state is about to make: none at its program's end
+-- the operation that a CPU in this state is about to make: none where it doesn't go on, or is at its program's end
 abbrev pub pending_op : Image → Facts → Cpu → ℕ → Option Op
 pending_op image facts state cpu = if goes_on state then op_at image facts state cpu else None
 

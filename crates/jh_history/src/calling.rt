@@ -199,7 +199,7 @@ fn counted(cell: u32, call: &Call, phase: Phase) -> Phase
     phase
 }
 
-/// A phase after which no cell was created.
+/// The phase after an entry that creates no cell.
 fn only(phase: Phase) -> Next
     ensures phase { result.phase ≡ phase }
     ensures created { result.created ≡ None }

@@ -282,7 +282,8 @@ fn call_of<K: Known>(known: &K, cpu: u8) -> Option<&OpenCall>
     }
 }
 
-/// Whether the CPU is another of the board's than the caller, and has something due by its own program.
+/// Whether the CPU is another of the board's than the caller, and has something due: it is asked to stop, or its program
+/// goes on.
 fn is_other_due<K: Known>(known: &K, caller: u8, cpu: u8) -> bool
     requires { cpu < 16 }
     ensures { (i : TheImage) (f : Facts) → K.Knows known.now i f → result ≡ is_other_due i f caller cpu }
@@ -290,7 +291,7 @@ fn is_other_due<K: Known>(known: &K, caller: u8, cpu: u8) -> bool
     known.has_cpu(cpu) && cpu != caller && is_state_due(known, cpu, known.cpu(cpu))
 }
 
-/// Whether any CPU of the board other than the caller has something due by its own program.
+/// Whether any CPU of the board other than the caller has something due: it is asked to stop, or its program goes on.
 fn any_other_due<K: Known>(known: &K, caller: u8) -> bool
     ensures { (i : TheImage) (f : Facts) → K.Knows known.now i f → result ≡ any_below (is_other_due i f caller) 16 }
 {
@@ -302,7 +303,7 @@ fn any_other_due<K: Known>(known: &K, caller: u8) -> bool
     false
 }
 
-/// Whether no CPU but the caller has anything due, each by its own program.
+/// Whether no CPU of the board but the caller has anything due, neither a stop nor its program's next operation.
 pub(crate) fn is_idle_but<K: Known>(known: &K, caller: u8) -> bool
     ensures { (i : TheImage) (f : Facts) → K.Knows known.now i f → result ≡ is_idle_but i f caller }
 {

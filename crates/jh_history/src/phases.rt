@@ -30,7 +30,7 @@ use jh_comm::{
 use jh_num::NoMemory;
 use jh_num::error::{EINVAL, ENOENT, EPERM};
 
-/// The id that the call names, if it is about a cell that lives already: a start, a set loadable or a destroy.
+/// The id that the call names: that of a start, a set loadable or a destroy; `None` for any other call.
 pub(crate) fn named_id(call: &Call) -> Option<u64>
     ensures live { (lives : List TheLive) → named_cell lives call.now ≡ option_and_then (live_in lives) result }
     ensures named { IfSome result (λ cell. (id : ℕ) → is_named call.now id ≡ (cell == id)) }
@@ -42,7 +42,7 @@ pub(crate) fn named_id(call: &Call) -> Option<u64>
     }
 }
 
-/// Whether the call is about the cell with the id, which lives already.
+/// Whether the call is a start, a set loadable or a destroy of the cell with the id.
 pub(crate) fn is_named(call: &Call, id: u64) -> bool
     ensures { result ≡ is_named call.now id }
 {
@@ -128,7 +128,7 @@ fn any_keeps_commit<K: Known>(known: &K, call: &Call) -> bool
     false
 }
 
-/// Whether a cell in that state doesn't run: the state is SHUT_DOWN or FAILED.
+/// Whether a cell in that state is down: the state is SHUT_DOWN or FAILED.
 fn is_down(state: u32) -> bool
     ensures { result ≡ is_down state }
 {
@@ -295,8 +295,8 @@ fn noted(id: u32, how: Option<Heard>) -> Option<Act>
     }
 }
 
-/// What is due to the caller in the phase of its call. Other CPUs are asked only where the phase waits for a cell that
-/// says nothing.
+/// What is due to the caller in the phase of its call. Whether other CPUs have anything due is looked at only where the
+/// phase waits for a cell that says nothing.
 pub(crate) fn phase_act<K: Known>(known: &K, begun: &OpenCall) -> Result<Option<Act>, NoMemory>
     ensures act { (i : TheImage) (f : Facts) → K.Knows known.now i f → IfOk result (λ act. act ≡ phase_act i f (is_idle_but i f begun.now.caller) begun.now.caller begun.now.call begun.now.phase) }
     ensures phase { IfOk result (λ act. IfSome act (λ act. is_call act ≡ true)) }

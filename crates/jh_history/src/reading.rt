@@ -62,6 +62,7 @@ fn bytes_at<R: RootBytes>(
     requires { 1 ≤ count }
     ensures { IfOk result (λ bytes. bytes ≡ bytes_by (R.readable root.now) at count) }
 {
+    // nothing can be read from the end of addresses on
     root.ends();
     if at >= ADDRESS_END {
         return Ok(None);

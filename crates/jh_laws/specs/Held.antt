@@ -41,8 +41,8 @@ AreGrantedTo image cells id access at width = (k : ℕ) → k < width → (place
 
 -- ---- what a cell holds for itself
 
--- the cell holds the place for itself: by a region of it that isn't shared with root, nor left to root while the cell is
--- loadable
+-- the cell holds the place for itself: by a region of it that is no communication region, and is neither shared with
+-- root nor left to root while the cell is loadable
 pub record IsHeld (cells : List Live) (live : Live) (number : ℕ) (region : Region) (place : ℕ) : Type 0 where
   pub lives : Contains cells live
   pub item : slice_get live.config.memory_regions number ≡ Some region
@@ -58,8 +58,8 @@ IsHeldBefore m live number place = (region : Region) × IsHeld (facts_before m).
 abbrev pub AreLinkedSections : CellConfig → ℕ → CellConfig → ℕ → Type 0
 AreLinkedSections cell number other other_number = IsSameSection cell number other other_number ⊎ IsSameSection other other_number cell number
 
--- the id is the cell's own, or that of a live cell with a device linked to one of its devices, of which the region is a
--- section
+-- the id is the cell's own, or that of a live cell besides root with a device linked to one of its devices, of which
+-- the region is a section
 abbrev pub IsOwnOrLinked : List Live → CellConfig → ℕ → ℕ → Type 0
 IsOwnOrLinked cells cell number id =
     (id ≡ cell.id) ⊎ ((other : CellConfig) × Contains (configs_of cells) other × (other.id ≡ id) × (n : ℕ) × AreLinkedSections cell number other n)

@@ -18,7 +18,7 @@ use Rattle.jh_laws.specs.RootAlone.{cpu_at}
 use Rattle.jh_laws.specs.Ends.{IsAnswered, IsReadBy}
 use Rattle.jh_laws.specs.Outcomes.{HasItsOutcome}
 
--- the operation that the act is, without its outcome; the later phases of a management call are none
+-- the operation that the act is, without its outcome; a stop and the later phases of a management call are none
 abbrev pub op_of : Act → Option Op
 op_of (Read width at got) = Some (ReadOp width at)
 op_of (Write width at value ok) = Some (WriteOp width at value)
@@ -45,9 +45,9 @@ program_in image cell cpu = program_ops image (name_of cell) cpu
 abbrev pub op_before : AdmittedMoment → CellConfig → Option Op
 op_before m cell = slice_get (program_in m.image cell m.entry.cpu) (state_before m m.entry.cpu).position
 
--- the cell's operation is due after the entries: a read, write or fetch always is, and an await where it reads the value
--- that it waits for, if anything answers it. These are the operations of images whose root has no device, and which have no
--- hypercall: there an interrupt is never due
+-- the cell's operation is due after the entries: a read, write or fetch always is, and an await where the access is a
+-- violation or reads the value that it waits for. These are the operations of images whose root has no device, and
+-- which have no hypercall: there an interrupt is never due
 abbrev pub IsDueOp : Image → List Entry → CellConfig → Op → Type 0
 IsDueOp image entries cell (ReadOp width at) = Unit {0}
 IsDueOp image entries cell (WriteOp width at value) = Unit {0}

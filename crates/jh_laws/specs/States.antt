@@ -46,7 +46,9 @@ pub record HasSettled (call : Call) (before behind : Cpu) : Type 0 where
 -- a destroy gives them back to root; every other CPU stays as it is
 abbrev pub HasCommitted : Image → List CellConfig → List CellConfig → Call → ℕ → Cpu → Cpu → Type 0
 HasCommitted image old new (Create at) i before behind =
-    (config : CellConfig) × (new ≡ old ++ config ∷ []) × (is_cpu_set config.cpu_set i ≡ true → behind ≡ lent config.id before) × (is_cpu_set config.cpu_set i ≡ false → behind ≡ before)
+    (config : CellConfig) × (new ≡ old ++ config ∷ [])
+    × (is_cpu_set config.cpu_set i ≡ true → behind ≡ lent config.id before)
+    × (is_cpu_set config.cpu_set i ≡ false → behind ≡ before)
 HasCommitted image old new (Start id) i before behind = (before.owner ≡ id → behind ≡ restarted before) × (before.owner ≢ id → behind ≡ before)
 HasCommitted image old new (Loadable id) i before behind = (before.owner ≡ id → behind ≡ parked before) × (before.owner ≢ id → behind ≡ before)
 HasCommitted image old new (Destroy id) i before behind =

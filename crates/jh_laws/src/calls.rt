@@ -55,8 +55,9 @@ pub fn calls_are_decided_by_their_cause()
         m.entry.act ≡ Decide refused → IsDecision m.image (facts_before m) m.entry.cpu call refused }
 {}
 
-/// How a cell met the request to shut down, and the note of a change: by its state word and its reply at that time,
-/// or by its time-out, which counts the entries of its CPUs since it was asked or told.
+/// How a cell met the request to shut down, and the note of a change: to the request a passive cell agrees at once;
+/// else it goes by its state word and its reply at that time, or its time was over: its CPUs had made as many entries
+/// since it was asked or told as its time-out tells, if that isn't 0, or nothing was due to any CPU but the caller.
 pub fn cells_are_heard_by_their_words()
     ensures settle { (s : AdmittedSpan) (call : TheCall) (how : TheSettled) → call_at_first s ≡ Some call →
         s.first.act ≡ Decide None → IsCpusNext s → s.last.act ≡ Settle how → IsSettledAtLast s call how }

@@ -21,7 +21,7 @@ pub fn cells_are_granted_their_places()
         (granted j.image (facts_of j) id access at ≡ Some place) ↔ IsGrantedAfter j id access at place }
 {}
 
-/// What root is granted at an address is the place of physical memory that has this address.
+/// The place that root's regions give it at an address is the place of physical memory that has this address.
 pub fn root_is_granted_its_addresses()
     ensures { (image : TheImage) (access : TheAccess) (at : ℕ) (place : ThePlace) → IsAdmitted image →
         IsGiven image.system.root access at place → place ≡ Physical at }
@@ -50,10 +50,10 @@ pub fn accesses_end_as_granted()
     ensures { (m : AdmittedMoment) → EndsAsGranted m.image (facts_before m) m.entry.cell m.entry.act }
 {}
 
-/// A byte of physical memory that a live cell holds for itself changes only by an entry of that cell, or of a live
-/// cell with a device linked to one of its devices, of which the byte's region is a section, or as one of a word of a
-/// state table, of a device of such a cell or of root. A byte of a communication page changes only by an entry of its
-/// cell, or where the hypervisor writes into that page.
+/// A byte of physical memory that a cell besides root holds for itself changes only by an entry of that cell, or of a
+/// live cell besides root with a device linked to one of its devices, of which the byte's region is a section, or as
+/// one of a word of a state table, of a device of one of these cells or of root. A byte of a communication page changes
+/// only by an entry of its cell, or where the hypervisor writes into that page.
 pub fn what_a_cell_holds_is_its_own()
     ensures memory { (m : AdmittedMoment) (live : TheLive) (number place : ℕ) →
         IsHeldBefore m live number place → ByteChanges m (Physical place) →

@@ -1,4 +1,4 @@
-//! The laws that every journal obeys, in the words of the subject: what a reader may believe without the
+//! The laws that every legal journal obeys, in the words of the subject: what a reader may believe without the
 //! fold over the entries. Each function does nothing; its contract is the law. Those of `root_alone` are over the
 //! journals of images in which root lives alone and has no ivshmem device. Those of `order`, `items` and `opening`
 //! are over any image, and name what they ask of it; all others are over admitted images, but for what they say of

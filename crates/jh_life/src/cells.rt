@@ -109,7 +109,8 @@ impl Cells {
     /// ENOMEM, by the first cause that holds; `None` lets it go on. `locked` says that a live cell allows no create,
     /// `caller` is the CPU that asks for it, `owned` has a bit for each of the 16 CPUs that is root's, and `pool` is
     /// how many pages there are. A cell that isn't refused may be added. It takes memory for an index of the new
-    /// cell's regions, and for nothing else.
+    /// cell's regions, and for nothing else. Where 15 cells live, root has no CPU but the caller's, so that none can be
+    /// given away.
     pub fn verdict(
         &self,
         alloc: Global,

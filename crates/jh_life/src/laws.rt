@@ -32,8 +32,8 @@ pub fn cells_are_listed_in_order_of_creation()
     ensures { (changes : List CellChange) → configs_of (fold after [] changes) ≡ lasting changes }
 {}
 
-/// Which cell with an id lives, and whether it is loadable, goes by the changes of that id alone: it lives since it was
-/// last created, and is loadable as it was last set since.
+/// Where no cell is created whose id lives, which cell with an id lives, and whether it is loadable, goes by the
+/// changes of that id alone: it lives since it was last created, and is loadable as it was last set since.
 pub fn a_cell_is_as_it_was_last_set()
     ensures { (id : ℕ) (changes : List CellChange) → AreNew [] changes → find (has_id id) (fold after [] changes) ≡ fold (live_after id) None changes }
 {}
@@ -58,9 +58,9 @@ pub fn a_refusal_tells_its_first_cause()
 {}
 
 /// Where each number is told, and none: EPERM where a live cell allows no create; else EEXIST where root or a live cell
-/// has the new one's name or id; else EBUSY where it names a CPU that isn't root's, or the caller's; else EINVAL where
-/// a rule is broken, but by places that two cells would have; else EBUSY where such places are found; else ENOMEM
-/// where the pages are too few; and nothing where none of this holds.
+/// has the new one's name or id; else EBUSY where it names the caller's CPU or one that isn't root's; else EINVAL where
+/// it breaks a rule otherwise than by places that it and another cell would have; else EBUSY where it breaks one by
+/// such places; else ENOMEM where the pages are too few; and nothing where none of this holds.
 pub fn each_number_has_its_causes()
     ensures locked { (seen : CellsView) (create : Create) → (verdict_on seen create ≡ Some EPERM) ↔ (create.locked ≡ true) }
     ensures known { (seen : CellsView) (create : Create) → (verdict_on seen create ≡ Some EEXIST) ↔ IsFirst seen create Known }

@@ -85,7 +85,7 @@ fn a_range_of_64_mib_is_taken(rt: HostRuntime) -> Result<(), Fail> {
     Ok(())
 }
 
-/// Sets the word there, and tells it with the bytes behind it.
+/// Sets the word 8 bytes behind the place, and tells the word at the place, that one, and the one a byte further on.
 fn set_and_read(memory: &mut Frames, at: u64, word: u64) -> [u64; 3]
     requires own { AreOwnBytes memory.old.own at 4096 }
     requires place { at + 4096 ≤ ADDRESS_END }

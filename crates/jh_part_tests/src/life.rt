@@ -43,7 +43,7 @@ fn cell(
     })
 }
 
-/// Root alone, with CPUs 0 to 3 and 1 GB of memory.
+/// Root alone, with CPUs 0 to 7 and 1 GB of memory.
 fn alone(alloc: Global) -> Result<Cells, NoMemory> {
     let memory = region(ROOT, 0x4000_0000, READ_WRITE);
     let root = cell(alloc, b'r', 0, 0xff, &[memory])?;
@@ -72,6 +72,7 @@ fn with_one(alloc: Global) -> Result<Cells, NoMemory> {
     let block = region(ROOT + BLOCK, BLOCK, READ_WRITE);
     let one = cell(alloc, b'a', 1, 0x2, &[block])?;
     join(alloc, &mut cells, one)?;
+    // for the proof: the cell has joined
     if cells.list().len() == 1 {
         cells.set_loadable(1, true);
     }
@@ -87,6 +88,7 @@ fn told(cells: &Cells) -> (Option<u32>, u64, u16) {
 fn a_cell_joins_and_leaves(rt: HostRuntime) -> Result<(), Fail> {
     let mut cells = with_one(rt.alloc())?;
     assert_eq!(rt; told(&cells), (Some(1), 5, 0x1));
+    // for the proof: the cell is there
     if cells.list().len() == 1 {
         cells.drop_cell(1);
     }

@@ -1,5 +1,5 @@
-//! A system in which each field has another value than all others of its width, so that no two can trade places.
-//! Refusals are shown by the rows.
+//! A system in which each field, the sizes of root's parts aside, has another value than all others of its width, so
+//! that no two can trade places. Refusals are shown by the rows.
 use jh_cellcfg::{CellConfig, Console, Irqchip, PciDevice, Region, SystemConfig};
 use jh_num::Seq;
 use jh_syscfg::{read_system, system_is_within_limits, write_system};

@@ -10,7 +10,7 @@ use Rattle.jh_history.proofs.Public.{reached}
 use Rattle.jh_laws.specs.Items.{ItemsLead, IsCutShort}
 use Rattle.jh_board.specs.BoardView.{BoardView}
 use Rattle.jh_run.specs.declared.ended.Ended.{Ended}
-use Rattle.jh_run.specs.declared.ended.Ended.TheVariants.{Quiet, Full}
+use Rattle.jh_run.specs.declared.ended.Ended.TheVariants.{Unstopped, Full}
 use Rattle.jh_run.specs.Ends.{is_full}
 use Rattle.jh_run.specs.Private.Ran.{Ran}
 use Rattle.jh_run.specs.Plays.{IsBoardOf, Follows, IsPlayedBoard, IsFullAtItem, IsFullAtCpu}
@@ -27,11 +27,11 @@ abbrev opened : Image → ℕ → BoardView
 opened image limit = record { image = image; limit = limit; entries = [] }
 
 ended_full : (ended : Ended) → is_full ended ≡ true → ended ≡ Full
-ended_full Quiet h = absurd (false≢true h)
+ended_full Unstopped h = absurd (false≢true h)
 ended_full Full h = refl
 
-ended_quiet : (ended : Ended) → (ended ≡ Full → ⊥) → ended ≡ Quiet
-ended_quiet Quiet h = refl
+ended_quiet : (ended : Ended) → (ended ≡ Full → ⊥) → ended ≡ Unstopped
+ended_quiet Unstopped h = refl
 ended_quiet Full h = absurd (h refl)
 
 items_from : LeadLaw → CutLaw → (image : Image) (limit : ℕ) (xs : List ℕ) (full : Bool) (new : BoardView) → Ran (opened image limit) xs full new → (items image limit xs [] ≡ reached new.entries full) × IsBoardOf image limit new
@@ -76,7 +76,7 @@ DueLaw image limit schedule = (played image limit schedule).full ≡ true → (c
 abbrev pub LimitLaw : Image → ℕ → List ℕ → Type 0
 LimitLaw image limit schedule = (played image limit schedule).full ≡ true → length (played image limit schedule).entries ≡ limit
 
-quiet_from : (image : Image) (limit : ℕ) (schedule : List ℕ) (board : BoardView) (ended : Ended) → IsPlayedBoard image limit schedule board ended → QuietLaw image limit schedule → ended ≡ Quiet → IsQuiet image board.entries
+quiet_from : (image : Image) (limit : ℕ) (schedule : List ℕ) (board : BoardView) (ended : Ended) → IsPlayedBoard image limit schedule board ended → QuietLaw image limit schedule → ended ≡ Unstopped → IsQuiet image board.entries
 quiet_from image limit schedule board ended plays quiet is =
     let P : Reached → Type 0 = λ r. r.full ≡ false → IsQuiet image r.entries in
     subst P plays.0 quiet (ap is_full is)
@@ -91,14 +91,14 @@ never_both : (image : Image) (limit : ℕ) (entries : List Entry) → IsQuiet im
 never_both image limit entries quiet at = some_none (due image entries at.1.0) (quiet at.1.0) at.1.1
 
 pub quiet_exactly : (image : Image) (limit : ℕ) (schedule : List ℕ) (board : BoardView) (ended : Ended) → IsPlayedBoard image limit schedule board ended → QuietLaw image limit schedule → DueLaw image limit schedule → LimitLaw image limit schedule
-    → (ended ≡ Quiet) ↔ IsQuiet image board.entries
+    → (ended ≡ Unstopped) ↔ IsQuiet image board.entries
 quiet_exactly image limit schedule board ended plays quiet some most = (
   quiet_from image limit schedule board ended plays quiet,
   λ is. ended_quiet ended (λ full. never_both image limit board.entries is (full_from image limit schedule board ended plays some most full)),
 )
 
-by_end : (image : Image) (limit : ℕ) (schedule : List ℕ) (board : BoardView) (ended : Ended) → (ended ≡ Quiet → IsQuiet image board.entries) → IsFullAtCpu image limit board.entries → ended ≡ Full
-by_end image limit schedule board Quiet quiet at = absurd (never_both image limit board.entries (quiet refl) at)
+by_end : (image : Image) (limit : ℕ) (schedule : List ℕ) (board : BoardView) (ended : Ended) → (ended ≡ Unstopped → IsQuiet image board.entries) → IsFullAtCpu image limit board.entries → ended ≡ Full
+by_end image limit schedule board Unstopped quiet at = absurd (never_both image limit board.entries (quiet refl) at)
 by_end image limit schedule board Full quiet at = refl
 
 pub full_exactly : (image : Image) (limit : ℕ) (schedule : List ℕ) (board : BoardView) (ended : Ended) → IsPlayedBoard image limit schedule board ended → QuietLaw image limit schedule → DueLaw image limit schedule → LimitLaw image limit schedule

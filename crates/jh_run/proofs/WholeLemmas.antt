@@ -14,7 +14,7 @@ use Rattle.jh_run.proofs.TurnLemmas.{board_origin}
 use Rattle.jh_run.specs.Drives.{ExplainsEnd}
 use Rattle.jh_run.specs.Private.Driving.{last_fault}
 use Rattle.jh_run.specs.declared.ended.Ended.{Ended}
-use Rattle.jh_run.specs.declared.ended.Ended.TheVariants.{Quiet as EndedQuiet, Full as EndedFull}
+use Rattle.jh_run.specs.declared.ended.Ended.TheVariants.{Unstopped as EndedUnstopped, Full as EndedFull}
 use Rattle.jh_board.specs.declared.turn.TurnFault.{TurnFault}
 use Rattle.jh_board.specs.declared.turn.TurnFault.TheVariants.{Full, NoMemory}
 
@@ -56,17 +56,17 @@ board_tells ends origin board refused seen e legal within begins tells =
 
 -- a run that ended quiet, and one that ended full
 abbrev pub QuietExactly : Ended → Image → List Entry → Type 0
-QuietExactly ended image entries = (ended ≡ EndedQuiet) ↔ IsQuiet image entries
+QuietExactly ended image entries = (ended ≡ EndedUnstopped) ↔ IsQuiet image entries
 
 abbrev pub FullExactly : Ended → Image → ℕ → List Entry → Type 0
 FullExactly ended image limit entries = (ended ≡ EndedFull) ↔ IsFullAndBusy image limit entries
 
 pub quiet_exactly : (origin : Origin) (ended : Ended) (entries : List Entry) → ExplainsEnd origin (last_fault ended) entries → QuietExactly ended origin.image entries
-quiet_exactly origin EndedQuiet entries quiet = (λ e. quiet, λ h. refl)
+quiet_exactly origin EndedUnstopped entries quiet = (λ e. quiet, λ h. refl)
 quiet_exactly origin EndedFull entries full = (λ e. absurd (cc e), λ quiet. absurd (full.1 quiet))
 
 pub full_exactly : (origin : Origin) (ended : Ended) (entries : List Entry) → ExplainsEnd origin (last_fault ended) entries → FullExactly ended origin.image origin.limit entries
-full_exactly origin EndedQuiet entries quiet = (λ e. absurd (cc e), λ h. absurd (h.1 quiet))
+full_exactly origin EndedUnstopped entries quiet = (λ e. absurd (cc e), λ h. absurd (h.1 quiet))
 full_exactly origin EndedFull entries full = (λ e. full, λ h. refl)
 
 -- what a run tells of one origin it tells of the same origin

@@ -4,11 +4,11 @@ use Rattle.jh_script.specs.declared.image.Image.{Image}
 use Rattle.jh_history.specs.declared.entry.Entry.{Entry}
 use Rattle.jh_history.specs.Due.{IsQuiet}
 use Rattle.jh_run.specs.declared.ended.Ended.{Ended}
-use Rattle.jh_run.specs.declared.ended.Ended.TheVariants.{Quiet, Full}
+use Rattle.jh_run.specs.declared.ended.Ended.TheVariants.{Unstopped, Full}
 
 -- the limit stopped the schedule that ended so
 abbrev pub is_full : Ended → Bool
-is_full Quiet = false
+is_full Unstopped = false
 is_full Full = true
 
 -- the journal is at its limit and not quiet. The CPU that has an entry due isn't named, as `IsFullAtCpu` names it: a type's

@@ -21,7 +21,7 @@ region phys virt size flags = record { phys_start = phys; virt_start = virt; siz
 abbrev pub padded : List ℕ → List ℕ
 padded name = name ++ replicate (32 - length name) 0
 
--- a cell of that name, id and CPUs, all below 8
+-- a cell of that name and id, with these regions and with CPUs below 8
 abbrev pub bare_cell : List ℕ → ℕ → ℕ → List Region → CellConfig
 bare_cell name id cpus regions = record {
   name = name;

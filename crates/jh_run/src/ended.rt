@@ -6,7 +6,7 @@ ghost use Rattle.jh_run.specs.Ends.{is_full};
 #[derive(Clone, Copy, PartialEq, Eq, Debug)]
 pub enum Ended {
     /// The limit stopped nothing. After `play` and `run` nothing is due to any CPU.
-    Quiet,
+    Unstopped,
     /// The journal is at its limit, and the next item, or after a run some CPU, has an entry due.
     Full,
 }
@@ -15,5 +15,5 @@ pub enum Ended {
 pub fn how_ended(full: bool) -> Ended
     ensures { is_full result ≡ full }
 {
-    if full { Ended::Full } else { Ended::Quiet }
+    if full { Ended::Full } else { Ended::Unstopped }
 }

@@ -64,7 +64,7 @@ pub fn map(
     let (board, ended) = follow(alloc, image, schedule, limit)?;
     match ended {
         Ended::Full => Ok(None),
-        Ended::Quiet => {
+        Ended::Unstopped => {
             let text = print_maps(alloc, &board)?;
             Ok(Some(Seq::from_vec(text)))
         }

@@ -33,6 +33,7 @@ pub trait Home {
     ghost shared: { Option (TheShared TheRunning TheEntry (Result TheTurn TheFault)) };
 }
 
+// `None` stands for no board: what proves the call of `drive_at` with a `Brand` chooses the board for that call
 impl Home for Brand {
     ghost shared = { None };
 }

@@ -10,7 +10,8 @@ use std::sync::Wait;
 use std::thread;
 
 /// The post for the turn behind one that answered this: the same one while its CPU has entries due, and else that of
-/// the CPU that has. Where a worker is at that one, this one rests.
+/// the CPU that has. Where a worker is at that one, this one rests. Where nothing is due to any CPU, or the turn was
+/// refused, it ends the run, and the post stays.
 fn next_post<H: Home, R: Wait>(
     rt: &R,
     posts: &Posts<H>,
@@ -73,8 +74,8 @@ fn stay<H: Home, R: Wait, G: Gate>(
     unreachable!()
 }
 
-/// What a turn answered; or, where it told of a CPU whose worker rests, what the last turn at that one's post answered, which is
-/// left again.
+/// What a turn answered; or, where it told of a CPU whose post was left, what the last turn at that post answered,
+/// which is left again.
 fn visit<H: Home, R: Wait, G: Gate>(
     rt: &R,
     shared: &Shared<Running>,
@@ -96,8 +97,9 @@ fn visit<H: Home, R: Wait, G: Gate>(
     last
 }
 
-/// The index in the caller's own list for the turn behind one that answered this: the same one while its CPU has entries due, and
-/// else that of the CPU that has. Where a worker is at that one, other threads go first, and the next post has its turn.
+/// The index in the caller's own list for the turn behind one that answered this: the same one while its CPU has
+/// entries due, and else that of the CPU that has. Where a worker is at that one, other threads go first, and the
+/// next post has its turn. Where nothing is due to any CPU, or the turn was refused, it ends the run.
 fn next_index<H: Home>(
     posts: &Posts<H>,
     own: &[Post<H>],
@@ -123,8 +125,8 @@ fn next_index<H: Home>(
     }
 }
 
-/// Takes turns at the posts of the caller's own list, each behind the gate, until a worker finds that nothing is due to any CPU, or that a turn
-/// is refused. No other worker goes to these; the caller goes to the posts of workers that rest.
+/// Takes turns at the posts of the caller's own list, each behind the gate, until a worker finds that nothing is due
+/// to any CPU, or that a turn is refused. No other worker goes to these; the caller also goes to posts that were left.
 pub fn roam_own<H: Home, R: Wait, G: Gate>(
     rt: &R,
     shared: &Shared<Running>,

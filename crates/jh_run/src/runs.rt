@@ -67,7 +67,7 @@ fn ended_by(refused: Option<TurnFault>) -> Result<Ended, NoMemory>
     ensures { IfOk result (λ ended. refused ≡ last_fault ended) }
 {
     match refused {
-        None => Ok(Ended::Quiet),
+        None => Ok(Ended::Unstopped),
         Some(TurnFault::Full) => Ok(Ended::Full),
         Some(TurnFault::NoMemory) => Err(NoMemory),
     }
@@ -80,7 +80,7 @@ fn end_run(shared: Shared<Running>, driven: Driven) -> Result<(Board, Ended), No
     requires shows { SomeShows (origin_of (opened_value shared)) driven.refused driven.ports.items }
     ensures board { IfOk result (λ r. IsBoardOf (origin_of (opened_value shared)).image (origin_of (opened_value shared)).limit r.0) }
     ensures legal { IfOk result (λ r. IsLegal (origin_of (opened_value shared)).image r.0.entries) }
-    ensures quiet { IfOk result (λ r. (r.1 ≡ Ended.Quiet) ↔ IsQuiet (origin_of (opened_value shared)).image r.0.entries) }
+    ensures quiet { IfOk result (λ r. (r.1 ≡ Ended.Unstopped) ↔ IsQuiet (origin_of (opened_value shared)).image r.0.entries) }
     ensures full { IfOk result (λ r. (r.1 ≡ Ended.Full) ↔ IsFullAndBusy (origin_of (opened_value shared)).image (origin_of (opened_value shared)).limit r.0.entries) }
 {
     nothing_extends_a_quiet_journal();
@@ -105,7 +105,7 @@ pub fn run<R: Threads + Wait + Sync, G: Gate + Sync>(
     requires admitted { IsAdmitted image }
     ensures board { IfOk result (λ r. IsBoardOf image limit r.0) }
     ensures legal { IfOk result (λ r. IsLegal image r.0.entries) }
-    ensures quiet { IfOk result (λ r. (r.1 ≡ Ended.Quiet) ↔ IsQuiet image r.0.entries) }
+    ensures quiet { IfOk result (λ r. (r.1 ≡ Ended.Unstopped) ↔ IsQuiet image r.0.entries) }
     ensures full { IfOk result (λ r. (r.1 ≡ Ended.Full) ↔ IsFullAndBusy image limit r.0.entries) }
 {
     let (shared, ports) = open_run(alloc, image, limit)?;

@@ -119,7 +119,7 @@ pub fn follow(
     Ok((board, how_ended(full)))
 }
 
-/// Plays the schedule on a board of the image, and then rounds of all CPUs until nothing is due.
+/// Plays the schedule on a board of the image, and then rounds of all CPUs, until nothing is due or the limit stops it.
 pub fn play(
     alloc: Global,
     image: Image,
@@ -130,7 +130,7 @@ pub fn play(
     requires schedule { All (λ cpu. IsTrue (is_on_board image cpu)) schedule.now }
     ensures played { IfOk result (λ r. IsPlayedBoard image limit schedule.now r.0 r.1) }
     ensures legal { IfOk result (λ r. IsLegal image r.0.entries) }
-    ensures quiet { IfOk result (λ r. (r.1 ≡ Ended.Quiet) ↔ IsQuiet image r.0.entries) }
+    ensures quiet { IfOk result (λ r. (r.1 ≡ Ended.Unstopped) ↔ IsQuiet image r.0.entries) }
     ensures full { IfOk result (λ r. (r.1 ≡ Ended.Full) ↔ IsFullAtCpu image limit r.0.entries) }
 {
     items_run_until_one_is_cut_short();

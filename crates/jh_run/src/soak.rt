@@ -41,7 +41,7 @@ fn region(phys_start: u64, virt_start: u64, size: u64, flags: u64) -> Region
     }
 }
 
-/// A cell with CPUs below 8, in which all else is 0.
+/// A cell of that name and id, with these regions and with CPUs below 8, in which all else is 0.
 fn bare_cell(
     alloc: Global,
     name: [u8; 32],
@@ -264,8 +264,8 @@ fn programs(alloc: Global, n: u32) -> Result<Seq<Program>, NoMemory>
     Ok(programs)
 }
 
-/// The board of so many rounds, 1 to [`MAX_ROUNDS`]: root creates, loads, starts and destroys two cells in each of
-/// them, while its second CPU and the cells' own read and write.
+/// The board of so many rounds, 1 to [`MAX_ROUNDS`]: in each of them root creates two cells, loads the first one,
+/// starts both and destroys them, while its second CPU and the cells' own read and write.
 #[tactic(auto, unfolding(crate::specs::Soak::soak_board))]
 pub fn soak_image(alloc: Global, n: u32) -> Result<Image, NoMemory>
     requires { (1 ≤ n) × (n ≤ 400) }

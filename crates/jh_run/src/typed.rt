@@ -50,7 +50,7 @@ fn op_is_typed(op: &Op)
     }
 }
 
-/// The numbers of each of the operations are below the ends of their types.
+/// Of each of the operations the address, or the code and the arguments of its hypercall, are below 2^64.
 fn ops_are_typed(ops: &[Op])
     ensures { All IsTypedOp ops.now }
 {
@@ -59,7 +59,7 @@ fn ops_are_typed(ops: &[Op])
     }
 }
 
-/// The numbers of each program's operations are below the ends of their types.
+/// The same of the operations of each program.
 fn programs_are_typed(programs: &[Program])
     ensures { All (λ (p : TheProgram). All IsTypedOp p.ops) programs.now }
 {
@@ -77,7 +77,8 @@ fn preloads_are_typed(preloads: &[Preload])
     }
 }
 
-/// Root's id, the operations of the programs and the bytes of the preloads are as their types have them.
+/// Root's id, the bytes of the preloads, and the addresses and hypercalls of the programs' operations are as their types
+/// have them.
 pub(crate) fn image_is_typed(image: &Image)
     ensures { HasTypedNumbers image.now }
 {

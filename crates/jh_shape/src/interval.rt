@@ -84,7 +84,7 @@ impl Interval {
         self.start <= at && at + size <= self.end
     }
 
-    /// One past the last of the level's slots below the end of addresses that the interval touches.
+    /// One past the last of the level's slots below the end of addresses that begins before the interval's end.
     pub(crate) fn past_slot(&self, level: u8) -> usize
         requires { level < LAST_LEVEL }
         ensures value { result ≡ past_slot level self.now.end }

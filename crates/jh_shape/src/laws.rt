@@ -1,5 +1,4 @@
-//! What holds of shapes and pages, whatever the regions are: each law is the contract of a function that
-//! does nothing.
+//! What holds of shapes and pages: each law is the contract of a function that does nothing.
 ghost use Rattle.std.specs.Prelude.{◌≡◌, ℕ, ◌+◌, ◌-◌, ◌%◌, ◌^◌, ◌<◌, ◌≤◌, List, [], ◌∷◌, ◌++◌, map, IsTrue, ◌↔◌};
 ghost use Rattle.jh_cellcfg.specs.declared.live.Live.{Live as LiveOf};
 ghost use Rattle.jh_shape.specs.Claims.{Claims, claims_of};
@@ -65,8 +64,8 @@ pub fn tables_stand_below_tables()
         → want_of claims (level + 1) start ≡ Want.Table → want_of claims level (start - start % slot_size level) ≡ Want.Table }
 {}
 
-/// A page of a page-mapped region is granted wholly or not at all: what one byte of a page of addresses
-/// is granted, each is, at the places beside it.
+/// Of sound claims, a page of a page-mapped region is granted wholly or not at all: what one byte of a page of
+/// addresses is granted, each is, at the places beside it.
 pub fn a_page_is_granted_wholly_or_not_at_all()
     ensures { (claims : Claims) (grant : PageGrant) (j k : ℕ) → AreSoundClaims claims → j < 4096 → k < 4096 → HasByte claims grant j → HasByte claims grant k }
 {}

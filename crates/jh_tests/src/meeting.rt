@@ -1,4 +1,4 @@
-//! A gate at which two workers wait for one another, so that no run on one thread passes it.
+//! A gate at which two workers wait for one another, so that no run on one thread has both of them meet.
 
 use jh_outside::Gate;
 use std::sync::atomic::{AtomicU64, Ordering};
@@ -30,7 +30,7 @@ impl Meeting {
         self.met.load(Ordering::SeqCst)
     }
 
-    /// Looks until the worker's second turn has begun.
+    /// Looks until the worker's second turn has begun, and counts that. After 100,000,000 looks it goes on all the same.
     fn await_second(&self, came: &AtomicU64) {
         for _ in 0..100_000_000u64 {
             if came.load(Ordering::SeqCst) > 0 {

@@ -102,7 +102,7 @@ fn follows(rt: &impl Abort, alloc: Global, schedule: &[u8], ended: Ended) -> Res
 #[test]
 fn follow_stops_at_the_first_item_that_is_one_too_many(rt: HostRuntime) -> Result<(), Fail> {
     follows(&rt, rt.alloc(), &[0, 1, 0, 3], Ended::Full)?;
-    follows(&rt, rt.alloc(), &[0, 1], Ended::Quiet)?;
+    follows(&rt, rt.alloc(), &[0, 1], Ended::Unstopped)?;
     Ok(())
 }
 
@@ -125,7 +125,7 @@ fn plays(
 #[test]
 fn play_stops_at_a_full_journal(rt: HostRuntime) -> Result<(), Fail> {
     plays(&rt, rt.alloc(), &[read(1), read(2)], &[], Ended::Full)?;
-    plays(&rt, rt.alloc(), &[read(1)], &[], Ended::Quiet)?;
+    plays(&rt, rt.alloc(), &[read(1)], &[], Ended::Unstopped)?;
     Ok(())
 }
 
@@ -135,7 +135,7 @@ fn workers_of_two_cpus_wait_for_one_another(rt: HostRuntime) -> Result<(), Fail>
     let image = ready(&rt, alloc, &[read(1)])?;
     let meeting = Meeting::with(3);
     let (board, ended) = run(&rt, alloc, image, &meeting, AMPLE)?;
-    assert_eq!(rt; ended, Ended::Quiet);
+    assert_eq!(rt; ended, Ended::Unstopped);
     assert_eq!(rt; board.journal().as_slice(), [FIRST].as_slice());
     assert_eq!(rt; meeting.met(), 2);
     Ok(())
@@ -156,6 +156,7 @@ fn a_run_stops_at_a_full_journal(rt: HostRuntime) -> Result<(), Fail> {
 fn first_due(alloc: Global, image: &Image) -> Result<(Option<Entry>, bool), NoMemory>
     requires admitted { IsAdmitted image.now }
 {
+    // for the proof: root has CPU 0
     if !is_on_board(image, 0) {
         return Ok((None, false));
     }

@@ -7,15 +7,14 @@ use Rattle.jh_check.specs.declared.rule.Rule.{Rule}
 use Rattle.jh_check.specs.declared.spans.Span.{Span}
 use Rattle.jh_check.specs.declared.blocks.Extents.{Extents}
 use Rattle.jh_check.specs.declared.blocks.TheConstants.{BLOCK}
-use Rattle.jh_check.specs.Private.Spans.{takes_part, span_of}
+use Rattle.jh_check.specs.Private.Spans.{takes_part, span_of, LiesWithin}
 use Rattle.jh_check.specs.Findings.{between_at}
 use Rattle.jh_check.specs.Lists.{found_from}
 use Rattle.jh_check.specs.Private.Envelopes.{passes_shared}
 
 -- the span is within the extent
-pub record IsInside (span extent : Span) : Type 0 where
-  pub starts : extent.start ≤ span.start
-  pub ends : span.end ≤ extent.end
+abbrev pub IsInside : Span → Span → Type 0
+IsInside span extent = LiesWithin span extent.start extent.end
 
 -- the one extents are within the others
 pub record AreInside (one other : Extents) : Type 0 where

@@ -66,7 +66,8 @@ abbrev pub IsAtItsNumber : Spot → ℕ → CellConfig → Type 0
 IsAtItsNumber one b other = one.cell ≡ b → (one.item < length other.memory_regions) × (one.region ≡ slice_index_or other.memory_regions one.item one.region)
 
 -- a region that breaks the rule with one of the cell is met, by that one's number, or, where the rule is about one
--- cell, by a number that isn't below it; where `pass` holds, each region that may meet shared ones
+-- cell, by a number that isn't below it; where `pass` holds, this is said of those regions alone that may meet shared
+-- ones
 abbrev pub CoversOthers : Rule → Bool → ℕ → CellConfig → List Envelope → Type 0
 CoversOthers rule pass b other envelopes =
     (one : Spot) (s : ℕ) (d : Region) → IsAtItsNumber one b other → (pass ≡ true → passes_shared rule one.region ≡ true) → s < length other.memory_regions

@@ -37,7 +37,7 @@ abbrev pub HasEach : Rule → List Region → List Span → Type 0
 HasEach rule regions spans =
     (r : ℕ) (d : Region) → r < length regions → takes_part rule (slice_index_or regions r d) ≡ true → Contains spans (span_of rule r (slice_index_or regions r d))
 
--- each span is of one of the regions
+-- each span has the number of one of the regions
 abbrev pub HasOnly : List Region → List Span → Type 0
 HasOnly regions spans = (x : Span) → Contains spans x → x.item < length regions
 
@@ -71,7 +71,7 @@ AreDisjoint rule regions =
 abbrev pub spans_meet : Span → Span → Bool
 spans_meet one other = nat_lt one.start other.end && nat_lt other.start one.end
 
--- the spans are those of the regions that take part, each of one of the regions, and stand apart
+-- among the spans are those of all regions that take part, each has the number of a region, and they stand apart
 pub record AreSpansOf (rule : Rule) (regions : List Region) (spans : List Span) : Type 0 where
   pub each : HasEach rule regions spans
   pub only : HasOnly regions spans

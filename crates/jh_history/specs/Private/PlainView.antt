@@ -109,7 +109,8 @@ pub record IsDueBeside (image : Image) (lives : List Live) (open_call : Option O
 
 -- each word of a state table that a write of a cell writes ends below 2^64
 abbrev pub HasWords : PlainView → Type 0
-HasWords plain = (id value : ℕ) (found : Reach) → IfSome (endpoint_word_of_reach (devices_in plain.image plain.cells plain.endpoints id) found value) (λ (word : EndpointWord). word.place + 4 < 2 ^ 64)
+HasWords plain =
+    (id value : ℕ) (found : Reach) → IfSome (endpoint_word_of_reach (devices_in plain.image plain.cells plain.endpoints id) found value) (λ (word : EndpointWord). word.place + 4 < 2 ^ 64)
 
 -- the devices of the cell that a Commit is about may be changed
 abbrev pub MayCommit : PlainView → Act → Type 0

@@ -15,7 +15,8 @@ IsTypedOp (Await width at value) = at < 2 ^ 64
 IsTypedOp Irq = Unit {0}
 IsTypedOp (Hvc code a b) = (code < 2 ^ 64) × (a < 2 ^ 64) × (b < 2 ^ 64)
 
--- the image's own numbers are as their types have them, and so are those of its programs' operations
+-- root's id and the bytes of the preloads are as their types have them, and so are the addresses and the hypercalls of
+-- its programs' operations
 pub record HasTypedNumbers (image : Image) : Type 0 where
   pub image_typed : IsTypedImage image
   pub ops : All (λ (p : Program). All IsTypedOp p.ops) image.programs
