@@ -4,7 +4,7 @@ pub mod Closed
 pub mod IsCellRegions
 pub mod IsIndexed
 pub mod RootPrograms
-pub mod FoundCreation
+pub mod JudgedCreate
 pub mod KeptCells
 pub mod Pages
 pub mod StateView

@@ -6,7 +6,7 @@ ghost use Rattle.jh_history.specs.Phases.{creation_of};
 ghost use Rattle.jh_history.specs.Facts.{Facts};
 ghost use Rattle.jh_history.specs.Wants.{IsReachOfEntry};
 ghost use Rattle.jh_board.specs.Means.{Means};
-ghost use Rattle.jh_board.specs.Private.FoundCreation.{IsFoundCreation};
+ghost use Rattle.jh_board.specs.Private.JudgedCreate.{IsJudgedCreate};
 
 use crate::creation::creation_from;
 use crate::granted::{reach, row_of_root};
@@ -28,7 +28,7 @@ use std::marker::Model;
 
 /// What comes of the create by the caller, of the configuration at the address, found once for its Decide.
 #[derive(Drop)]
-pub struct FoundCreation {
+pub struct JudgedCreate {
     pub caller: u8,
     pub at: u64,
     pub creation: Creation,
@@ -39,7 +39,7 @@ pub struct FoundCreation {
 pub struct State<'a> {
     image: &'a IndexedImage,
     held: &'a Held,
-    found: &'a Option<FoundCreation>,
+    found: &'a Option<JudgedCreate>,
 }
 
 impl<'a> Model for State<'a> {
@@ -50,15 +50,15 @@ impl<'a> Model for State<'a> {
     ghost view = { λ s. record { image = s.image.now; held = s.held.now } };
 
     ghost use Rattle.std.specs.Prelude.{IfSome};
-    ghost use Rattle.jh_board.specs.Private.FoundCreation.{IsFoundCreation};
+    ghost use Rattle.jh_board.specs.Private.JudgedCreate.{IsJudgedCreate};
 
-    ghost invariant = { λ s. IfSome s.found.now (IsFoundCreation s.image.now s.held.now) };
+    ghost invariant = { λ s. IfSome s.found.now (IsJudgedCreate s.image.now s.held.now) };
 }
 
 impl<'a> State<'a> {
     /// What is held, where this was found of a create.
-    pub fn new(image: &'a IndexedImage, held: &'a Held, found: &'a Option<FoundCreation>) -> Self
-        requires { IfSome found.now (IsFoundCreation image.now held.now) }
+    pub fn new(image: &'a IndexedImage, held: &'a Held, found: &'a Option<JudgedCreate>) -> Self
+        requires { IfSome found.now (IsJudgedCreate image.now held.now) }
         ensures { result ≡ record { image = image.now; held = held.now } }
     {
         State { image, held, found }
@@ -205,17 +205,17 @@ fn find_create_by(
     cpu: u8,
     caller: u8,
     at: u64,
-    found: &mut Option<FoundCreation>,
+    found: &mut Option<JudgedCreate>,
 ) -> Result<(), NoMemory>
     requires cpu { cpu < 16 }
     requires none { found.old ≡ None }
-    ensures { IfSome found.new (IsFoundCreation image.now held.now) }
+    ensures { IfSome found.new (IsJudgedCreate image.now held.now) }
 {
     let unknown = None;
     let state = State::new(image, held, &unknown);
     if caller == cpu && is_due(&state, cpu) {
         let creation = state.creation(caller, at)?;
-        *found = Some(FoundCreation {
+        *found = Some(JudgedCreate {
             caller,
             at,
             creation,
@@ -229,11 +229,11 @@ pub fn find_create(
     image: &IndexedImage,
     held: &Held,
     cpu: u8,
-    found: &mut Option<FoundCreation>,
+    found: &mut Option<JudgedCreate>,
 ) -> Result<(), NoMemory>
     requires cpu { cpu < 16 }
     requires none { found.old ≡ None }
-    ensures { IfSome found.new (IsFoundCreation image.now held.now) }
+    ensures { IfSome found.new (IsJudgedCreate image.now held.now) }
 {
     match create_to_decide(held) {
         Some((caller, at)) => find_create_by(image, held, cpu, caller, at, found),
@@ -246,12 +246,12 @@ pub fn find_create(
 pub fn next_entry(
     image: &IndexedImage,
     held: &Held,
-    found: &Option<FoundCreation>,
+    found: &Option<JudgedCreate>,
     cpu: u8,
     reach: &mut Reach,
 ) -> Result<Option<Entry>, NoMemory>
     requires cpu { cpu < 16 }
-    requires found { IfSome found.now (IsFoundCreation image.now held.now) }
+    requires found { IfSome found.now (IsJudgedCreate image.now held.now) }
     ensures due { (f : Facts) → Means image.now held.now f → IfOk result (λ entry. entry ≡ due_at image.now f cpu) }
     ensures reached { (f : Facts) → Means image.now held.now f → IfOk result (λ entry. IfSome entry (λ entry. IsReachOfEntry image.now f entry reach.new)) }
     ensures cpu { IfOk result (λ entry. IfSome entry (λ entry. entry.cpu ≡ cpu)) }
@@ -264,11 +264,11 @@ pub fn next_entry(
 pub fn creation_by(
     image: &IndexedImage,
     held: &Held,
-    found: Option<FoundCreation>,
+    found: Option<JudgedCreate>,
     caller: u8,
     at: u64,
 ) -> Result<Creation, NoMemory>
-    requires { IfSome found (IsFoundCreation image.now held.now) }
+    requires { IfSome found (IsJudgedCreate image.now held.now) }
     ensures { (f : Facts) → Means image.now held.now f → IfOk result (λ creation. creation ≡ creation_of image.now f caller at) }
 {
     if let Some(found) = found {

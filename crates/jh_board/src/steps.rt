@@ -20,7 +20,7 @@ ghost use Rattle.jh_history.specs.Due.{due_at};
 ghost use Rattle.jh_history.specs.Wants.{IsReachOfEntry};
 ghost use Rattle.jh_board.specs.Pages.{byte_of, HoldsComm, HoldsPlace};
 ghost use Rattle.jh_board.specs.Indexed.{AreProgramIndices};
-ghost use Rattle.jh_board.specs.Private.FoundCreation.{IsFoundCreation};
+ghost use Rattle.jh_board.specs.Private.JudgedCreate.{IsJudgedCreate};
 ghost use Rattle.jh_board.specs.Means.{Means, IsReadyToGoOn, IsReadyFor};
 ghost use Rattle.jh_board.specs.Private.Steps.{decides_to_go_on, create_of, change_of_call, change_of_cells, changed_cells, IsNextEntry, IsRead, NeedsNothingYet, WillBeReady, IsPrepared, MayWrite, MayWriteOf, MayWriteEndpointWord, MayCommit, MayJoinCells, IsSameButDevices, joined_cells, devices_held, memory_written, memory_after, endpoint_word_after, endpoints_acted_by};
 
@@ -31,7 +31,7 @@ use crate::granted::devices_of;
 use crate::held::Held;
 use crate::indexed::{IndexedImage, ProgramIndex};
 use crate::memory::Memory;
-use crate::state::{FoundCreation, creation_by};
+use crate::state::{JudgedCreate, creation_by};
 use jh_call::Call;
 use jh_cellcfg::{CellConfig, MAX_CPUS};
 use jh_cpu::Cpu;
@@ -113,10 +113,10 @@ fn coming_of(
     image: &IndexedImage,
     held: &Held,
     entry: &Entry,
-    found: &mut Option<FoundCreation>,
+    found: &mut Option<JudgedCreate>,
 ) -> Result<Option<BoxedCell>, NoMemory>
     requires next { IsNextEntry image.now held.now entry.now }
-    requires found { IfSome found.old (IsFoundCreation image.now held.now) }
+    requires found { IfSome found.old (IsJudgedCreate image.now held.now) }
     ensures read { (f : Facts) → Means image.now held.now f → due_at image.now f entry.now.cpu ≡ Some entry.now → IfOk result (IsRead image.now f entry.now) }
     ensures ready { (f : Facts) → Means image.now held.now f → due_at image.now f entry.now.cpu ≡ Some entry.now → IfOk result (WillBeReady image.now f entry.now) }
     ensures free { (f : Facts) → Means image.now held.now f → due_at image.now f entry.now.cpu ≡ Some entry.now → IfOk result (NeedsNothingYet f) }
@@ -164,10 +164,10 @@ fn prepare(
     image: &IndexedImage,
     held: &mut Held,
     entry: &Entry,
-    found: &mut Option<FoundCreation>,
+    found: &mut Option<JudgedCreate>,
 ) -> Result<Option<BoxedCell>, NoMemory>
     requires next { IsNextEntry image.now held.old entry.now }
-    requires found { IfSome found.old (IsFoundCreation image.now held.old) }
+    requires found { IfSome found.old (IsJudgedCreate image.now held.old) }
     ensures means { (f : Facts) → Means image.now held.old f → Means image.now held.new f }
     ensures ok { (f : Facts) → Means image.now held.old f → due_at image.now f entry.now.cpu ≡ Some entry.now → IfOk result (IsPrepared image.now held.new f entry.now) }
 {
@@ -361,10 +361,10 @@ pub fn make(
     held: &mut Held,
     entry: &Entry,
     reach: &Reach,
-    found: &mut Option<FoundCreation>,
+    found: &mut Option<JudgedCreate>,
 ) -> Result<(), NoMemory>
     requires next { IsNextEntry image.now held.old entry.now }
-    requires found { IfSome found.old (IsFoundCreation image.now held.old) }
+    requires found { IfSome found.old (IsJudgedCreate image.now held.old) }
     requires reached { (f : Facts) → Means image.now held.old f → IsReachOfEntry image.now f entry.now reach.now }
     ensures ok { OnOk result ((f : Facts) → Means image.now held.old f → due_at image.now f entry.now.cpu ≡ Some entry.now → Means image.now held.new (after image.now f entry.now)) }
     ensures err { OnErr result ((f : Facts) → Means image.now held.old f → Means image.now held.new f) }

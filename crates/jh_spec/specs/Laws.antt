@@ -109,7 +109,7 @@ pub record IsSystemOf (d : Data) (system : SystemConfig) : Type 0 where
 -- ---- the CPU bitmap
 
 -- a value that is a list of CPUs, and the bitmap of so many bytes that it tells
-pub record ToldBitmap : Type 0 where
+pub record BitmapOfCpus : Type 0 where
   pub value : Data
   pub bytes : ℕ
   pub cpus : List ℕ

@@ -13,7 +13,7 @@ ghost use Rattle.jh_spec.specs.declared.spec.Spec.{Spec as TheSpec};
 ghost use Rattle.jh_spec.specs.Fields.{region_told, irqchip_told, device_told, console_told};
 ghost use Rattle.jh_spec.specs.Cells.{cell_told, system_told};
 ghost use Rattle.jh_spec.specs.Specs.{kind_told, spec_told};
-ghost use Rattle.jh_spec.specs.Laws.{IsRegionOf, IsIrqchipOf, IsDeviceOf, IsConsoleOf, IsCellOf, IsSystemOf, ToldBitmap, blame};
+ghost use Rattle.jh_spec.specs.Laws.{IsRegionOf, IsIrqchipOf, IsDeviceOf, IsConsoleOf, IsCellOf, IsSystemOf, BitmapOfCpus, blame};
 
 use crate::fault::JsonFault;
 
@@ -40,6 +40,6 @@ pub fn the_first_fault_is_to_blame()
 /// The bitmap has the bytes that it is to have, and bit i mod 8 of byte i div 8 is set exactly where the list names
 /// CPU i.
 pub fn a_cpu_that_is_named_has_its_bit()
-    ensures size { (it : ToldBitmap) → length it.bitmap ≡ it.bytes }
-    ensures bits { (it : ToldBitmap) (cpu : ℕ) → cpu < 8 * it.bytes → (bit_at (slice_index it.bitmap (cpu / 8)) (cpu % 8) ≡ 1) ↔ Contains it.cpus cpu }
+    ensures size { (it : BitmapOfCpus) → length it.bitmap ≡ it.bytes }
+    ensures bits { (it : BitmapOfCpus) (cpu : ℕ) → cpu < 8 * it.bytes → (bit_at (slice_index it.bitmap (cpu / 8)) (cpu % 8) ≡ 1) ↔ Contains it.cpus cpu }
 {}

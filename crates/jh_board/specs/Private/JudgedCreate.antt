@@ -4,9 +4,9 @@ use Rattle.jh_script.specs.declared.image.Image.{Image}
 use Rattle.jh_history.specs.Facts.{Facts}
 use Rattle.jh_history.specs.Phases.{creation_of}
 use Rattle.jh_board.specs.declared.held.Held.{Held}
-use Rattle.jh_board.specs.declared.state.FoundCreation.{FoundCreation}
+use Rattle.jh_board.specs.declared.state.JudgedCreate.{JudgedCreate}
 use Rattle.jh_board.specs.Means.{Means}
 
 -- what was found is what comes of the create, by whatever facts that stand for what is held
-abbrev pub IsFoundCreation : Image → Held → FoundCreation → Type 0
-IsFoundCreation image held found = (f : Facts) → Means image held f → found.creation ≡ creation_of image f found.caller found.at
+abbrev pub IsJudgedCreate : Image → Held → JudgedCreate → Type 0
+IsJudgedCreate image held found = (f : Facts) → Means image held f → found.creation ≡ creation_of image f found.caller found.at
