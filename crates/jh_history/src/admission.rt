@@ -10,7 +10,7 @@ use crate::within::ends_within;
 use jh_cellcfg::{Region, SystemConfig};
 use jh_check::check;
 use jh_num::{NoMemory, PAGE_SIZE};
-use jh_script::{Image, MAX_OPS, Op, Preload, Program};
+use jh_script::{Image, MAX_OPS, Op, Preload, Program, access_width, max_of_width};
 use jh_shape::pages_of;
 use std::alloc::Global;
 
@@ -80,12 +80,9 @@ fn is_admitted_system(alloc: Global, system: &SystemConfig) -> Result<bool, NoMe
 fn fits(width: u8, value: u64) -> bool
     ensures { IsTrue result ↔ (IsTrue (is_width width) × (value < 256 ^ width)) }
 {
-    match width {
-        1 => value < 0x100,
-        2 => value < 0x1_0000,
-        4 => value < 0x1_0000_0000,
-        8 => true,
-        _ => false,
+    match access_width(u64::from(width)) {
+        Some(width) => value <= max_of_width(width),
+        None => false,
     }
 }
 
