@@ -12,7 +12,7 @@ use Rattle.jh_num.proofs.Public.{Contains_cases, Contains_head, Contains_tail, I
 use Rattle.jh_ivshmem.specs.declared.endpoint.Endpoint.{Endpoint}
 use Rattle.jh_ivshmem.specs.declared.vector.Vector.{Vector}
 use Rattle.jh_ivshmem.specs.Endpoint.{fresh_vector, vector_at, pending_in}
-use Rattle.jh_ivshmem.specs.Links.{endpoint_at, earlier, pending_at, pending_of}
+use Rattle.jh_ivshmem.specs.Links.{endpoint_at, earlier, pending_for, pending_of}
 use Rattle.jh_ivshmem.specs.Specs.{is_device, AreEndpointsApart}
 use Rattle.jh_ivshmem.proofs.Public.{named_cell, named_device, pairs_of}
 use Rattle.jh_history.specs.Facts.{Facts}
@@ -87,9 +87,9 @@ some_pending e v pending =
 
 -- what the walk over these endpoints leaves
 record IsBest (cell : ℕ) (list : List Endpoint) (best result : Option (ℕ × ℕ)) : Type 0 where
-  from : (p : ℕ × ℕ) → result ≡ Some p → (best ≡ Some p) ⊎ ((e : Endpoint) × Contains list e × (pending_at cell e ≡ Some p))
+  from : (p : ℕ × ℕ) → result ≡ Some p → (best ≡ Some p) ⊎ ((e : Endpoint) × Contains list e × (pending_for cell e ≡ Some p))
   low : (q : ℕ × ℕ) → best ≡ Some q → (p : ℕ × ℕ) × (result ≡ Some p) × (p.0 ≤ q.0)
-  each : (e : Endpoint) (q : ℕ × ℕ) → Contains list e → pending_at cell e ≡ Some q → (p : ℕ × ℕ) × (result ≡ Some p) × (p.0 ≤ q.0)
+  each : (e : Endpoint) (q : ℕ × ℕ) → Contains list e → pending_for cell e ≡ Some q → (p : ℕ × ℕ) × (result ≡ Some p) × (p.0 ≤ q.0)
 
 -- the earlier of two is one of them, and no later than each
 record IsEarlier (one other result : Option (ℕ × ℕ)) : Type 0 where
@@ -124,28 +124,28 @@ earlier_is None other = record { from = λ p e. inr e; first = λ q e. absurd (n
 earlier_is (Some a) None = record { from = λ p e. inl e; first = λ q e. (q, e, omega arith); second = λ q e. absurd (none-some q e) }
 earlier_is (Some a) (Some b) = earlier_of a b (nat_lt b.0 a.0) refl
 
-best_of : (cell : ℕ) (list : List Endpoint) (best : Option (ℕ × ℕ)) → IsBest cell list best (fold (λ (b : Option (ℕ × ℕ)) (e : Endpoint). earlier b (pending_at cell e)) best list)
+best_of : (cell : ℕ) (list : List Endpoint) (best : Option (ℕ × ℕ)) → IsBest cell list best (fold (λ (b : Option (ℕ × ℕ)) (e : Endpoint). earlier b (pending_for cell e)) best list)
 best_of cell [] best = record {
   from = λ p is. inl is;
   low = λ q is. (q, is, omega arith);
   each = λ e q held is. (let below : held.0 < 0 = held.1 in absurd (omega arith));
 }
 best_of cell (e ∷ list) best =
-    let own : Option (ℕ × ℕ) = pending_at cell e in
+    let own : Option (ℕ × ℕ) = pending_for cell e in
     let step = earlier_is best own in
     let rest = best_of cell list (earlier best own) in
-    let after : Option (ℕ × ℕ) = fold (λ (b : Option (ℕ × ℕ)) (o : Endpoint). earlier b (pending_at cell o)) (earlier best own) list in
+    let after : Option (ℕ × ℕ) = fold (λ (b : Option (ℕ × ℕ)) (o : Endpoint). earlier b (pending_for cell o)) (earlier best own) list in
     let lower : (q r : ℕ × ℕ) → earlier best own ≡ Some r → r.0 ≤ q.0 → (p : ℕ × ℕ) × (after ≡ Some p) × (p.0 ≤ q.0) = λ q r is le. (let more = rest.low r is in let less : more.0.0 ≤ r.0 = more.2 in (more.0, more.1, omega arith)) in
     record {
       from = λ p is.
           ⊎_elim
           (λ (was : earlier best own ≡ Some p). ⊎_elim (λ (old : best ≡ Some p). inl old) (λ (new : own ≡ Some p). inr (e, Contains_head e list, new)) (step.from p was))
-          (λ (later : (o : Endpoint) × Contains list o × (pending_at cell o ≡ Some p)). inr (later.0, Contains_tail e list later.0 later.1, later.2))
+          (λ (later : (o : Endpoint) × Contains list o × (pending_for cell o ≡ Some p)). inr (later.0, Contains_tail e list later.0 later.1, later.2))
           (rest.from p is);
       low = λ q is. (let first = step.first q is in lower q first.0 first.1 first.2);
       each = λ o q held is.
           ⊎_elim
-          (λ (same : e ≡ o). (let second = step.second q (ap (pending_at cell) same ∙ is) in lower q second.0 second.1 second.2))
+          (λ (same : e ≡ o). (let second = step.second q (ap (pending_for cell) same ∙ is) in lower q second.0 second.1 second.2))
           (λ (later : Contains list o). rest.each o q later is)
           (Contains_cases e list o held);
     }
@@ -184,7 +184,7 @@ next_some_holds f id n v h =
     let there = at.1 in
     let some = some_pending e v at.2 in
     let own : eqb e.spec.cell id ≡ true = eq-eqb e.spec.cell id (named_cell id n f.endpoints e there) in
-    let here : pending_at id e ≡ Some (e.spec.device, some.0) = ap (λ (b : Bool). cond b (option_map (λ u. (e.spec.device, u)) (pending_in e)) None) own ∙ ap (option_map (λ u. (e.spec.device, u))) some.1 in
+    let here : pending_for id e ≡ Some (e.spec.device, some.0) = ap (λ (b : Bool). cond b (option_map (λ u. (e.spec.device, u)) (pending_in e)) None) own ∙ ap (option_map (λ u. (e.spec.device, u))) some.1 in
     let best = (best_of id f.endpoints None).each e (e.spec.device, some.0) (endpoint_held f id n e there) here in
     let le : best.0.0 ≤ e.spec.device = best.2 in
     let number : e.spec.device ≡ n = named_device id n f.endpoints e there in
@@ -198,7 +198,7 @@ pub next_is : (image : Image) (f : Facts) (id n v : ℕ) → IsSound image f →
 next_is image f id n v sound is =
     ⊎_elim
     (λ (none : None ≡ Some (n, v)). absurd (none-some (n, v) none))
-    (λ (found : (e : Endpoint) × Contains f.endpoints e × (pending_at id e ≡ Some (n, v))).
+    (λ (found : (e : Endpoint) × Contains f.endpoints e × (pending_for id e ≡ Some (n, v))).
     let e : Endpoint = found.0 in
     let at = pending_by id e (n, v) (eqb e.spec.cell id) (pending_in e) refl refl found.2 in
     let C : ℕ → Type 0 = λ c. endpoint_at c n f.endpoints ≡ Some e in
