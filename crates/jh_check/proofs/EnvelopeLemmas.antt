@@ -14,7 +14,7 @@ use Rattle.jh_check.specs.declared.finding.Finding.{Finding}
 use Rattle.jh_check.specs.declared.spans.Span.{Span}
 use Rattle.jh_check.specs.declared.envelope.Envelope.{Envelope}
 use Rattle.jh_check.specs.declared.envelope.Envelopes.{Envelopes}
-use Rattle.jh_check.specs.declared.envelope.Window.{Window}
+use Rattle.jh_check.specs.declared.envelope.ItemRange.{ItemRange}
 use Rattle.jh_check.specs.Regions.{Spot, pair_breaks, share_places, takes_pages, both_shared}
 use Rattle.jh_check.specs.Devices.{are_same_section}
 use Rattle.jh_check.specs.Private.Spans.{joins, takes_part, span_of, is_within}
@@ -407,15 +407,15 @@ pub beside_none_met : (rule : Rule) (one : Spot) (b : ℕ) (other : CellConfig) 
 beside_none_met rule one b other envelopes of own unmet =
     beside_none rule one b other (λ s d within breaks. unmet (pair_takes_part rule one (spot b other s (get_or other.memory_regions s d)) breaks) (met_any rule b other envelopes one s d of own within breaks) (met_for rule b other envelopes one s d of own within breaks).0)
 
--- a window in which those are that meet it has the numbers of those that break the rule with it
-pub window_hits : (rule : Rule) (one : Spot) (b : ℕ) (other : CellConfig) (envelopes : Envelopes) (window : Window) → AreOf rule b other envelopes → IsAtItsNumber one b other → (is_within rule ≡ true → (met : IsMet (envelopes_for rule one.region envelopes) (span_of rule one.item one.region)) (s : ℕ) → one.item < s → s ≤ met.by.item → IsIn window s) → (is_within rule ≡ false → (met : IsMet (envelopes_for rule one.region envelopes) (span_of rule one.item one.region)) → IsIn window met.by.item) → HasHits rule one b other window
-window_hits rule one b other envelopes window of own behind told = λ s d within small breaks.
+-- a range in which those are that meet it has the numbers of those that break the rule with it
+pub range_hits : (rule : Rule) (one : Spot) (b : ℕ) (other : CellConfig) (envelopes : Envelopes) (range : ItemRange) → AreOf rule b other envelopes → IsAtItsNumber one b other → (is_within rule ≡ true → (met : IsMet (envelopes_for rule one.region envelopes) (span_of rule one.item one.region)) (s : ℕ) → one.item < s → s ≤ met.by.item → IsIn range s) → (is_within rule ≡ false → (met : IsMet (envelopes_for rule one.region envelopes) (span_of rule one.item one.region)) → IsIn range met.by.item) → HasHits rule one b other range
+range_hits rule one b other envelopes range of own behind told = λ s d within small breaks.
     let r = met_for rule b other envelopes one s d of own within breaks in
     elim (cases_Bool (is_within rule)) [
       | inl w ↦
           let low = ltb-true one.item s (pair_order rule one (spot b other s (get_or other.memory_regions s d)) w breaks) in
           behind w r.0 s low r.2
-      | inr w ↦ subst (λ n. IsIn window n) (r.1 w) (told w r.0)
+      | inr w ↦ subst (λ n. IsIn range n) (r.1 w) (told w r.0)
     ]
 
 -- items that give nothing may be passed over
@@ -445,10 +445,10 @@ found_rest found xs n d h =
     let e : get_or (drop n xs) i d ≡ get_or xs (n + i) d = get_or-drop n xs i d in
     subst (λ x. found (n + i) x ≡ []) (sym e) (h (n + i) (omega arith) (omega arith)))
 
--- a region outside the window gives nothing
-pub beside_outside : (rule : Rule) (one : Spot) (b : ℕ) (other : CellConfig) (window : Window) → HasHits rule one b other window → (s : ℕ) (d : Region) → s < length other.memory_regions → s < 2 ^ 64 → (IsIn window s → ⊥) → beside_at rule one b other s (get_or other.memory_regions s d) ≡ []
+-- a region outside the range gives nothing
+pub beside_outside : (rule : Rule) (one : Spot) (b : ℕ) (other : CellConfig) (range : ItemRange) → HasHits rule one b other range → (s : ℕ) (d : Region) → s < length other.memory_regions → s < 2 ^ 64 → (IsIn range s → ⊥) → beside_at rule one b other s (get_or other.memory_regions s d) ≡ []
 unfolding only_if
-beside_outside rule one b other window hits s d within small out =
+beside_outside rule one b other range hits s d within small out =
     ap (λ t. only_if t (finding_of rule one.cell one.item b s)) (false_from_ne_true (pair_breaks rule one (spot b other s (get_or other.memory_regions s d))) (λ breaks. out (hits s d within small breaks)))
 
 -- what is among those between the borders

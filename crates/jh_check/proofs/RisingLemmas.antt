@@ -5,7 +5,7 @@ use Rattle.std.proofs.lemmas.List.{get_or_default, append-nil}
 use Rattle.jh_cellcfg.specs.declared.region.Region.{Region}
 use Rattle.jh_cellcfg.specs.declared.config.CellConfig.{CellConfig}
 use Rattle.jh_check.specs.declared.rule.Rule.{Rule}
-use Rattle.jh_check.specs.declared.envelope.Window.{Window}
+use Rattle.jh_check.specs.declared.envelope.ItemRange.{ItemRange}
 use Rattle.jh_check.specs.declared.rising.Scan.{Scan}
 use Rattle.jh_check.specs.Private.Spans.{takes_part, span_of, is_within, joins}
 use Rattle.jh_check.specs.declared.finding.Finding.{Finding}
@@ -183,15 +183,15 @@ beside_early rule a one r d w early =
     met_before (span_of rule r x) (span_of rule s y) (pair_meets rule first other breaks) (subst (λ y. (span_of rule r x).end ≤ (span_of rule s y).start) (sym same) far))
 
 -- the regions before the stretch, and those from its last on, break the rule with none
-pub beside_before : (rule : Rule) (a : ℕ) (one : CellConfig) (stretch : Window) (r : ℕ) (d : Region) → is_within rule ≡ true → IsStretch rule one.memory_regions stretch → r < stretch.first → beside rule (spot a one r (get_or one.memory_regions r d)) a one ≡ []
+pub beside_before : (rule : Rule) (a : ℕ) (one : CellConfig) (stretch : ItemRange) (r : ℕ) (d : Region) → is_within rule ≡ true → IsStretch rule one.memory_regions stretch → r < stretch.first → beside rule (spot a one r (get_or one.memory_regions r d)) a one ≡ []
 beside_before rule a one stretch r d w is low = beside_early rule a one r d w (λ s h k t u. is.before r s d h k low t u)
 
-pub beside_behind : (rule : Rule) (a : ℕ) (one : CellConfig) (stretch : Window) (r : ℕ) (d : Region) → is_within rule ≡ true → IsStretch rule one.memory_regions stretch → stretch.last ≤ r → beside rule (spot a one r (get_or one.memory_regions r d)) a one ≡ []
+pub beside_behind : (rule : Rule) (a : ℕ) (one : CellConfig) (stretch : ItemRange) (r : ℕ) (d : Region) → is_within rule ≡ true → IsStretch rule one.memory_regions stretch → stretch.last ≤ r → beside rule (spot a one r (get_or one.memory_regions r d)) a one ≡ []
 beside_behind rule a one stretch r d w is high = beside_early rule a one r d w (λ s h k t u. is.behind r s d h k (omega arith) t u)
 
 -- those that break the rule with a region have their numbers behind it, up to the last
-pub scan_hits : (rule : Rule) (a : ℕ) (one : CellConfig) (stretch window : Window) (r : ℕ) (d : Region) → is_within rule ≡ true → IsStretch rule one.memory_regions stretch → ((s : ℕ) → r < s → s < 2 ^ 64 → window.first ≤ s) → EndsBefore rule one.memory_regions r stretch.last (end_at rule one.memory_regions d r) window.last → HasHits rule (spot a one r (get_or one.memory_regions r d)) a one window
-scan_hits rule a one stretch window r d w is begins stops = λ s e within small breaks.
+pub scan_hits : (rule : Rule) (a : ℕ) (one : CellConfig) (stretch range : ItemRange) (r : ℕ) (d : Region) → is_within rule ≡ true → IsStretch rule one.memory_regions stretch → ((s : ℕ) → r < s → s < 2 ^ 64 → range.first ≤ s) → EndsBefore rule one.memory_regions r stretch.last (end_at rule one.memory_regions d r) range.last → HasHits rule (spot a one r (get_or one.memory_regions r d)) a one range
+scan_hits rule a one stretch range r d w is begins stops = λ s e within small breaks.
     let regions = one.memory_regions in
     let x = get_or regions r d in
     let y = get_or regions s e in
@@ -203,13 +203,13 @@ scan_hits rule a one stretch window r d w is begins stops = λ s e within small 
     let second : TakesPart rule regions d s = subst (λ y. takes_part rule y ≡ true) same (pair_second rule first other w breaks) in
     let near : end_at rule regions d r ≤ start_at rule regions d s → ⊥ = λ far. met_before (span_of rule r x) (span_of rule s y) (pair_meets rule first other breaks) (subst (λ y. (span_of rule r x).end ≤ (span_of rule s y).start) (sym same) far) in (
       begins s before small,
-      elim (cases_lt window.last s) [
+      elim (cases_lt range.last s) [
         | inr h ↦ h
         | inl h ↦ elim (cases_lt stretch.last s) [
           | inl k ↦ absurd (near (is.behind r s d before within k part second))
           | inr k ↦
               let stop = stops s h k d in
-              let rise = is.rising window.last s d h within stop.2 second in
+              let rise = is.rising range.last s d h within stop.2 second in
               let far = stop.3 in
               absurd (near (omega arith))
         ]

@@ -40,7 +40,8 @@ abbrev pub BreakTogether : Rule → Spot → Spot → Type 0
 BreakTogether VirtOverlap one other = AreOfOne one other × MeetAtAddress one.region other.region
 BreakTogether PhysOverlap one other = AreOfOne one other × HavePlaces one.region other.region × MeetAtPlace one.region other.region
 BreakTogether SubpageTaken one other =
-    ((0 < one.cell) × (other.cell ≡ 0)) × ((is_unshared one.region ≡ true) × (is_page_mapped one.region ≡ false) × (is_page_mapped other.region ≡ true)) × MeetAtPlace one.region other.region
+    ((0 < one.cell) × (other.cell ≡ 0)) × ((is_unshared one.region ≡ true) × (is_page_mapped one.region ≡ false) × (is_page_mapped other.region ≡ true))
+    × MeetAtPlace one.region other.region
 BreakTogether CellsOverlap one other =
     ((0 < one.cell) × (one.cell < other.cell)) × HavePlaces one.region other.region × MeetAtPlace one.region other.region × (both_shared one.region other.region ≡ false)
     × (IsSameSection one.config one.item other.config other.item → ⊥)

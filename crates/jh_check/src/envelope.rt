@@ -23,7 +23,7 @@ pub(crate) struct Envelope {
 
 /// The numbers of regions from the first to the last; none, where the last is below the first.
 #[derive(Clone, Copy, PartialEq, Eq, Debug)]
-pub(crate) struct Window {
+pub(crate) struct ItemRange {
     pub(crate) first: usize,
     pub(crate) last: usize,
 }
@@ -294,14 +294,14 @@ fn is_only(envelopes: &[Envelope], k: usize, span: Span) -> bool
 }
 
 /// The numbers of those that meet the span, and maybe of others. `near` is how many may lie before its end.
-fn window_of(envelopes: &[Envelope], span: Span, near: usize) -> Window
+fn range_of(envelopes: &[Envelope], span: Span, near: usize) -> ItemRange
     requires { IsRising envelopes.now }
     ensures { (met : IsMet envelopes.now span) → IsIn result met.by.item }
 {
     let k = near.saturating_sub(1);
     if is_only(envelopes, k, span) {
         let item = envelopes[k].item;
-        return Window {
+        return ItemRange {
             first: item,
             last: item,
         };
@@ -313,7 +313,7 @@ fn window_of(envelopes: &[Envelope], span: Span, near: usize) -> Window
 }
 
 /// The numbers of regions from the least that one of the envelopes has to the greatest.
-fn around(envelopes: &[Envelope]) -> Window
+fn around(envelopes: &[Envelope]) -> ItemRange
     ensures { (x : Envelope) → Contains envelopes.now x → IsIn result x.item }
 {
     let mut first = usize::MAX;
@@ -322,38 +322,38 @@ fn around(envelopes: &[Envelope]) -> Window
         first = envelope.item.min(first);
         last = envelope.item.max(last);
     }
-    Window { first, last }
+    ItemRange { first, last }
 }
 
-/// The numbers greater than that one, up to the window's last, be they the window's or not.
-fn only_behind(window: Window, item: usize) -> Window
-    ensures { (s : ℕ) → item < s → s ≤ window.last → IsIn result s }
+/// The numbers greater than that one, up to the range's last, be they the range's or not.
+fn only_behind(range: ItemRange, item: usize) -> ItemRange
+    ensures { (s : ℕ) → item < s → s ≤ range.last → IsIn result s }
 {
-    Window {
+    ItemRange {
         first: item.saturating_add(1),
-        last: window.last,
+        last: range.last,
     }
 }
 
 /// The numbers of those regions with which the region, of that number in its cell, may break the rule: only of ones
 /// behind it, where the rule is about one cell. `near` is how many may lie before its end.
-pub(crate) fn find_window(
+pub(crate) fn find_range(
     envelopes: &Envelopes,
     rule: Rule,
     item: usize,
     region: &Region,
     near: usize,
-) -> Window
+) -> ItemRange
     requires any { IsRising envelopes.now.any.items }
     requires unshared { IsRising (unshared_of envelopes.now) }
     ensures behind { is_within rule ≡ true → (met : IsMet (envelopes_for rule region.now envelopes.now) (span_of rule item region.now)) (s : ℕ) → item < s → s ≤ met.by.item → IsIn result s }
     ensures told { is_within rule ≡ false → (met : IsMet (envelopes_for rule region.now envelopes.now) (span_of rule item region.now)) → IsIn result met.by.item }
 {
     let span = span_of(rule, item, region);
-    let window = window_of(envelopes_for(envelopes, rule, region), span, near);
+    let range = range_of(envelopes_for(envelopes, rule, region), span, near);
     if is_within(rule) {
-        only_behind(window, item)
+        only_behind(range, item)
     } else {
-        window
+        range
     }
 }

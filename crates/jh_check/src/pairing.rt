@@ -14,7 +14,7 @@ ghost use Rattle.jh_check.specs.Findings.{spot, beside, between, between_at, in_
 
 use crate::blocks::{BLOCK, Extents, blocks_of, extents_of};
 use crate::checking::MAX_FINDINGS;
-use crate::envelope::{Envelopes, Window, find_window, is_within, measure};
+use crate::envelope::{Envelopes, ItemRange, find_range, is_within, measure};
 use crate::finding::Finding;
 use crate::gaps::{Gaps, before_gap, first_gaps, lie_in, may_be_met_within, may_meet};
 use crate::links::{find_partners, holders_of, partner_of};
@@ -87,10 +87,8 @@ fn visit(
         region,
     };
     let partner = partner_of(partners, item);
-    let window = find_window(pair.envelopes, pair.rule, item, region, near);
-    beside(
-        found, pair.rule, &first, partner, window, pair.b, pair.other,
-    )
+    let range = find_range(pair.envelopes, pair.rule, item, region, near);
+    beside(found, pair.rule, &first, partner, range, pair.b, pair.other)
 }
 
 /// Each region of a block of a cell, which begins with the number `first`, with each of another; those are passed over that
@@ -244,7 +242,7 @@ fn look_behind(
     rule: Rule,
     a: u32,
     one: &CellConfig,
-    stretch: Window,
+    stretch: ItemRange,
     item: usize,
 ) -> Result<(), NoMemory>
     requires within { is_within rule ≡ true }
@@ -266,7 +264,7 @@ fn look_behind(
         item,
         region,
     };
-    let window = Window {
+    let range = ItemRange {
         first: item.saturating_add(1),
         last: first_behind(
             rule,
@@ -276,7 +274,7 @@ fn look_behind(
             span_of(rule, item, region).end,
         ),
     };
-    beside(found, rule, &first, None, window, a, one)
+    beside(found, rule, &first, None, range, a, one)
 }
 
 /// Each region of a cell with those behind it, where the regions begin in the order of their numbers, and those that
@@ -287,7 +285,7 @@ fn along(
     rule: Rule,
     a: u32,
     one: &CellConfig,
-    stretch: Window,
+    stretch: ItemRange,
 ) -> Result<(), NoMemory>
     requires within { is_within rule ≡ true }
     requires stretch { IsStretch rule one.now.memory_regions stretch }

@@ -4,7 +4,7 @@ ghost use Rattle.jh_cellcfg.specs.declared.region.Region.{Region};
 ghost use Rattle.jh_check.specs.Private.Spans.{takes_part, span_of};
 ghost use Rattle.jh_check.specs.Private.Rising.{IsStretch, IsScanMore, EndsBefore};
 
-use crate::envelope::Window;
+use crate::envelope::ItemRange;
 use crate::rule::Rule;
 use crate::spans::{span_of, takes_part};
 use jh_cellcfg::Region;
@@ -57,7 +57,7 @@ fn extended(scan: Scan, rule: Rule, item: usize, region: &Region) -> Option<Scan
 /// From the first region to the last that may meet another of the cell; none, where those that take part
 /// don't begin in the order of their numbers.
 #[inline(never)]
-pub(crate) fn stretch_of(rule: Rule, regions: &[Region]) -> Option<Window>
+pub(crate) fn stretch_of(rule: Rule, regions: &[Region]) -> Option<ItemRange>
     ensures { IfSome result (λ stretch. IsStretch rule regions.now stretch) }
 {
     let mut scan = Scan {
@@ -73,7 +73,7 @@ pub(crate) fn stretch_of(rule: Rule, regions: &[Region]) -> Option<Window>
             None => return None,
         }
     }
-    Some(Window {
+    Some(ItemRange {
         first: scan.first,
         last: scan.last,
     })

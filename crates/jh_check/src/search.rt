@@ -17,7 +17,7 @@ ghost use Rattle.jh_check.specs.Findings.{finding_of, beside, in_cell, in_region
 use crate::bus::{has_mark, has_mark_of, mark, marks};
 use crate::checking::MAX_FINDINGS;
 use crate::devices::{agrees_with_linked, cpus_break, device_breaks};
-use crate::envelope::Window;
+use crate::envelope::ItemRange;
 use crate::finding::{Finding, HYPERVISOR};
 use crate::fits::{is_sure, sure_fits};
 use crate::links::is_noted;
@@ -63,7 +63,7 @@ fn put(found: &mut Seq<Finding>, test: bool, finding: Finding) -> Result<(), NoM
     if test { push(found, finding) } else { Ok(()) }
 }
 
-/// A region with each of another cell; only those in the window may break the rule with it. Its partner there, if one
+/// A region with each of another cell; only those in the range may break the rule with it. Its partner there, if one
 /// is known, is the same section of linked devices.
 #[inline(always)]
 pub(crate) fn beside(
@@ -71,16 +71,16 @@ pub(crate) fn beside(
     rule: Rule,
     one: &Site,
     partner: Option<usize>,
-    window: Window,
+    range: ItemRange,
     b: u32,
     other: &CellConfig,
 ) -> Result<(), NoMemory>
     requires partner { IsPartner (spot_of one.now) other.now partner }
-    requires hits { HasHits rule (spot_of one.now) b other.now window }
+    requires hits { HasHits rule (spot_of one.now) b other.now range }
     ensures { OnOk result (capped found.new ≡ capped (found.old ++ beside rule (spot_of one.now) b other.now)) }
 {
     let regions = other.memory_regions.as_slice();
-    for s in window.first..regions.len().min(window.last.saturating_add(1)) {
+    for s in range.first..regions.len().min(range.last.saturating_add(1)) {
         let second = Site {
             cell: b,
             config: other,

@@ -32,8 +32,8 @@ fn next_post<H: Home, R: Wait>(
     }
 }
 
-/// Takes turns, each behind the gate, until a worker finds that nothing is due to any CPU, or that a turn is refused: first at the own
-/// post, and then at that of the CPU that has an entry due.
+/// Takes turns, each behind the gate, until a worker finds that nothing is due to any CPU, or that a turn is refused:
+/// first at the own post, and then at that of the CPU that has an entry due.
 pub fn roam<H: Home, R: Wait, G: Gate>(
     rt: &R,
     shared: &Shared<Running>,
@@ -54,7 +54,8 @@ pub fn roam<H: Home, R: Wait, G: Gate>(
     posts.leave(rt, post);
 }
 
-/// Takes turns at the post, each behind the gate, while its CPU has entries due and the run goes on. What the last one answered.
+/// Takes turns at the post, each behind the gate, while its CPU has entries due and the run goes on. What the last one
+/// answered.
 fn stay<H: Home, R: Wait, G: Gate>(
     rt: &R,
     shared: &Shared<Running>,

@@ -91,8 +91,8 @@ fn spread_out<'s, E, H: Home + Send + Sync, R: Threads + Wait + Sync, G: Gate + 
     }
 }
 
-/// Drives the caller's own list until the run has ended, and leaves its posts. Where it has one post alone, all others have workers,
-/// and the caller is one of these.
+/// Drives the caller's own list until the run has ended, and leaves its posts. Where it has one post alone, all others
+/// have workers, and the caller is one of these.
 fn drive_own<H: Home, R: Wait, G: Gate>(
     rt: &R,
     shared: &Shared<Running>,
@@ -242,8 +242,9 @@ fn drive_at<H: Home + Send + Sync, R: Threads + Wait + Sync, G: Gate + Sync>(
     })
 }
 
-/// Drives the ports by as many workers until nothing is due to any CPU or a turn is refused: the caller is one, and each other has a
-/// thread of its own. A port whose thread can't be started is driven in the caller's own list. It waits for the workers.
+/// Drives the ports by as many workers until nothing is due to any CPU or a turn is refused: the caller is one, and each
+/// other has a thread of its own. A port whose thread can't be started is driven in the caller's own list. It waits for
+/// the workers.
 pub fn drive_all<R: Threads + Wait + Sync, G: Gate + Sync>(
     rt: &R,
     alloc: Global,

@@ -21,7 +21,8 @@ pub record IsFit (region : Region) : Type 0 where
 -- region and it has places
 abbrev pub IsUncut : Claims → Region → Type 0
 IsUncut claims region =
-    is_mapped region ≡ true → is_comm region ≡ false → (at : ℕ) → at % PAGE_SIZE ≡ 0 → IsTrue (has_address region at) → are_cut claims.holders (place_in region at) PAGE_SIZE ≡ false
+    is_mapped region ≡ true → is_comm region ≡ false → (at : ℕ) → at % PAGE_SIZE ≡ 0 → IsTrue (has_address region at)
+    → are_cut claims.holders (place_in region at) PAGE_SIZE ≡ false
 
 -- the claims are sound: what must hold of a cell's regions where a descriptor is asked for
 pub record AreSoundClaims (claims : Claims) : Type 0 where

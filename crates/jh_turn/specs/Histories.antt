@@ -21,8 +21,8 @@ module _ {E : Type 0} (whose : E → ℕ) where
   abbrev pub IsMadeBy : ℕ → List E → Type 0
   IsMadeBy who made = (made ≡ []) ⊎ ((e : E) × (whose e ≡ who) × (made ≡ e ∷ []))
 
-  -- A turn at a port. Just before it the history is what the port had seen, and then what others added, of which nothing is the caller's.
-  -- What the port has seen now is the history just after it: one entry more, which the turn made, or none.
+  -- A turn at a port. Just before it the history is what the port had seen, and then what others added, of which nothing
+  -- is the caller's. What the port has seen now is the history just after it: one entry more, which the turn made, or none.
   pub record IsTurn {A : Type 0} (answers : ℕ → List E → List E → A → Type 0) (turn : PortTurn E A) : Type 0 where
     pub others : List E
     pub made : List E

@@ -9,7 +9,7 @@ use Rattle.jh_check.specs.declared.rule.Rule.TheVariants.{PhysOverlap, SubpageTa
 use Rattle.jh_check.specs.declared.spans.Span.{Span}
 use Rattle.jh_check.specs.declared.envelope.Envelope.{Envelope}
 use Rattle.jh_check.specs.declared.envelope.Envelopes.{Envelopes}
-use Rattle.jh_check.specs.declared.envelope.Window.{Window}
+use Rattle.jh_check.specs.declared.envelope.ItemRange.{ItemRange}
 use Rattle.jh_check.specs.declared.gaps.Gap.{Gap}
 use Rattle.jh_check.specs.declared.gaps.Gaps.{Gaps}
 use Rattle.jh_check.specs.Regions.{Spot, pair_breaks}
@@ -103,11 +103,11 @@ abbrev pub AreOfEach : Rule → List CellConfig → List Envelopes → Type 0
 AreOfEach rule all each =
     (b : ℕ) (d : Envelopes) (c : CellConfig) → b < length all → AreOf rule b (slice_index_or all b c) (slice_index_or each b d)
 
--- the number is one of the window's
-abbrev pub IsIn : Window → ℕ → Type 0
-IsIn window s = (window.first ≤ s) × (s ≤ window.last)
+-- the number is one of the range's
+abbrev pub IsIn : ItemRange → ℕ → Type 0
+IsIn range s = (range.first ≤ s) × (s ≤ range.last)
 
 -- each region of the other cell that breaks the rule with the one has its number there (numbers have 64 bits)
-abbrev pub HasHits : Rule → Spot → ℕ → CellConfig → Window → Type 0
-HasHits rule one b other window =
-    (s : ℕ) (d : Region) → s < length other.memory_regions → s < 2 ^ 64 → pair_breaks rule one (spot b other s (slice_index_or other.memory_regions s d)) ≡ true → IsIn window s
+abbrev pub HasHits : Rule → Spot → ℕ → CellConfig → ItemRange → Type 0
+HasHits rule one b other range =
+    (s : ℕ) (d : Region) → s < length other.memory_regions → s < 2 ^ 64 → pair_breaks rule one (spot b other s (slice_index_or other.memory_regions s d)) ≡ true → IsIn range s

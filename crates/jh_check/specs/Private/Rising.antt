@@ -2,7 +2,7 @@
 use Rattle.std.specs.Prelude.{◌≡◌, ℕ, ◌<◌, ◌≤◌, ◌⊎◌, true, false, List, length, slice_index_or}
 use Rattle.jh_cellcfg.specs.declared.region.Region.{Region}
 use Rattle.jh_check.specs.declared.rule.Rule.{Rule}
-use Rattle.jh_check.specs.declared.envelope.Window.{Window}
+use Rattle.jh_check.specs.declared.envelope.ItemRange.{ItemRange}
 use Rattle.jh_check.specs.declared.rising.Scan.{Scan}
 use Rattle.jh_check.specs.Private.Spans.{takes_part, span_of}
 
@@ -26,7 +26,7 @@ pub record IsRisingTo (rule : Rule) (regions : List Region) (n first last : ℕ)
   pub behind : (i j : ℕ) (d : Region) → i < j → j < n → last < j → TakesPart rule regions d i → TakesPart rule regions d j → end_at rule regions d i ≤ start_at rule regions d j
 
 -- the regions that take part begin in the order of their numbers, and those that meet have theirs in the stretch
-abbrev pub IsStretch : Rule → List Region → Window → Type 0
+abbrev pub IsStretch : Rule → List Region → ItemRange → Type 0
 IsStretch rule regions stretch = IsRisingTo rule regions (length regions) stretch.first stretch.last
 
 -- the scan is that of the first regions

@@ -1,5 +1,6 @@
 -- The rule of the lock's table, and what each step tells.
--- Word 0 is the number of the caller that holds the turn, or `free`. Word 1 is the length of the history. The slot has the value, or nothing while it is out.
+-- Word 0 is the number of the caller that holds the turn, or `free`. Word 1 is the length of the history. The slot has the
+-- value, or nothing while it is out.
 use Rattle.std.specs.Prelude.{◌≡◌, ◌≢◌, ◌⊎◌, ℕ, ◌<◌, Bool, true, false, List, [], ◌∷◌, ◌++◌, length, take, drop, map, Contains, Option, Some, None, Box}
 use Rattle.std.specs.Global.{Global}
 use mathlib.Core.Option as maybe

@@ -1,4 +1,4 @@
--- A region that takes no part gives nothing, and those it breaks the rule with are in the window.
+-- A region that takes no part gives nothing, and those it breaks the rule with are in the range.
 use Rattle.std.proofs.Common.{◌≡◌, false, get_or, subst, arith}
 use Rattle.jh_cellcfg.specs.declared.region.Region.{Region}
 use Rattle.jh_check.specs.Private.Spans.{takes_part}

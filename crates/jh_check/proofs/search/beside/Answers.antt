@@ -1,4 +1,4 @@
--- Regions outside the window give no finding, so they may be passed over.
+-- Regions outside the range give no finding, so they may be passed over.
 use Rattle.std.proofs.Common.{◌≡◌, ◌^◌, ◌<◌, [], ◌++◌, length, get_or, drop, sym, ap, ◌∙◌, arith}
 use Rattle.std.proofs.lemmas.List.{append-nil}
 use Rattle.jh_cellcfg.specs.declared.region.Region.{Region}
@@ -17,8 +17,8 @@ loop-s-init c =
     let none : Region = record { phys_start = 0; virt_start = 0; size = 0; flags = 0 } in
     let v = c.as_slice-regions.ensures.value in
     let size : length other.memory_regions < 2 ^ 64 = let t = c.as_slice-regions.type_inv in rw (sym v) (omega arith) in
-    ap (λ xs. capped (c.args.found.now ++ xs)) (sym (found_skip (beside_at c.args.rule one c.args.b other) other.memory_regions c.args.window.first none (λ i within below.
-    beside_outside c.args.rule one c.args.b other c.args.window c.requires.hits i none within (omega arith) (λ is. absurd (let f = is.0 in omega arith)))))
+    ap (λ xs. capped (c.args.found.now ++ xs)) (sym (found_skip (beside_at c.args.rule one c.args.b other) other.memory_regions c.args.range.first none (λ i within below.
+    beside_outside c.args.rule one c.args.b other c.args.range c.requires.hits i none within (omega arith) (λ is. absurd (let f = is.0 in omega arith)))))
 
 pub loop-s-preserved : goal.loop-s-preserved
 loop-s-preserved c =
@@ -50,6 +50,6 @@ returns c =
     let m = c.min-s-end.ensures in
     let t = c.loop-s-test.false in
     let rest : found_from found c.loop-s.s (drop c.loop-s.s regions) ≡ [] = found_rest found regions c.loop-s.s none (λ i within beyond.
-    beside_outside c.args.rule one c.args.b other c.args.window c.requires.hits i none within (omega arith) (λ is. absurd (let l = is.1 in omega arith)))
+    beside_outside c.args.rule one c.args.b other c.args.range c.requires.hits i none within (omega arith) (λ is. absurd (let l = is.1 in omega arith)))
     in
     ap capped (sym (append-nil c.loop-s.found)) ∙ ap (λ xs. capped (c.loop-s.found ++ xs)) (sym rest) ∙ c.loop-s.invariant

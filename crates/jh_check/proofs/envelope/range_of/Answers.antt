@@ -4,7 +4,7 @@ use Rattle.std.proofs.lemmas.List.{get_or_default}
 use Rattle.std.proofs.lemmas.List.Sorted.{IsPartitionPoint-from_clause, IsPartitionedBy-ltb, IsPartitionedBy-leb}
 use Rattle.jh_check.specs.declared.envelope.Envelope.{Envelope}
 use Rattle.jh_check.proofs.EnvelopeLemmas.{among_parted}
-use Rattle.jh_check.proofs.envelope.window_of.Goals as goal
+use Rattle.jh_check.proofs.envelope.range_of.Goals as goal
 
 pub returns : goal.returns
 returns c =
