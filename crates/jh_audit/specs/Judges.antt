@@ -8,7 +8,7 @@ use Rattle.jh_audit.specs.declared.verdict.Verdict.{Verdict}
 use Rattle.jh_audit.specs.declared.verdict.Verdict.TheVariants.{Legal, Illegal}
 
 -- the entry in this line, counted from 1, is the first that isn't the one due to its CPU, and `expected` is the entry
--- that was due
+-- that was due, if one was
 pub record IsFirstIllegal (image : Image) (entries : List Entry) (line : ℕ) (expected : Option Entry) : Type 0 where
   pub before : List Entry
   pub entry : Entry

@@ -13,7 +13,7 @@ use Rattle.jh_history.specs.declared.entry.Entry.{Entry}
 use Rattle.jh_history.specs.declared.entry.Act.{Act}
 use Rattle.jh_history.specs.declared.entry.Act.TheVariants.{Commit}
 use Rattle.jh_history.specs.Commits.{committed_cells, cells_by, created, created_at, created_by}
-use Rattle.jh_history.specs.Calls.{call_by, is_call}
+use Rattle.jh_history.specs.Calls.{call_by, is_of_call}
 use Rattle.jh_history.specs.Endpoints.{changing_at, changing_by}
 use Rattle.jh_board.specs.declared.held.Held.{Held}
 use Rattle.jh_board.specs.declared.steps.CellsChange.{CellsChange}
@@ -39,7 +39,7 @@ none_made None act h = refl
 none_made (Some o) act h = h o
 
 -- an act that is none of the call's own makes no cell, and changes none
-pub nothing_made : (call : Option OpenCall) (cells : List Live) (act : Act) → is_call act ≡ false → (created_by call act ≡ None) × (cells_by call cells act ≡ cells)
+pub nothing_made : (call : Option OpenCall) (cells : List Live) (act : Act) → is_of_call act ≡ false → (created_by call act ≡ None) × (cells_by call cells act ≡ cells)
 nothing_made call cells Commit other = absurd (true≢false other)
 nothing_made call cells act other = (none_made call act (λ o. refl), refl)
 

@@ -24,13 +24,13 @@ use Rattle.jh_history.specs.declared.access.Access.{Access}
 use Rattle.jh_history.specs.declared.access.Access.TheVariants.{Read, Write, Fetch}
 use Rattle.jh_history.specs.declared.place.Place.{Place}
 use Rattle.jh_history.specs.declared.place.Place.TheVariants.{Physical, Page}
-use Rattle.jh_history.specs.Access.{right_of, gives, place_in_cell, region_of, place_of}
+use Rattle.jh_history.specs.Access.{right_of, has_right, gives, place_in_cell, region_of, place_of}
 use Rattle.jh_history.specs.Grants.{unless, granted_by}
 use Rattle.jh_history.specs.Lives.{cell_in, regions_in}
 use Rattle.jh_shape.specs.Lives.{configs_of}
 use Rattle.jh_history.proofs.Public.{numbered_cell, gives_from}
 use Rattle.jh_board.specs.Private.Closed.{is_closed_by}
-use Rattle.jh_board.specs.Maps.{is_closed_at, is_right, is_mapped_at, place_of_run, grant_of_map}
+use Rattle.jh_board.specs.Maps.{is_closed_at, is_mapped_at, place_of_run, grant_of_map}
 
 -- ---- regions of live cells
 
@@ -66,7 +66,7 @@ RunsLead = (closed : ℕ → Bool) (r : Region) (run : Run) (at : ℕ) → IsRun
 abbrev pub RunsAreSingle : Type 0
 RunsAreSingle = (closed : ℕ → Bool) (regions : List Region) (runs : List Run) (one other : Run) (at : ℕ) → IsMap closed regions runs → Contains runs one → Contains runs other → IsIn one at → IsIn other at → one ≡ other
 
-right_is : (access : Access) (r : Region) → is_right access (rights_of r) ≡ has_flags (right_of access) r
+right_is : (access : Access) (r : Region) → has_right access (rights_of r) ≡ has_flags (right_of access) r
 right_is Read r = refl
 right_is Write r = refl
 right_is Fetch r = refl
@@ -79,28 +79,28 @@ gives_parts access at r h =
 
 told_in : (access : Access) (at : ℕ) (run : Run) → is_mapped_at access at run ≡ true → IsIn run at
 told_in access at run h =
-    let outer = and_parts (leb run.start at && ltb at run.end) (run.page && is_right access run.rights) h in
+    let outer = and_parts (leb run.start at && ltb at run.end) (run.page && has_right access run.rights) h in
     let inner = and_parts (leb run.start at) (ltb at run.end) outer.0 in
     record { first = leb-true run.start at inner.0; last = ltb-true at run.end inner.1 }
 
-told_from : (access : Access) (at : ℕ) (run : Run) → IsIn run at → run.page ≡ true → is_right access run.rights ≡ true → is_mapped_at access at run ≡ true
+told_from : (access : Access) (at : ℕ) (run : Run) → IsIn run at → run.page ≡ true → has_right access run.rights ≡ true → is_mapped_at access at run ≡ true
 told_from access at run has page right =
-    and_from (leb run.start at && ltb at run.end) (run.page && is_right access run.rights)
+    and_from (leb run.start at && ltb at run.end) (run.page && has_right access run.rights)
     (and_from (leb run.start at) (ltb at run.end) (le-leb run.start at has.first) (lt-ltb at run.end has.last))
-    (and_from run.page (is_right access run.rights) page right)
+    (and_from run.page (has_right access run.rights) page right)
 
 -- a run that tells of the address is of a region that gives it
 told_gives : (closed : ℕ → Bool) (access : Access) (at : ℕ) (r : Region) (run : Run) → IsRunOf closed r run → is_mapped_at access at run ≡ true → gives access at r ≡ true
 told_gives closed access at r run of h =
-    let outer = and_parts (leb run.start at && ltb at run.end) (run.page && is_right access run.rights) h in
-    let inner = and_parts run.page (is_right access run.rights) outer.1 in
+    let outer = and_parts (leb run.start at && ltb at run.end) (run.page && has_right access run.rights) h in
+    let inner = and_parts run.page (has_right access run.rights) outer.1 in
     gives_from access at r (granted_has closed r at (of.each at (told_in access at run h))) (sym of.page ∙ inner.0)
-    (sym (right_is access r) ∙ sym (ap (is_right access) of.rights) ∙ inner.1)
+    (sym (right_is access r) ∙ sym (ap (has_right access) of.rights) ∙ inner.1)
 
 gives_told : (closed : ℕ → Bool) (access : Access) (at : ℕ) (r : Region) (run : Run) → IsRunOf closed r run → IsIn run at → gives access at r ≡ true → is_mapped_at access at run ≡ true
 gives_told closed access at r run of has h =
     let parts = gives_parts access at r h in
-    told_from access at run has (of.page ∙ parts.1) (ap (is_right access) of.rights ∙ right_is access r ∙ parts.2)
+    told_from access at run has (of.page ∙ parts.1) (ap (has_right access) of.rights ∙ right_is access r ∙ parts.2)
 
 -- where the run and the region lead is one place
 place_as : (b : Bool) (c : Bool) (id told byte place lead : ℕ) → c ≡ b → told ≡ cond b byte place → cond c (Page id told) (Physical told) ≡ cond b (Page id byte) (Physical place)

@@ -1,16 +1,15 @@
 -- What a board tells of the cells that live: their maps, and what a map tells of grants.
 use Rattle.std.specs.Prelude.{◌≡◌, ℕ, ◌+◌, ◌-◌, Bool, ◌&&◌, nat_le, nat_lt, if◌then◌else◌, List, ◌∷◌, Option, Some, None, find, option_map, IsSome}
-use Rattle.jh_num.specs.declared.rights.Rights.{Rights}
 use Rattle.jh_cellcfg.specs.declared.config.CellConfig.{CellConfig}
 use Rattle.jh_cellcfg.specs.declared.live.Live.{Live}
 use Rattle.jh_map.specs.declared.run.Run.{Run}
 use Rattle.jh_map.specs.Maps.{IsMap}
 use Rattle.jh_script.specs.declared.image.Image.{Image}
 use Rattle.jh_history.specs.declared.access.Access.{Access}
-use Rattle.jh_history.specs.declared.access.Access.TheVariants.{Read, Write, Fetch}
 use Rattle.jh_history.specs.declared.entry.Entry.{Entry}
 use Rattle.jh_history.specs.declared.place.Place.{Place}
 use Rattle.jh_history.specs.declared.place.Place.TheVariants.{Physical, Page}
+use Rattle.jh_history.specs.Access.{has_right}
 use Rattle.jh_history.specs.Admitted.{IsAdmitted}
 use Rattle.jh_history.specs.Due.{IsLegal}
 use Rattle.jh_history.specs.Grants.{is_closed_to}
@@ -47,15 +46,9 @@ pub record AdmittedMap : Type 0 where
 
 -- ---- what a map tells of grants
 
--- the rights have the one that the access needs
-abbrev pub is_right : Access → Rights → Bool
-is_right Read rights = rights.read
-is_right Write rights = rights.write
-is_right Fetch rights = rights.execute
-
 -- the run tells that memory may be accessed so at the address
 abbrev pub is_mapped_at : Access → ℕ → Run → Bool
-is_mapped_at access at run = (nat_le run.start at && nat_lt at run.end) && (run.page && is_right access run.rights)
+is_mapped_at access at run = (nat_le run.start at && nat_lt at run.end) && (run.page && has_right access run.rights)
 
 -- the place to which the run leads the address of the cell with the id
 abbrev pub place_of_run : ℕ → ℕ → Run → Place

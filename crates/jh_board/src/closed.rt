@@ -26,7 +26,7 @@ pub fn close_cell(closed: &mut ByteSet, cell: &CellRegions, loadable: bool)
 }
 
 /// A range ends within the numbers of 64 bits. It does nothing; its contract is what holds of each range.
-fn ends_within(_range: Range)
+fn range_ends_within_64_bits(_range: Range)
     ensures { _range.end < 2 ^ 64 }
 {}
 
@@ -47,7 +47,7 @@ fn open_all(closed: &mut ByteSet)
     }
     if let Some(range) = closed.ranges().first() {
         // no range ends behind the last place, and none below it is left
-        ends_within(*range);
+        range_ends_within_64_bits(*range);
         unreachable!()
     }
 }

@@ -71,7 +71,7 @@ impl<'a> State<'a> {
         if is_any_locked(&self.held.memory, self.held.cells.list()) {
             return Ok(Creation::Refused { number: EPERM });
         }
-        // root's grants are those of an admitted image
+        // for the proof: the image is admitted, as root's grants ask
         self.image.no_cpu_is_above_15();
         let read = read_config(self.held.alloc, self, at)?;
         match read {
@@ -90,6 +90,7 @@ impl<'a> RootBytes for State<'a> {
     ghost readable = { λ s at. memory_read (byte_of s.held.memory) (reach_by (granted_in s.image s.held.cells.lives s.image.system.root.id Read) at 1) };
 
     fn append(&self, bytes: &mut Vec<u8>, at: u64, count: u16) -> Result<bool, NoMemory> {
+        // for the proof: the image is admitted, and what a row of it gives is what its bytes do
         self.image.no_cpu_is_above_15();
         rows_are_read_byte_by_byte();
         match row_of_root(self.image, &self.held.cells, at, count) {
@@ -241,8 +242,8 @@ pub fn find_create(
     }
 }
 
-/// The entry that the CPU makes next, where this was found of a create. What its access reaches is put into `reach`. Only
-/// what a create reads takes memory.
+/// The entry that the CPU makes next, where this was found of a create. Where it is a write, what that reaches is put into
+/// `reach`. Only what a create reads takes memory.
 pub fn next_entry(
     image: &IndexedImage,
     held: &Held,
@@ -261,7 +262,7 @@ pub fn next_entry(
 
 /// What comes of a create by the caller, of the configuration at the address: as it was found, or else as it is
 /// found now.
-pub fn creation_by(
+pub fn creation_of(
     image: &IndexedImage,
     held: &Held,
     found: Option<JudgedCreate>,

@@ -31,14 +31,14 @@ use crate::granted::devices_of;
 use crate::held::Held;
 use crate::indexed::{IndexedImage, ProgramIndex};
 use crate::memory::Memory;
-use crate::state::{JudgedCreate, creation_by};
+use crate::state::{JudgedCreate, creation_of};
 use jh_call::Call;
 use jh_cellcfg::{CellConfig, MAX_CPUS};
 use jh_cpu::Cpu;
 use jh_history::{
     Act, BoxedCell, Called, Creation, DeviceChange, Entry, Known, OpenCall, PageWrite, Reach,
     a_cell_that_comes_may_live, call_after, changing_cell, count_entry, cpus_after,
-    decides_are_of_the_open_call, devices_may_change, few_cells_live, is_call, page_write,
+    decides_are_of_the_open_call, devices_may_change, few_cells_live, is_of_call, page_write,
     pages_written_are_of_cells, places_reached_are_of_cells, sound_cells_name_a_cpu, write_device,
 };
 use jh_num::NoMemory;
@@ -68,7 +68,7 @@ fn change_of_call(call: &Call) -> CellsChange
     }
 }
 
-/// What the act does to the cells that live already, where the call is open.
+/// What the act does to the cells that live already, by the call that is open, if one is.
 fn change_of_cells(call: Option<&OpenCall>, act: &Act) -> CellsChange
     ensures { result ≡ change_of_cells (option_copied call.entry) act.now }
 {
@@ -136,9 +136,9 @@ fn coming_of(
     decides_are_of_the_open_call();
     a_cell_that_comes_may_live();
     devices_may_change();
-    match creation_by(image, held, found.take(), begun.caller, at)? {
+    match creation_of(image, held, found.take(), begun.caller, at)? {
         Creation::Accepted { config } => Ok(Some(config)),
-        // what comes of it is what the entry says
+        // the entry is a Decide that goes on, so the create isn't refused
         Creation::Refused { .. } => unreachable!(),
     }
 }
@@ -226,7 +226,8 @@ fn is_of_device(reach: &Reach) -> bool
 /// writes. It takes no memory.
 fn make_devices(image: &IndexedImage, held: &mut Held, entry: &Entry, reach: &Reach)
     requires { MayWriteEndpointWord image.now held.old entry.now.cell entry.now.act reach.now }
-    ensures bytes { (q : ThePlace) → byte_of held.new.memory q ≡ with_endpoint_word_if (endpoint_word_after (devices_held image.now held.old entry.now.cell) entry.now.act reach.now) (byte_of held.old.memory) q }
+    ensures bytes { (q : ThePlace) → byte_of held.new.memory q
+        ≡ with_endpoint_word_if (endpoint_word_after (devices_held image.now held.old entry.now.cell) entry.now.act reach.now) (byte_of held.old.memory) q }
     ensures list { held.new.endpoints.list ≡ endpoints_acted_by (devices_held image.now held.old entry.now.cell) entry.now.act reach.now }
     ensures spare { held.new.endpoints.spare ≡ held.old.endpoints.spare }
     ensures others { IsSameButDevices held.old held.new }
@@ -294,7 +295,7 @@ fn make_cells(
     }
 }
 
-/// Writes into a communication page what the entry of the hypervisor's writes.
+/// Writes into a communication page what the hypervisor writes by the entry.
 fn make_page(memory: &mut Memory, write: Option<PageWrite>)
     requires { IfSome write (λ write. HoldsComm memory.old.comms write.cell) }
     ensures bytes { (q : ThePlace) → byte_of memory.new q ≡ with_page_write write (byte_of memory.old) q }
@@ -305,8 +306,8 @@ fn make_page(memory: &mut Memory, write: Option<PageWrite>)
     }
 }
 
-/// The open call after the entry, and the live cells. Most entries are none of the call's own, and change no more of it
-/// than that they are counted.
+/// Makes what the entry does to the open call and to the live cells. Most entries are none of the call's own, and are at
+/// most counted by it.
 fn make_call(held: &mut Held, entry: &Entry, coming: Option<BoxedCell>)
     requires { IfSome (created_by held.old.call entry.now.act) (MayJoinCells held.old.cells held.old.coming_regions) }
     ensures memory { held.new.memory ≡ held.old.memory }
@@ -319,7 +320,7 @@ fn make_call(held: &mut Held, entry: &Entry, coming: Option<BoxedCell>)
     ensures call { held.new.call ≡ call_by held.old.cells.lives coming held.old.call entry.now entry.now.act }
     ensures ready { IsReadyToGoOn held.old held.new.call → IsReadyToGoOn held.new held.new.call }
 {
-    if !is_call(&entry.act) {
+    if !is_of_call(&entry.act) {
         count_entry(&mut held.call, entry);
         return;
     }

@@ -72,7 +72,7 @@ fn found(list: &[Translation], tag: u8, page: u64) -> Option<Hit>
 }
 
 impl Row {
-    /// A list without a translation, which has room for 64.
+    /// No translation, with room for 64.
     pub fn new(alloc: Global) -> Result<Self, NoMemory>
         ensures { IfOk result (λ row. row ≡ []) }
     {

@@ -18,11 +18,11 @@ count_text StreamIds = codes "num_stream_ids"
 count_text Total = codes "total"
 
 -- the words for a fault of a configuration
-abbrev pub fault_text : ConfigFault → List ℕ
-fault_text (Short need) = codes "short " ++ decimal need
-fault_text Signature = codes "signature"
-fault_text (Revision found) = codes "revision " ++ decimal found
-fault_text Name = codes "name"
-fault_text (Count part found) = codes "count " ++ (count_text part ++ (codes " " ++ decimal found))
-fault_text (Trailing extra) = codes "trailing " ++ decimal extra
-fault_text NoMemory = codes "want of memory"
+abbrev pub config_fault_text : ConfigFault → List ℕ
+config_fault_text (Short need) = codes "short " ++ decimal need
+config_fault_text Signature = codes "signature"
+config_fault_text (Revision found) = codes "revision " ++ decimal found
+config_fault_text Name = codes "name"
+config_fault_text (Count part found) = codes "count " ++ (count_text part ++ (codes " " ++ decimal found))
+config_fault_text (Trailing extra) = codes "trailing " ++ decimal extra
+config_fault_text NoMemory = codes "want of memory"

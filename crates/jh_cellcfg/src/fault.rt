@@ -69,9 +69,9 @@ impl fmt::Display for Part {
 
 impl fmt::Display for ConfigFault {
     ghost use Rattle.std.specs.Prelude.{Some};
-    ghost use Rattle.jh_cellcfg.specs.Texts.{fault_text};
+    ghost use Rattle.jh_cellcfg.specs.Texts.{config_fault_text};
 
-    ghost output = { λ fault. Some (fault_text fault) };
+    ghost output = { λ fault. Some (config_fault_text fault) };
 
     fn fmt<W: fmt::Write>(&self, f: &mut fmt::Formatter<W>) -> fmt::Result {
         match self {

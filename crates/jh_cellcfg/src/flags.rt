@@ -4,7 +4,7 @@ ghost use Rattle.std.specs.Prelude.{⊤, [], ◌∷◌, codes};
 use bitflags::{Flag, Flags, bitflag_items};
 
 /// The bits of a memory region's `flags`, by `JAILHOUSE_MEM_*` of Jailhouse's `cell-config.h`.
-/// Bits without a name are kept in the region's word and change nothing.
+/// `DMA` and bits without a name are kept in the region's word and change nothing.
 #[derive(Clone, Copy, PartialEq, Eq, Debug)]
 pub struct RegionFlags(pub u64);
 
@@ -53,7 +53,7 @@ impl Flags for RegionFlags {
 }
 
 /// The bits of a cell's `flags`, by `JAILHOUSE_CELL_*` of Jailhouse's `cell-config.h`. The console's
-/// bits are kept and change nothing.
+/// bits, and those without a name, are kept and change nothing.
 #[derive(Clone, Copy, PartialEq, Eq, Debug)]
 pub struct CellFlags(pub u32);
 

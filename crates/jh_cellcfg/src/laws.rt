@@ -40,7 +40,8 @@ pub fn no_fault_is_a_spelling()
         → (config : CellConfig) × IsCell config × IsWithinLimits config × (bytes ≡ spelling config) }
 {}
 
-/// Bytes from a name on that have no fault are those of a configuration, whatever number of bytes stands before.
+/// Bytes from a name on, at least the 124 that a configuration without items has there, that have no fault are those of a
+/// configuration, whatever number of bytes stands before.
 pub fn no_fault_is_a_body()
     ensures { (front : ℕ) (body : List ℕ) → All (λ byte. byte < 256) body → 124 ≤ length body → body_fault front body ≡ None
         → (config : CellConfig) × IsCell config × IsWithinLimits config × (body ≡ body_bytes config) }

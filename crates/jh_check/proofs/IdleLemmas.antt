@@ -16,7 +16,7 @@ use Rattle.jh_check.specs.Clean.{IsSoundBitmap, IsSoundCpuSet}
 use Rattle.jh_check.specs.Devices.{cpus_break}
 use Rattle.jh_check.specs.Lists.{found_from, only_if}
 use Rattle.jh_check.specs.Findings.{finding_of, in_cpus, in_cpus_at, found_by, found_at, findings}
-use Rattle.jh_check.specs.Verdicts.{is_invalid, verdict_of}
+use Rattle.jh_check.specs.Verdicts.{makes_invalid, verdict_of}
 use Rattle.jh_check.specs.Refusals.{is_known, names_beyond, nobody, refusal_of}
 use Rattle.jh_check.proofs.DeviceLemmas.{bitmap_from}
 
@@ -43,21 +43,21 @@ found_here found p n (z ∷ zs) x ys h =
     list_any-append p (found n z) rest
     ∙ or_right (list_any p (found n z)) (list_any p rest) (found_here found p (n + 1) zs x ys (subst (λ m. list_any p (found m x) ≡ true) e h))
 
-cpus_told : (a n : ℕ) (set : List ℕ) → a ≡ n → cpus_break set ≡ true → list_any (is_invalid n) (only_if (cpus_break set) (finding_of NoCpu a 0 0 0)) ≡ true
+cpus_told : (a n : ℕ) (set : List ℕ) → a ≡ n → cpus_break set ≡ true → list_any (makes_invalid n) (only_if (cpus_break set) (finding_of NoCpu a 0 0 0)) ≡ true
 unfolding only_if finding_of
 cpus_told a n set same breaks = rw (breaks, eq-eqb a n same) refl
 
-cpus_found : (system : SystemConfig) (live : List CellConfig) (new : CellConfig) → cpus_break new.cpu_set ≡ true → list_any (is_invalid (length live + 1)) (in_cpus (system.root ∷ (live ++ new ∷ []))) ≡ true
+cpus_found : (system : SystemConfig) (live : List CellConfig) (new : CellConfig) → cpus_break new.cpu_set ≡ true → list_any (makes_invalid (length live + 1)) (in_cpus (system.root ∷ (live ++ new ∷ []))) ≡ true
 unfolding in_cpus
 cpus_found system live new breaks =
-    found_here in_cpus_at (is_invalid (length live + 1)) 0 (system.root ∷ live) new []
+    found_here in_cpus_at (makes_invalid (length live + 1)) 0 (system.root ∷ live) new []
     (cpus_told (0 + length (system.root ∷ live)) (length live + 1) new.cpu_set (omega arith) breaks)
 
-any_found : (system : SystemConfig) (live : List CellConfig) (new : CellConfig) → cpus_break new.cpu_set ≡ true → list_any (is_invalid (length live + 1)) (findings system (live ++ new ∷ [])) ≡ true
+any_found : (system : SystemConfig) (live : List CellConfig) (new : CellConfig) → cpus_break new.cpu_set ≡ true → list_any (makes_invalid (length live + 1)) (findings system (live ++ new ∷ [])) ≡ true
 unfolding findings found_by
 any_found system live new breaks =
     let rules : List Rule = VirtOverlap ∷ PhysOverlap ∷ Hypervisor ∷ OutOfRange ∷ RootNotIdentity ∷ CommInRoot ∷ CommShape ∷ ExecuteWithoutRead ∷ SubpageTaken ∷ CellsOverlap ∷ Shmem ∷ [] in
-    found_here (found_at system.hypervisor_memory (system.root ∷ (live ++ new ∷ []))) (is_invalid (length live + 1)) 0 rules NoCpu (PhysAlign ∷ [])
+    found_here (found_at system.hypervisor_memory (system.root ∷ (live ++ new ∷ []))) (makes_invalid (length live + 1)) 0 rules NoCpu (PhysAlign ∷ [])
     (cpus_found system live new breaks)
 
 idle_invalid : (system : SystemConfig) (live : List CellConfig) (new : CellConfig) → cpus_break new.cpu_set ≡ true → verdict_of system live new ≡ Invalid

@@ -14,7 +14,7 @@ use Rattle.jh_check.specs.declared.verdict.NewCell.TheVariants.{Clean}
 use Rattle.jh_check.specs.Regions.{hypervisor_breaks}
 use Rattle.jh_check.specs.Devices.{device_breaks}
 use Rattle.jh_check.specs.Findings.{finding_of, findings}
-use Rattle.jh_check.specs.Verdicts.{names, is_cells_overlap, is_invalid, is_busy, verdict_by, verdict_of}
+use Rattle.jh_check.specs.Verdicts.{names, is_cells_overlap, makes_invalid, makes_busy, verdict_by, verdict_of}
 use Rattle.jh_check.proofs.Tested.{OfPair, OfRegion, OfMemory, OfDevice, OfCpus, OfRule, IsTested}
 use Rattle.jh_check.specs.Clean.{IsClean}
 use Rattle.jh_num.proofs.Public.{list_any_from_Contains}
@@ -203,11 +203,11 @@ clean_parts true busy h = cc
 clean_parts false true h = cc
 clean_parts false false h = (refl, refl)
 
-unnamed : (xs : List Finding) (n : ℕ) → list_any (is_invalid n) xs ≡ false → list_any (is_busy n) xs ≡ false → (f : Finding) → Contains xs f → names n f ≡ true → ⊥
+unnamed : (xs : List Finding) (n : ℕ) → list_any (makes_invalid n) xs ≡ false → list_any (makes_busy n) xs ≡ false → (f : Finding) → Contains xs f → names n f ≡ true → ⊥
 unnamed xs n i b f c t =
     elim (cases_Bool (is_cells_overlap f)) [
-      | inl o ↦ both_ways (list_any (is_busy n) xs) b (list_any_from_Contains (is_busy n) xs f c (and_from (names n f) (is_cells_overlap f) t o))
-      | inr o ↦ both_ways (list_any (is_invalid n) xs) i (list_any_from_Contains (is_invalid n) xs f c (and_from (names n f) (not (is_cells_overlap f)) t (not_from_false (is_cells_overlap f) o)))
+      | inl o ↦ both_ways (list_any (makes_busy n) xs) b (list_any_from_Contains (makes_busy n) xs f c (and_from (names n f) (is_cells_overlap f) t o))
+      | inr o ↦ both_ways (list_any (makes_invalid n) xs) i (list_any_from_Contains (makes_invalid n) xs f c (and_from (names n f) (not (is_cells_overlap f)) t (not_from_false (is_cells_overlap f) o)))
     ]
 
 pub joins_clean : (system : SystemConfig) (live : List CellConfig) (new : CellConfig) → IsClean system live → verdict_of system live new ≡ Clean → IsClean system (live ++ new ∷ [])
@@ -215,7 +215,7 @@ unfolding verdict_of
 joins_clean system live new c v =
     let all = findings system (live ++ new ∷ []) in
     let n = length live + 1 in
-    let p = clean_parts (list_any (is_invalid n) all) (list_any (is_busy n) all) v in
+    let p = clean_parts (list_any (makes_invalid n) all) (list_any (makes_busy n) all) v in
     let e : length (system.root ∷ live) ≡ n = omega arith in
     clean_from system (live ++ new ∷ []) (λ f b.
     elim (old b.rule system.hypervisor_memory (system.root ∷ live) new f b.by) [
@@ -228,7 +228,7 @@ pub joined_clean : (system : SystemConfig) (live : List CellConfig) (new : CellC
 unfolding verdict_of
 joined_clean system live new c =
     let n = length live + 1 in
-    ap (λ (fs : List Finding). verdict_by (list_any (is_invalid n) fs) (list_any (is_busy n) fs)) (nothing_from_clean system (live ++ new ∷ []) c)
+    ap (λ (fs : List Finding). verdict_by (list_any (makes_invalid n) fs) (list_any (makes_busy n) fs)) (nothing_from_clean system (live ++ new ∷ []) c)
 
 -- ---- fewer cells
 

@@ -17,7 +17,7 @@ use Rattle.jh_check.specs.Devices.{device_breaks, cpus_break}
 use Rattle.jh_check.specs.Private.Spans.{is_within, joins}
 use Rattle.jh_check.specs.Lists.{found_from, only_if, is_any}
 use Rattle.jh_check.specs.Findings.{rule_number, finding_of, spot, beside, beside_at, between, between_at, from_cell, in_pairs, in_cell, in_cell_at, in_regions, in_regions_at, in_hypervisor, in_devices_of, device_at, in_devices, in_devices_at, in_cpus, in_cpus_at, found_by, found_at, rules_in_order, findings}
-use Rattle.jh_check.specs.Verdicts.{is_invalid, is_busy, verdict_by, verdict_of}
+use Rattle.jh_check.specs.Verdicts.{makes_invalid, makes_busy, verdict_by, verdict_of}
 use Rattle.jh_check.specs.declared.verdict.NewCell.TheVariants.{Invalid}
 use Rattle.jh_cellcfg.specs.declared.config.SystemConfig.{SystemConfig}
 use Rattle.jh_check.proofs.ListLemmas.{is_any_append, any_only, found_drop, found_end}
@@ -83,27 +83,27 @@ unfolding found_from
 any_first p found x xs h = keep p (found 0 x) (found_from found 1 xs) (any_none p found 1 xs h)
 
 -- findings that name a cell, or don't
-invalid_own : (rule : Rule) (n r b s : ℕ) → (rule_number rule == 10) ≡ false → is_invalid n (finding_of rule n r b s) ≡ true
+invalid_own : (rule : Rule) (n r b s : ℕ) → (rule_number rule == 10) ≡ false → makes_invalid n (finding_of rule n r b s) ≡ true
 unfolding finding_of
 invalid_own rule n r b s e = and_from ((n == n) || (b == n)) (not (rule_number rule == 10)) (ap (λ t. t || (b == n)) (same_number n)) (ap not e)
 
-invalid_other : (rule : Rule) (n a r b s : ℕ) → (a ≡ n → ⊥) → (b ≡ n → ⊥) → is_invalid n (finding_of rule a r b s) ≡ false
+invalid_other : (rule : Rule) (n a r b s : ℕ) → (a ≡ n → ⊥) → (b ≡ n → ⊥) → makes_invalid n (finding_of rule a r b s) ≡ false
 unfolding finding_of
 invalid_other rule n a r b s h k = and_left ((a == n) || (b == n)) (not (rule_number rule == 10)) (or_from (a == n) (b == n) (ne_eqb a n h) (ne_eqb b n k))
 
-invalid_overlap : (n a r b s : ℕ) → is_invalid n (finding_of CellsOverlap a r b s) ≡ false
+invalid_overlap : (n a r b s : ℕ) → makes_invalid n (finding_of CellsOverlap a r b s) ≡ false
 unfolding finding_of
 invalid_overlap n a r b s = and_right ((a == n) || (b == n)) false refl
 
-busy_own : (n a r s : ℕ) → is_busy n (finding_of CellsOverlap a r n s) ≡ true
+busy_own : (n a r s : ℕ) → makes_busy n (finding_of CellsOverlap a r n s) ≡ true
 unfolding finding_of
 busy_own n a r s = and_from ((a == n) || (n == n)) true (or_right (a == n) (n == n) (same_number n)) refl
 
-busy_other : (n a r b s : ℕ) → (a ≡ n → ⊥) → (b ≡ n → ⊥) → is_busy n (finding_of CellsOverlap a r b s) ≡ false
+busy_other : (n a r b s : ℕ) → (a ≡ n → ⊥) → (b ≡ n → ⊥) → makes_busy n (finding_of CellsOverlap a r b s) ≡ false
 unfolding finding_of
 busy_other n a r b s h k = and_left ((a == n) || (b == n)) true (or_from (a == n) (b == n) (ne_eqb a n h) (ne_eqb b n k))
 
-busy_rule : (rule : Rule) (n : ℕ) → (rule_number rule == 10) ≡ false → (a r b s : ℕ) → is_busy n (finding_of rule a r b s) ≡ false
+busy_rule : (rule : Rule) (n : ℕ) → (rule_number rule == 10) ≡ false → (a r b s : ℕ) → makes_busy n (finding_of rule a r b s) ≡ false
 unfolding finding_of
 busy_rule rule n e a r b s = and_right ((a == n) || (b == n)) (rule_number rule == 10) e
 
@@ -127,11 +127,11 @@ between_true p rule a one b other h =
     only_true p (pair_breaks rule (spot a one r x) (spot b other s y)) (finding_of rule a r b s) (h r s)))
 
 -- a rule about two regions of one cell
-pub invalid_within : (rule : Rule) (xs : List CellConfig) (new : CellConfig) → is_within rule ≡ true → (rule_number rule == 10) ≡ false → list_any (is_invalid (length xs)) (in_pairs rule (xs ++ new ∷ [])) ≡ is_any (between rule (length xs) new (length xs) new)
+pub invalid_within : (rule : Rule) (xs : List CellConfig) (new : CellConfig) → is_within rule ≡ true → (rule_number rule == 10) ≡ false → list_any (makes_invalid (length xs)) (in_pairs rule (xs ++ new ∷ [])) ≡ is_any (between rule (length xs) new (length xs) new)
 unfolding in_pairs from_cell
 invalid_within rule xs new w e =
     let n = length xs in
-    let p = is_invalid n in
+    let p = makes_invalid n in
     let all = xs ++ new ∷ [] in
     any_last p (from_cell rule all) xs new (λ i d k.
     any_none0 p (between rule i (get_or xs i d)) all (λ b f l.
@@ -148,12 +148,12 @@ joins_root : (a b : ℕ) → joins SubpageTaken a b ≡ true → b ≡ 0
 joins_root a b h = eqb-true b 0 ((and_parts (not (a == 0)) (b == 0) h).1)
 
 -- the rule about root's pages
-pub invalid_taken : (root : CellConfig) (live : List CellConfig) (new : CellConfig) → list_any (is_invalid (length (root ∷ live))) (in_pairs SubpageTaken ((root ∷ live) ++ new ∷ [])) ≡ is_any (between SubpageTaken (length (root ∷ live)) new 0 root)
+pub invalid_taken : (root : CellConfig) (live : List CellConfig) (new : CellConfig) → list_any (makes_invalid (length (root ∷ live))) (in_pairs SubpageTaken ((root ∷ live) ++ new ∷ [])) ≡ is_any (between SubpageTaken (length (root ∷ live)) new 0 root)
 unfolding in_pairs from_cell
 invalid_taken root live new =
     let xs = root ∷ live in
     let n = length xs in
-    let p = is_invalid n in
+    let p = makes_invalid n in
     let all = xs ++ new ∷ [] in
     any_last p (from_cell SubpageTaken all) xs new (λ i d k.
     any_none0 p (between SubpageTaken i (get_or xs i d)) all (λ b f l.
@@ -167,11 +167,11 @@ invalid_taken root live new =
     ∙ between_true p SubpageTaken n new 0 root (λ r s. invalid_own SubpageTaken n r 0 s refl)
 
 -- a rule about one region
-pub invalid_regions : (rule : Rule) (h : Region) (xs : List CellConfig) (new : CellConfig) → 0 < length xs → (rule_number rule == 10) ≡ false → list_any (is_invalid (length xs)) (in_regions rule h (xs ++ new ∷ [])) ≡ is_any (in_cell rule h (length xs) new.memory_regions)
+pub invalid_regions : (rule : Rule) (h : Region) (xs : List CellConfig) (new : CellConfig) → 0 < length xs → (rule_number rule == 10) ≡ false → list_any (makes_invalid (length xs)) (in_regions rule h (xs ++ new ∷ [])) ≡ is_any (in_cell rule h (length xs) new.memory_regions)
 unfolding in_regions in_cell
 invalid_regions rule h xs new some e =
     let n = length xs in
-    let p = is_invalid n in
+    let p = makes_invalid n in
     any_last p (in_regions_at rule h) xs new (λ i d k.
     let regions = (get_or xs i d).memory_regions in
     any_none0 p (in_cell_at rule h i regions) regions (λ r f j.
@@ -180,19 +180,19 @@ invalid_regions rule h xs new some e =
     only_true p (region_breaks rule h n (take r new.memory_regions) x) (finding_of rule n r 0 0) (invalid_own rule n r 0 0 e))
 
 -- or about the hypervisor's memory too
-pub invalid_both : (rule : Rule) (h : Region) (xs : List CellConfig) (new : CellConfig) → 0 < length xs → length xs < 16 → (rule_number rule == 10) ≡ false → list_any (is_invalid (length xs)) (in_regions rule h (xs ++ new ∷ []) ++ in_hypervisor rule h) ≡ is_any (in_cell rule h (length xs) new.memory_regions)
+pub invalid_both : (rule : Rule) (h : Region) (xs : List CellConfig) (new : CellConfig) → 0 < length xs → length xs < 16 → (rule_number rule == 10) ≡ false → list_any (makes_invalid (length xs)) (in_regions rule h (xs ++ new ∷ []) ++ in_hypervisor rule h) ≡ is_any (in_cell rule h (length xs) new.memory_regions)
 unfolding in_hypervisor
 invalid_both rule h xs new some few e =
     let n = length xs in
-    keep (is_invalid n) (in_regions rule h (xs ++ new ∷ [])) (in_hypervisor rule h) (only_false (is_invalid n) (hypervisor_breaks rule h) (finding_of rule 16 0 0 0) (invalid_other rule n 16 0 0 0 (λ q. omega arith) (λ q. omega arith)))
+    keep (makes_invalid n) (in_regions rule h (xs ++ new ∷ [])) (in_hypervisor rule h) (only_false (makes_invalid n) (hypervisor_breaks rule h) (finding_of rule 16 0 0 0) (invalid_other rule n 16 0 0 0 (λ q. omega arith) (λ q. omega arith)))
     ∙ invalid_regions rule h xs new some e
 
 -- the rule about devices
-pub invalid_devices : (xs : List CellConfig) (new : CellConfig) → 0 < length xs → list_any (is_invalid (length xs)) (in_devices (xs ++ new ∷ [])) ≡ is_any (in_devices_of xs (length xs) new)
+pub invalid_devices : (xs : List CellConfig) (new : CellConfig) → 0 < length xs → list_any (makes_invalid (length xs)) (in_devices (xs ++ new ∷ [])) ≡ is_any (in_devices_of xs (length xs) new)
 unfolding in_devices in_devices_of
 invalid_devices xs new some =
     let n = length xs in
-    let p = is_invalid n in
+    let p = makes_invalid n in
     let all = xs ++ new ∷ [] in
     any_last p (in_devices_at all) xs new (λ i d k.
     let cell = get_or xs i d in
@@ -203,11 +203,11 @@ invalid_devices xs new some =
     ∙ ap (λ lower. is_any (found_from (device_at lower n new) 0 new.pci_devices)) (take-append_seam xs (new ∷ []))
 
 -- the rule about CPUs
-pub invalid_cpus : (xs : List CellConfig) (new : CellConfig) → 0 < length xs → list_any (is_invalid (length xs)) (in_cpus (xs ++ new ∷ [])) ≡ cpus_break new.cpu_set
+pub invalid_cpus : (xs : List CellConfig) (new : CellConfig) → 0 < length xs → list_any (makes_invalid (length xs)) (in_cpus (xs ++ new ∷ [])) ≡ cpus_break new.cpu_set
 unfolding in_cpus
 invalid_cpus xs new some =
     let n = length xs in
-    let p = is_invalid n in
+    let p = makes_invalid n in
     any_last p in_cpus_at xs new (λ i d k.
     only_false p (cpus_break (get_or xs i d).cpu_set) (finding_of NoCpu i 0 0 0) (invalid_other NoCpu n i 0 0 0 (λ q. omega arith) (λ q. omega arith)))
     ∙ only_true p (cpus_break new.cpu_set) (finding_of NoCpu n 0 0 0) (invalid_own NoCpu n 0 0 0 refl)
@@ -221,8 +221,8 @@ pairs_false p rule all f =
     any_none0 p (between rule a (get_or all a d)) all (λ b e l.
     between_false p rule a (get_or all a d) b (get_or all b e) (λ j r s. f a r b s)))
 
-pub invalid_crossing : (n : ℕ) (all : List CellConfig) → list_any (is_invalid n) (in_pairs CellsOverlap all) ≡ false
-invalid_crossing n all = pairs_false (is_invalid n) CellsOverlap all (invalid_overlap n)
+pub invalid_crossing : (n : ℕ) (all : List CellConfig) → list_any (makes_invalid n) (in_pairs CellsOverlap all) ≡ false
+invalid_crossing n all = pairs_false (makes_invalid n) CellsOverlap all (invalid_overlap n)
 
 regions_false : (p : Finding → Bool) (rule : Rule) (h : Region) (all : List CellConfig) → ((a r b s : ℕ) → p (finding_of rule a r b s) ≡ false) → list_any p (in_regions rule h all) ≡ false
 unfolding in_regions in_cell
@@ -252,10 +252,10 @@ cpus_false p all f =
     any_none0 p in_cpus_at all (λ a d k. only_false p (cpus_break (get_or all a d).cpu_set) (finding_of NoCpu a 0 0 0) (f a 0 0 0))
 
 -- only the rule about two cells makes a cell busy
-pub busy_rules : (n : ℕ) (h : Region) (all : List CellConfig) → list_any (is_busy n) (found_from (found_at h all) 0 rules_in_order) ≡ list_any (is_busy n) (in_pairs CellsOverlap all)
+pub busy_rules : (n : ℕ) (h : Region) (all : List CellConfig) → list_any (makes_busy n) (found_from (found_at h all) 0 rules_in_order) ≡ list_any (makes_busy n) (in_pairs CellsOverlap all)
 unfolding found_from found_by
 busy_rules n h all =
-    let p = is_busy n in
+    let p = makes_busy n in
     let f13 = both_false p PhysAlign h all (busy_rule PhysAlign n refl) in
     let r13 = (in_regions PhysAlign h all ++ in_hypervisor PhysAlign h) ++ [] in
     let r12 = in_cpus all ++ r13 in
@@ -285,21 +285,21 @@ busy_rules n h all =
     ∙ f13)
 
 -- the overlaps of one live cell with the new one
-pub busy_at : (xs : List CellConfig) (new : CellConfig) (a : ℕ) (one : CellConfig) → a < length xs → list_any (is_busy (length xs)) (from_cell CellsOverlap (xs ++ new ∷ []) a one) ≡ is_any (between CellsOverlap a one (length xs) new)
+pub busy_at : (xs : List CellConfig) (new : CellConfig) (a : ℕ) (one : CellConfig) → a < length xs → list_any (makes_busy (length xs)) (from_cell CellsOverlap (xs ++ new ∷ []) a one) ≡ is_any (between CellsOverlap a one (length xs) new)
 unfolding from_cell
 busy_at xs new a one k =
     let n = length xs in
-    let p = is_busy n in
+    let p = makes_busy n in
     any_last p (between CellsOverlap a one) xs new (λ b d l.
     between_false p CellsOverlap a one b (get_or xs b d) (λ j r s. busy_other n a r b s (λ q. omega arith) (λ q. omega arith)))
     ∙ between_true p CellsOverlap a one n new (λ r s. busy_own n a r s)
 
 -- the new cell is the last, so it is the other of each pair
-pub busy_last : (xs : List CellConfig) (new one : CellConfig) → list_any (is_busy (length xs)) (from_cell CellsOverlap (xs ++ new ∷ []) (length xs) one) ≡ false
+pub busy_last : (xs : List CellConfig) (new one : CellConfig) → list_any (makes_busy (length xs)) (from_cell CellsOverlap (xs ++ new ∷ []) (length xs) one) ≡ false
 unfolding from_cell
 busy_last xs new one =
     let n = length xs in
-    let p = is_busy n in
+    let p = makes_busy n in
     let all = xs ++ new ∷ [] in
     any_none0 p (between CellsOverlap n one) all (λ b d l.
     between_false p CellsOverlap n one b (get_or all b d) (λ j r s.
@@ -322,81 +322,81 @@ pub list_done : {X : Type 0} (p : Finding → Bool) (found : ℕ → X → List 
 list_done p found xs i goal h g = sym (ap (list_any p) (found_end found xs i h)) ∙ g
 
 -- the same by the new cell's number
-pub busy_one : (xs : List CellConfig) (new : CellConfig) (n a : ℕ) (one : CellConfig) → n ≡ length xs → a < n → one ≡ get_or xs a one → list_any (is_busy n) (from_cell CellsOverlap (xs ++ new ∷ []) a (get_or (xs ++ new ∷ []) a one)) ≡ is_any (between CellsOverlap a one n new)
+pub busy_one : (xs : List CellConfig) (new : CellConfig) (n a : ℕ) (one : CellConfig) → n ≡ length xs → a < n → one ≡ get_or xs a one → list_any (makes_busy n) (from_cell CellsOverlap (xs ++ new ∷ []) a (get_or (xs ++ new ∷ []) a one)) ≡ is_any (between CellsOverlap a one n new)
 busy_one xs new n a one e h i =
     let all = xs ++ new ∷ [] in
     let within : a < length xs = omega arith in
     let same : get_or all a one ≡ one = get_or_append_left xs (new ∷ []) one a within ∙ sym i in
-    ap (λ cell. list_any (is_busy n) (from_cell CellsOverlap all a cell)) same
-    ∙ subst (λ m. list_any (is_busy m) (from_cell CellsOverlap all a one) ≡ is_any (between CellsOverlap a one m new)) (sym e) (busy_at xs new a one within)
+    ap (λ cell. list_any (makes_busy n) (from_cell CellsOverlap all a cell)) same
+    ∙ subst (λ m. list_any (makes_busy m) (from_cell CellsOverlap all a one) ≡ is_any (between CellsOverlap a one m new)) (sym e) (busy_at xs new a one within)
 
-pub busy_end : (xs : List CellConfig) (new : CellConfig) (n a : ℕ) (goal : Bool) → n ≡ length xs → a ≡ n → list_any (is_busy n) (found_from (from_cell CellsOverlap (xs ++ new ∷ [])) a (drop a (xs ++ new ∷ []))) ≡ goal → false ≡ goal
+pub busy_end : (xs : List CellConfig) (new : CellConfig) (n a : ℕ) (goal : Bool) → n ≡ length xs → a ≡ n → list_any (makes_busy n) (found_from (from_cell CellsOverlap (xs ++ new ∷ [])) a (drop a (xs ++ new ∷ []))) ≡ goal → false ≡ goal
 busy_end xs new n a goal e f g =
     let all = xs ++ new ∷ [] in
     let found = from_cell CellsOverlap all in
     let size = length-append xs (new ∷ []) in
-    let P : ℕ → ℕ → Type 0 = λ m k. list_any (is_busy m) (found k (get_or all a new)) ≡ false in
+    let P : ℕ → ℕ → Type 0 = λ m k. list_any (makes_busy m) (found k (get_or all a new)) ≡ false in
     let last : P n a = subst (λ m. P m a) (sym e) (subst (P (length xs)) (sym (f ∙ e)) (busy_last xs new (get_or all a new))) in
-    list_done (is_busy n) found all (a + 1) goal (omega arith) (list_step (is_busy n) found all a new goal (omega arith) last g)
+    list_done (makes_busy n) found all (a + 1) goal (omega arith) (list_step (makes_busy n) found all a new goal (omega arith) last g)
 
 -- what is told of the new cell
-pub verdict_from : (system : SystemConfig) (live : List CellConfig) (new : CellConfig) (n : ℕ) (invalid busy : Bool) → n ≡ length live + 1 → invalid ≡ list_any (is_invalid n) (found_from (found_at system.hypervisor_memory ((system.root ∷ live) ++ new ∷ [])) 0 rules_in_order) → busy ≡ list_any (is_busy n) (in_pairs CellsOverlap ((system.root ∷ live) ++ new ∷ [])) → verdict_by invalid busy ≡ verdict_of system live new
+pub verdict_from : (system : SystemConfig) (live : List CellConfig) (new : CellConfig) (n : ℕ) (invalid busy : Bool) → n ≡ length live + 1 → invalid ≡ list_any (makes_invalid n) (found_from (found_at system.hypervisor_memory ((system.root ∷ live) ++ new ∷ [])) 0 rules_in_order) → busy ≡ list_any (makes_busy n) (in_pairs CellsOverlap ((system.root ∷ live) ++ new ∷ [])) → verdict_by invalid busy ≡ verdict_of system live new
 unfolding verdict_of findings
 verdict_from system live new n invalid busy e i b =
     let h = system.hypervisor_memory in
     let all = (system.root ∷ live) ++ new ∷ [] in
     let found = found_from (found_at h all) 0 rules_in_order in
-    let i' : invalid ≡ list_any (is_invalid (length live + 1)) found = subst (λ m. invalid ≡ list_any (is_invalid m) found) e i in
-    let b' : busy ≡ list_any (is_busy (length live + 1)) found = subst (λ m. busy ≡ list_any (is_busy m) found) e (b ∙ sym (busy_rules n h all)) in
-    ap (λ t. verdict_by t busy) i' ∙ ap (λ t. verdict_by (list_any (is_invalid (length live + 1)) found) t) b'
+    let i' : invalid ≡ list_any (makes_invalid (length live + 1)) found = subst (λ m. invalid ≡ list_any (makes_invalid m) found) e i in
+    let b' : busy ≡ list_any (makes_busy (length live + 1)) found = subst (λ m. busy ≡ list_any (makes_busy m) found) e (b ∙ sym (busy_rules n h all)) in
+    ap (λ t. verdict_by t busy) i' ∙ ap (λ t. verdict_by (list_any (makes_invalid (length live + 1)) found) t) b'
 
-pub verdict_invalid : (system : SystemConfig) (live : List CellConfig) (new : CellConfig) (n : ℕ) → n ≡ length live + 1 → true ≡ list_any (is_invalid n) (found_from (found_at system.hypervisor_memory ((system.root ∷ live) ++ new ∷ [])) 0 rules_in_order) → Invalid ≡ verdict_of system live new
-verdict_invalid system live new n e i = verdict_from system live new n true (list_any (is_busy n) (in_pairs CellsOverlap ((system.root ∷ live) ++ new ∷ []))) e i refl
+pub verdict_invalid : (system : SystemConfig) (live : List CellConfig) (new : CellConfig) (n : ℕ) → n ≡ length live + 1 → true ≡ list_any (makes_invalid n) (found_from (found_at system.hypervisor_memory ((system.root ∷ live) ++ new ∷ [])) 0 rules_in_order) → Invalid ≡ verdict_of system live new
+verdict_invalid system live new n e i = verdict_from system live new n true (list_any (makes_busy n) (in_pairs CellsOverlap ((system.root ∷ live) ++ new ∷ []))) e i refl
 
 -- what is found of the new cell by each rule, by its number
-pub own_virt : (rule : Rule) (h : Region) (xs : List CellConfig) (new : CellConfig) (n : ℕ) → n ≡ length xs → rule ≡ VirtOverlap → is_any (between rule n new n new) ≡ list_any (is_invalid n) (found_by rule h (xs ++ new ∷ []))
+pub own_virt : (rule : Rule) (h : Region) (xs : List CellConfig) (new : CellConfig) (n : ℕ) → n ≡ length xs → rule ≡ VirtOverlap → is_any (between rule n new n new) ≡ list_any (makes_invalid n) (found_by rule h (xs ++ new ∷ []))
 unfolding found_by
 own_virt rule h xs new n e r =
-    let P : ℕ → Rule → Type 0 = λ m rule. is_any (between rule m new m new) ≡ list_any (is_invalid m) (found_by rule h (xs ++ new ∷ [])) in
+    let P : ℕ → Rule → Type 0 = λ m rule. is_any (between rule m new m new) ≡ list_any (makes_invalid m) (found_by rule h (xs ++ new ∷ [])) in
     let base : P (length xs) VirtOverlap = sym (invalid_within VirtOverlap xs new refl refl) in
     subst (λ m. P m rule) (sym e) (subst (P (length xs)) (sym r) base)
 
-pub own_phys : (rule : Rule) (h : Region) (xs : List CellConfig) (new : CellConfig) (n : ℕ) → n ≡ length xs → rule ≡ PhysOverlap → is_any (between rule n new n new) ≡ list_any (is_invalid n) (found_by rule h (xs ++ new ∷ []))
+pub own_phys : (rule : Rule) (h : Region) (xs : List CellConfig) (new : CellConfig) (n : ℕ) → n ≡ length xs → rule ≡ PhysOverlap → is_any (between rule n new n new) ≡ list_any (makes_invalid n) (found_by rule h (xs ++ new ∷ []))
 unfolding found_by
 own_phys rule h xs new n e r =
-    let P : ℕ → Rule → Type 0 = λ m rule. is_any (between rule m new m new) ≡ list_any (is_invalid m) (found_by rule h (xs ++ new ∷ [])) in
+    let P : ℕ → Rule → Type 0 = λ m rule. is_any (between rule m new m new) ≡ list_any (makes_invalid m) (found_by rule h (xs ++ new ∷ [])) in
     let base : P (length xs) PhysOverlap = sym (invalid_within PhysOverlap xs new refl refl) in
     subst (λ m. P m rule) (sym e) (subst (P (length xs)) (sym r) base)
 
-pub own_taken : (rule : Rule) (h : Region) (root : CellConfig) (live : List CellConfig) (new : CellConfig) (n : ℕ) → n ≡ length (root ∷ live) → rule ≡ SubpageTaken → is_any (between rule n new 0 root) ≡ list_any (is_invalid n) (found_by rule h ((root ∷ live) ++ new ∷ []))
+pub own_taken : (rule : Rule) (h : Region) (root : CellConfig) (live : List CellConfig) (new : CellConfig) (n : ℕ) → n ≡ length (root ∷ live) → rule ≡ SubpageTaken → is_any (between rule n new 0 root) ≡ list_any (makes_invalid n) (found_by rule h ((root ∷ live) ++ new ∷ []))
 unfolding found_by
 own_taken rule h root live new n e r =
-    let P : ℕ → Rule → Type 0 = λ m rule. is_any (between rule m new 0 root) ≡ list_any (is_invalid m) (found_by rule h ((root ∷ live) ++ new ∷ [])) in
+    let P : ℕ → Rule → Type 0 = λ m rule. is_any (between rule m new 0 root) ≡ list_any (makes_invalid m) (found_by rule h ((root ∷ live) ++ new ∷ [])) in
     let base : P (length (root ∷ live)) SubpageTaken = sym (invalid_taken root live new) in
     subst (λ m. P m rule) (sym e) (subst (P (length (root ∷ live))) (sym r) base)
 
-pub own_crossing : (rule : Rule) (h : Region) (all : List CellConfig) (n : ℕ) → rule ≡ CellsOverlap → false ≡ list_any (is_invalid n) (found_by rule h all)
+pub own_crossing : (rule : Rule) (h : Region) (all : List CellConfig) (n : ℕ) → rule ≡ CellsOverlap → false ≡ list_any (makes_invalid n) (found_by rule h all)
 unfolding found_by
 own_crossing rule h all n r =
-    let P : Rule → Type 0 = λ rule. false ≡ list_any (is_invalid n) (found_by rule h all) in
+    let P : Rule → Type 0 = λ rule. false ≡ list_any (makes_invalid n) (found_by rule h all) in
     let base : P CellsOverlap = sym (invalid_crossing n all) in
     subst P (sym r) base
 
-pub own_devices : (rule : Rule) (h : Region) (xs : List CellConfig) (new : CellConfig) (n : ℕ) → 0 < n → n ≡ length xs → rule ≡ Shmem → is_any (in_devices_of (take n xs) n new) ≡ list_any (is_invalid n) (found_by rule h (xs ++ new ∷ []))
+pub own_devices : (rule : Rule) (h : Region) (xs : List CellConfig) (new : CellConfig) (n : ℕ) → 0 < n → n ≡ length xs → rule ≡ Shmem → is_any (in_devices_of (take n xs) n new) ≡ list_any (makes_invalid n) (found_by rule h (xs ++ new ∷ []))
 unfolding found_by
 own_devices rule h xs new n some e r =
-    let P : ℕ → Rule → Type 0 = λ m rule. is_any (in_devices_of (take m xs) m new) ≡ list_any (is_invalid m) (found_by rule h (xs ++ new ∷ [])) in
+    let P : ℕ → Rule → Type 0 = λ m rule. is_any (in_devices_of (take m xs) m new) ≡ list_any (makes_invalid m) (found_by rule h (xs ++ new ∷ [])) in
     let base : P (length xs) Shmem = ap (λ lower. is_any (in_devices_of lower (length xs) new)) (take-length xs) ∙ sym (invalid_devices xs new (omega arith)) in
     subst (λ m. P m rule) (sym e) (subst (P (length xs)) (sym r) base)
 
-pub own_cpus : (rule : Rule) (h : Region) (xs : List CellConfig) (new : CellConfig) (n : ℕ) → 0 < n → n ≡ length xs → rule ≡ NoCpu → cpus_break new.cpu_set ≡ list_any (is_invalid n) (found_by rule h (xs ++ new ∷ []))
+pub own_cpus : (rule : Rule) (h : Region) (xs : List CellConfig) (new : CellConfig) (n : ℕ) → 0 < n → n ≡ length xs → rule ≡ NoCpu → cpus_break new.cpu_set ≡ list_any (makes_invalid n) (found_by rule h (xs ++ new ∷ []))
 unfolding found_by
 own_cpus rule h xs new n some e r =
-    let P : ℕ → Rule → Type 0 = λ m rule. cpus_break new.cpu_set ≡ list_any (is_invalid m) (found_by rule h (xs ++ new ∷ [])) in
+    let P : ℕ → Rule → Type 0 = λ m rule. cpus_break new.cpu_set ≡ list_any (makes_invalid m) (found_by rule h (xs ++ new ∷ [])) in
     let base : P (length xs) NoCpu = sym (invalid_cpus xs new (omega arith)) in
     subst (λ m. P m rule) (sym e) (subst (P (length xs)) (sym r) base)
 
-own_region_at : (rule : Rule) (h : Region) (xs : List CellConfig) (new : CellConfig) → 0 < length xs → length xs < 16 → (rule ≡ VirtOverlap → ⊥) → (rule ≡ PhysOverlap → ⊥) → (rule ≡ SubpageTaken → ⊥) → (rule ≡ CellsOverlap → ⊥) → (rule ≡ Shmem → ⊥) → (rule ≡ NoCpu → ⊥) → list_any (is_invalid (length xs)) (found_by rule h (xs ++ new ∷ [])) ≡ is_any (in_cell rule h (length xs) new.memory_regions)
+own_region_at : (rule : Rule) (h : Region) (xs : List CellConfig) (new : CellConfig) → 0 < length xs → length xs < 16 → (rule ≡ VirtOverlap → ⊥) → (rule ≡ PhysOverlap → ⊥) → (rule ≡ SubpageTaken → ⊥) → (rule ≡ CellsOverlap → ⊥) → (rule ≡ Shmem → ⊥) → (rule ≡ NoCpu → ⊥) → list_any (makes_invalid (length xs)) (found_by rule h (xs ++ new ∷ [])) ≡ is_any (in_cell rule h (length xs) new.memory_regions)
 unfolding found_by
 own_region_at VirtOverlap h xs new some few a b c d e f = absurd (a refl)
 own_region_at PhysOverlap h xs new some few a b c d e f = absurd (b refl)
@@ -412,7 +412,7 @@ own_region_at Shmem h xs new some few a b c d e f = absurd (e refl)
 own_region_at NoCpu h xs new some few a b c d e f = absurd (f refl)
 own_region_at PhysAlign h xs new some few a b c d e f = invalid_both PhysAlign h xs new some few refl
 
-pub own_region : (rule : Rule) (h : Region) (xs : List CellConfig) (new : CellConfig) (n : ℕ) → 0 < n → n < 16 → n ≡ length xs → (rule ≡ VirtOverlap → ⊥) → (rule ≡ PhysOverlap → ⊥) → (rule ≡ SubpageTaken → ⊥) → (rule ≡ CellsOverlap → ⊥) → (rule ≡ Shmem → ⊥) → (rule ≡ NoCpu → ⊥) → is_any (in_cell rule h n new.memory_regions) ≡ list_any (is_invalid n) (found_by rule h (xs ++ new ∷ []))
+pub own_region : (rule : Rule) (h : Region) (xs : List CellConfig) (new : CellConfig) (n : ℕ) → 0 < n → n < 16 → n ≡ length xs → (rule ≡ VirtOverlap → ⊥) → (rule ≡ PhysOverlap → ⊥) → (rule ≡ SubpageTaken → ⊥) → (rule ≡ CellsOverlap → ⊥) → (rule ≡ Shmem → ⊥) → (rule ≡ NoCpu → ⊥) → is_any (in_cell rule h n new.memory_regions) ≡ list_any (makes_invalid n) (found_by rule h (xs ++ new ∷ []))
 own_region rule h xs new n some few q a b c d e f =
-    let P : ℕ → Type 0 = λ m. is_any (in_cell rule h m new.memory_regions) ≡ list_any (is_invalid m) (found_by rule h (xs ++ new ∷ [])) in
+    let P : ℕ → Type 0 = λ m. is_any (in_cell rule h m new.memory_regions) ≡ list_any (makes_invalid m) (found_by rule h (xs ++ new ∷ [])) in
     subst P (sym q) (sym (own_region_at rule h xs new (omega arith) (omega arith) a b c d e f))

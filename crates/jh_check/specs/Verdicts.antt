@@ -18,12 +18,12 @@ abbrev pub is_cells_overlap : Finding → Bool
 is_cells_overlap finding = finding.number == 10
 
 -- the finding names the cell, and is of another rule than CellsOverlap
-abbrev pub is_invalid : ℕ → Finding → Bool
-is_invalid cell finding = names cell finding && not (is_cells_overlap finding)
+abbrev pub makes_invalid : ℕ → Finding → Bool
+makes_invalid cell finding = names cell finding && not (is_cells_overlap finding)
 
 -- the finding names the cell, and is of the rule CellsOverlap
-abbrev pub is_busy : ℕ → Finding → Bool
-is_busy cell finding = names cell finding && is_cells_overlap finding
+abbrev pub makes_busy : ℕ → Finding → Bool
+makes_busy cell finding = names cell finding && is_cells_overlap finding
 
 -- the verdict by whether a finding makes the new cell invalid, and else whether one makes it busy
 abbrev pub verdict_by : Bool → Bool → NewCell
@@ -33,4 +33,4 @@ verdict_by invalid busy = if invalid then Invalid else (if busy then Busy else C
 unfoldable pub verdict_of : SystemConfig → List CellConfig → CellConfig → NewCell
 verdict_of system live new =
     let all = findings system (live ++ new ∷ []) in
-    verdict_by (list_any (is_invalid (length live + 1)) all) (list_any (is_busy (length live + 1)) all)
+    verdict_by (list_any (makes_invalid (length live + 1)) all) (list_any (makes_busy (length live + 1)) all)

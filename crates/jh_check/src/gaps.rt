@@ -64,7 +64,7 @@ fn lies_in(gap: Gap, span: Span) -> bool
 }
 
 /// Whether the span may be met, where no gap near it is known.
-fn is_near(envelopes: &[Envelope], span: Span) -> bool
+fn lies_in_no_gap(envelopes: &[Envelope], span: Span) -> bool
     requires { IsRising envelopes.now }
     ensures { result ≡ false → IsMet envelopes.now span → ⊥ }
 {
@@ -79,8 +79,8 @@ pub(crate) fn may_be_met_within(envelopes: &Envelopes, extents: Extents) -> bool
     ensures any { result ≡ false → IsMet envelopes.now.any.items extents.any → ⊥ }
     ensures unshared { result ≡ false → IsMet (unshared_of envelopes.now) extents.unshared → ⊥ }
 {
-    let any = is_near(envelopes.any.as_slice(), extents.any);
-    any || is_near(unshared_of(envelopes), extents.unshared)
+    let any = lies_in_no_gap(envelopes.any.as_slice(), extents.any);
+    any || lies_in_no_gap(unshared_of(envelopes), extents.unshared)
 }
 
 /// Whether the extents lie in the gaps of their kinds; then no region within them is met.
@@ -92,7 +92,7 @@ pub(crate) fn lie_in(gaps: &Gaps, extents: Extents) -> bool
 }
 
 /// Whether the last of those before the gap begins before the span's end, and those behind the gap don't.
-fn is_last(envelopes: &[Envelope], gap: Gap, span: Span) -> bool {
+fn is_gap_near(envelopes: &[Envelope], gap: Gap, span: Span) -> bool {
     // for the proof: `gap.before` is never more than the envelopes
     span.end <= gap.end
         && 0 < gap.before
@@ -110,11 +110,11 @@ fn may_be_met_far(envelopes: &[Envelope], span: Span, gap: &mut Gap, next: Gap) 
     ensures gap { IsGap envelopes.now gap.new }
     ensures told { result ≡ false → IsMet envelopes.now span → ⊥ }
 {
-    if is_last(envelopes, *gap, span) {
+    if is_gap_near(envelopes, *gap, span) {
         return true;
     }
     *gap = next;
-    if is_last(envelopes, next, span) {
+    if is_gap_near(envelopes, next, span) {
         return true;
     }
     *gap = gap_near(envelopes, span);
@@ -152,8 +152,8 @@ fn may_be_met_unshared(envelopes: &Envelopes, span: Span, gap: &mut Gap) -> bool
     may_be_met(unshared_of(envelopes), span, gap)
 }
 
-/// Whether the region, of that number in its cell, may break the rule with one that has an envelope. The gaps become ones
-/// near it.
+/// Whether the region, of that number in its cell, may break the rule with one that has an envelope. The gap by which it
+/// is looked for becomes one near it, unless it takes no part or lies in a gap already.
 pub(crate) fn may_meet(
     envelopes: &Envelopes,
     rule: Rule,
@@ -179,7 +179,7 @@ pub(crate) fn may_meet(
     }
 }
 
-/// How many lie before the gap of those by which the region is looked for.
+/// How many of the envelopes by which the region is looked for lie before their gap.
 pub(crate) fn before_gap(gaps: &Gaps, rule: Rule, region: &Region) -> usize {
     if passes_shared(rule, region) {
         gaps.unshared.before

@@ -21,6 +21,7 @@ fn bdfs_of(devices: &[PciDevice]) -> usize {
 /// To each bdf up to the devices' last, the number of an ivshmem device that may have it.
 fn holders_among(alloc: Global, devices: &[PciDevice]) -> Result<Vec<u16>, NoMemory> {
     let mut holders = vec![in alloc; 0; bdfs_of(devices)]?;
+    // a device's number is kept in 16 bits; a cell within the limits has 256 devices at most
     for n in 0..devices.len().min(MAX_BDFS) {
         let bdf = bdf_of(&devices[n]);
         // for the proof: each bdf is below `bdfs_of`
@@ -102,7 +103,8 @@ fn note(partners: &mut Vec<Option<u16>>, one: &CellConfig, n: usize, other: &Cel
     }
 }
 
-/// Notes those of the other cell's device of that number and of the one's with its bdf.
+/// Notes the sections of the other cell's device of that number and of the one cell's device with its bdf as partners,
+/// if the devices are linked and the sections aren't noted yet.
 fn note_at(
     partners: &mut Vec<Option<u16>>,
     holders: &[u16],

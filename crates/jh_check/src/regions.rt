@@ -84,7 +84,7 @@ pub(crate) fn region_breaks(
     }
 }
 
-/// Whether the region breaks a rule that speaks of root's regions, or one of those of other cells.
+/// Whether the region breaks a rule that is for root's regions alone, or the one that is for other cells' alone.
 fn breaks_in_cell(cell: u32, earlier: &[Region], region: &Region) -> bool
     ensures { result ≡ breaks_in_cell cell earlier.now region.now }
 {

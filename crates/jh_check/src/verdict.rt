@@ -7,7 +7,7 @@ ghost use Rattle.jh_check.specs.Lists.{is_any, found_from};
 ghost use Rattle.jh_check.specs.Private.Spans.{is_within, AreSpansOf};
 ghost use Rattle.jh_check.specs.Findings.{beside, between, in_cell, in_devices_of, found_by, found_at, in_pairs, rules_in_order};
 ghost use Rattle.jh_check.specs.Private.Sound.{AreSound};
-ghost use Rattle.jh_check.specs.Verdicts.{is_invalid, is_busy, verdict_of};
+ghost use Rattle.jh_check.specs.Verdicts.{makes_invalid, makes_busy, verdict_of};
 ghost use Rattle.jh_check.specs.declared.rule.Rule.TheVariants.{CellsOverlap};
 
 use crate::devices::{cpus_break, device_breaks};
@@ -84,7 +84,7 @@ fn any_within(alloc: Global, rule: Rule, number: u32, cell: &CellConfig) -> Resu
     }
 }
 
-/// Whether a region overlaps with one of another cell, of whose places that is the index. `near` is how
+/// Whether a region overlaps with one of another cell, of whose places `spans` is the index. `near` is how
 /// many of the spans lay before the last region, and becomes how many lie before this one.
 fn any_met(one: &Site, spans: &[Span], near: &mut usize, b: u32, other: &CellConfig) -> bool
     requires { AreSpansOf CellsOverlap other.now.memory_regions spans.now }
@@ -107,7 +107,7 @@ fn any_met(one: &Site, spans: &[Span], near: &mut usize, b: u32, other: &CellCon
     false
 }
 
-/// Whether a region of the one cell overlaps with one of the other, of whose places that is the index.
+/// Whether a region of the one cell overlaps with one of the other, of whose places `spans` is the index.
 fn any_indexed(a: u32, one: &CellConfig, spans: &[Span], b: u32, other: &CellConfig) -> bool
     requires { AreSpansOf CellsOverlap other.now.memory_regions spans.now }
     ensures { result ≡ is_any (between CellsOverlap a one.now b other.now) }
@@ -144,7 +144,7 @@ fn any_overlap(
     }
 }
 
-/// Whether a region of the cell breaks a rule about one region. `sound` says that none does.
+/// Whether a region of the cell breaks the rule, which is about one region. `sound` says that none breaks any.
 fn any_region(rule: Rule, hypervisor: &Region, a: u32, regions: &[Region], sound: bool) -> bool
     requires { sound ≡ true → AreSound hypervisor.now a regions.now }
     ensures { result ≡ is_any (in_cell rule hypervisor.now a regions.now) }
@@ -187,7 +187,7 @@ fn breaks(
     requires count { length setup.now.cells.now ≤ 14 }
     requires number { number ≡ length (cells_of setup.now) }
     requires sound { sound ≡ true → AreSound setup.now.hypervisor.now number new.now.memory_regions }
-    ensures { IfOk result (λ breaks. breaks ≡ list_any (is_invalid number) (found_by rule setup.now.hypervisor.now (cells_of setup.now ++ new.now ∷ []))) }
+    ensures { IfOk result (λ breaks. breaks ≡ list_any (makes_invalid number) (found_by rule setup.now.hypervisor.now (cells_of setup.now ++ new.now ∷ []))) }
 {
     match rule {
         Rule::VirtOverlap => any_within(alloc, rule, number, new),
@@ -210,7 +210,7 @@ fn breaks(
 fn is_invalid(alloc: Global, setup: &Setup, number: u32, new: &CellConfig) -> Result<bool, NoMemory>
     requires count { length setup.now.cells.now ≤ 14 }
     requires number { number ≡ length (cells_of setup.now) }
-    ensures { IfOk result (λ invalid. invalid ≡ list_any (is_invalid number) (found_from (found_at setup.now.hypervisor.now (cells_of setup.now ++ new.now ∷ [])) 0 rules_in_order)) }
+    ensures { IfOk result (λ invalid. invalid ≡ list_any (makes_invalid number) (found_from (found_at setup.now.hypervisor.now (cells_of setup.now ++ new.now ∷ [])) 0 rules_in_order)) }
 {
     let sound = are_sound(setup.hypervisor, number, new.memory_regions.as_slice());
     for i in 0..RULES.len() {
@@ -221,12 +221,12 @@ fn is_invalid(alloc: Global, setup: &Setup, number: u32, new: &CellConfig) -> Re
     Ok(false)
 }
 
-/// Whether a live cell and the new one, of whose places that is the index, break the rule CellsOverlap together.
+/// Whether a live cell and the new one, of whose places there may be an index, break the rule CellsOverlap together.
 fn overlaps(setup: &Setup, index: &Option<Vec<Span>>, number: u32, new: &CellConfig) -> bool
     requires count { length setup.now.cells.now ≤ 15 }
     requires number { number ≡ length (cells_of setup.now) }
     requires index { IfSome index.now (λ spans. AreSpansOf CellsOverlap new.now.memory_regions spans.items) }
-    ensures { result ≡ list_any (is_busy number) (in_pairs CellsOverlap (cells_of setup.now ++ new.now ∷ [])) }
+    ensures { result ≡ list_any (makes_busy number) (in_pairs CellsOverlap (cells_of setup.now ++ new.now ∷ [])) }
 {
     for a in 0..number {
         if any_overlap(a, setup.cell(a), index, number, new) {
@@ -240,14 +240,14 @@ fn overlaps(setup: &Setup, index: &Option<Vec<Span>>, number: u32, new: &CellCon
 fn is_busy(alloc: Global, setup: &Setup, number: u32, new: &CellConfig) -> Result<bool, NoMemory>
     requires count { length setup.now.cells.now ≤ 15 }
     requires number { number ≡ length (cells_of setup.now) }
-    ensures { IfOk result (λ busy. busy ≡ list_any (is_busy number) (in_pairs CellsOverlap (cells_of setup.now ++ new.now ∷ []))) }
+    ensures { IfOk result (λ busy. busy ≡ list_any (makes_busy number) (in_pairs CellsOverlap (cells_of setup.now ++ new.now ∷ []))) }
 {
     let known = index(alloc, Rule::CellsOverlap, new.memory_regions.as_slice())?;
     Ok(overlaps(setup, &known, number, new))
 }
 
 /// What the check of the system, the live cells and a new one, which comes last, says of the new one. It
-/// takes memory for an index of the new cell's regions, and for nothing else.
+/// takes memory for indexes of the new cell's regions, one at a time, and for nothing else.
 pub fn verdict_of(
     alloc: Global,
     system: &SystemConfig,

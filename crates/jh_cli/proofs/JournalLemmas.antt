@@ -4,7 +4,7 @@ use Rattle.jh_outside.specs.Reads.{HandsOut}
 use Rattle.jh_text.specs.declared.fault.JournalFault.{JournalFault}
 use Rattle.jh_text.specs.declared.fault.JournalFault.TheVariants.{Line, TooLong, NoMemory}
 use Rattle.jh_text.specs.Faults.{IsFirstBadLine, IsTooLong, IsFault}
-use Rattle.jh_text.specs.FaultText.{fault_text}
+use Rattle.jh_text.specs.FaultText.{journal_fault_text}
 use Rattle.jh_cli.specs.Limits.{asked_of_a_journal}
 use Rattle.jh_cli.specs.declared.status.Status.TheVariants.{Refused}
 use Rattle.jh_cli.specs.declared.ending.CallFault.{CallFault}
@@ -24,7 +24,7 @@ tag NoMemory = 0
 
 -- the reply where a journal has the fault
 abbrev pub Refuses : List ℕ → JournalFault → Reply → Type 0
-Refuses name fault reply = reply ≡ record { status = Refused; text = refusal_line name (fault_text fault) }
+Refuses name fault reply = reply ≡ record { status = Refused; text = refusal_line name (journal_fault_text fault) }
 
 -- what the reader says of its fault
 abbrev pub IsTrueFault : List ℕ → JournalFault → Type 0
@@ -49,7 +49,7 @@ is_fault text NoMemory r memory is wanted line long other = tt
 stops_for : (contents : Contents) (name text : List ℕ) (fault : JournalFault) → fault ≢ NoMemory → IsTrueFault text fault → HandsOut (contents name) asked_of_a_journal text → length text < asked_of_a_journal
     → (s : CallFault) → OnEnded s (Refuses name fault) → OnEnded s (EndsAt asked_of_a_journal contents name JournalRefusal)
 stops_for contents name text fault other told handed within s h =
-    refuses asked_of_a_journal contents name JournalRefusal text (fault_text fault) handed
+    refuses asked_of_a_journal contents name JournalRefusal text (journal_fault_text fault) handed
     (inr (record { within = within; fault = fault; is_of_text = other; first = told other; told = refl })) s h
 
 -- the call ends at a text with a fault
@@ -63,4 +63,4 @@ ends_there contents name text NoMemory told handed within s h memory = nothing (
 -- and no fault of reading is told
 pub no_fault_there : (old new : ℕ) (failed name : List ℕ) (fault : JournalFault) (s : CallFault) → OnEnded s (Refuses name fault) → OnEnded s (IsCountedFault old new failed)
 no_fault_there old new failed name fault s h =
-    on_ended (Refuses name fault) (IsCountedFault old new failed) s (λ reply is read. absurd (refused_is_read reply (refusal_line name (fault_text fault)) is read)) h
+    on_ended (Refuses name fault) (IsCountedFault old new failed) s (λ reply is read. absurd (refused_is_read reply (refusal_line name (journal_fault_text fault)) is read)) h

@@ -13,7 +13,7 @@ use Rattle.jh_cli.specs.Reading.{Reply, IsCountedFault}
 use Rattle.jh_cli.specs.declared.status.Status.{Status}
 use Rattle.jh_cli.specs.declared.status.Status.TheVariants as status
 use Rattle.jh_cli.specs.Play.{played_status}
-use Rattle.jh_cli.specs.Run.{EndsRun, IsMadeByRun, IsRan}
+use Rattle.jh_cli.specs.Run.{EndsRun, IsMadeByRun, IsToldRun}
 use Rattle.jh_cli.specs.Soak.{Soaks}
 use Rattle.jh_cli.proofs.StatusLemmas.{run_ends}
 
@@ -38,7 +38,7 @@ soak_counted old new failed word reply (inr (rounds, are, soaked)) read = absurd
   by (inr is) = other reply status.Full is (omega arith) read
 
 -- nor does a run that has opened its board
-pub ran_counted : (old new : ℕ) (failed : List ℕ) (image : Image) (reply : Reply) → IsRan image reply → IsCountedFault old new failed reply
+pub ran_counted : (old new : ℕ) (failed : List ℕ) (image : Image) (reply : Reply) → IsToldRun image reply → IsCountedFault old new failed reply
 ran_counted old new failed image reply ran read = absurd (by (run_ends image ran.entries reply.status ran.run.ends)) where
   by : (reply.status ≡ status.Good) ⊎ (reply.status ≡ status.Full) → ⊥
   by (inl is) = other reply status.Good is (omega arith) read

@@ -23,7 +23,7 @@ use Rattle.jh_cli.specs.Check.{system_file, CellRefusal, ChecksCells, checked_st
 use Rattle.jh_cli.specs.Pack.{spec_file, packed}
 use Rattle.jh_cli.specs.Boards.{stopped, Opens}
 use Rattle.jh_cli.specs.Play.{schedule_file, IsPlayed, played_status, PlaysBy}
-use Rattle.jh_cli.specs.Run.{EndsRun, IsRan}
+use Rattle.jh_cli.specs.Run.{EndsRun, IsToldRun}
 use Rattle.jh_cli.specs.Map.{IsMapped, map_reply, MapsBy}
 use Rattle.jh_cli.specs.Audit.{journal_file, IsAudited, AuditsBy, verdict_status}
 use Rattle.jh_cli.specs.Soak.{Soaks}
@@ -122,7 +122,7 @@ outcome_other contents (Some (PlayOf board schedule)) reply h =
     opens_other contents board (PlaysBy contents schedule) reply
     (λ image reads. reads_other contents schedule (schedule_file image) (IsPlayed image) reply (λ cpus is. played_ends_other image cpus reply is) reads) h
 outcome_other contents (Some (RunOf board)) reply h =
-    opens_other contents board IsRan reply (λ image ran. run_other reply (run_ends image ran.entries reply.status ran.run.ends)) h
+    opens_other contents board IsToldRun reply (λ image ran. run_other reply (run_ends image ran.entries reply.status ran.run.ends)) h
 outcome_other contents (Some (MapOf board schedule)) reply h =
     opens_other contents board (MapsBy contents schedule) reply
     (λ image reads. reads_other contents schedule (schedule_file image) (IsMapped image) reply (λ cpus is. map_ends_other image cpus reply is) reads) h

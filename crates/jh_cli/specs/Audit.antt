@@ -5,7 +5,7 @@ use Rattle.jh_history.specs.declared.entry.Entry.{Entry}
 use Rattle.jh_text.specs.declared.fault.JournalFault.{JournalFault}
 use Rattle.jh_text.specs.declared.fault.JournalFault.TheVariants.{NoMemory}
 use Rattle.jh_text.specs.Faults.{IsJournalText, IsFault}
-use Rattle.jh_text.specs.FaultText.{fault_text}
+use Rattle.jh_text.specs.FaultText.{journal_fault_text}
 use Rattle.jh_text.specs.Text.{entry_text}
 use Rattle.jh_audit.specs.declared.verdict.Verdict.{Verdict}
 use Rattle.jh_audit.specs.declared.verdict.Verdict.TheVariants.{Legal, Illegal}
@@ -28,7 +28,7 @@ pub record IsNoJournal (bytes words : List ℕ) : Type 0 where
   pub fault : JournalFault
   pub is_of_text : fault ≢ NoMemory
   pub first : IsFault bytes fault
-  pub told : words ≡ fault_text fault
+  pub told : words ≡ journal_fault_text fault
 
 -- a journal's file of these bytes is refused by these words: it is too large, or no journal's text
 abbrev pub JournalRefusal : List ℕ → List ℕ → Type 0

@@ -7,7 +7,7 @@ use Rattle.jh_cellcfg.specs.declared.fault.ConfigFault.{ConfigFault}
 use Rattle.jh_cellcfg.specs.Faults.{first_fault}
 use Rattle.jh_cellcfg.specs.Limits.{IsWithinLimits}
 use Rattle.jh_cellcfg.specs.Spelling.{spelling}
-use Rattle.jh_cellcfg.specs.Texts.{fault_text}
+use Rattle.jh_cellcfg.specs.Texts.{config_fault_text}
 use Rattle.jh_cellcfg.specs.Widths.{IsCell}
 use Rattle.jh_syscfg.specs.Layout.{system_spelling, IsSystem, IsSystemWithinLimits}
 use Rattle.jh_syscfg.specs.SystemFaults.{system_fault}
@@ -33,7 +33,7 @@ pub record IsNoCell (bytes words : List ℕ) : Type 0 where
   pub within : length bytes < asked_of_a_file
   pub fault : ConfigFault
   pub first : first_fault bytes ≡ Some fault
-  pub told : words ≡ fault_text fault
+  pub told : words ≡ config_fault_text fault
 
 -- a cell's file of these bytes is refused by these words: it is too large, or no cell's
 abbrev pub CellRefusal : List ℕ → List ℕ → Type 0
@@ -51,7 +51,7 @@ pub record IsNoSystem (bytes words : List ℕ) : Type 0 where
   pub within : length bytes < asked_of_a_file
   pub fault : ConfigFault
   pub first : system_fault bytes ≡ Some fault
-  pub told : words ≡ fault_text fault
+  pub told : words ≡ config_fault_text fault
 
 -- a system's file of these bytes is refused by these words: it is too large, or no system's
 abbrev pub SystemRefusal : List ℕ → List ℕ → Type 0

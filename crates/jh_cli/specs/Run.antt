@@ -24,11 +24,11 @@ pub record IsMadeByRun (image : Image) (entries : List Entry) (status : Status) 
   pub ends : EndsRun image entries status
 
 -- the reply has the text of a journal that a run of the image may make, and the status that it ends with
-pub record IsRan (image : Image) (reply : Reply) : Type 0 where
+pub record IsToldRun (image : Image) (reply : Reply) : Type 0 where
   pub entries : List Entry
   pub run : IsMadeByRun image entries reply.status
   pub told : reply.text ≡ journal_text entries
 
 -- what a run of the board ends with: the board's files are read, and the first that stops the call ends it
 abbrev pub Runs : Contents → List ℕ → Reply → Type 0
-Runs contents board = Opens contents board IsRan
+Runs contents board = Opens contents board IsToldRun

@@ -1,7 +1,7 @@
 //! Auditing a journal by a board.
 ghost use Rattle.std.specs.Prelude.{◌≡◌, IfOk, IfErr, ◌∷◌, [], OnOk};
 ghost use Rattle.jh_history.specs.Admitted.{IsAdmitted};
-ghost use Rattle.jh_text.specs.FaultText.{fault_text};
+ghost use Rattle.jh_text.specs.FaultText.{journal_fault_text};
 ghost use Rattle.jh_text.specs.declared.fault.JournalFault.TheVariants.{NoMemory as for_memory};
 ghost use Rattle.jh_outside.specs.Trail.{AsksAll};
 ghost use Rattle.jh_cli.specs.Order.{AsksUntilEnd, AsksIn, AsksBoardAnd};
@@ -26,7 +26,7 @@ use std::alloc::Global;
 
 /// The call ends since no journal was read from the file of this name.
 fn unread(alloc: Global, name: &str, fault: &JournalFault) -> CallFault
-    ensures told { OnEnded result (λ reply. reply ≡ record { status = Status.Refused; text = refusal_line name.now (fault_text fault.now) }) }
+    ensures told { OnEnded result (λ reply. reply ≡ record { status = Status.Refused; text = refusal_line name.now (journal_fault_text fault.now) }) }
     ensures memory { fault.now ≡ for_memory → result ≡ CallFault.NoMemory }
 {
     match fault {

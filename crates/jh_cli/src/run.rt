@@ -2,7 +2,7 @@
 ghost use Rattle.std.specs.Prelude.{IfOk, []};
 ghost use Rattle.jh_history.specs.Admitted.{IsAdmitted};
 ghost use Rattle.jh_cli.specs.Order.{AsksBoardAnd};
-ghost use Rattle.jh_cli.specs.Run.{IsRan, Runs};
+ghost use Rattle.jh_cli.specs.Run.{IsToldRun, Runs};
 ghost use Rattle.jh_cli.specs.Reading.{IsCountedFault};
 ghost use Rattle.jh_cli.specs.Private.Endings.{reply_of, OnEnding};
 
@@ -26,7 +26,7 @@ fn render<R: Threads + Wait + Sync, G: Gate + Sync>(
     gate: &G,
 ) -> Result<Ending, NoMemory>
     requires { IsAdmitted image }
-    ensures { IfOk result (λ ending. IsRan image (reply_of ending)) }
+    ensures { IfOk result (λ ending. IsToldRun image (reply_of ending)) }
 {
     let (board, ended) = run_board(rt, alloc, image, gate, MAX_ENTRIES as u32)?;
     let text = print_journal(alloc, board.journal())?;

@@ -17,7 +17,7 @@ use jh_script::{Image, ScheduleFault, read_schedule};
 use std::alloc::Global;
 
 /// The board's CPUs: bit i says whether it has CPU i.
-fn cpus_of(image: &Image) -> u16
+fn cpu_mask_of(image: &Image) -> u16
     ensures { AreCpus image.now result }
 {
     let mut cpus = 0;
@@ -46,7 +46,7 @@ pub fn schedule<F: Files>(
     ensures asked_until { IfErr result (λ stop. OnEnded stop (AsksUntilEnd F.Files files.old files.new (name.now ∷ []))) }
 {
     let bytes = read_below(alloc, files, name, MAX_READ)?;
-    match read_schedule(alloc, bytes.as_slice(), cpus_of(image)) {
+    match read_schedule(alloc, bytes.as_slice(), cpu_mask_of(image)) {
         Ok(items) => Ok(items),
         Err(ScheduleFault::NoMemory) => Err(CallFault::NoMemory),
         Err(fault) => Err(refused_for(alloc, name, &fault)),

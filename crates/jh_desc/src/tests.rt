@@ -65,7 +65,7 @@ const fn rights(read: bool, write: bool, execute: bool) -> Rights {
 }
 
 /// The leaf at 0x40000000 has this word, both ways.
-fn is_word(rt: &impl Abort, level: u8, rights: Rights, device: bool, said: u64)
+fn leaf_has_word(rt: &impl Abort, level: u8, rights: Rights, device: bool, said: u64)
     requires first { FIRST_LEVEL ≤ level }
     requires last { level ≤ LAST_LEVEL }
     requires slot { 0x40000000 % slot_size level ≡ 0 }
@@ -80,19 +80,19 @@ fn is_word(rt: &impl Abort, level: u8, rights: Rights, device: bool, said: u64)
 }
 
 /// The leaves at 0x40000000 have these words, of no right, r, w, rw, x, rx, wx and rwx.
-fn are_words(rt: &impl Abort, level: u8, device: bool, said: [u64; 8])
+fn leaves_have_words(rt: &impl Abort, level: u8, device: bool, said: [u64; 8])
     requires first { FIRST_LEVEL ≤ level }
     requires last { level ≤ LAST_LEVEL }
     requires slot { 0x40000000 % slot_size level ≡ 0 }
 {
-    is_word(rt, level, rights(false, false, false), device, said[0]);
-    is_word(rt, level, rights(true, false, false), device, said[1]);
-    is_word(rt, level, rights(false, true, false), device, said[2]);
-    is_word(rt, level, rights(true, true, false), device, said[3]);
-    is_word(rt, level, rights(false, false, true), device, said[4]);
-    is_word(rt, level, rights(true, false, true), device, said[5]);
-    is_word(rt, level, rights(false, true, true), device, said[6]);
-    is_word(rt, level, rights(true, true, true), device, said[7]);
+    leaf_has_word(rt, level, rights(false, false, false), device, said[0]);
+    leaf_has_word(rt, level, rights(true, false, false), device, said[1]);
+    leaf_has_word(rt, level, rights(false, true, false), device, said[2]);
+    leaf_has_word(rt, level, rights(true, true, false), device, said[3]);
+    leaf_has_word(rt, level, rights(false, false, true), device, said[4]);
+    leaf_has_word(rt, level, rights(true, false, true), device, said[5]);
+    leaf_has_word(rt, level, rights(false, true, true), device, said[6]);
+    leaf_has_word(rt, level, rights(true, true, true), device, said[7]);
 }
 
 const PLAIN_BLOCKS: [u64; 8] = [
@@ -141,20 +141,20 @@ const DEVICE_PAGES: [u64; 8] = [
 
 #[test]
 fn each_block_of_a_gigabyte_has_its_word(rt: HostRuntime) {
-    are_words(&rt, 1, false, PLAIN_BLOCKS);
-    are_words(&rt, 1, true, DEVICE_BLOCKS);
+    leaves_have_words(&rt, 1, false, PLAIN_BLOCKS);
+    leaves_have_words(&rt, 1, true, DEVICE_BLOCKS);
 }
 
 #[test]
 fn each_block_of_two_megabytes_has_its_word(rt: HostRuntime) {
-    are_words(&rt, 2, false, PLAIN_BLOCKS);
-    are_words(&rt, 2, true, DEVICE_BLOCKS);
+    leaves_have_words(&rt, 2, false, PLAIN_BLOCKS);
+    leaves_have_words(&rt, 2, true, DEVICE_BLOCKS);
 }
 
 #[test]
 fn each_page_has_its_word(rt: HostRuntime) {
-    are_words(&rt, 3, false, PLAIN_PAGES);
-    are_words(&rt, 3, true, DEVICE_PAGES);
+    leaves_have_words(&rt, 3, false, PLAIN_PAGES);
+    leaves_have_words(&rt, 3, true, DEVICE_PAGES);
 }
 
 #[test]

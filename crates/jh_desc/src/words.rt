@@ -7,7 +7,7 @@ use crate::descriptor::Descriptor;
 use crate::levels::offset;
 use jh_num::{FIRST_LEVEL, LAST_LEVEL, PAGE_SIZE, Rights};
 
-/// The word is a descriptor.
+/// The descriptor is valid.
 const VALID: u64 = 1;
 
 /// It names a table, or at the last level a page.
@@ -16,7 +16,7 @@ const TABLE_OR_PAGE: u64 = 1 << 1;
 /// The memory is a device's (Device-nGnRE).
 const DEVICE: u64 = 0b0001 << 2;
 
-/// The memory is normal, write-back within and without.
+/// The memory is normal, inner and outer write-back.
 const NORMAL: u64 = 0b1111 << 2;
 
 /// It may be read.
@@ -49,7 +49,7 @@ fn rights_in(word: u64) -> Rights
 }
 
 /// The leaf that the word says at the level: its place, with which a slot of the level begins, its rights, and whether
-/// it is memory of a device.
+/// it is memory of a device, which it is where bits 5 and 4 are 0.
 fn leaf_in(level: u8, word: u64) -> Descriptor
     requires { level ≤ LAST_LEVEL }
     ensures { result ≡ leaf_in level word }

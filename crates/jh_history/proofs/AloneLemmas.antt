@@ -23,7 +23,7 @@ use Rattle.jh_history.specs.declared.entry.Act.TheVariants.{Read, Write, Fetch, 
 use Rattle.jh_history.specs.Facts.{Facts}
 use Rattle.jh_history.specs.Lives.{is_on_board, cell_in, program_ops, ops_in, op_at}
 use Rattle.jh_history.specs.Cpus.{change_of, changed, acted}
-use Rattle.jh_history.specs.Calls.{call_by, is_call}
+use Rattle.jh_history.specs.Calls.{call_by, is_of_call}
 use Rattle.jh_history.specs.Commits.{cells_by}
 use Rattle.jh_ivshmem.specs.Links.{pending_of}
 use Rattle.jh_history.specs.History.{start, after, facts, coming_of}
@@ -42,7 +42,7 @@ alone_start image = record { cells = refl; call = refl; owners = λ cpu. refl }
 
 -- what is due is no phase
 abbrev IsNoPhase : Act → Type 0
-IsNoPhase act = is_call act ≡ false
+IsNoPhase act = is_of_call act ≡ false
 
 own_if : (b : Bool) (o : Option Act) → IfSome o IsNoPhase → IfSome (cond b o None) IsNoPhase
 own_if true o own = own
@@ -112,7 +112,7 @@ pub due_at_roots : (image : Image) (f : Facts) (cpu : ℕ) (entry : Entry) → H
 due_at_roots image f cpu entry silent alone h = roots_at image f cpu entry (is_on_board image cpu) silent alone refl h
 
 -- what such an entry does
-cells_kept : (call : Option OpenCall) (cells : List Live) (act : Act) → is_call act ≡ false → cells_by call cells act ≡ cells
+cells_kept : (call : Option OpenCall) (cells : List Live) (act : Act) → is_of_call act ≡ false → cells_by call cells act ≡ cells
 cells_kept call cells (Read width at got) own = refl
 cells_kept call cells (Write width at value ok) own = refl
 cells_kept call cells (Fetch at got) own = refl
@@ -128,7 +128,7 @@ cells_kept call cells (Note id) own = absurd (both_ways true own refl)
 cells_kept call cells (Noted id how) own = absurd (both_ways true own refl)
 cells_kept call cells (Finish answer) own = absurd (both_ways true own refl)
 
-call_kept : (cells : List Live) (coming : Option CellConfig) (entry : Entry) (act : Act) → is_call act ≡ false → call_by cells coming None entry act ≡ None
+call_kept : (cells : List Live) (coming : Option CellConfig) (entry : Entry) (act : Act) → is_of_call act ≡ false → call_by cells coming None entry act ≡ None
 call_kept cells coming entry (Read width at got) own = refl
 call_kept cells coming entry (Write width at value ok) own = refl
 call_kept cells coming entry (Fetch at got) own = refl
@@ -145,7 +145,7 @@ call_kept cells coming entry (Noted id how) own = absurd (both_ways true own ref
 call_kept cells coming entry (Finish answer) own = absurd (both_ways true own refl)
 
 -- it changes its own CPU alone
-pub acted_own : (image : Image) (call : Option OpenCall) (act : Act) (own i : ℕ) (cpu : Cpu) → is_call act ≡ false → acted image call act own i cpu ≡ cond (eqb i own) (changed (change_of act) cpu) cpu
+pub acted_own : (image : Image) (call : Option OpenCall) (act : Act) (own i : ℕ) (cpu : Cpu) → is_of_call act ≡ false → acted image call act own i cpu ≡ cond (eqb i own) (changed (change_of act) cpu) cpu
 acted_own image call (Read width at got) own i cpu h = refl
 acted_own image call (Write width at value ok) own i cpu h = refl
 acted_own image call (Fetch at got) own i cpu h = refl

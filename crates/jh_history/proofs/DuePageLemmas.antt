@@ -27,7 +27,7 @@ use Rattle.jh_history.specs.declared.entry.Act.TheVariants.{Read, Write, Fetch, 
 use Rattle.jh_history.specs.Facts.{Facts}
 use Rattle.jh_history.specs.Lives.{is_on_board, live_in}
 use Rattle.jh_history.specs.Cpus.{cpu_after}
-use Rattle.jh_history.specs.Pages.{on_page, named_cell, is_left, failing, unless_good, asking, committing, page_write_by}
+use Rattle.jh_history.specs.Pages.{on_page, named_cell, is_unfailed_of, failing, unless_good, asking, committing, page_write_by}
 use Rattle.jh_history.specs.Phases.{decision}
 use Rattle.jh_shape.specs.Lives.{configs_of}
 use Rattle.jh_history.specs.Due.{due_at}
@@ -151,7 +151,7 @@ failed_by image f entry false false write live is h =
 failing_live : (image : Image) (f : Facts) (entry : Entry) (good : Bool) (write : PageWrite) → IsSound image f → due_at image f entry.cpu ≡ Some entry → unless_good good (failing image f entry) ≡ Some write → IsLive f.cells write.cell
 failing_live image f entry true write sound due h = absurd (none-some write h)
 failing_live image f entry false write sound due h =
-    failed_by image f entry (eqb entry.cell image.system.root.id) (any_below (λ i. is_on_board image i && is_left entry.cell (cpu_after image f entry i)) 16) write (entry_live image f entry sound due) refl h
+    failed_by image f entry (eqb entry.cell image.system.root.id) (any_below (λ i. is_on_board image i && is_unfailed_of entry.cell (cpu_after image f entry i)) 16) write (entry_live image f entry sound due) refl h
 
 -- ---- by a note
 

@@ -18,7 +18,7 @@ use Rattle.jh_history.specs.declared.change.Change.{Change}
 use Rattle.jh_history.specs.declared.change.Change.TheVariants.{Stop as Halt}
 use Rattle.jh_history.specs.Lives.{is_on_board, program_ops}
 use Rattle.jh_history.specs.Calls.{counted}
-use Rattle.jh_history.specs.Cpus.{changed, is_running, asked_by_begin, cpu_by_finish, resumed_in}
+use Rattle.jh_history.specs.Cpus.{changed, is_running, asked_by_begin, cpu_by_finish, resumed_of_root}
 use Rattle.jh_history.specs.Wants.{goes_on}
 use Rattle.jh_history.specs.Sound.{AreOwned, IsCalm, IsHalting, HaltsForCall, HaltsForCommit, IsCaller, IsOpen}
 use Rattle.jh_history.proofs.SoundCpusLemmas.{IsMild, mild_calm, changed_owner, goes_running, running_mode, come_rests, come_stopped, goes_stopped, goes_mild, come_counted, goes_counted, owned_kept, phase_counted}
@@ -145,7 +145,7 @@ open_begun image configs cpu own code a b calm on root goes at management =
 
 -- ---- the end of a call
 
-resumed_owner : (root : ℕ) (cpu : Cpu) → (resumed_in root cpu).owner ≡ cpu.owner
+resumed_owner : (root : ℕ) (cpu : Cpu) → (resumed_of_root root cpu).owner ≡ cpu.owner
 resumed_owner root cpu =
     let same : Cpu → Type 0 = λ c. c.owner ≡ cpu.owner in
     cond_both (eqb cpu.owner root) (resumed cpu) cpu same (λ _. refl) (λ _. refl)
@@ -153,14 +153,14 @@ resumed_owner root cpu =
 pub finished_owner : (image : Image) (own i : ℕ) (cpu : Cpu) → (cpu_by_finish image own i cpu).owner ≡ cpu.owner
 finished_owner image own i cpu =
     let same : Cpu → Type 0 = λ c. c.owner ≡ cpu.owner in
-    let there : Cpu = resumed_in image.system.root.id cpu in
+    let there : Cpu = resumed_of_root image.system.root.id cpu in
     cond_both (eqb i own) (moved there) there same (λ _. resumed_owner image.system.root.id cpu) (λ _. resumed_owner image.system.root.id cpu)
 
 pub owned_finished : (image : Image) (configs : List CellConfig) (cpu : ℕ → Cpu) (own : ℕ) → AreOwned image configs cpu → AreOwned image configs (λ i. cpu_by_finish image own i (cpu i))
 owned_finished image configs cpu own owned = owned_kept image configs cpu (λ i. cpu_by_finish image own i (cpu i)) (λ i. finished_owner image own i (cpu i)) owned
 
 -- whether the CPU comes back is asked of root's alone
-resumed_calm : (root : ℕ) (cpu : Cpu) → cpu.asked ≡ false → (cpu.owner ≢ root → IsCalm cpu) → IsCalm (resumed_in root cpu)
+resumed_calm : (root : ℕ) (cpu : Cpu) → cpu.asked ≡ false → (cpu.owner ≢ root → IsCalm cpu) → IsCalm (resumed_of_root root cpu)
 resumed_calm root cpu asked calm =
     cond_both (eqb cpu.owner root) (resumed cpu) cpu IsCalm
     (λ _. record { asked = asked; stopped = refl })
@@ -168,7 +168,7 @@ resumed_calm root cpu asked calm =
 
 finished_calm : (image : Image) (own i : ℕ) (cpu : Cpu) → cpu.asked ≡ false → (cpu.owner ≢ image.system.root.id → IsCalm cpu) → IsCalm (cpu_by_finish image own i cpu)
 finished_calm image own i cpu asked calm =
-    let there : Cpu = resumed_in image.system.root.id cpu in
+    let there : Cpu = resumed_of_root image.system.root.id cpu in
     let h : IsCalm there = resumed_calm image.system.root.id cpu asked calm in
     cond_both (eqb i own) (moved there) there IsCalm (λ _. record { asked = h.asked; stopped = h.stopped }) (λ _. h)
 

@@ -2,6 +2,7 @@
 use Rattle.std.specs.Prelude.{◌≡◌, ◌≤◌, ℕ, zero, suc, ◌+◌, ◌-◌, ◌%◌, ◌^◌, Bool, true, false, ◌&&◌, nat_le, if◌then◌else◌, List, [], ◌∷◌, map, find, Option, Some, None, option_map, option_and_then}
 use Rattle.std.specs.Option.{option_map_or}
 use Rattle.jh_num.specs.declared.address.TheConstants.{ADDRESS_END}
+use Rattle.jh_num.specs.declared.rights.Rights.{Rights}
 use Rattle.jh_num.specs.Memory.{spelled}
 use Rattle.jh_cellcfg.specs.declared.region.Region.{Region}
 use Rattle.jh_cellcfg.specs.Regions.{has_flags, has_address, is_page_mapped, is_comm, place_in, byte_in}
@@ -24,6 +25,12 @@ abbrev pub right_of : Access → ℕ
 right_of Read = 0x1
 right_of Write = 0x2
 right_of Fetch = 0x4
+
+-- the rights have the one that the access needs
+abbrev pub has_right : Access → Rights → Bool
+has_right Read rights = rights.read
+has_right Write rights = rights.write
+has_right Fetch rights = rights.execute
 
 -- the region is page-mapped and gives the address with the right: memory is what such regions give. Subpage
 -- regions, the ECAM window and the windows of devices answer accesses by cases of their own, behind memory

@@ -3,7 +3,7 @@ use Rattle.std.specs.Prelude.{◌≡◌, ℕ, false, List, [], ◌∷◌, ◌++�
 use Rattle.jh_script.specs.declared.image.Image.{Image}
 use Rattle.jh_history.specs.declared.entry.Entry.{Entry}
 use Rattle.jh_history.specs.Admitted.{HasNoHypercall}
-use Rattle.jh_history.specs.Calls.{is_call}
+use Rattle.jh_history.specs.Calls.{is_of_call}
 use Rattle.jh_history.specs.Due.{due_at, IsLegal}
 use Rattle.jh_history.specs.Facts.{Facts}
 
@@ -16,7 +16,7 @@ pub record IsAlone (image : Image) (facts : Facts) : Type 0 where
 -- the entry is root's, and none of a call
 pub record IsByRoot (image : Image) (entry : Entry) : Type 0 where
   pub cell : entry.cell ≡ image.system.root.id
-  pub act : is_call entry.act ≡ false
+  pub act : is_of_call entry.act ≡ false
 
 -- a legal journal of a silent image: no program of it has a hypercall
 pub record SilentJournal : Type 0 where

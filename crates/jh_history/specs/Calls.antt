@@ -48,7 +48,7 @@ abbrev pub first_recipient : ℕ → List Live → Option ℕ
 first_recipient about cells = option_map id_of (find (is_recipient about) cells)
 
 -- the phase after a Decide: the end where it refuses; else a create goes on with the configuration that was read, and
--- any other call asks its cell
+-- any other call asks its cell; a create for which none was read stays where it is
 abbrev pub after_decide : Call → Option CellConfig → Option ℤ → Phase
 after_decide call coming (Some refused) = ToFinish refused
 after_decide (Create at) (Some config) None = ToCreate config
@@ -105,15 +105,15 @@ phase_after cells coming cell call phase (Noted id how) = after_noted phase cell
 phase_after cells coming cell call phase act = counted cell call phase
 
 -- the act opens a call, takes the open one a phase further, or closes it
-abbrev pub is_call : Act → Bool
-is_call (Begin code a b) = true
-is_call (Decide refused) = true
-is_call (Settle how) = true
-is_call Commit = true
-is_call (Note id) = true
-is_call (Noted id how) = true
-is_call (Finish answer) = true
-is_call _ = false
+abbrev pub is_of_call : Act → Bool
+is_of_call (Begin code a b) = true
+is_of_call (Decide refused) = true
+is_of_call (Settle how) = true
+is_of_call Commit = true
+is_of_call (Note id) = true
+is_of_call (Noted id how) = true
+is_of_call (Finish answer) = true
+is_of_call _ = false
 
 -- the call after an entry: opened by a Begin, closed by a Finish, and else in the phase that the act leaves it in, which
 -- may be the same

@@ -82,12 +82,12 @@ cpu_by_commit image (Destroy id) phase i cpu = if cpu.owner == id then returned 
 cpu_by_commit image _ phase i cpu = cpu
 
 -- the CPU, resumed where it is root's
-abbrev pub resumed_in : ℕ → Cpu → Cpu
-resumed_in root cpu = if cpu.owner == root then resumed cpu else cpu
+abbrev pub resumed_of_root : ℕ → Cpu → Cpu
+resumed_of_root root cpu = if cpu.owner == root then resumed cpu else cpu
 
 -- at the Finish no CPU of root is stopped any more, and the caller has done its operation
 abbrev pub cpu_by_finish : Image → ℕ → ℕ → Cpu → Cpu
-cpu_by_finish image own i cpu = let there = resumed_in image.system.root.id cpu in if i == own then moved there else there
+cpu_by_finish image own i cpu = let going = resumed_of_root image.system.root.id cpu in if i == own then moved going else going
 
 -- CPU i after the act, which is CPU `own`'s; the call is the one that is open before it
 abbrev pub acted : Image → Option OpenCall → Act → ℕ → ℕ → Cpu → Cpu

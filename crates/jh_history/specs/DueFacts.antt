@@ -29,7 +29,7 @@ use Rattle.jh_history.specs.Due.{due_at}
 use Rattle.jh_history.specs.Sound.{IsSound}
 use Rattle.jh_shape.specs.Lives.{configs_of}
 
--- the entry is due to its CPU, where the board is sound
+-- the facts are sound, and the entry is due to its CPU
 pub record IsDueEntry (image : Image) (facts : Facts) (entry : Entry) : Type 0 where
   pub sound : IsSound image facts
   pub due : due_at image facts entry.cpu ≡ Some entry
@@ -50,7 +50,7 @@ EachNamesCpu cells = All (λ (live : Live). NamesCpu live.config) cells
 
 -- the cell with the configuration may live beside root and these: none of them has its name or its id, no two of its
 -- regions have an address in common, each that isn't empty ends within the addresses, and within the places where it has
--- any, and some byte of its set isn't 0, none behind the second
+-- any; and its set has a byte that isn't 0, and none behind the second
 pub record MayLive (image : Image) (cells : List Live) (config : CellConfig) : Type 0 where
   pub unknown : is_known (image.system.root ∷ configs_of cells) config ≡ false
   pub apart : AllPairs SharesNoAddress config.memory_regions
@@ -70,7 +70,7 @@ pub record IsCreated (facts : Facts) (act : Act) (id : ℕ) : Type 0 where
   pub named : config.id ≡ id
   pub commits : act ≡ Commit
 
--- the act may write into the page of the cell with the id
+-- the cell with the id has a page at the act: it lives, or the act creates it
 abbrev pub HasPage : Facts → Act → ℕ → Type 0
 HasPage facts act id = IsLive facts.cells id ⊎ IsCreated facts act id
 
@@ -87,7 +87,7 @@ ReachesCells cells (Config bytes) = Unit {0}
 ReachesCells cells (Window register) = Unit {0}
 ReachesCells cells Nothing = Unit {0}
 
--- the word of the state table that a write writes is that of an endpoint, within its limits
+-- the word of a state table is that of one of these endpoints, which is within its limits
 pub record IsWordOf (endpoints : List Endpoint) (word : EndpointWord) : Type 0 where
   pub endpoint : Endpoint
   pub there : Contains endpoints endpoint

@@ -54,14 +54,14 @@ named_cell cells (Destroy id) = live_in cells id
 named_cell cells call = None
 
 -- the CPU is the cell's, and hasn't failed
-abbrev pub is_left : ℕ → Cpu → Bool
-is_left cell cpu = (cpu.owner == cell) && not (is_failed cpu.mode)
+abbrev pub is_unfailed_of : ℕ → Cpu → Bool
+is_unfailed_of cell cpu = (cpu.owner == cell) && not (is_failed cpu.mode)
 
 -- what an entry writes into the page of its cell where it is a violation: the state FAILED, where all CPUs of a cell
 -- besides root have failed after it
 abbrev pub failing : Image → Facts → Entry → Option PageWrite
 failing image facts entry =
-    if (entry.cell == image.system.root.id) || any_below (λ i. is_on_board image i && is_left entry.cell (cpu_after image facts entry i)) 16
+    if (entry.cell == image.system.root.id) || any_below (λ i. is_on_board image i && is_unfailed_of entry.cell (cpu_after image facts entry i)) 16
     then None
     else Some (record { cell = entry.cell; change = State STATE_FAILED })
 

@@ -5,7 +5,7 @@ ghost use Rattle.jh_cellcfg.specs.declared.config.CellConfig.{CellConfig as TheC
 ghost use Rattle.jh_cellcfg.specs.declared.live.Live.{Live as TheLive};
 ghost use Rattle.jh_shape.specs.Lives.{configs_of};
 ghost use Rattle.jh_history.specs.Commits.{created, created_at, created_by};
-ghost use Rattle.jh_history.specs.Calls.{is_recipient_by, first_recipient, listed_behind, telling, after_decide, after_settle, after_commit, after_note, after_noted, counted, phase_after, call_by, is_call, waits_for};
+ghost use Rattle.jh_history.specs.Calls.{is_recipient_by, first_recipient, listed_behind, telling, after_decide, after_settle, after_commit, after_note, after_noted, counted, phase_after, call_by, is_of_call, waits_for};
 
 use crate::boxed::BoxedCell;
 use crate::call::{OpenCall, Phase};
@@ -259,8 +259,8 @@ fn after_entry(
 }
 
 /// Whether the act opens a call, takes the open one a phase further, or closes it.
-pub fn is_call(act: &Act) -> bool
-    ensures { result ≡ is_call act.now }
+pub fn is_of_call(act: &Act) -> bool
+    ensures { result ≡ is_of_call act.now }
 {
     match act {
         Act::Begin { .. }
@@ -283,7 +283,7 @@ pub fn is_call(act: &Act) -> bool
 /// Makes of the open call what it is after an entry that is none of the call's own: where a phase waits for the
 /// entry's cell, the entry is counted.
 pub fn count_entry(call: &mut Option<OpenCall>, entry: &Entry)
-    requires { is_call entry.now.act ≡ false }
+    requires { is_of_call entry.now.act ≡ false }
     ensures { (lives : List TheLive) (coming : Option TheConfig) → call.new ≡ call_by lives coming call.old entry.now entry.now.act }
 {
     if let Some(begun) = call {

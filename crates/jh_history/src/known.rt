@@ -11,7 +11,8 @@ use jh_ivshmem::Endpoints;
 use jh_num::NoMemory;
 use jh_script::Op;
 
-/// Tells what holds after a journal of an image: CPUs, their operations, devices, what accesses reach, and bytes.
+/// Tells what holds after a journal of an image: the live cells, the pool, the open call, CPUs and their operations,
+/// devices, what accesses reach, and bytes.
 pub trait Known {
     ghost use Rattle.jh_num.specs.Memory.{spelled};
     ghost use Rattle.jh_script.specs.declared.image.Image.{Image};
@@ -67,7 +68,8 @@ pub trait Known {
     fn endpoints(&self) -> &Endpoints
         ensures { (i : Image) (f : Facts) → Knows self.now i f → result.now.list ≡ f.endpoints };
 
-    /// The board has no CPU above 15. It does nothing; its contract is what holds of each image.
+    /// The board has no CPU above 15. It does nothing; its contract is what holds of each image that it
+    /// knows.
     fn no_cpu_is_above_15(&self)
         ensures { (i : Image) (f : Facts) → Knows self.now i f → HasFewCpus i };
 
@@ -86,7 +88,8 @@ pub trait Known {
         ensures told { (i : Image) (f : Facts) → Knows self.now i f → result ≡ op_at i f state cpu }
         ensures well_formed { IfSome result IsWellFormed };
 
-    /// What the cell's access reaches. For a CPU whose entry isn't made it is asked only where the CPU is at an await.
+    /// What the cell's access reaches. Callers ask it of a CPU whose entry isn't made only at an await; no clause rests on
+    /// that.
     fn reach(&self, cell: u32, wanted: &Wanted) -> Reach
         requires { wanted.now.width ≤ 8 }
         ensures { (i : Image) (f : Facts) → Knows self.now i f → result ≡ reach_of i f cell wanted.now };

@@ -44,7 +44,7 @@ pub use behind::{answer_behind, ecam_of, is_within, places_in};
 pub use boxed::BoxedCell;
 pub use bytes::{Bytes, value_of};
 pub use call::{Creation, OpenCall, Phase};
-pub use calling::{Called, call_after, count_entry, is_call};
+pub use calling::{Called, call_after, count_entry, is_of_call};
 pub use cells::{gives, is_on_board, is_program_of, program_ops};
 pub use change::{Change, cpus_after};
 pub use comm::{PageChange, PageWrite};

@@ -207,7 +207,8 @@ fn entry_by(cpu: u8, cell: u32, act: Option<Act>) -> Option<Entry>
     }
 }
 
-/// What a CPU in this state does next that has no call open. What its access reaches is put into `reach`.
+/// What a CPU in this state does next that has no call open. Where it is a write, what that reaches is
+/// put into `reach`.
 fn state_due<K: Known>(known: &K, cpu: u8, state: Cpu, reach: &mut Reach) -> Option<Act>
     requires { cpu < 16 }
     ensures act { (i : TheImage) (f : Facts) → K.Knows known.now i f → result ≡ state_act i f state cpu }
@@ -335,7 +336,8 @@ fn is_caller_due<K: Known>(known: &K, state: Cpu, begun: &OpenCall) -> bool
     goes_on(state) && is_phase_due(known, begun)
 }
 
-/// What a CPU in this state does next. What its access reaches is put into `reach`.
+/// What a CPU in this state does next. Where it is a write, what that reaches is
+/// put into `reach`.
 fn next_due<K: Known>(
     known: &K,
     cpu: u8,
@@ -364,7 +366,8 @@ fn is_next_due<K: Known>(known: &K, cpu: u8, state: Cpu) -> bool
     }
 }
 
-/// The entry that the CPU makes next. What its access reaches is put into `reach`. Only the Decide of a create takes
+/// The entry that the CPU makes next. Where it is a write, what that reaches is
+/// put into `reach`. Only the Decide of a create takes
 /// memory.
 pub fn next_of<K: Known>(known: &K, cpu: u8, reach: &mut Reach) -> Result<Option<Entry>, NoMemory>
     requires { cpu < 16 }

@@ -12,7 +12,7 @@ ghost use Rattle.jh_history.specs.Facts.{Facts};
 ghost use Rattle.jh_history.specs.Lives.{is_on_board, live_in};
 ghost use Rattle.jh_history.specs.Cpus.{cpu_after, ListsCpus};
 ghost use Rattle.jh_shape.specs.Lives.{configs_of};
-ghost use Rattle.jh_history.specs.Pages.{on_page, named_cell, is_left, failing, unless_good, asking, committing, page_write_by};
+ghost use Rattle.jh_history.specs.Pages.{on_page, named_cell, is_unfailed_of, failing, unless_good, asking, committing, page_write_by};
 
 use crate::call::{OpenCall, Phase};
 use crate::cells::is_on_board;
@@ -58,8 +58,8 @@ fn named_cell<'a>(cells: &'a [CellConfig], call: &Call) -> Option<&'a CellConfig
 }
 
 /// Whether the CPU is the cell's, and hasn't failed.
-fn is_left(cell: u32, cpu: Cpu) -> bool
-    ensures { result ≡ is_left cell cpu }
+fn is_unfailed_of(cell: u32, cpu: Cpu) -> bool
+    ensures { result ≡ is_unfailed_of cell cpu }
 {
     cpu.owner == cell
         && match cpu.mode {
@@ -69,11 +69,11 @@ fn is_left(cell: u32, cpu: Cpu) -> bool
 }
 
 /// Whether one of the CPUs is the cell's, and hasn't failed.
-fn is_any_left(image: &Image, cell: u32, cpus: &[Cpu; MAX_CPUS]) -> bool
-    ensures { (state : ℕ → TheCpu) → ListsCpus cpus.now state → result ≡ any_below (λ i. is_on_board image.now i && is_left cell (state i)) 16 }
+fn is_any_unfailed(image: &Image, cell: u32, cpus: &[Cpu; MAX_CPUS]) -> bool
+    ensures { (state : ℕ → TheCpu) → ListsCpus cpus.now state → result ≡ any_below (λ i. is_on_board image.now i && is_unfailed_of cell (state i)) 16 }
 {
     for i in 0..MAX_CPUS as u8 {
-        if is_on_board(image, i) && is_left(cell, cpus[usize::from(i)]) {
+        if is_on_board(image, i) && is_unfailed_of(cell, cpus[usize::from(i)]) {
             return true;
         }
     }
@@ -84,7 +84,7 @@ fn is_any_left(image: &Image, cell: u32, cpus: &[Cpu; MAX_CPUS]) -> bool
 fn failing(image: &Image, cpus: &[Cpu; MAX_CPUS], entry: &Entry) -> Option<PageWrite>
     ensures { (f : Facts) → ListsCpus cpus.now (cpu_after image.now f entry.now) → result ≡ failing image.now f entry.now }
 {
-    if entry.cell == image.system.root.id || is_any_left(image, entry.cell, cpus) {
+    if entry.cell == image.system.root.id || is_any_unfailed(image, entry.cell, cpus) {
         return None;
     }
     Some(PageWrite {

@@ -12,7 +12,7 @@ ghost use Rattle.jh_history.specs.Pages.{named_cell};
 ghost use Rattle.jh_history.specs.declared.entry.Settled.{Settled as TheSettled};
 ghost use Rattle.jh_history.specs.declared.entry.Heard.{Heard as TheHeard};
 ghost use Rattle.jh_history.specs.declared.entry.Act.TheVariants.{Settle, Noted};
-ghost use Rattle.jh_history.specs.Calls.{is_named, is_call};
+ghost use Rattle.jh_history.specs.Calls.{is_named, is_of_call};
 ghost use Rattle.jh_cellcfg.specs.Cells.{is_passive};
 ghost use Rattle.jh_history.specs.Due.{is_idle_but};
 
@@ -276,7 +276,7 @@ fn decision<K: Known>(known: &K, caller: u8, call: &Call) -> Result<Option<i64>,
 /// How the cell settled, as an act.
 fn settle_act(how: Option<Settled>) -> Option<Act>
     ensures act { result ≡ option_map (λ (how : TheSettled). Settle how) how }
-    ensures phase { IfSome result (λ act. is_call act ≡ true) }
+    ensures phase { IfSome result (λ act. is_of_call act ≡ true) }
 {
     match how {
         Some(how) => Some(Act::Settle { how }),
@@ -287,7 +287,7 @@ fn settle_act(how: Option<Settled>) -> Option<Act>
 /// What the cell heard, as an act.
 fn noted(id: u32, how: Option<Heard>) -> Option<Act>
     ensures act { result ≡ option_map (λ (how : TheHeard). Noted id how) how }
-    ensures phase { IfSome result (λ act. is_call act ≡ true) }
+    ensures phase { IfSome result (λ act. is_of_call act ≡ true) }
 {
     match how {
         Some(how) => Some(Act::Noted { id, how }),
@@ -299,7 +299,7 @@ fn noted(id: u32, how: Option<Heard>) -> Option<Act>
 /// phase waits for a cell that says nothing.
 pub(crate) fn phase_act<K: Known>(known: &K, begun: &OpenCall) -> Result<Option<Act>, NoMemory>
     ensures act { (i : TheImage) (f : Facts) → K.Knows known.now i f → IfOk result (λ act. act ≡ phase_act i f (is_idle_but i f begun.now.caller) begun.now.caller begun.now.call begun.now.phase) }
-    ensures phase { IfOk result (λ act. IfSome act (λ act. is_call act ≡ true)) }
+    ensures phase { IfOk result (λ act. IfSome act (λ act. is_of_call act ≡ true)) }
 {
     match &begun.phase {
         Phase::ToDecide => {

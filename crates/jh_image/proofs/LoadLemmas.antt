@@ -18,7 +18,7 @@ use Rattle.jh_history.specs.Admitted.{IsSoundPreload, IsOtherPreload, IsSoundPro
 use Rattle.jh_image.specs.declared.board.Listing.{Listing}
 use Rattle.jh_image.specs.declared.board.PreloadFile.{PreloadFile}
 use Rattle.jh_image.specs.declared.board.ProgramFile.{ProgramFile}
-use Rattle.jh_image.specs.Boards.{Seat, seat_of, is_same_seat, are_distinct}
+use Rattle.jh_image.specs.Boards.{NamedCpu, named_cpu_of, is_same_cpu, are_distinct}
 use Rattle.jh_image.specs.Preloads.{IsFaultless}
 use Rattle.jh_image.specs.Files.{Contents, IsPreloadOf, IsProgramOf}
 use Rattle.jh_image.specs.Images.{with_system, so_far_of, with_preload, with_program, IsNextPreload, IsComplete, IsNextProgram, reads_preload, reads_program, ReadsTo, one_more_read}
@@ -77,15 +77,15 @@ loaded_all contents board listing system i preloads le so_far =
 
 -- ---- programs
 
-abbrev pub program_seat : Program → Seat
-program_seat program = record { cell = program.cell; cpu = program.cpu }
+abbrev pub program_cpu : Program → NamedCpu
+program_cpu program = record { cell = program.cell; cpu = program.cpu }
 
 pub record ScriptsSoFar (contents : Contents) (board : List ℕ) (listing : Listing) (system : SystemConfig) (preloads : List Preload) (count : ℕ) (programs : List Program) : Type 0 where
   pub count_is : length programs ≡ count
   pub within : count ≤ length listing.programs
   pub read : ReadsTo contents board (with_system (so_far_of listing system preloads programs))
   pub sound : All IsSoundProgram programs
-  pub seats : map program_seat programs ≡ map seat_of (take count listing.programs)
+  pub seats : map program_cpu programs ≡ map named_cpu_of (take count listing.programs)
 
 pub scripts_start : (contents : Contents) (board : List ℕ) (listing : Listing) (system : SystemConfig) (preloads : List Preload) → ReadsTo contents board (with_system (so_far_of listing system preloads []))
     → ScriptsSoFar contents board listing system preloads 0 []
@@ -97,7 +97,7 @@ scripts_start contents board listing system preloads read = record {
   seats = refl;
 }
 
-same_seat : (contents : Contents) (file : ProgramFile) (program : Program) → IsProgramOf contents file program → program_seat program ≡ seat_of file
+same_seat : (contents : Contents) (file : ProgramFile) (program : Program) → IsProgramOf contents file program → program_cpu program ≡ named_cpu_of file
 same_seat contents file program of = λ i. record { cell = of.cell i; cpu = of.cpu i }
 
 pub scripts_next : (contents : Contents) (board : List ℕ) (listing : Listing) (system : SystemConfig) (preloads : List Preload) (i : ℕ) (file : ProgramFile) (programs : List Program) → length preloads ≡ length listing.preloads
@@ -118,8 +118,8 @@ scripts_more contents board listing system preloads i file programs program all 
       within = omega arith;
       read = one_more_read (with_system before) (with_system (with_program before program)) so_far.read (reads_program before file program (scripts_next contents board listing system preloads i file programs all lt is so_far) of);
       sound = All-push IsSoundProgram programs program so_far.sound sound;
-      seats = map_push program_seat programs program ∙ ap (λ ss. ss ++ program_seat program ∷ []) so_far.seats ∙ ap (λ s. map seat_of (take i files) ++ s ∷ []) (same_seat contents file program of)
-          ∙ sym (map_push seat_of (take i files) file) ∙ ap (map seat_of) (front_more files i file lt is);
+      seats = map_push program_cpu programs program ∙ ap (λ ss. ss ++ program_cpu program ∷ []) so_far.seats ∙ ap (λ s. map named_cpu_of (take i files) ++ s ∷ []) (same_seat contents file program of)
+          ∙ sym (map_push named_cpu_of (take i files) file) ∙ ap (map named_cpu_of) (front_more files i file lt is);
     }
 
 pub scripts_all : (contents : Contents) (board : List ℕ) (listing : Listing) (system : SystemConfig) (preloads : List Preload) (i : ℕ) (programs : List Program) → length preloads ≡ length listing.preloads → length listing.programs ≤ i
@@ -143,42 +143,42 @@ pointwise_swap (x ∷ xs) (y ∷ ys) h =
     and_from (nat_eq y x) (pointwise nat_eq ys xs) (eq_swap x y ((and_parts (nat_eq x y) (pointwise nat_eq xs ys) h).0)) (pointwise_swap xs ys ((and_parts (nat_eq x y) (pointwise nat_eq xs ys) h).1))
 
 -- a program of the CPU and cell of another has its seat
-program_seat_holds : (p q : Program) → IsTrue (is_program_of p.cell p.cpu q) → is_same_seat (program_seat p) (program_seat q) ≡ true
+program_seat_holds : (p q : Program) → IsTrue (is_program_of p.cell p.cpu q) → is_same_cpu (program_cpu p) (program_cpu q) ≡ true
 program_seat_holds p q h =
     and_from (pointwise nat_eq p.cell q.cell) (p.cpu == q.cpu)
     (pointwise_swap q.cell p.cell ((and_parts (pointwise nat_eq q.cell p.cell) (q.cpu == p.cpu) h).0))
     (eq_swap q.cpu p.cpu ((and_parts (pointwise nat_eq q.cell p.cell) (q.cpu == p.cpu) h).1))
 
 -- no seat stands again behind itself
-seat_once : (seats : List Seat) → are_distinct seats ≡ true → (i j : ℕ) (d : Seat) → i < j → j < length seats → is_same_seat (get_or seats i d) (get_or seats j d) ≡ true → ⊥
+seat_once : (seats : List NamedCpu) → are_distinct seats ≡ true → (i j : ℕ) (d : NamedCpu) → i < j → j < length seats → is_same_cpu (get_or seats i d) (get_or seats j d) ≡ true → ⊥
 unfolding are_distinct
 seat_once [] h i j d lt within same = omega arith
 seat_once (seat ∷ seats) h zero zero d lt within same = omega arith
 seat_once (seat ∷ seats) h zero (suc j) d lt within same =
-    let found : list_any (is_same_seat seat) seats ≡ true = list_any_at (is_same_seat seat) seats j d (omega arith) same in
-    false≢true (sym (ap not found) ∙ (and_parts (not (list_any (is_same_seat seat) seats)) (are_distinct seats) h).0)
+    let found : list_any (is_same_cpu seat) seats ≡ true = list_any_at (is_same_cpu seat) seats j d (omega arith) same in
+    false≢true (sym (ap not found) ∙ (and_parts (not (list_any (is_same_cpu seat) seats)) (are_distinct seats) h).0)
 seat_once (seat ∷ seats) h (suc i) zero d lt within same = omega arith
-seat_once (seat ∷ seats) h (suc i) (suc j) d lt within same = seat_once seats ((and_parts (not (list_any (is_same_seat seat) seats)) (are_distinct seats) h).1) i j d (omega arith) (omega arith) same
+seat_once (seat ∷ seats) h (suc i) (suc j) d lt within same = seat_once seats ((and_parts (not (list_any (is_same_cpu seat) seats)) (are_distinct seats) h).1) i j d (omega arith) (omega arith) same
 
-get_seat : (programs : List Program) (i : ℕ) (d : Program) → get_or (map program_seat programs) i (program_seat d) ≡ program_seat (get_or programs i d)
+get_seat : (programs : List Program) (i : ℕ) (d : Program) → get_or (map program_cpu programs) i (program_cpu d) ≡ program_cpu (get_or programs i d)
 get_seat [] i d = refl
 get_seat (p ∷ ps) zero d = refl
 get_seat (p ∷ ps) (suc i) d = get_seat ps i d
 
-length_seats : (programs : List Program) → length (map program_seat programs) ≡ length programs
+length_seats : (programs : List Program) → length (map program_cpu programs) ≡ length programs
 length_seats [] = refl
 length_seats (p ∷ ps) = ap suc (length_seats ps)
 
-pub seats_owned : (programs : List Program) → are_distinct (map program_seat programs) ≡ true → AllPairs IsOtherProgram programs
+pub seats_owned : (programs : List Program) → are_distinct (map program_cpu programs) ≡ true → AllPairs IsOtherProgram programs
 seats_owned programs h i j d lt within taken =
     let same = program_seat_holds (get_or programs i d) (get_or programs j d) taken in
-    let first : is_same_seat (get_or (map program_seat programs) i (program_seat d)) (program_seat (get_or programs j d)) ≡ true = subst (λ s. is_same_seat s (program_seat (get_or programs j d)) ≡ true) (sym (get_seat programs i d)) same in
-    let both : is_same_seat (get_or (map program_seat programs) i (program_seat d)) (get_or (map program_seat programs) j (program_seat d)) ≡ true = subst (λ s. is_same_seat (get_or (map program_seat programs) i (program_seat d)) s ≡ true) (sym (get_seat programs j d)) first in
-    let inside : j < length (map program_seat programs) = subst (λ n. j < n) (sym (length_seats programs)) within in
-    seat_once (map program_seat programs) h i j (program_seat d) lt inside both
+    let first : is_same_cpu (get_or (map program_cpu programs) i (program_cpu d)) (program_cpu (get_or programs j d)) ≡ true = subst (λ s. is_same_cpu s (program_cpu (get_or programs j d)) ≡ true) (sym (get_seat programs i d)) same in
+    let both : is_same_cpu (get_or (map program_cpu programs) i (program_cpu d)) (get_or (map program_cpu programs) j (program_cpu d)) ≡ true = subst (λ s. is_same_cpu (get_or (map program_cpu programs) i (program_cpu d)) s ≡ true) (sym (get_seat programs j d)) first in
+    let inside : j < length (map program_cpu programs) = subst (λ n. j < n) (sym (length_seats programs)) within in
+    seat_once (map program_cpu programs) h i j (program_cpu d) lt inside both
 
-pub scripts_owned : (contents : Contents) (board : List ℕ) (listing : Listing) (system : SystemConfig) (preloads : List Preload) (i : ℕ) (programs : List Program) → length listing.programs ≤ i → are_distinct (map seat_of listing.programs) ≡ true
+pub scripts_owned : (contents : Contents) (board : List ℕ) (listing : Listing) (system : SystemConfig) (preloads : List Preload) (i : ℕ) (programs : List Program) → length listing.programs ≤ i → are_distinct (map named_cpu_of listing.programs) ≡ true
     → ScriptsSoFar contents board listing system preloads i programs → AllPairs IsOtherProgram programs
 scripts_owned contents board listing system preloads i programs le h so_far =
-    let same : map program_seat programs ≡ map seat_of listing.programs = so_far.seats ∙ ap (map seat_of) (take_all i listing.programs le) in
+    let same : map program_cpu programs ≡ map named_cpu_of listing.programs = so_far.seats ∙ ap (map named_cpu_of) (take_all i listing.programs le) in
     seats_owned programs (ap are_distinct same ∙ h)

@@ -6,14 +6,14 @@ use Rattle.serde_json.specs.Data.{Data}
 use Rattle.serde_json.specs.Find.{as_str, as_object}
 use Rattle.jh_cellcfg.specs.Limits.{is_printable}
 use Rattle.jh_spec.specs.Faults.{IsJsonAnswer}
-use Rattle.jh_spec.specs.Json.{◌>>=◌, told_at, unlisted, has_only, number_told, number_below, list_at}
+use Rattle.jh_spec.specs.Json.{◌>>=◌, told_at, first_unlisted, has_only, number_told, number_below, list_at}
 use Rattle.jh_image.specs.declared.board.Listing.{Listing}
 use Rattle.jh_image.specs.declared.board.PreloadFile.{PreloadFile}
 use Rattle.jh_image.specs.declared.board.ProgramFile.{ProgramFile}
 use Rattle.jh_spec.specs.declared.fault.JsonFault.{JsonFault}
 use Rattle.jh_spec.specs.declared.fault.JsonFault.TheVariants.{Json, Member}
 
--- ---- entries: objects with these members and no others
+-- ---- items: objects with these members and no others
 
 -- the names of a preload's members
 abbrev pub preload_names : List (List ℕ)
@@ -35,8 +35,8 @@ abbrev pub is_cell_name : List ℕ → Bool
 is_cell_name text = nat_lt 0 (length text) && (nat_le (length text) 31 && list_all is_printable text)
 
 -- the cell's name that a text tells, if it is one
-abbrev pub cell_told : Data → Option (List ℕ)
-cell_told d = option_and_then (λ text. if is_cell_name text then Some text else None) (as_str d)
+abbrev pub cell_name_told : Data → Option (List ℕ)
+cell_name_told d = option_and_then (λ text. if is_cell_name text then Some text else None) (as_str d)
 
 -- the names of a program's members
 abbrev pub program_names : List (List ℕ)
@@ -45,7 +45,7 @@ program_names = codes "cell" ∷ codes "cpu" ∷ codes "file" ∷ []
 -- the program's file that an object's members tell, whatever other names it has
 abbrev pub program_members : Data → Option ProgramFile
 program_members d = do
-  cell ← told_at cell_told (codes "cell") d
+  cell ← told_at cell_name_told (codes "cell") d
   cpu ← told_at (number_below 16) (codes "cpu") d
   file ← told_at as_str (codes "file") d
   Some (record { cell = cell; cpu = cpu; file = file })
@@ -57,26 +57,26 @@ program_told d = if has_only program_names d then program_members d else None
 -- ---- the board's members
 
 -- a CPU of a cell: the cell's name, and the CPU's number
-pub record Seat : Type 0 where
+pub record NamedCpu : Type 0 where
   pub cell : List ℕ
   pub cpu : ℕ
 
 -- the CPU of the cell that the program's file is for
-abbrev pub seat_of : ProgramFile → Seat
-seat_of file = record { cell = file.cell; cpu = file.cpu }
+abbrev pub named_cpu_of : ProgramFile → NamedCpu
+named_cpu_of file = record { cell = file.cell; cpu = file.cpu }
 
 -- the two are the same CPU of the same cell
-abbrev pub is_same_seat : Seat → Seat → Bool
-is_same_seat one other = pointwise nat_eq one.cell other.cell && (one.cpu == other.cpu)
+abbrev pub is_same_cpu : NamedCpu → NamedCpu → Bool
+is_same_cpu one other = pointwise nat_eq one.cell other.cell && (one.cpu == other.cpu)
 
 -- no CPU of a cell stands twice
-unfoldable pub are_distinct : List Seat → Bool
+unfoldable pub are_distinct : List NamedCpu → Bool
 are_distinct [] = true
-are_distinct (seat ∷ seats) = not (list_any (is_same_seat seat) seats) && are_distinct seats
+are_distinct (seat ∷ seats) = not (list_any (is_same_cpu seat) seats) && are_distinct seats
 
 -- the files of programs, where no two are of one CPU of one cell
 abbrev pub where_distinct : List ProgramFile → Option (List ProgramFile)
-where_distinct files = if are_distinct (map seat_of files) then Some files else None
+where_distinct files = if are_distinct (map named_cpu_of files) then Some files else None
 
 -- the system's file, which must be there
 abbrev pub system_told : Data → Option (List ℕ)
@@ -113,7 +113,7 @@ member_fault d = first_some (
     fault_at (codes "system") (system_told d)
     ∷ fault_at (codes "preloads") (preloads_told d)
     ∷ fault_at (codes "programs") (programs_told d)
-    ∷ unlisted board_names d
+    ∷ first_unlisted board_names d
     ∷ [])
 
 -- the fault of the member of this name, or what is made where there is none

@@ -2,7 +2,7 @@
 ghost use Rattle.std.specs.Prelude.{◌≡◌, ◌≤◌, IfOk, true, length, map};
 ghost use Rattle.serde_json.specs.View.{view};
 ghost use Rattle.jh_spec.specs.Faults.{IsWantedReading};
-ghost use Rattle.jh_image.specs.Boards.{object_told, IsListingAnswer, are_distinct, seat_of};
+ghost use Rattle.jh_image.specs.Boards.{object_told, IsListingAnswer, are_distinct, named_cpu_of};
 
 use crate::file_name::FileName;
 use crate::list::{preloads, programs};
@@ -44,7 +44,7 @@ pub struct Listing {
 fn members(alloc: Global, object: &Value) -> Result<Listing, JsonFault>
     ensures told { IsWantedReading (object_told (view object.now)) result }
     ensures few { IfOk result (λ listing. length listing.preloads ≤ 64) }
-    ensures distinct { IfOk result (λ listing. are_distinct (map seat_of listing.programs) ≡ true) }
+    ensures distinct { IfOk result (λ listing. are_distinct (map named_cpu_of listing.programs) ≡ true) }
 {
     let Some(system) = text_at(object, "system") else {
         return Err(fault_of(alloc, "system"));
@@ -73,7 +73,7 @@ fn members(alloc: Global, object: &Value) -> Result<Listing, JsonFault>
 pub fn read_board(alloc: Global, bytes: &[u8]) -> Result<Listing, JsonFault>
     ensures told { IsListingAnswer bytes.now result }
     ensures few { IfOk result (λ listing. length listing.preloads ≤ 64) }
-    ensures distinct { IfOk result (λ listing. are_distinct (map seat_of listing.programs) ≡ true) }
+    ensures distinct { IfOk result (λ listing. are_distinct (map named_cpu_of listing.programs) ≡ true) }
 {
     let object = object(alloc, bytes)?;
     members(alloc, &object)

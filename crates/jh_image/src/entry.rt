@@ -1,8 +1,8 @@
-//! The entries of a board's lists.
+//! The items of a board's lists.
 ghost use Rattle.std.specs.Prelude.{◌≡◌, IfOk, None, option_map};
 ghost use Rattle.serde_json.specs.View.{view};
 ghost use Rattle.jh_spec.specs.Json.{told_at, number_below};
-ghost use Rattle.jh_image.specs.Boards.{preload_told, program_told, is_cell_name, cell_told};
+ghost use Rattle.jh_image.specs.Boards.{preload_told, program_told, is_cell_name, cell_name_told};
 
 use crate::board::{PreloadFile, ProgramFile};
 use crate::file_name::FileName;
@@ -12,7 +12,7 @@ use jh_spec::json::{has_only, number_at, number_below, text_at};
 use serde_json::Value;
 use std::alloc::Global;
 
-/// The preload that an entry tells of; `None` where it isn't an object of a file's name and a place below 2^64.
+/// The preload that an item tells of; `None` where it isn't an object of a file's name and a place below 2^64.
 #[tactic(auto, unfolding(crate::specs::Boards::preload_told))]
 pub(crate) fn preload(alloc: Global, entry: &Value) -> Result<Option<PreloadFile>, NoMemory>
     ensures { IfOk result (λ told. told ≡ preload_told (view entry.now)) }
@@ -40,8 +40,8 @@ fn is_cell_name(text: &[u8]) -> bool
 }
 
 /// The cell's name that the member of this name is.
-fn cell_at<'v>(object: &'v Value, name: &str) -> Option<&'v str>
-    ensures { option_map (λ cell. cell.now) result ≡ told_at cell_told name.now (view object.now) }
+fn cell_name_at<'v>(object: &'v Value, name: &str) -> Option<&'v str>
+    ensures { option_map (λ cell. cell.now) result ≡ told_at cell_name_told name.now (view object.now) }
 {
     let text = text_at(object, name)?;
     if is_cell_name(text.as_bytes()) {
@@ -59,7 +59,7 @@ fn cpu_at(object: &Value, name: &str) -> Option<u8>
     Some(number as u8)
 }
 
-/// The program that an entry tells of; `None` where it isn't an object of a cell's name, a CPU below 16 and a file's
+/// The program that an item tells of; `None` where it isn't an object of a cell's name, a CPU below 16 and a file's
 /// name.
 #[tactic(auto, unfolding(crate::specs::Boards::program_told))]
 pub(crate) fn program(alloc: Global, entry: &Value) -> Result<Option<ProgramFile>, NoMemory>
@@ -68,7 +68,7 @@ pub(crate) fn program(alloc: Global, entry: &Value) -> Result<Option<ProgramFile
     if !has_only(entry, &["cell", "cpu", "file"]) {
         return Ok(None);
     }
-    let Some(cell) = cell_at(entry, "cell") else {
+    let Some(cell) = cell_name_at(entry, "cell") else {
         return Ok(None);
     };
     let Some(cpu) = cpu_at(entry, "cpu") else {

@@ -2,7 +2,7 @@
 ghost use Rattle.std.specs.Prelude.{◌≡◌, ◌≤◌, ◌<◌, ◌∷◌, [], true, IfOk, IfErr, OnOk, All, AllPairs, length, map};
 ghost use Rattle.jh_image.specs.declared.board.Listing.{Listing as TheListing};
 ghost use Rattle.jh_history.specs.Admitted.{IsSoundPreload, IsOtherPreload, IsSoundProgram, IsOtherProgram, IsAdmittedSystem, IsAdmitted};
-ghost use Rattle.jh_image.specs.Boards.{are_distinct, seat_of};
+ghost use Rattle.jh_image.specs.Boards.{are_distinct, named_cpu_of};
 ghost use Rattle.jh_image.specs.Preloads.{IsFaultless};
 ghost use Rattle.jh_image.specs.Files.{IsPreloadOf};
 ghost use Rattle.jh_outside.specs.Ask.{handed};
@@ -114,7 +114,7 @@ fn read_programs<F: Files>(
 ) -> Result<Seq<Program>, ImageFault>
     requires read { ReadsTo (F.contents files.old) board.now (with_system (so_far_of listing.now system.now preloads.now [])) }
     requires all { length preloads.now ≡ length listing.now.preloads }
-    requires distinct { are_distinct (map seat_of listing.now.programs) ≡ true }
+    requires distinct { are_distinct (map named_cpu_of listing.now.programs) ≡ true }
     ensures ok { IfOk result (λ programs. ReadsTo (F.contents files.old) board.now (with_system (so_far_of listing.now system.now preloads.now programs))) }
     ensures complete { IfOk result (λ programs. IsComplete (so_far_of listing.now system.now preloads.now programs)) }
     ensures sound { IfOk result (All IsSoundProgram) }

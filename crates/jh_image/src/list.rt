@@ -5,7 +5,7 @@ ghost use Rattle.jh_image.specs.declared.board.ProgramFile.{ProgramFile as ThePr
 ghost use Rattle.serde_json.specs.Find.{get};
 ghost use Rattle.serde_json.specs.View.{view, items_view};
 ghost use Rattle.jh_spec.specs.Json.{items_told, short_list_told};
-ghost use Rattle.jh_image.specs.Boards.{preload_told, program_told, preloads_told, programs_told, are_distinct, seat_of, is_same_seat};
+ghost use Rattle.jh_image.specs.Boards.{preload_told, program_told, preloads_told, programs_told, are_distinct, named_cpu_of, is_same_cpu};
 
 use crate::board::{PreloadFile, ProgramFile};
 use crate::entry::{preload, program};
@@ -87,22 +87,22 @@ pub(crate) fn preloads(alloc: Global, object: &Value) -> Result<Option<Seq<Prelo
 }
 
 /// Whether both are of one CPU of one cell.
-fn is_same_seat(one: &ProgramFile, other: &ProgramFile) -> bool
-    ensures { result ≡ is_same_seat (seat_of one.now) (seat_of other.now) }
+fn is_same_cpu(one: &ProgramFile, other: &ProgramFile) -> bool
+    ensures { result ≡ is_same_cpu (named_cpu_of one.now) (named_cpu_of other.now) }
 {
     one.cell.as_slice() == other.cell.as_slice() && one.cpu == other.cpu
 }
 
 /// Whether none of the others is of the same CPU of the same cell.
 fn is_another(file: &ProgramFile, others: &[ProgramFile]) -> bool
-    ensures { result ≡ not (list_any (λ (other : TheProgramFile). is_same_seat (seat_of file.now) (seat_of other)) others.now) }
+    ensures { result ≡ not (list_any (λ (other : TheProgramFile). is_same_cpu (named_cpu_of file.now) (named_cpu_of other)) others.now) }
 {
-    !others.iter().any(|other| is_same_seat(file, other))
+    !others.iter().any(|other| is_same_cpu(file, other))
 }
 
 /// Whether no two are of one CPU of one cell.
 fn are_distinct(files: &[ProgramFile]) -> bool
-    ensures { result ≡ are_distinct (map seat_of files.now) }
+    ensures { result ≡ are_distinct (map named_cpu_of files.now) }
 {
     for i in 0..files.len() {
         if !is_another(&files[i], &files[i + 1..]) {
@@ -116,7 +116,7 @@ fn are_distinct(files: &[ProgramFile]) -> bool
 #[tactic(auto, unfolding(crate::specs::Boards::programs_told, crate::specs::Boards::are_distinct))]
 pub(crate) fn programs(alloc: Global, object: &Value) -> Result<Option<Seq<ProgramFile>>, NoMemory>
     ensures told { IfOk result (λ told. told ≡ programs_told (view object.now)) }
-    ensures distinct { IfOk result (λ told. IfSome told (λ files. are_distinct (map seat_of files) ≡ true)) }
+    ensures distinct { IfOk result (λ told. IfSome told (λ files. are_distinct (map named_cpu_of files) ≡ true)) }
 {
     let Some(list) = object.get("programs") else {
         return Ok(Some(Seq::new(alloc)));

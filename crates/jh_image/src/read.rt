@@ -1,7 +1,7 @@
 //! The files that a board is made from, one by one.
 ghost use Rattle.std.specs.Prelude.{◌≡◌, ◌≤◌, ◌∷◌, IfOk, IfErr, OnOk, length, map, true, []};
 ghost use Rattle.jh_history.specs.Admitted.{IsSoundProgram};
-ghost use Rattle.jh_image.specs.Boards.{are_distinct, seat_of};
+ghost use Rattle.jh_image.specs.Boards.{are_distinct, named_cpu_of};
 ghost use Rattle.jh_image.specs.Files.{HasBytes, Lists, SpellsSystem, IsPreloadOf, IsProgramOf};
 ghost use Rattle.jh_outside.specs.Ask.{handed};
 ghost use Rattle.jh_outside.specs.Trail.{Asks};
@@ -57,7 +57,7 @@ pub(crate) fn read_listing<F: Files>(
 ) -> Result<Listing, ImageFault>
     ensures ok { IfOk result (Lists (F.contents files.old) board.now) }
     ensures few { IfOk result (λ listing. length listing.preloads ≤ 64) }
-    ensures distinct { IfOk result (λ listing. are_distinct (map seat_of listing.programs) ≡ true) }
+    ensures distinct { IfOk result (λ listing. are_distinct (map named_cpu_of listing.programs) ≡ true) }
     ensures err { IfErr result (OnRefused (IsCauseOf (F.contents files.old) board.now)) }
     ensures counted { IfErr result (IsCounted (F.faults files.old) (F.faults files.new) (F.failed files.new)) }
     ensures never_falls { F.faults files.old ≤ F.faults files.new }

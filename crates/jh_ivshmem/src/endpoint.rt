@@ -80,19 +80,20 @@ impl Endpoint {
         }
     }
 
-    /// Takes a pending vector.
+    /// Takes the vector: it is no longer pending.
     #[tactic(auto, unfolding(crate::specs::Endpoint::taken))]
     fn take(&mut self, v: u8)
         requires sound { IsWholeEndpoint self.old }
         ensures { self.new ≡ taken v self.old }
     {
         let v = usize::from(v);
+        // of a vector that there isn't nothing changes, as the definition has it
         if v < self.vectors.len() {
             self.vectors[v].pending = false;
         }
     }
 
-    /// Puts all that a guest can change as it was at first.
+    /// Makes all that a guest can change as it was at first.
     #[tactic(auto, unfolding(crate::specs::Endpoint::cleared))]
     fn clear(&mut self)
         ensures { self.new ≡ cleared self.old }

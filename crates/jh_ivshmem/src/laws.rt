@@ -24,14 +24,14 @@ pub fn a_raise_of_a_closed_vector_is_forgotten()
 
 /// Raising an open vector makes it pending and no other, and one-shot turns interrupt control off each time, also
 /// where the vector was pending already.
-pub fn a_raise_of_an_open_vector_is_pending()
+pub fn an_open_vector_is_pending_once_raised()
     ensures pending { (v : ℕ) (e : Endpoint) → v < length e.vectors → is_open e v ≡ true → (vector_at (raised v e) v).pending ≡ true }
     ensures one_shot { (v : ℕ) (e : Endpoint) → is_open e v ≡ true → (raised v e).control ≡ not e.space.one_shot }
     ensures others { (v u : ℕ) (e : Endpoint) → u ≢ v → vector_at (raised v e) u ≡ vector_at e u }
 {}
 
-/// A doorbell reaches the one endpoint of the link that has the target's number, the ringing one too, and every
-/// other endpoint stays as it was; no two endpoints have that number.
+/// A doorbell reaches the one endpoint of the link that has the target's number, also where that is the ringing one, and
+/// every other endpoint stays as it was; no two endpoints have that number.
 pub fn a_doorbell_reaches_one_endpoint(_links: &Endpoints)
     ensures target { (bdf target v k : ℕ) (e : Endpoint) → slice_get _links.now.list k ≡ Some e → is_peer bdf target e.spec ≡ true
         → slice_get (rung bdf target v _links.now.list) k ≡ Some (raised v e) }
@@ -61,7 +61,7 @@ pub fn a_pending_vector_stays_over_writes()
 /// A pending vector of a device stays pending over all but its being taken, a reset and the leaving of its own
 /// device: over writes of registers and of configuration space, joinings, resets and leavings of others, and
 /// where another vector is taken.
-pub fn a_pending_vector_goes_only_by_its_own()
+pub fn a_pending_vector_goes_only_with_its_device_or_taken()
     ensures written { (p : PendingVector) (e : Endpoint) (bar at value : ℕ) → StaysPending p (written e bar at value p.list) }
     ensures configured { (p : PendingVector) (cell device : ℕ) (space : Space) → StaysPending p (configured cell device space p.list) }
     ensures joined { (p : PendingVector) (s : EndpointSpec) → All (λ (o : Endpoint). AreEndpointsApart o.spec s) p.list

@@ -14,7 +14,7 @@ use Rattle.jh_history.specs.declared.entry.Entry.{Entry}
 use Rattle.jh_history.specs.declared.entry.Act.{Act}
 use Rattle.jh_history.specs.declared.entry.Act.TheVariants.{Read, Write, Fetch, Await, Irq, Hvc, Stop, Commit}
 use Rattle.jh_history.specs.Facts.{Facts}
-use Rattle.jh_history.specs.Calls.{is_call}
+use Rattle.jh_history.specs.Calls.{is_of_call}
 use Rattle.jh_history.specs.Pages.{failing, unless_good, page_write_by, with_page_write}
 use Rattle.jh_history.specs.Bytes.{byte_written, byte_after}
 use Rattle.jh_ivshmem.specs.declared.spec.EndpointSpec.{EndpointSpec}
@@ -30,7 +30,7 @@ unless_fails : (good : Bool) → unless_good good None ≡ None
 unless_fails true = refl
 unless_fails false = refl
 
-no_page : (image : Image) (f : Facts) (entry : Entry) (act : Act) → entry.cell ≡ image.system.root.id → is_call act ≡ false → page_write_by image f entry act ≡ None
+no_page : (image : Image) (f : Facts) (entry : Entry) (act : Act) → entry.cell ≡ image.system.root.id → is_of_call act ≡ false → page_write_by image f entry act ≡ None
 no_page image f entry (Read width at got) is own = ap (unless_good (is_some got)) (none_fails image f entry is) ∙ unless_fails (is_some got)
 no_page image f entry (Write width at value ok) is own = ap (unless_good ok) (none_fails image f entry is) ∙ unless_fails ok
 no_page image f entry (Fetch at got) is own = ap (unless_good (is_some got)) (none_fails image f entry is) ∙ unless_fails (is_some got)
@@ -41,15 +41,15 @@ no_page image f entry Stop is own = refl
 no_page image f entry _ is own = absurd (both_ways true own refl)
 
 -- nor does it change the devices of a cell as a Commit does
-unchanged : (cells : List Live) (o : OpenCall) (act : Act) → is_call act ≡ false → changing_at cells o act ≡ None
+unchanged : (cells : List Live) (o : OpenCall) (act : Act) → is_of_call act ≡ false → changing_at cells o act ≡ None
 unchanged cells o Commit own = absurd (both_ways true own refl)
 unchanged cells o _ own = refl
 
-unchanged_by : (cells : List Live) (call : Option OpenCall) (act : Act) → is_call act ≡ false → changing_by cells call act ≡ None
+unchanged_by : (cells : List Live) (call : Option OpenCall) (act : Act) → is_of_call act ≡ false → changing_by cells call act ≡ None
 unchanged_by cells None act own = refl
 unchanged_by cells (Some o) act own = unchanged cells o act own
 
-specs_unchanged : (f : Facts) (act : Act) → is_call act ≡ false → specs_changing f act ≡ []
+specs_unchanged : (f : Facts) (act : Act) → is_of_call act ≡ false → specs_changing f act ≡ []
 specs_unchanged f act own = ap (λ (o : Option CellConfig). option_map_or specs_of o []) (unchanged_by f.cells f.call act own)
 
 -- so the bytes are those that its write leaves

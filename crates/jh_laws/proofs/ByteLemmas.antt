@@ -201,7 +201,7 @@ byte_put image p k admitted bare held lt =
 
 pub opening_byte : (image : Image) (place byte : ℕ) → IsAdmitted image → HasNoDevice image → IsPreloaded image place byte → (facts image []).byte (Physical place) ≡ byte
 opening_byte image place byte admitted bare by =
-    ap (λ (q : ℕ). (facts image []).byte (Physical q)) by.place_is ∙ byte_put image by.preload by.index admitted bare by.there by.within ∙ sym by.byte_is
+    ap (λ (q : ℕ). (facts image []).byte (Physical q)) by.there ∙ byte_put image by.preload by.index admitted bare by.there by.within ∙ sym by.byte_is
 
 pub opening_zero : (image : Image) (place : ℕ) → HasNoDevice image → ((byte : ℕ) → IsPreloaded image place byte → ⊥) → (facts image []).byte (Physical place) ≡ 0
 opening_zero image place bare none =
@@ -209,4 +209,4 @@ opening_zero image place bare none =
     let parts = and_parts (leb p.at place) (ltb place (p.at + length p.bytes)) has in
     let first : p.at ≤ place = leb-true p.at place parts.0 in
     let last : place < p.at + length p.bytes = ltb-true place (p.at + length p.bytes) parts.1 in
-    none (slice_index p.bytes (place - p.at)) (record { preload = p; index = place - p.at; there = held; within = omega arith; place_is = omega arith; byte_is = refl }))
+    none (slice_index p.bytes (place - p.at)) (record { preload = p; index = place - p.at; there = held; within = omega arith; there = omega arith; byte_is = refl }))

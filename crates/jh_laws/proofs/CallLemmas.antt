@@ -26,7 +26,7 @@ use Rattle.jh_history.specs.declared.entry.Heard.{Heard}
 use Rattle.jh_history.specs.declared.entry.Act.{Act}
 use Rattle.jh_history.specs.declared.entry.Act.TheVariants.{Read, Write, Fetch, Await, Irq, Hvc, Begin, Stop, Decide, Settle, Commit, Note, Noted, Finish}
 use Rattle.jh_history.specs.Facts.{Facts}
-use Rattle.jh_history.specs.Calls.{is_named, counted, telling, first_recipient, listed_behind, after_decide, after_settle, after_commit, phase_after, call_by, is_call}
+use Rattle.jh_history.specs.Calls.{is_named, counted, telling, first_recipient, listed_behind, after_decide, after_settle, after_commit, phase_after, call_by, is_of_call}
 use Rattle.jh_num.specs.Numbers.{counted_up}
 use Rattle.jh_history.specs.declared.reading.ReadCell.{ReadCell}
 use Rattle.jh_history.specs.Configs.{config_read}
@@ -46,7 +46,7 @@ use Rattle.jh_history.specs.Commits.{is_commit}
 -- CPU that was asked to, or one of a cell besides root
 pub record IsBeside (image : Image) (f : Facts) (o : OpenCall) (entry : Entry) : Type 0 where
   pub other : entry.cpu ≢ o.caller
-  pub act : is_call entry.act ≡ false
+  pub act : is_of_call entry.act ≡ false
   pub who : (((f.cpu entry.cpu).asked ≡ true) × (Stop ≡ entry.act)) ⊎ (IsOfProgram image f (f.cpu entry.cpu) entry.cpu entry.act × ((f.cpu entry.cpu).owner ≢ image.system.root.id))
 
 abbrev pub IsEntryOf : Image → Facts → OpenCall → Entry → Type 0
@@ -54,7 +54,7 @@ IsEntryOf image f o entry =
     ((o.caller ≡ entry.cpu) × (phase_act image f (is_idle_but image f o.caller) o.caller o.call o.phase ≡ Some entry.act))
     ⊎ IsBeside image f o entry
 
-no_call : (image : Image) (cell : ℕ) (op : Op) (act : Act) → cell ≢ image.system.root.id → IsOutcomeOf image cell op act → is_call act ≡ false
+no_call : (image : Image) (cell : ℕ) (op : Op) (act : Act) → cell ≢ image.system.root.id → IsOutcomeOf image cell op act → is_of_call act ≡ false
 no_call image cell op (Read width at got) other comes = refl
 no_call image cell op (Write width at value ok) other comes = refl
 no_call image cell op (Fetch at got) other comes = refl
@@ -71,7 +71,7 @@ entry_of_parts image f o entry opens next h =
     (λ made. inl made)
     (λ other.
     ⊎_elim
-    (λ stops. inr (record { other = other.0; act = ap is_call (sym stops.1); who = inl stops }))
+    (λ stops. inr (record { other = other.0; act = ap is_of_call (sym stops.1); who = inl stops }))
     (λ (program : IsOfProgram image f (f.cpu entry.cpu) entry.cpu entry.act).
     let apart : (f.cpu entry.cpu).owner ≢ image.system.root.id = λ is. come_rests o.phase (f.cpu entry.cpu) (opens.roots entry.cpu next.board other.0 is) program.goes in
     inr (record { other = other.0; act = no_call image (f.cpu entry.cpu).owner program.op entry.act apart program.comes; who = inr (program, apart) }))
@@ -93,7 +93,7 @@ entry_of_call image f o entry sound is due =
     subst P (sym is) (entry_by_call image f o entry) sound due
 
 -- it leaves the call open, and counts at most
-counted_act : (cells : List Live) (coming : Option CellConfig) (o : OpenCall) (entry : Entry) (act : Act) → is_call act ≡ false
+counted_act : (cells : List Live) (coming : Option CellConfig) (o : OpenCall) (entry : Entry) (act : Act) → is_of_call act ≡ false
     → call_by cells coming (Some o) entry act ≡ Some (record { caller = o.caller; call = o.call; phase = counted entry.cell o.call o.phase })
 counted_act cells coming o entry (Begin code a b) own = absurd (both_ways true own refl)
 counted_act cells coming o entry (Decide refused) own = absurd (both_ways true own refl)
@@ -104,7 +104,7 @@ counted_act cells coming o entry (Noted id how) own = absurd (both_ways true own
 counted_act cells coming o entry (Finish answer) own = absurd (both_ways true own refl)
 counted_act cells coming o entry _ own = refl
 
-pub call_counted : (image : Image) (f : Facts) (o : OpenCall) (entry : Entry) → f.call ≡ Some o → is_call entry.act ≡ false
+pub call_counted : (image : Image) (f : Facts) (o : OpenCall) (entry : Entry) → f.call ≡ Some o → is_of_call entry.act ≡ false
     → (after image f entry).call ≡ Some (record { caller = o.caller; call = o.call; phase = counted entry.cell o.call o.phase })
 call_counted image f o entry is own =
     after_call image f entry
@@ -246,7 +246,7 @@ pub record IsPhaseOf (image : Image) (f : Facts) (entry : Entry) : Type 0 where
   pub caller : o.caller ≡ entry.cpu
   pub act : phase_act image f (is_idle_but image f o.caller) o.caller o.call o.phase ≡ Some entry.act
 
-pub phase_call : (act : Act) → is_phase act ≡ true → is_call act ≡ true
+pub phase_call : (act : Act) → is_phase act ≡ true → is_of_call act ≡ true
 phase_call (Begin code a b) h = refl
 phase_call _ h = h
 
@@ -255,7 +255,7 @@ phase_by image f entry None sound is due phase = absurd (both_ways (is_phase ent
 phase_by image f entry (Some o) sound is due phase =
     ⊎_elim
     (λ made. record { o = o; opens = is; caller = made.0; act = made.1 })
-    (λ (beside : IsBeside image f o entry). absurd (both_ways (is_call entry.act) beside.act (phase_call entry.act phase)))
+    (λ (beside : IsBeside image f o entry). absurd (both_ways (is_of_call entry.act) beside.act (phase_call entry.act phase)))
     (entry_of_call image f o entry sound is due)
 
 pub phase_of_due : (image : Image) (f : Facts) (entry : Entry) → IsSound image f → due_at image f entry.cpu ≡ Some entry → is_phase entry.act ≡ true → IsPhaseOf image f entry
@@ -282,7 +282,7 @@ begin_goes image f entry code a b is =
     subst Q (sym (after_call image f entry))
     (subst P (sym is) (record { caller = entry.cpu; call = decoded code a b; phase = ToDecide }, refl, refl, λ next e. e))
 
-pub call_goes : (image : Image) (f : Facts) (entry : Entry) (act : Act) → entry.act ≡ act → IsSound image f → due_at image f entry.cpu ≡ Some entry → is_call act ≡ true → is_finish act ≡ false → GoesOnWith (after image f entry).call entry.cpu entry.act
+pub call_goes : (image : Image) (f : Facts) (entry : Entry) (act : Act) → entry.act ≡ act → IsSound image f → due_at image f entry.cpu ≡ Some entry → is_of_call act ≡ true → is_finish act ≡ false → GoesOnWith (after image f entry).call entry.cpu entry.act
 call_goes image f entry (Begin code a b) is sound due call more = begin_goes image f entry code a b is
 call_goes image f entry (Decide refused) is sound due call more = phase_goes image f entry sound due (ap is_phase is) (ap is_finish is)
 call_goes image f entry (Settle how) is sound due call more = phase_goes image f entry sound due (ap is_phase is) (ap is_finish is)
@@ -358,7 +358,7 @@ waiting_next image caller call act f entry sound waiting due own =
 
 -- an entry of a call, and the next one of the same CPU
 pub follows : (image : Image) (before middle rest : List Entry) (first last : Entry) → IsAdmitted image → IsLegal image (before ++ first ∷ (middle ++ last ∷ rest))
-    → is_call first.act ≡ true → is_finish first.act ≡ false → All (λ (e : Entry). e.cpu ≢ first.cpu) middle → last.cpu ≡ first.cpu
+    → is_of_call first.act ≡ true → is_finish first.act ≡ false → All (λ (e : Entry). e.cpu ≢ first.cpu) middle → last.cpu ≡ first.cpu
     → (o : OpenCall) × ((after image (facts image before) first).call ≡ Some o) × MayFollow o.call first.act last.act
 follows image before middle rest first last admitted legal call more others own =
     let s = stretch image before middle rest first last admitted legal in
@@ -585,7 +585,7 @@ begin_none_by image f entry code a b None act sound is due = is
 begin_none_by image f entry code a b (Some o) act sound is due =
     ⊎_elim
     (λ made. absurd (both_ways (is_phase entry.act) (ap is_phase act) (phase_expected o.phase entry.act (phase_expects image f (is_idle_but image f o.caller) o.caller o.call o.phase entry.act made.1))))
-    (λ (beside : IsBeside image f o entry). absurd (both_ways (is_call entry.act) beside.act (ap is_call act)))
+    (λ (beside : IsBeside image f o entry). absurd (both_ways (is_of_call entry.act) beside.act (ap is_of_call act)))
     (entry_of_call image f o entry sound is due)
 
 -- none begins while another is open
@@ -606,7 +606,7 @@ phases_own image before rest entry admitted legal phase =
 
 -- what may follow, by the call that was begun
 pub follows_call : (image : Image) (before middle rest : List Entry) (one next : Entry) → IsAdmitted image → IsLegal image (before ++ one ∷ (middle ++ next ∷ rest))
-    → is_call one.act ≡ true → is_finish one.act ≡ false → All (λ (e : Entry). e.cpu ≢ one.cpu) middle → next.cpu ≡ one.cpu
+    → is_of_call one.act ≡ true → is_finish one.act ≡ false → All (λ (e : Entry). e.cpu ≢ one.cpu) middle → next.cpu ≡ one.cpu
     → (k : Call) × (begun_call (before ++ one ∷ []) ≡ Some k) × MayFollow k one.act next.act
 follows_call image before middle rest one next admitted legal call more others own =
     let h = follows image before middle rest one next admitted legal call more others own in

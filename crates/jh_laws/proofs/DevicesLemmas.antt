@@ -33,7 +33,7 @@ use Rattle.jh_history.specs.Lives.{cell_in}
 use Rattle.jh_shape.specs.Lives.{configs_of}
 use Rattle.jh_history.specs.Sound.{IsOfDevice, IsSoundEndpoint, IsSound}
 use Rattle.jh_laws.specs.Held.{IsRootOrLive}
-use Rattle.jh_laws.specs.Ends.{IsDeviceOf, LiesInBar, IsFirstBar, IsAnsweredByRegister, HasFunction}
+use Rattle.jh_laws.specs.Ends.{HasShmemDevice, LiesInBar, IsFirstBar, IsAnsweredByRegister, IsFunctionAt}
 use Rattle.jh_laws.proofs.HeldLemmas.{live_cell, cell_live, number_of_holds}
 use Rattle.jh_laws.proofs.WindowLemmas.{window_at, windows_are, windows_have, IsLower, IsFirst, windows_first, spec_is, function_found, function_some}
 
@@ -68,20 +68,20 @@ pub record IsListed (image : Image) (f : Facts) (id n : ℕ) (device : PciDevice
   pub item : slice_get (list_in image f.cells id) n ≡ Some device
   pub passes : is_endpoint n device ≡ true
 
-pub device_listed : (image : Image) (f : Facts) (id n : ℕ) (device : PciDevice) (e : Endpoint) → IsSound image f → IsDeviceOf image f id n device e → IsListed image f id n device
+pub device_listed : (image : Image) (f : Facts) (id n : ℕ) (device : PciDevice) (e : Endpoint) → IsSound image f → HasShmemDevice image f id n device e → IsListed image f id n device
 device_listed image f id n device e sound h = record {
   item = ap (λ (devices : List PciDevice). slice_get devices n) (list_by image f.cells id h.cell (cell_named image f id h.cell sound h.live h.named)) ∙ h.item;
   passes = and_from (nat_lt n (2 ^ 32)) (is_shmem device) (lt-ltb n (2 ^ 32) (endpoint_few image f id n e sound h.there)) (eq-eqb device.kind 3 h.kind);
 }
 
 listed_by : (image : Image) (f : Facts) (id n : ℕ) (device : PciDevice) (e : Endpoint) (o : Option CellConfig) → cell_in image f.cells id ≡ o → slice_get (option_map_or (λ (c : CellConfig). c.pci_devices) o []) n ≡ Some device → is_endpoint n device ≡ true
-    → endpoint_at id n f.endpoints ≡ Some e → IsDeviceOf image f id n device e
+    → endpoint_at id n f.endpoints ≡ Some e → HasShmemDevice image f id n device e
 listed_by image f id n device e None is item passes there = absurd (none-some device item)
 listed_by image f id n device e (Some cell) is item passes there =
     let live = cell_live image f.cells id cell is in
     record { cell = cell; live = live.0; named = live.1; item = item; kind = eqb-true device.kind 3 (and_parts (nat_lt n (2 ^ 32)) (is_shmem device) passes).1; there = there }
 
-pub listed_device : (image : Image) (f : Facts) (id n : ℕ) (device : PciDevice) (e : Endpoint) → slice_get (list_in image f.cells id) n ≡ Some device → is_endpoint n device ≡ true → endpoint_at id n f.endpoints ≡ Some e → IsDeviceOf image f id n device e
+pub listed_device : (image : Image) (f : Facts) (id n : ℕ) (device : PciDevice) (e : Endpoint) → slice_get (list_in image f.cells id) n ≡ Some device → is_endpoint n device ≡ true → endpoint_at id n f.endpoints ≡ Some e → HasShmemDevice image f id n device e
 listed_device image f id n device e item passes there = listed_by image f id n device e (cell_in image f.cells id) refl item passes there
 
 -- ---- windows
@@ -181,7 +181,7 @@ found_passes image f id at width w is =
 
 -- ---- functions
 
-pub function_is : (image : Image) (f : Facts) (id offset : ℕ) (e : Endpoint) → IsSound image f → HasFunction image f id offset e → function_at (devices_of image f id) offset ≡ Some e
+pub function_is : (image : Image) (f : Facts) (id offset : ℕ) (e : Endpoint) → IsSound image f → IsFunctionAt image f id offset e → function_at (devices_of image f id) offset ≡ Some e
 function_is image f id offset e sound h =
     let listed = device_listed image f id h.number h.device e sound h.is in
     let devices : List PciDevice = list_in image f.cells id in
@@ -198,7 +198,7 @@ function_is image f id offset e sound h =
     let same : some.0 ≡ h.number = sound.cells.clean.single numbered.0 cell numbered.1 some.0 h.number found.device h.device item h.is.item linked in
     ap (option_and_then (λ n. endpoint_at id n f.endpoints)) (some.1 ∙ ap Some same) ∙ h.is.there
 
-function_by : (image : Image) (f : Facts) (id offset : ℕ) (e : Endpoint) (o : Option ℕ) → number_from (offset / 4096) 0 (list_in image f.cells id) ≡ o → option_and_then (λ n. endpoint_at id n f.endpoints) o ≡ Some e → HasFunction image f id offset e
+function_by : (image : Image) (f : Facts) (id offset : ℕ) (e : Endpoint) (o : Option ℕ) → number_from (offset / 4096) 0 (list_in image f.cells id) ≡ o → option_and_then (λ n. endpoint_at id n f.endpoints) o ≡ Some e → IsFunctionAt image f id offset e
 function_by image f id offset e None is there = absurd (none-some e there)
 function_by image f id offset e (Some n) is there =
     let found = function_found (offset / 4096) 0 (list_in image f.cells id) n is in
@@ -207,7 +207,7 @@ function_by image f id offset e (Some n) is there =
     let item : slice_get (list_in image f.cells id) n ≡ Some found.device = ap (slice_get (list_in image f.cells id)) (sym index) ∙ found.item in
     record { number = n; device = found.device; is = listed_device image f id n found.device e item found.passes there; has = found.has }
 
-pub function_has : (image : Image) (f : Facts) (id offset : ℕ) (e : Endpoint) → function_at (devices_of image f id) offset ≡ Some e → HasFunction image f id offset e
+pub function_has : (image : Image) (f : Facts) (id offset : ℕ) (e : Endpoint) → function_at (devices_of image f id) offset ≡ Some e → IsFunctionAt image f id offset e
 function_has image f id offset e is = function_by image f id offset e (number_from (offset / 4096) 0 (list_in image f.cells id)) refl is
 
 -- ---- what is told
@@ -216,16 +216,16 @@ function_told : (image : Image) (f : Facts) (id offset width : ℕ) (o : Option 
     → config_value (devices_of image f id) (record { at = offset; width = width }) ≡ option_map_or (λ (e : Endpoint). space_read e.space (offset % 4096) width) o (256 ^ width - 1)
 function_told image f id offset width o is = ap (λ (p : Option Endpoint). option_map_or (λ (e : Endpoint). space_read e.space (offset % 4096) width) p (256 ^ width - 1)) is
 
-pub told_function : (image : Image) (f : Facts) (id offset width : ℕ) (e : Endpoint) → IsSound image f → HasFunction image f id offset e
+pub told_function : (image : Image) (f : Facts) (id offset width : ℕ) (e : Endpoint) → IsSound image f → IsFunctionAt image f id offset e
     → config_value (devices_of image f id) (record { at = offset; width = width }) ≡ space_read e.space (offset % 4096) width
 told_function image f id offset width e sound has = function_told image f id offset width (Some e) (function_is image f id offset e sound has)
 
-ones_by : (image : Image) (f : Facts) (id offset width : ℕ) (o : Option Endpoint) → function_at (devices_of image f id) offset ≡ o → ((e : Endpoint) → HasFunction image f id offset e → ⊥)
+ones_by : (image : Image) (f : Facts) (id offset width : ℕ) (o : Option Endpoint) → function_at (devices_of image f id) offset ≡ o → ((e : Endpoint) → IsFunctionAt image f id offset e → ⊥)
     → config_value (devices_of image f id) (record { at = offset; width = width }) ≡ 256 ^ width - 1
 ones_by image f id offset width None is none = function_told image f id offset width None is
 ones_by image f id offset width (Some e) is none = absurd (none e (function_has image f id offset e is))
 
-pub told_ones : (image : Image) (f : Facts) (id offset width : ℕ) → ((e : Endpoint) → HasFunction image f id offset e → ⊥) → config_value (devices_of image f id) (record { at = offset; width = width }) ≡ 256 ^ width - 1
+pub told_ones : (image : Image) (f : Facts) (id offset width : ℕ) → ((e : Endpoint) → IsFunctionAt image f id offset e → ⊥) → config_value (devices_of image f id) (record { at = offset; width = width }) ≡ 256 ^ width - 1
 told_ones image f id offset width none = ones_by image f id offset width (function_at (devices_of image f id) offset) refl none
 
 pub told_register : (image : Image) (f : Facts) (id n bar offset : ℕ) (e : Endpoint) → endpoint_at id n f.endpoints ≡ Some e → register_value (devices_of image f id) (record { device = n; bar = bar; at = offset }) ≡ register_of e bar offset

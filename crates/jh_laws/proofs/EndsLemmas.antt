@@ -44,7 +44,7 @@ use Rattle.jh_laws.proofs.RootLemmas.{op_well_formed}
 use Rattle.jh_laws.proofs.CallLemmas.{IsMadeBy, Stopping, Running, Calling, made_by}
 use Rattle.jh_laws.specs.Held.{IsGrantedTo, AreGrantedTo}
 use Rattle.jh_laws.proofs.HeldLemmas.{granted_to}
-use Rattle.jh_laws.specs.Ends.{IsAnsweredBy, IsAnsweredByConfig, IsAnsweredByRegister, HasFunction, IsAnswered, AreItsPlaces, GivesPlaces, offset_in, IsReadBy, IsGotBy, IsAwaitedBy, EndsAsGranted}
+use Rattle.jh_laws.specs.Ends.{IsAnsweredBy, IsAnsweredByConfig, IsAnsweredByRegister, IsFunctionAt, IsAnswered, AreItsPlaces, GivesPlaces, offset_in, IsReadBy, IsGotBy, IsAwaitedBy, EndsAsGranted}
 use Rattle.jh_laws.proofs.DevicesLemmas.{function_is, function_has, told_function, told_ones, told_register, same_register}
 use Rattle.jh_laws.proofs.ReachedLemmas.{Way, OnMemory, OnRegion, OnWindow, OnRegister, OnNothing, way, places_of_memory, places_of_region, region_places, ByRegister}
 use Rattle.jh_laws.proofs.ListedLemmas.{listed, spelled_listed}
@@ -146,7 +146,7 @@ granted_places image f id access at width sound each k lt =
 window_value : (image : Image) (f : Facts) (id : ℕ) (access : Access) (at width n m : ℕ) (o : Option Endpoint) → IsAnsweredByConfig image f.cells id access at width → function_at (devices_of image f id) (offset_in image.system at) ≡ o
     → IsReadBy image f id access at width n → IsReadBy image f id access at width m → IsSound image f → n ≡ m
 window_value image f id access at width n m None window is one other sound =
-    let none : (e : Endpoint) → HasFunction image f id (offset_in image.system at) e → ⊥ = λ e has. none-some e (sym is ∙ function_is image f id (offset_in image.system at) e sound has) in
+    let none : (e : Endpoint) → IsFunctionAt image f id (offset_in image.system at) e → ⊥ = λ e has. none-some e (sym is ∙ function_is image f id (offset_in image.system at) e sound has) in
     one.ones window none ∙ sym (other.ones window none)
 window_value image f id access at width n m (Some e) window is one other sound =
     let has = function_has image f id (offset_in image.system at) e is in

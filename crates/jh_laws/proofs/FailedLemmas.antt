@@ -15,7 +15,7 @@ use Rattle.jh_history.specs.declared.entry.Act.{Act}
 use Rattle.jh_history.specs.declared.entry.Act.TheVariants.{Read, Write, Fetch, Await, Begin, Settle, Commit, Finish}
 use Rattle.jh_history.specs.Facts.{Facts}
 use Rattle.jh_history.specs.Calls.{is_named}
-use Rattle.jh_history.specs.Cpus.{acted, cpu_by_settle, cpu_by_finish, resumed_in, is_running, is_undenied}
+use Rattle.jh_history.specs.Cpus.{acted, cpu_by_settle, cpu_by_finish, resumed_of_root, is_running, is_undenied}
 use Rattle.jh_history.specs.Pages.{failing, page_write_by}
 use Rattle.jh_history.specs.declared.place.Place.{Place}
 use Rattle.jh_history.specs.declared.place.Place.TheVariants.{Physical}
@@ -90,7 +90,7 @@ SameRest one other = (one.mode ≡ other.mode) × (one.asked ≡ other.asked)
 
 finished_rest : (image : Image) (own i : ℕ) (cpu : Cpu) → SameRest (cpu_by_finish image own i cpu) cpu
 finished_rest image own i cpu =
-    let there : Cpu = resumed_in image.system.root.id cpu in
+    let there : Cpu = resumed_of_root image.system.root.id cpu in
     let P : Cpu → Type 0 = λ c. SameRest c cpu in
     let rest : SameRest there cpu = cond_both (eqb cpu.owner image.system.root.id) (resumed cpu) cpu P (λ _. (refl, refl)) (λ _. (refl, refl)) in
     cond_both (eqb i own) (moved there) there P (λ _. rest) (λ _. rest)

@@ -47,7 +47,7 @@ use Rattle.jh_history.specs.Commits.{cells_by, committed_cells, is_other, is_com
 use Rattle.jh_history.specs.Configs.{bytes_at, read_whole, read_behind, read_from, read_at, config_read}
 use Rattle.jh_history.specs.Cpus.{acted, changed, change_of, cpu_by_settle, is_undenied, cpu_after}
 use Rattle.jh_history.specs.History.{start, after, facts, coming_by, coming_of}
-use Rattle.jh_history.specs.Pages.{is_left, failing, unless_good, asking, committing, named_cell, page_write_by, on_page}
+use Rattle.jh_history.specs.Pages.{is_unfailed_of, failing, unless_good, asking, committing, named_cell, page_write_by, on_page}
 use Rattle.jh_shape.specs.Lives.{configs_of, marked}
 use Rattle.jh_shape.proofs.Public.{configs_marked}
 use Rattle.jh_history.specs.Due.{due_at, IsLegal, IsLegalFrom}
@@ -219,7 +219,7 @@ written_small image f cell _ q small = small q
 failing_small : (image : Image) (f : Facts) (entry : Entry) (good : Bool) → MayWriteBytes (unless_good good (failing image f entry))
 failing_small image f entry true = tt
 failing_small image f entry false =
-    let left : Bool = eqb entry.cell image.system.root.id || any_below (λ i. is_on_board image i && is_left entry.cell (cpu_after image f entry i)) 16 in
+    let left : Bool = eqb entry.cell image.system.root.id || any_below (λ i. is_on_board image i && is_unfailed_of entry.cell (cpu_after image f entry i)) 16 in
     cond_both left None (Some (record { cell = entry.cell; change = NewState STATE_FAILED })) MayWriteBytes (λ _. tt) (λ _. tt)
 
 asking_one : (o : Option CellConfig) → MayWriteBytes (option_and_then (λ (c : CellConfig). cond (is_passive c) None (Some (on_page (Message MESSAGE_SHUTDOWN_REQUEST) c))) o)

@@ -42,7 +42,7 @@ use Rattle.jh_history.specs.Alone.{IsAlone, IsByRoot}
 use Rattle.jh_history.specs.History.{start, after, facts}
 use Rattle.jh_history.specs.Due.{due_at, act_of, await_of, irq_of, got_by, entry_by, IsLegal, IsLegalFrom}
 use Rattle.jh_history.specs.Admitted.{IsAdmitted, IsNoHypercall, HasNoHypercall}
-use Rattle.jh_history.specs.Calls.{is_call}
+use Rattle.jh_history.specs.Calls.{is_of_call}
 use Rattle.jh_history.proofs.Public.{due_at_absent, due_at_present, acted_own, alone_start, alone_after, due_split, IsLegal_begin, program_ops_all, few_operations}
 use Rattle.std.specs.List.{AllByRecursion}
 use Rattle.std.proofs.lemmas.List.Elements.{recursion_from_All}
@@ -220,7 +220,7 @@ changed_access image f cell (Await width at value false) state access = refl
 changed_access image f cell _ state access = absurd access
 
 -- so it is no phase of a call
-pub access_own : (image : Image) (f : Facts) (cell : ℕ) (act : Act) → IsAccess image f cell act → is_call act ≡ false
+pub access_own : (image : Image) (f : Facts) (cell : ℕ) (act : Act) → IsAccess image f cell act → is_of_call act ≡ false
 access_own image f cell (Read width at got) access = refl
 access_own image f cell (Write width at value ok) access = refl
 access_own image f cell (Fetch at got) access = refl

@@ -16,7 +16,7 @@ use Rattle.jh_history.specs.declared.entry.Entry.{Entry}
 use Rattle.jh_history.specs.declared.entry.Act.{Act}
 use Rattle.jh_history.specs.declared.entry.Act.TheVariants.{Decide, Settle, Commit, Note, Noted, Finish}
 use Rattle.jh_history.specs.Admitted.{IsAdmitted}
-use Rattle.jh_history.specs.Calls.{counted, telling, first_recipient, listed_behind, call_by, is_call}
+use Rattle.jh_history.specs.Calls.{counted, telling, first_recipient, listed_behind, call_by, is_of_call}
 use Rattle.jh_num.specs.Numbers.{counted_up}
 use Rattle.jh_history.specs.Commits.{committed_cells, cells_by, is_commit}
 use Rattle.jh_history.specs.Due.{due_at, is_idle_but, IsLegal}
@@ -131,7 +131,7 @@ finish_is image f entry answer a sound will due act =
     let o : OpenCall = will.0 in
     ⊎_elim
     (λ made. finishes_with o.phase answer a will.2 (subst (Expects o.phase) act (phase_expects image f (is_idle_but image f o.caller) o.caller o.call o.phase entry.act made.1)))
-    (λ (beside : IsBeside image f o entry). absurd (both_ways (is_call entry.act) beside.act (ap is_call act)))
+    (λ (beside : IsBeside image f o entry). absurd (both_ways (is_of_call entry.act) beside.act (ap is_of_call act)))
     (entry_of_call image f o entry sound will.1 due)
 
 cells_behind : (image : Image) (before : List Entry) (entry : Entry) → (facts image (before ++ entry ∷ [])).cells ≡ cells_by (facts image before).call (facts image before).cells entry.act

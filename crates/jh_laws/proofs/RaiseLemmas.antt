@@ -318,11 +318,11 @@ put_cell : (image : Image) (f : Facts) (entry : Entry) (w : IsWrite entry.act) (
 put_cell image f entry w m bar offset x put = named_cell entry.cell m f.endpoints x put.by.within.is.there
 
 puts_from : (image : Image) (f : Facts) (entry : Entry) (w : IsWrite entry.act) (m bar offset place : ℕ) (x : Endpoint) → IsPut image f entry w m bar offset x → bar ≡ 0 → offset ≡ place → PutsRegister image f entry.cell entry.act place w.value x
-puts_from image f entry w m bar offset place x put zero_is place_is =
+puts_from image f entry w m bar offset place x put zero_is there =
     let P : Act → Type 0 = λ act. PutsRegister image f entry.cell act place w.value x in
     let R : ℕ → ℕ → Type 0 = λ b o. IsAnsweredByRegister image f entry.cell ToWrite w.at w.width m b o x in
     let B : ℕ → Type 0 = λ b. R b offset in
-    subst P (sym w.is) (refl, refl, (m, subst (R 0) place_is (subst B zero_is put.by)))
+    subst P (sym w.is) (refl, refl, (m, subst (R 0) there (subst B zero_is put.by)))
 
 -- any register that the entry puts is that one
 same_put : {X : Type 0} (image : Image) (f : Facts) (entry : Entry) (w : IsWrite entry.act) (m bar offset place value : ℕ) (x bell : Endpoint) (g : ℕ → ℕ → Endpoint → X) → IsPut image f entry w m bar offset x → PutsRegister image f entry.cell entry.act place value bell
@@ -496,8 +496,8 @@ foreign_device image f entry w m bar offset x o e put same foreign =
 same_place : (image : Image) (f : Facts) (entry : Entry) (w : IsWrite entry.act) (m bar offset place value : ℕ) (x bell : Endpoint) → IsPut image f entry w m bar offset x → PutsRegister image f entry.cell entry.act place value bell → (eqb bar 0 && eqb offset place) ≡ true
 same_place image f entry w m bar offset place value x bell put puts =
     let zero_is : 0 ≡ bar = same_put image f entry w m bar offset place value x bell (λ b o y. b) put puts in
-    let place_is : place ≡ offset = same_put image f entry w m bar offset place value x bell (λ b o y. o) put puts in
-    and_from (eqb bar 0) (eqb offset place) (eq-eqb bar 0 (sym zero_is)) (eq-eqb offset place (sym place_is))
+    let there : place ≡ offset = same_put image f entry w m bar offset place value x bell (λ b o y. o) put puts in
+    and_from (eqb bar 0) (eqb offset place) (eq-eqb bar 0 (sym zero_is)) (eq-eqb offset place (sym there))
 
 other_quiet : (image : Image) (f : Facts) (entry : Entry) (w : IsWrite entry.act) (m bar offset : ℕ) (x e : Endpoint) → IsPut image f entry w m bar offset x → (eqb bar 0 && eqb offset 0x0c) ≡ false → (eqb bar 0 && eqb offset 0x10) ≡ false → NoCall image f entry e
 other_quiet image f entry w m bar offset x e put no_bell no_state v (inl rings) = both_ways (eqb bar 0 && eqb offset 0x0c) no_bell (same_place image f entry w m bar offset 0x0c rings.value x rings.bell put rings.puts)

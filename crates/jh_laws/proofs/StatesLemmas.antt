@@ -29,9 +29,9 @@ use Rattle.jh_history.specs.declared.entry.Act.TheVariants.{Read, Write, Fetch, 
 use Rattle.jh_history.specs.Facts.{Facts}
 use Rattle.jh_history.specs.Lives.{is_on_board, program_ops, cell_in}
 use Rattle.jh_history.specs.Admitted.{IsAdmitted}
-use Rattle.jh_history.specs.Calls.{is_named, is_call}
+use Rattle.jh_history.specs.Calls.{is_named, is_of_call}
 use Rattle.jh_history.specs.Commits.{cells_by, committed_cells, is_commit}
-use Rattle.jh_history.specs.Cpus.{acted, changed, change_if, asked_by_begin, cpu_by_settle, cpu_by_commit, cpu_by_finish, resumed_in, is_running}
+use Rattle.jh_history.specs.Cpus.{acted, changed, change_if, asked_by_begin, cpu_by_settle, cpu_by_commit, cpu_by_finish, resumed_of_root, is_running}
 use Rattle.jh_history.specs.History.{facts}
 use Rattle.jh_shape.specs.Lives.{configs_of}
 use Rattle.jh_history.specs.Due.{is_idle_but, IsLegal}
@@ -67,7 +67,7 @@ own_cpu : (change : Change) (own : ℕ) (cpu : Cpu) → cond (eqb own own) (chan
 own_cpu change own cpu = ap (λ (b : Bool). cond b (changed change cpu) cpu) (eq-eqb own own refl)
 
 -- an access or a hypercall that is answered moves its CPU, and a violation fails it
-own_by : (image : Image) (call : Option OpenCall) (act : Act) (own : ℕ) (cpu : Cpu) → cpu.position < 4096 → is_call act ≡ false → is_stop_act act ≡ false → is_violation act ≡ false → acted image call act own own cpu ≡ stepped cpu
+own_by : (image : Image) (call : Option OpenCall) (act : Act) (own : ℕ) (cpu : Cpu) → cpu.position < 4096 → is_of_call act ≡ false → is_stop_act act ≡ false → is_violation act ≡ false → acted image call act own own cpu ≡ stepped cpu
 own_by image call (Read width at None) own cpu few a b c = absurd (false≢true (sym c))
 own_by image call (Read width at (Some got)) own cpu few a b c = own_cpu Step own cpu ∙ moved_stepped cpu few
 own_by image call (Fetch at None) own cpu few a b c = absurd (false≢true (sym c))
@@ -93,7 +93,7 @@ fails_by image call (Await width at value true) own cpu few c = absurd (false≢
 fails_by image call (Await width at value false) own cpu few c = own_cpu Fail own cpu ∙ moved_ended cpu few
 fails_by image call _ own cpu few c = absurd (false≢true c)
 
-pub violation_own : (act : Act) → is_violation act ≡ true → (is_call act ≡ false) × (is_stop_act act ≡ false)
+pub violation_own : (act : Act) → is_violation act ≡ true → (is_of_call act ≡ false) × (is_stop_act act ≡ false)
 violation_own (Read width at got) c = (refl, refl)
 violation_own (Fetch at got) c = (refl, refl)
 violation_own (Write width at value ok) c = (refl, refl)
@@ -101,18 +101,18 @@ violation_own (Await width at value ok) c = (refl, refl)
 violation_own _ c = absurd (false≢true c)
 
 -- the operation that the CPU was at
-position_by : (image : Image) (f : Facts) (entry : Entry) → IsAdmitted image → is_call entry.act ≡ false → is_stop_act entry.act ≡ false → IsMadeBy image f entry → (f.cpu entry.cpu).position < 4096
+position_by : (image : Image) (f : Facts) (entry : Entry) → IsAdmitted image → is_of_call entry.act ≡ false → is_stop_act entry.act ≡ false → IsMadeBy image f entry → (f.cpu entry.cpu).position < 4096
 position_by image f entry admitted a b (Stopping is) = absurd (both_ways (is_stop_act entry.act) b (ap is_stop_act (sym is)))
-position_by image f entry admitted a b (Calling phase) = absurd (both_ways (is_call entry.act) a (phase_call entry.act phase))
+position_by image f entry admitted a b (Calling phase) = absurd (both_ways (is_of_call entry.act) a (phase_call entry.act phase))
 position_by image f entry admitted a b (Runs program) = within_ops image entry.cpu (cell_in image f.cells (f.cpu entry.cpu).owner) (f.cpu entry.cpu).position program.op admitted program.at
 
-position_few : (image : Image) (before rest : List Entry) (entry : Entry) → IsAdmitted image → IsLegal image (before ++ entry ∷ rest) → is_call entry.act ≡ false → is_stop_act entry.act ≡ false → ((facts image before).cpu entry.cpu).position < 4096
+position_few : (image : Image) (before rest : List Entry) (entry : Entry) → IsAdmitted image → IsLegal image (before ++ entry ∷ rest) → is_of_call entry.act ≡ false → is_stop_act entry.act ≡ false → ((facts image before).cpu entry.cpu).position < 4096
 position_few image before rest entry admitted legal a b =
     let f : Facts = facts image before in
     let sound = legal_sound image before admitted (IsLegal_begin image before (entry ∷ rest) legal) in
     position_by image f entry admitted a b (made_by image f entry sound (due_split image before rest entry legal))
 
-pub own_steps : (image : Image) (before rest : List Entry) (entry : Entry) → IsAdmitted image → IsLegal image (before ++ entry ∷ rest) → is_call entry.act ≡ false → is_stop_act entry.act ≡ false → is_violation entry.act ≡ false
+pub own_steps : (image : Image) (before rest : List Entry) (entry : Entry) → IsAdmitted image → IsLegal image (before ++ entry ∷ rest) → is_of_call entry.act ≡ false → is_stop_act entry.act ≡ false → is_violation entry.act ≡ false
     → (facts image (before ++ entry ∷ [])).cpu entry.cpu ≡ stepped ((facts image before).cpu entry.cpu)
 own_steps image before rest entry admitted legal a b c =
     let f : Facts = facts image before in
@@ -188,17 +188,17 @@ finishes image own i cpu caller =
       caller = λ is.
           let c = caller is in
           let yes : eqb i own ≡ true = eq-eqb i own is in
-          let there : resumed_in root cpu ≡ resumed cpu = ap (λ (b : Bool). cond b (resumed cpu) cpu) (eq-eqb cpu.owner root c.2) in
+          let there : resumed_of_root root cpu ≡ resumed cpu = ap (λ (b : Bool). cond b (resumed cpu) cpu) (eq-eqb cpu.owner root c.2) in
           let same : resumed cpu ≡ cpu = ap (λ (b : Bool). record cpu { stopped = b }) (sym c.1) in
-          let e : cpu_by_finish image own i cpu ≡ moved (resumed_in root cpu) = rw yes refl in
+          let e : cpu_by_finish image own i cpu ≡ moved (resumed_of_root root cpu) = rw yes refl in
           e ∙ ap moved (there ∙ same) ∙ moved_stepped cpu c.0;
       roots = λ other is.
           let fails : eqb i own ≡ false = ne_eqb i own other in
-          let e : cpu_by_finish image own i cpu ≡ resumed_in root cpu = rw fails refl in
+          let e : cpu_by_finish image own i cpu ≡ resumed_of_root root cpu = rw fails refl in
           e ∙ ap (λ (b : Bool). cond b (resumed cpu) cpu) (eq-eqb cpu.owner root is);
       foreign = λ other.
           let fails : eqb i own ≡ false = ne_eqb i own (λ is. other (caller is).2) in
-          let e : cpu_by_finish image own i cpu ≡ resumed_in root cpu = rw fails refl in
+          let e : cpu_by_finish image own i cpu ≡ resumed_of_root root cpu = rw fails refl in
           e ∙ ap (λ (b : Bool). cond b (resumed cpu) cpu) (ne_eqb cpu.owner root other);
     }
 

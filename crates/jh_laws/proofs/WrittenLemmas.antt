@@ -259,7 +259,7 @@ paged_by image f entry place byte write is h =
     let words : Place → ℕ = with_words (specs_changing f entry.act) f.byte in
     ap (λ (w : Option PageWrite). with_page_write w (with_words (specs_changing f entry.act) (byte_written image f entry.cell entry.act)) place) is
     ∙ ap (λ (b : Place → ℕ). with_page_write (Some write) (with_words (specs_changing f entry.act) b) place) (quiet_act image f entry entry.act write is)
-    ∙ ap (with_page_write (Some write) words) h.place_is
+    ∙ ap (with_page_write (Some write) words) h.there
     ∙ page_puts words write h.offset h.within
     ∙ ap (λ (page : ℕ → ℕ). page_after write.change page h.offset)
     (same_function (λ k. words (Page write.cell k)) (λ k. f.byte (Page write.cell k)) (λ k. words_page (specs_changing f entry.act) f.byte write.cell k))
@@ -347,7 +347,7 @@ entry_keeps image before rest entry place admitted legal none =
     let specs : List EndpointSpec = specs_changing f entry.act in
     byte_behind image before entry place
     ∙ page_keeps (with_words specs (byte_written image f entry.cell entry.act)) (page_write_by image f entry entry.act) place
-    (λ w offset is within at. none (page_after w.change (λ k. f.byte (Page w.cell k)) offset) (inr (inr (w, is, record { offset = offset; within = within; place_is = at; is = refl }))))
+    (λ w offset is within at. none (page_after w.change (λ k. f.byte (Page w.cell k)) offset) (inr (inr (w, is, record { offset = offset; within = within; there = at; is = refl }))))
     ∙ words_kept specs (byte_written image f entry.cell entry.act) place
     (λ spec held k lt there. none (0 / 256 ^ k % 256) (inr (inl (word_there image f entry place spec 0 k (inr (held, refl)) (lt, there)))))
     ∙ kept_act image f entry.cell entry.act place sound (small_at image before rest entry admitted legal) (λ byte puts. none byte (inl puts))

@@ -72,8 +72,8 @@ pub record IsAnsweredByConfig (image : Image) (cells : List Live) (id : ℕ) (ac
 
 -- ---- devices
 
--- the device with that number of the live cell with the id is an ivshmem device, and this is its endpoint
-pub record IsDeviceOf (image : Image) (f : Facts) (id n : ℕ) (device : PciDevice) (e : Endpoint) : Type 0 where
+-- the live cell with the id has an ivshmem device of that number, and this is its endpoint
+pub record HasShmemDevice (image : Image) (f : Facts) (id n : ℕ) (device : PciDevice) (e : Endpoint) : Type 0 where
   pub cell : CellConfig
   pub live : IsRootOrLive image f.cells cell
   pub named : cell.id ≡ id
@@ -81,10 +81,10 @@ pub record IsDeviceOf (image : Image) (f : Facts) (id n : ℕ) (device : PciDevi
   pub kind : IsShmem device
   pub there : endpoint_at id n f.endpoints ≡ Some e
 
--- the access lies in the window of the BAR of the cell's device, which is enabled
+-- the access lies in the window of the BAR of the cell's device; the window is enabled
 pub record LiesInBar (image : Image) (f : Facts) (id n bar at width : ℕ) (e : Endpoint) : Type 0 where
   pub device : PciDevice
-  pub is : IsDeviceOf image f id n device e
+  pub is : HasShmemDevice image f id n device e
   pub start : ℕ
   pub end : ℕ
   pub window : window_of e.space bar ≡ Some (start, end)
@@ -110,10 +110,10 @@ pub record IsAnsweredByRegister (image : Image) (f : Facts) (id : ℕ) (access :
   pub there : at ≡ within.start + offset
 
 -- the function of the cell's device has the offset in the ECAM window: it has the 4,096 bytes from 4096 times its bdf on
-pub record HasFunction (image : Image) (f : Facts) (id offset : ℕ) (e : Endpoint) : Type 0 where
+pub record IsFunctionAt (image : Image) (f : Facts) (id offset : ℕ) (e : Endpoint) : Type 0 where
   pub number : ℕ
   pub device : PciDevice
-  pub is : IsDeviceOf image f id number device e
+  pub is : HasShmemDevice image f id number device e
   pub has : device.bdf ≡ offset / 4096
 
 -- the access succeeds: each of its bytes is granted, or a subpage region answers it, or configuration space, or a register
@@ -145,9 +145,9 @@ offset_in system at = at - system.pci_mmconfig_base
 pub record IsReadBy (image : Image) (f : Facts) (id : ℕ) (access : Access) (at width value : ℕ) : Type 0 where
   pub bytes : (place : ℕ → Place) → AreItsPlaces image f.cells id access at width place → value ≡ little_endian width (λ k. f.byte (place k))
   pub function : (e : Endpoint) → IsAnsweredByConfig image f.cells id access at width
-      → HasFunction image f id (offset_in image.system at) e
+      → IsFunctionAt image f id (offset_in image.system at) e
       → value ≡ space_read e.space (offset_in image.system at % 4096) width
-  pub ones : IsAnsweredByConfig image f.cells id access at width → ((e : Endpoint) → HasFunction image f id (offset_in image.system at) e → ⊥) → value ≡ 256 ^ width - 1
+  pub ones : IsAnsweredByConfig image f.cells id access at width → ((e : Endpoint) → IsFunctionAt image f id (offset_in image.system at) e → ⊥) → value ≡ 256 ^ width - 1
   pub register : (n bar offset : ℕ) (e : Endpoint) → IsAnsweredByRegister image f id access at width n bar offset e → value ≡ register_of e bar offset
 
 -- what a reading access got: a value exactly where something answers it, and then what is read there
@@ -155,12 +155,13 @@ pub record IsGotBy (image : Image) (f : Facts) (id : ℕ) (access : Access) (at 
   pub answered : IsSome got ↔ IsAnswered image f id access at width
   pub reads : (value : ℕ) → got ≡ Some value → IsReadBy image f id access at width value
 
--- an await is made at the value that it waits for, and succeeds exactly where something answers it
+-- the entry of an await: it succeeds exactly where something answers the access, and then the access reads the value
+-- that it waits for
 pub record IsAwaitedBy (image : Image) (f : Facts) (id at width value : ℕ) (ok : Bool) : Type 0 where
   pub answered : IsTrue ok ↔ IsAnswered image f id ToRead at width
   pub reads : IsTrue ok → IsReadBy image f id ToRead at width value
 
--- an access of the cell has the outcome that it has where these facts hold; of any other act `Other` holds
+-- where these facts hold, the cell's act ends so: an access by what answers it; of any other act `Other` holds
 abbrev pub EndsOr : Type 0 → Image → Facts → ℕ → Act → Type 0
 EndsOr Other image f id (Read width at got) = IsGotBy image f id ToRead at width got
 EndsOr Other image f id (Fetch at got) = IsGotBy image f id ToFetch at 4 got
@@ -168,6 +169,6 @@ EndsOr Other image f id (Write width at value ok) = IsTrue ok ↔ IsAnswered ima
 EndsOr Other image f id (Await width at value ok) = IsAwaitedBy image f id at width value ok
 EndsOr Other image f id _ = Other
 
--- an access of the cell has the outcome that it has where these facts hold
+-- where these facts hold, an access of the cell ends by what answers it; any other act ends anyhow
 abbrev pub EndsAsGranted : Image → Facts → ℕ → Act → Type 0
 EndsAsGranted image f id act = EndsOr (Unit {0}) image f id act

@@ -6,7 +6,7 @@ use Rattle.jh_cellcfg.specs.Regions.{rights_of, is_page_mapped, is_comm}
 use Rattle.jh_history.specs.declared.place.Place.{Place}
 use Rattle.jh_history.specs.declared.place.Place.TheVariants.{Physical, Page}
 use Rattle.jh_history.specs.declared.access.Access.{Access}
-use Rattle.jh_history.specs.declared.access.Access.TheVariants.{Read, Write, Fetch}
+use Rattle.jh_history.specs.Access.{has_right}
 
 -- the place of so many bytes behind the region's start: of the cell's communication page where it is
 -- the region of that page, else of physical memory
@@ -15,9 +15,7 @@ place_behind cell region offset = if is_comm region then Page cell.id offset els
 
 -- the region may be accessed so: read, written, or executed where it is a fetch
 abbrev pub may : Access → Region → Bool
-may Read region = (rights_of region).read
-may Write region = (rights_of region).write
-may Fetch region = (rights_of region).execute
+may access region = has_right access (rights_of region)
 
 -- the cell's regions give it the place at the address: the address lies below 2 ^ 39, and one of them has it, is of whole
 -- pages, may be accessed so, and gives it that place

@@ -14,7 +14,8 @@ use Rattle.jh_history.specs.Phases.{state_word}
 use Rattle.jh_shape.specs.Lives.{configs_of}
 use Rattle.jh_laws.specs.Decisions.{LivesNot}
 
--- the answer to a request for information about the hypervisor: the pool's pages, those used, the live cells with root
+-- the answer to a request for information about the hypervisor: how many pages the pool has, how many are used, how many
+-- cells live, root too; EINVAL for any other kind
 pub record IsInfoAnswer (image : Image) (f : Facts) (kind : ℕ) (answer : ℤ) : Type 0 where
   pub size : kind ≡ 0 → answer ≡ pos (pool_pages image.system)
   pub used : kind ≡ 1 → answer ≡ pos (pages_of image.system.root.memory_regions (configs_of f.cells))
@@ -22,7 +23,8 @@ pub record IsInfoAnswer (image : Image) (f : Facts) (kind : ℕ) (answer : ℤ) 
   pub other : kind ≢ 0 → kind ≢ 1 → kind ≢ 4 → answer ≡ EINVAL
 
 -- the answer to a request for the state of a cell, which root alone is told: 0 for root, and the state word of another
--- live cell where that is one of the five states
+-- live cell where that is one of the five states, EINVAL where it is none; ENOENT where no such cell lives, and EPERM to a
+-- cell that isn't root
 pub record IsStateAnswer (image : Image) (f : Facts) (cell id : ℕ) (answer : ℤ) : Type 0 where
   pub others : cell ≢ image.system.root.id → answer ≡ EPERM
   pub root : cell ≡ image.system.root.id → id ≡ image.system.root.id → answer ≡ pos 0
@@ -43,7 +45,8 @@ pub record IsCpuAnswer (image : Image) (f : Facts) (cell cpu kind : ℕ) (answer
   pub failed : is_on_board image cpu ≡ true → MaySeeCpu image f cell cpu → kind ≡ 0 → (f.cpu cpu).mode ≡ Failed → answer ≡ pos 2
   pub good : is_on_board image cpu ≡ true → MaySeeCpu image f cell cpu → kind ≡ 0 → (f.cpu cpu).mode ≢ Failed → answer ≡ pos 0
 
--- what the cell's call is answered: calls that manage cells are root's
+-- what the cell's call is answered at once: EPERM where it manages cells and the cell isn't root, ENOSYS where the code is
+-- unknown
 abbrev pub IsAnswer : Image → Facts → ℕ → Call → ℤ → Type 0
 IsAnswer image f cell (Create at) answer = (cell ≢ image.system.root.id) × (answer ≡ EPERM)
 IsAnswer image f cell (Start id) answer = (cell ≢ image.system.root.id) × (answer ≡ EPERM)

@@ -9,5 +9,5 @@ pub record IsPreloaded (image : Image) (place byte : ℕ) : Type 0 where
   pub index : ℕ
   pub there : Contains image.preloads preload
   pub within : index < length preload.bytes
-  pub place_is : place ≡ preload.at + index
+  pub there : place ≡ preload.at + index
   pub byte_is : byte ≡ slice_index preload.bytes index

@@ -40,7 +40,7 @@ Puts image cells id _ place byte = ⊥
 pub record IsByteOfPage (f : Facts) (write : PageWrite) (place : Place) (byte : ℕ) : Type 0 where
   pub offset : ℕ
   pub within : offset < 4096
-  pub place_is : place ≡ Page write.cell offset
+  pub there : place ≡ Page write.cell offset
   pub is : byte ≡ page_after write.change (λ k. f.byte (Page write.cell k)) offset
 
 -- the entry writes the value to the word of the endpoint in its state table: its cell writes another value than before to
@@ -74,9 +74,9 @@ WritesPageOf image f entry cell = (write : PageWrite) × (page_write_by image f 
 
 -- ---- what a cell holds for itself
 
--- the entry writes a word of a state table that has the place: that of a device of the holding cell itself, of one with a
--- linked device whose section has it, which lives before the entry or behind it, or of root, whose state table a cell may
--- take
+-- the entry writes a word of a state table that has the place: that of a device of the holding cell itself, or of a cell
+-- with a device linked to one of its devices, of which its region of that number is a section, and which lives before the
+-- entry or behind it, or of root, whose state table a cell may take
 pub record WritesWordThere (image : Image) (f : Facts) (entry : Entry) (holder : CellConfig) (number place : ℕ) : Type 0 where
   pub spec : EndpointSpec
   pub value : ℕ
@@ -87,7 +87,8 @@ pub record WritesWordThere (image : Image) (f : Facts) (entry : Entry) (holder :
   pub owner : IsOwnOrLinked f.cells holder number spec.cell ⊎ IsOwnOrLinked (cells_after f entry) holder number spec.cell ⊎ (spec.cell ≡ image.system.root.id)
 
 -- the entry may change what the holding cell has at the place, in its region of that number: it is an entry of the cell
--- itself, or of one with a linked device whose section has it, or writes a word of a state table there
+-- itself, or of a cell with a device linked to one of its devices, of which that region is a section, or writes a word of
+-- a state table there
 abbrev pub MayChangeHeld : Image → Facts → Entry → CellConfig → ℕ → ℕ → Type 0
 MayChangeHeld image f entry holder number place = IsOwnOrLinked f.cells holder number entry.cell ⊎ WritesWordThere image f entry holder number place
 

@@ -7,7 +7,7 @@ ghost use Rattle.jh_history.specs.declared.entry.Heard.{Heard as TheHeard};
 ghost use Rattle.jh_history.specs.declared.entry.Entry.{Entry as TheEntry};
 ghost use Rattle.jh_history.specs.declared.entry.Act.TheVariants.{Begin, Stop, Decide, Settle, Note, Noted, Finish};
 ghost use Rattle.jh_history.specs.Due.{IsQuiet};
-ghost use Rattle.jh_history.specs.Calls.{is_named, is_call};
+ghost use Rattle.jh_history.specs.Calls.{is_named, is_of_call};
 ghost use Rattle.jh_laws.specs.Moments.{AdmittedJournal, AdmittedMoment, AdmittedSpan, open_call_of, facts_before, call_before, call_at_first, call_past_first, IsCpusNext, NoneFinishesBetween, NoneCommitsBetween};
 ghost use Rattle.jh_laws.specs.Creations.{IsMadeByFirst};
 ghost use Rattle.jh_laws.specs.Decisions.{IsDecision};
@@ -25,7 +25,7 @@ pub fn one_call_is_open()
 
 /// What the CPU does next, behind an entry of its call that doesn't end it.
 pub fn calls_go_phase_by_phase()
-    ensures { (s : AdmittedSpan) → is_call s.first.act ≡ true → is_finish s.first.act ≡ false → IsCpusNext s →
+    ensures { (s : AdmittedSpan) → is_of_call s.first.act ≡ true → is_finish s.first.act ≡ false → IsCpusNext s →
         (call : TheCall) × (call_past_first s ≡ Some call) × MayFollow call s.first.act s.last.act }
 {}
 

@@ -2,7 +2,8 @@
 //! fold over the entries. Each function does nothing; its contract is the law. Those of `root_alone` are over the
 //! journals of images in which root lives alone and has no ivshmem device. Those of `order`, `items` and `opening`
 //! are over any image, and name what they ask of it; all others are over admitted images, but for what they say of
-//! opening. What a proof entry by entry stands on is that a legal journal is sound (`legal_journals_are_sound`).
+//! opening. A proof that goes entry by entry stands on a law of `jh_history`: a legal journal is sound
+//! (`legal_journals_are_sound`).
 #![tactic(auto)]
 
 mod calls;

@@ -14,7 +14,7 @@ ghost use Rattle.jh_history.specs.Pages.{page_write_by, failing};
 ghost use Rattle.jh_history.specs.declared.place.Place.TheVariants.{Physical};
 ghost use Rattle.jh_laws.specs.Ready.{IsReadyAt};
 ghost use Rattle.jh_history.specs.Sound.{IsCalm};
-ghost use Rattle.jh_history.specs.Calls.{is_call};
+ghost use Rattle.jh_history.specs.Calls.{is_of_call};
 ghost use Rattle.jh_laws.specs.Held.{IsRootOrLive};
 ghost use Rattle.jh_laws.specs.Operations.{op_of, op_before};
 ghost use Rattle.jh_laws.specs.Moves.{stepped, ended};
@@ -24,7 +24,7 @@ ghost use Rattle.jh_laws.specs.States.{changes_others, is_stop_act, HasBegun, Ha
 /// An entry of a program moves its CPU by one operation, and a violation fails it, too. A stop stops it. No other
 /// CPU changes, unless the entry begins or ends a call, or is a Settle or a Commit.
 pub fn entries_change_their_cpu()
-    ensures moved { (m : AdmittedMoment) → is_call m.entry.act ≡ false → is_stop_act m.entry.act ≡ false →
+    ensures moved { (m : AdmittedMoment) → is_of_call m.entry.act ≡ false → is_stop_act m.entry.act ≡ false →
         is_violation m.entry.act ≡ false → state_behind m m.entry.cpu ≡ stepped (state_before m m.entry.cpu) }
     ensures failed { (m : AdmittedMoment) → is_violation m.entry.act ≡ true →
         state_behind m m.entry.cpu ≡ ended (state_before m m.entry.cpu) }

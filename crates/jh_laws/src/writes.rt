@@ -5,8 +5,8 @@ ghost use Rattle.jh_history.specs.Bytes.{opening_byte};
 ghost use Rattle.jh_laws.specs.Moments.{AdmittedJournal, AdmittedMoment, facts_of, facts_before, facts_behind, facts_at_end};
 ghost use Rattle.jh_laws.specs.Written.{WritesByte, NoneWrites, NoneWritesBehind};
 
-/// An entry gives each place the byte that it writes there: by a write of its cell that succeeds, as one of a word of a
-/// state table, or by what the hypervisor changes in a communication page with it. No other place changes.
+/// An entry gives each place the byte that it writes there: by a write of its cell that succeeds, as that of a word of
+/// a state table, or by what the hypervisor changes in a communication page with it. No other place changes.
 pub fn entries_write_what_they_say()
     ensures written { (m : AdmittedMoment) (place : ThePlace) (byte : ℕ) →
         WritesByte m.image (facts_before m) m.entry place byte → (facts_behind m).byte place ≡ byte }

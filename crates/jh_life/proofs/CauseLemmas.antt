@@ -12,7 +12,7 @@ use Rattle.jh_cellcfg.specs.Cells.{name_of}
 use Rattle.jh_check.specs.declared.finding.Finding.{Finding}
 use Rattle.jh_check.specs.Findings.{findings}
 use Rattle.jh_check.specs.Refusals.{is_namesake, is_known, names_beyond, by_check, refusal_of}
-use Rattle.jh_check.specs.Verdicts.{names, is_cells_overlap, is_invalid, is_busy, verdict_by, verdict_of}
+use Rattle.jh_check.specs.Verdicts.{names, is_cells_overlap, makes_invalid, makes_busy, verdict_by, verdict_of}
 use Rattle.jh_check.proofs.Public.{beyond_named, named_beyond, broken_from_listed, listed_from_broken}
 use Rattle.jh_num.specs.Bits.{has_bit}
 use Rattle.jh_life.specs.CellsView.{CellsView}
@@ -111,8 +111,8 @@ abbrev test_of : CellsView → Create → Cause → Bool
 test_of seen create Locked = create.locked
 test_of seen create Known = is_known (numbered_cells seen) create.new
 test_of seen create TakenCpu = names_beyond (may_have create.owned create.caller) create.new.cpu_set
-test_of seen create BrokenRule = list_any (is_invalid (length (configs_of seen.lives) + 1)) (findings seen.system (configs_of seen.lives ++ create.new ∷ []))
-test_of seen create Overlap = list_any (is_busy (length (configs_of seen.lives) + 1)) (findings seen.system (configs_of seen.lives ++ create.new ∷ []))
+test_of seen create BrokenRule = list_any (makes_invalid (length (configs_of seen.lives) + 1)) (findings seen.system (configs_of seen.lives ++ create.new ∷ []))
+test_of seen create Overlap = list_any (makes_busy (length (configs_of seen.lives) + 1)) (findings seen.system (configs_of seen.lives ++ create.new ∷ []))
 test_of seen create FewPages = nat_lt create.pool (pages_with seen create.new)
 
 namesake_words : (new cell : CellConfig) → is_namesake new cell ≡ true → (cell.id ≡ new.id) ⊎ (name_of cell ≡ name_of new)
@@ -184,13 +184,13 @@ words_names n finding (inr same) = or_right (finding.cell == n) (finding.other_c
 abbrev TestsKind : (Finding → Bool) → ℕ → Bool → Type 0
 TestsKind test n overlaps = (finding : Finding) → (test finding ≡ true) ↔ ((names n finding ≡ true) × (is_cells_overlap finding ≡ overlaps))
 
-invalid_kind : (n : ℕ) → TestsKind (is_invalid n) n false
+invalid_kind : (n : ℕ) → TestsKind (makes_invalid n) n false
 invalid_kind n = λ finding. (
   λ t. (let p = and_parts (names n finding) (not (is_cells_overlap finding)) t in (p.0, not-true (is_cells_overlap finding) p.1)),
   λ p. and_from (names n finding) (not (is_cells_overlap finding)) p.0 (not_from_false (is_cells_overlap finding) p.1),
 )
 
-busy_kind : (n : ℕ) → TestsKind (is_busy n) n true
+busy_kind : (n : ℕ) → TestsKind (makes_busy n) n true
 busy_kind n = λ finding.
     (λ t. and_parts (names n finding) (is_cells_overlap finding) t, λ p. and_from (names n finding) (is_cells_overlap finding) p.0 p.1)
 
@@ -216,16 +216,16 @@ holds_from : (seen : CellsView) (create : Create) (cause : Cause) → test_of se
 holds_from seen create Locked t = t
 holds_from seen create Known t = known_words seen create.new t
 holds_from seen create TakenCpu t = cpu_words seen create t
-holds_from seen create BrokenRule t = found_words seen create.new false (is_invalid (length (configs_of seen.lives) + 1)) (invalid_kind (length (configs_of seen.lives) + 1)) t
-holds_from seen create Overlap t = found_words seen create.new true (is_busy (length (configs_of seen.lives) + 1)) (busy_kind (length (configs_of seen.lives) + 1)) t
+holds_from seen create BrokenRule t = found_words seen create.new false (makes_invalid (length (configs_of seen.lives) + 1)) (invalid_kind (length (configs_of seen.lives) + 1)) t
+holds_from seen create Overlap t = found_words seen create.new true (makes_busy (length (configs_of seen.lives) + 1)) (busy_kind (length (configs_of seen.lives) + 1)) t
 holds_from seen create FewPages t = ltb-true create.pool (pages_with seen create.new) t
 
 holds_to : (seen : CellsView) (create : Create) (cause : Cause) → SpeaksAgainst seen create cause → test_of seen create cause ≡ true
 holds_to seen create Locked h = h
 holds_to seen create Known h = words_known seen create.new h
 holds_to seen create TakenCpu h = words_cpu seen create h
-holds_to seen create BrokenRule h = words_found seen create.new false (is_invalid (length (configs_of seen.lives) + 1)) (invalid_kind (length (configs_of seen.lives) + 1)) h
-holds_to seen create Overlap h = words_found seen create.new true (is_busy (length (configs_of seen.lives) + 1)) (busy_kind (length (configs_of seen.lives) + 1)) h
+holds_to seen create BrokenRule h = words_found seen create.new false (makes_invalid (length (configs_of seen.lives) + 1)) (invalid_kind (length (configs_of seen.lives) + 1)) h
+holds_to seen create Overlap h = words_found seen create.new true (makes_busy (length (configs_of seen.lives) + 1)) (busy_kind (length (configs_of seen.lives) + 1)) h
 holds_to seen create FewPages h = lt-ltb create.pool (pages_with seen create.new) h
 
 first_words : (seen : CellsView) (create : Create) (cause : Cause) → IsFirstOf (test_of seen create) cause → IsFirst seen create cause

@@ -3,10 +3,9 @@ use Rattle.std.specs.Prelude.{◌≡◌, ℕ, List}
 use Rattle.jh_num.specs.Numbers.{counted_up}
 use Rattle.jh_outside.specs.Ask.{Ask, ReadAnswer, Handed, Faulted, LackedMemory}
 
--- the count of faults, and the name of the last read that answered `Fault`
+-- how many reads answered an `Err`, for want of memory too, and the name of the last that answered `Fault`
 pub record FailedReads : Type 0 where
   pub faults : ℕ
-  -- the name of the last read that answered `Fault`
   pub failed : List ℕ
 
 -- what files of the system keep after a read of the name with this answer: each `Err` is counted

@@ -73,6 +73,7 @@ impl Sink for MemSink {
             return Err(SinkFault);
         }
         let count = piece.len().min(self.free);
+        // `new` took room for all that is free, so this never wants memory
         self.bytes.extend_from_slice(&piece[..count]).unwrap();
         self.free -= count;
         Ok(count)

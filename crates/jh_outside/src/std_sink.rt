@@ -9,7 +9,7 @@ use crate::sink::{Sink, SinkFault};
 use std::io::{ErrorKind, Stdout, Write};
 use std::marker::Model;
 
-/// Standard output, without a buffer: what a write answers has left the process. What becomes of it
+/// Standard output, without a buffer: as many bytes as a write answers have left the process. What becomes of it
 /// isn't told.
 #[derive(Drop)]
 pub struct StdSink {
@@ -56,7 +56,7 @@ impl Sink for StdSink {
     }
 }
 
-/// What one write took, which is at least one byte of a piece that isn't empty; nothing where it was
+/// How many bytes one write took, at least one of a piece that isn't empty; nothing where it was
 /// interrupted. Any other failure is counted.
 fn write_once<W: Write>(
     out: &mut W,
@@ -81,7 +81,7 @@ fn write_once<W: Write>(
     }
 }
 
-/// A front of the piece, of which the writer took its length. An interrupted write is tried again, and no
+/// Appends a front of the piece to the writer, and answers its length. An interrupted write is tried again, and no
 /// other: the first failure is counted and answered.
 pub(crate) fn write_some<W: Write>(
     out: &mut W,

@@ -67,7 +67,7 @@ fn bytes<'a>() -> &'a [u8] {
     ]
 }
 
-fn name(text: &[u8]) -> [u8; 32] {
+pub(crate) fn name(text: &[u8]) -> [u8; 32] {
     let mut name = [0; 32];
     for (byte, from) in name.iter_mut().zip(text) {
         *byte = *from;
@@ -75,7 +75,9 @@ fn name(text: &[u8]) -> [u8; 32] {
     name
 }
 
-fn region(phys_start: u64, virt_start: u64, size: u64, flags: u64) -> Region {
+pub(crate) fn region(phys_start: u64, virt_start: u64, size: u64, flags: u64) -> Region
+    ensures { result ≡ record { phys_start = phys_start; virt_start = virt_start; size = size; flags = flags } }
+{
     Region {
         phys_start,
         virt_start,

@@ -1,28 +1,19 @@
 //! What no row shows: places and addresses past the end, a cell that doesn't hold, and descriptors of single slots.
 ghost use Rattle.std.specs.Prelude.{◌≡◌, ◌≤◌, length, IfOk};
-ghost use Rattle.jh_shape.specs.Suits.{IsSlot};
+ghost use Rattle.jh_shape.specs.SoundClaims.{IsSlot};
 
+use crate::cellcfg::region;
 use jh_cellcfg::{CellConfig, Region};
 use jh_num::{Rights, Seq};
 use jh_shape::{Target, Want};
 use std::alloc::{AllocError, Global};
 use std::test::Fail;
 
-/// The start of a slot of 1 GB, and the size of a slot of 2 MB.
+/// The start of a slot of 1 GB.
 const BASE: u64 = 0x4000_0000;
 
+/// The size of a slot of 2 MB.
 const BLOCK: u64 = 0x20_0000;
-
-fn region(phys_start: u64, virt_start: u64, size: u64, flags: u64) -> Region
-    ensures { result ≡ record { phys_start = phys_start; virt_start = virt_start; size = size; flags = flags } }
-{
-    Region {
-        phys_start,
-        virt_start,
-        size,
-        flags,
-    }
-}
 
 fn cell(alloc: Global, regions: &[Region]) -> Result<CellConfig, AllocError>
     ensures { IfOk result (λ cell. cell.memory_regions ≡ regions.now) }

@@ -1,5 +1,6 @@
 //! A system in which each field, the sizes of root's parts aside, has another value than all others of its width, so
 //! that no two can trade places. Refusals are shown by the rows.
+use crate::cellcfg::name;
 use jh_cellcfg::{CellConfig, Console, Irqchip, PciDevice, Region, SystemConfig};
 use jh_num::Seq;
 use jh_syscfg::{read_system, system_is_within_limits, write_system};
@@ -62,14 +63,6 @@ fn bytes<'a>() -> &'a [u8] {
         0x9b, 0xa2, 0xa9, 0xb0, 0xb7, 0xbe, 0xc5, 0xcc, 0xd3, 0xda, 0xe1, 0xe8, 0xef, 0xf6, 0xfd,
         0x04, 0x0b, 0x12, 0x19, 0x20, 0x27, 0x2e, 0x35, 0x3c, 0x43, 0x4a,
     ]
-}
-
-fn name(text: &[u8]) -> [u8; 32] {
-    let mut name = [0; 32];
-    for (byte, from) in name.iter_mut().zip(text) {
-        *byte = *from;
-    }
-    name
 }
 
 fn regions() -> [Region; 2] {
@@ -168,7 +161,7 @@ fn debug_console() -> Console {
 }
 
 /// The system by its description.
-fn fields(root: CellConfig) -> SystemConfig {
+fn system_with(root: CellConfig) -> SystemConfig {
     SystemConfig {
         flags: 0x5049423b,
         hypervisor_memory: hypervisor_memory(),
@@ -184,7 +177,7 @@ fn fields(root: CellConfig) -> SystemConfig {
 
 #[test]
 fn each_field_of_a_system_is_written_at_its_offset(rt: HostRuntime) -> Result<(), Fail> {
-    let system = fields(root(rt.alloc())?);
+    let system = system_with(root(rt.alloc())?);
     if !system_is_within_limits(&system) {
         return Err("it is within the limits".into());
     }

@@ -28,17 +28,17 @@ is_write entry = is_write_act entry.act
 abbrev pub is_stop : Entry → Bool
 is_stop entry = is_stop_act entry.act
 
--- the value that an act read, 0 where it read none
+-- the value that a read got; 0 of a violation, and of every other act, fetches and awaits too
 abbrev pub value_of_act : Act → ℕ
 value_of_act (Read width at (Some value)) = value
 value_of_act _ = 0
 
--- the value that an entry read, 0 where it read none
+-- the value that the entry, a read, got; 0 of a violation, and of every other entry, fetches and awaits too
 abbrev pub value_read : Entry → ℕ
 value_read entry = value_of_act entry.act
 
 -- the summary of these entries: how many there are, how many are reads, writes and stops, and the sum of the values
--- read
+-- that the reads got
 unfoldable pub summary_of : List Entry → Summary
 summary_of entries = record {
   entries = length entries;

@@ -13,7 +13,7 @@ pub struct Summary {
     /// Writes, those that are violations among them.
     pub writes: u64,
     pub stops: u64,
-    /// The sum of the values read.
+    /// The sum of the values that the reads got.
     pub sum: u128,
 }
 
@@ -38,7 +38,7 @@ fn is_stop(entry: &Entry) -> bool
     matches!(&entry.act, Act::Stop)
 }
 
-/// The value that the entry read, 0 where it read none.
+/// The value that the entry, a read, got; 0 of a violation, and of every other entry, fetches and awaits too.
 fn value_read(entry: &Entry) -> u64
     ensures { result ≡ value_read entry.now }
 {
@@ -69,7 +69,7 @@ fn stops_of(entries: &[Entry]) -> u64
     entries.iter().filter(|entry| is_stop(entry)).count() as u64
 }
 
-/// The sum of the values read.
+/// The sum of the values that the reads got.
 fn sum_of(entries: &[Entry]) -> u128
     ensures { result ≡ sum_by value_read entries.now }
 {

@@ -9,8 +9,8 @@ use Rattle.jh_script.specs.declared.fault.ScriptFault.TheVariants as faults
 use Rattle.jh_script.specs.Operations.{line_of}
 use Rattle.jh_script.specs.Limits.{most_ops}
 
--- what each line of the text tells, in order; lines are cut at line feeds, and lose a carriage return before it; the last
--- may lack its line feed, and keeps a carriage return then
+-- what each line of the text tells, in order; a line ends at its line feed, and loses a carriage return before that; the
+-- last may lack the line feed, and keeps a carriage return then
 unfoldable pub lines_of : List ℕ → List Line
 lines_of text = map line_of (lines text)
 

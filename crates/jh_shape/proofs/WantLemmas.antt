@@ -12,7 +12,7 @@ use Rattle.jh_shape.specs.Claims.{Claims}
 use Rattle.jh_shape.specs.Intervals.{spans}
 use Rattle.jh_shape.specs.Shapes.{is_mapped, may_be_block, is_leaf_by, leaf_region}
 use Rattle.jh_num.specs.Levels.{slot_size}
-use Rattle.jh_shape.specs.Suits.{IsFit, AreSoundClaims}
+use Rattle.jh_shape.specs.SoundClaims.{IsFit, AreSoundClaims}
 
 -- what `find` gives passes the test, and has what all have
 pub found : (p : Region → Bool) (Q : Region → Type 0) (xs : List Region) (x : Region) → find p xs ≡ Some x → All Q xs → (p x ≡ true) × Q x

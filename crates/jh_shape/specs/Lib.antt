@@ -6,4 +6,4 @@ pub mod Lives
 pub mod Pages
 pub mod Private
 pub mod Shapes
-pub mod Suits
+pub mod SoundClaims

@@ -14,7 +14,7 @@ with_marks [] marks = []
 with_marks (config ∷ configs) [] = []
 with_marks (config ∷ configs) (mark ∷ marks) = record { config = config; loadable = mark } ∷ with_marks configs marks
 
--- the cell, loadable or not where it is the one with the id
+-- the cell, with this mark where it is the one with the id
 abbrev pub marked : ℕ → Bool → Live → Live
 marked id loadable live = if has_id id live then record live { loadable = loadable } else live
 

@@ -26,11 +26,12 @@ tables_from claims level (suc more) = tables_at claims level + tables_from claim
 unfoldable pub tables_of : Claims → ℕ
 tables_of claims = 1 + tables_from claims FIRST_LEVEL (LAST_LEVEL - FIRST_LEVEL)
 
--- what root's tables are made from: they depend on all cells
+-- what root's tables are made from: they depend on all cells; root has no communication page, so that is left 0
 abbrev pub root_claims : List Region → List CellConfig → Claims
 root_claims regions cells = record { regions = regions; root = true; holders = map holder_of cells; comm = 0 }
 
--- what the tables of a cell besides root are made from: they depend on no other cell
+-- what the tables of a cell besides root are counted from: they depend on no other cell, and where its communication
+-- page lies is left 0
 abbrev pub cell_claims : CellConfig → Claims
 cell_claims cell = record { regions = cell.memory_regions; root = false; holders = []; comm = 0 }
 
@@ -38,6 +39,6 @@ cell_claims cell = record { regions = cell.memory_regions; root = false; holders
 abbrev pub own_pages : CellConfig → ℕ
 own_pages cell = tables_of (cell_claims cell) + 1
 
--- how many pages root takes with these cells live besides it: all tables, and a communication page for each of these
+-- how many pages root and these cells take together: all their tables, and a communication page for each of these cells
 abbrev pub pages_of : List Region → List CellConfig → ℕ
 pages_of regions cells = tables_of (root_claims regions cells) + sum_by own_pages cells

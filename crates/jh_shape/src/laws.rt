@@ -6,7 +6,7 @@ ghost use Rattle.jh_shape.specs.Laws.{HasByte, IsMet, IsServed, IsTaken, PageGra
 ghost use Rattle.jh_shape.specs.Pages.{pages_of, tables_of};
 ghost use Rattle.jh_shape.specs.Shapes.{holder_of_live, is_closed, is_leaf, is_met, is_table, want_of};
 ghost use Rattle.jh_num.specs.Levels.{slot_size};
-ghost use Rattle.jh_shape.specs.Suits.{AreSoundClaims};
+ghost use Rattle.jh_shape.specs.SoundClaims.{AreSoundClaims};
 
 use crate::target::Target;
 use crate::want::Want;

@@ -44,7 +44,7 @@ pub fn cell_pages(cell: &CellConfig) -> u64
     target.tables() + 1
 }
 
-/// The pages of root, the cells, which without root's take so many, and one more.
+/// The pages that root, these cells and one more, if there is one, take together; the cells' own are `taken`.
 pub fn pages_of(
     root: &[Region],
     cells: &[CellConfig],

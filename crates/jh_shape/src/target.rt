@@ -29,7 +29,7 @@ impl<'a> Target<'a> {
     ghost use Rattle.jh_cellcfg.specs.Regions.{is_comm, place_in};
     ghost use Rattle.jh_shape.specs.Shapes.{are_cut, is_closed, may_be_block, is_leaf_by, leaf_region, is_met, leaf_of, want_of};
     ghost use Rattle.jh_shape.specs.Grants.{DescribesGrants};
-    ghost use Rattle.jh_shape.specs.Suits.{AreSoundClaims, IsSlot};
+    ghost use Rattle.jh_shape.specs.SoundClaims.{AreSoundClaims, IsSlot};
 
     /// Whether an unshared region of a holder has some of those places but not all.
     pub(crate) fn are_cut(&self, place: u128, size: u128) -> bool

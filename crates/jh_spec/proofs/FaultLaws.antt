@@ -14,7 +14,7 @@ use Rattle.jh_spec.specs.declared.spec.Spec.TheVariants.{Cell as CellSpec, Syste
 use Rattle.jh_spec.specs.declared.spec.Kind.{Kind}
 use Rattle.jh_spec.specs.declared.spec.Kind.TheVariants.{Cell, System}
 use Rattle.jh_spec.specs.Faults.{◌>>=◌, member_told, no_name}
-use Rattle.jh_spec.specs.Json.{unlisted}
+use Rattle.jh_spec.specs.Json.{first_unlisted}
 use Rattle.jh_spec.specs.Fields.{u8_at, u16_at, u32_at, u64_at}
 use Rattle.jh_spec.specs.Cells.{cell_name, cpu_set_size, cpu_set_in, regions_in, irqchips_in, devices_in, console_at, region_at, cell_names, system_names, identity_told, lists_told, settings_told, cell_told, root_of, root_in, root_told, platform_told, system_told}
 use Rattle.jh_spec.specs.Specs.{names_with_kind, kind_told, told_by, object_told, spec_told}
@@ -175,15 +175,15 @@ unfolding ◌>>=◌ IsBlamed
 listed_by y None = refl
 listed_by y (Some name) = refl
 
-cell_blamed : (names : List (List ℕ)) (d : Data) → IsBlamed (cell_told names d) (blamed (cell_members d) (unlisted names d))
+cell_blamed : (names : List (List ℕ)) (d : Data) → IsBlamed (cell_told names d) (blamed (cell_members d) (first_unlisted names d))
 unfolding cell_told
 cell_blamed names d =
     subst (IsBlamed (cell_told names d))
-    (sym (blamed_append (identity_members d) (lists_members d ++ settings_members d) (unlisted names d)
-    ∙ ap (blamed (identity_members d)) (blamed_append (lists_members d) (settings_members d) (unlisted names d))))
-    (then_blamed (identity_told d) _ (identity_members d) (blamed (lists_members d) (blamed (settings_members d) (unlisted names d))) (identity_blamed d) (λ identity.
-    then_blamed (lists_told d) _ (lists_members d) (blamed (settings_members d) (unlisted names d)) (lists_blamed d) (λ lists.
-    then_blamed (settings_told d) _ (settings_members d) (unlisted names d) (settings_blamed d) (λ settings. listed_by _ (unlisted names d)))))
+    (sym (blamed_append (identity_members d) (lists_members d ++ settings_members d) (first_unlisted names d)
+    ∙ ap (blamed (identity_members d)) (blamed_append (lists_members d) (settings_members d) (first_unlisted names d))))
+    (then_blamed (identity_told d) _ (identity_members d) (blamed (lists_members d) (blamed (settings_members d) (first_unlisted names d))) (identity_blamed d) (λ identity.
+    then_blamed (lists_told d) _ (lists_members d) (blamed (settings_members d) (first_unlisted names d)) (lists_blamed d) (λ lists.
+    then_blamed (settings_told d) _ (settings_members d) (first_unlisted names d) (settings_blamed d) (λ settings. listed_by _ (first_unlisted names d)))))
 
 root_by : (o : Option Data) → IsBlamed (root_in o) (blamed ((codes "root", option_map_or (λ root. is_err (cell_told cell_names root)) o true) ∷ []) None)
 unfolding IsBlamed
@@ -194,12 +194,12 @@ root_by (Some root) = told (cell_told cell_names root)
     told (Ok config) = refl
     told (Err fault) = refl
 
-system_blamed : (d : Data) → IsBlamed (system_told d) (blamed (system_members d) (unlisted (codes "kind" ∷ system_names) d))
+system_blamed : (d : Data) → IsBlamed (system_told d) (blamed (system_members d) (first_unlisted (codes "kind" ∷ system_names) d))
 unfolding system_told
 system_blamed d =
-    subst (IsBlamed (system_told d)) (sym (blamed_append (platform_members d) (root_member d ∷ []) (unlisted (codes "kind" ∷ system_names) d)))
-    (then_blamed (platform_told d) _ (platform_members d) (blamed (root_member d ∷ []) (unlisted (codes "kind" ∷ system_names) d)) (platform_blamed d) (λ platform.
-    then_blamed (root_told d) _ (root_member d ∷ []) (unlisted (codes "kind" ∷ system_names) d) (root_by (get (codes "root") d)) (λ root. listed_by _ (unlisted (codes "kind" ∷ system_names) d))))
+    subst (IsBlamed (system_told d)) (sym (blamed_append (platform_members d) (root_member d ∷ []) (first_unlisted (codes "kind" ∷ system_names) d)))
+    (then_blamed (platform_told d) _ (platform_members d) (blamed (root_member d ∷ []) (first_unlisted (codes "kind" ∷ system_names) d)) (platform_blamed d) (λ platform.
+    then_blamed (root_told d) _ (root_member d ∷ []) (first_unlisted (codes "kind" ∷ system_names) d) (root_by (get (codes "root") d)) (λ root. listed_by _ (first_unlisted (codes "kind" ∷ system_names) d))))
 
 made : {X Y : Type 0} (r : Result X JsonFault) (f : X → Y) (found : Option (List ℕ)) → IsBlamed r found → IsBlamed (r >>= λ x. Ok (f x)) found
 unfolding ◌>>=◌ IsBlamed
@@ -214,8 +214,8 @@ first_is r members other is = subst (IsBlamed r) (sym (first_blamed members othe
 kind_blamed : (kind : Option Kind) (d : Data) → IsBlamed (told_by kind d) (blame kind d)
 unfolding IsBlamed
 kind_blamed None d = refl
-kind_blamed (Some Cell) d = made (cell_told names_with_kind d) CellSpec (blame (Some Cell) d) (first_is (cell_told names_with_kind d) (cell_members d) (unlisted names_with_kind d) (cell_blamed names_with_kind d))
-kind_blamed (Some System) d = made (system_told d) SystemSpec (blame (Some System) d) (first_is (system_told d) (system_members d) (unlisted (codes "kind" ∷ system_names) d) (system_blamed d))
+kind_blamed (Some Cell) d = made (cell_told names_with_kind d) CellSpec (blame (Some Cell) d) (first_is (cell_told names_with_kind d) (cell_members d) (first_unlisted names_with_kind d) (cell_blamed names_with_kind d))
+kind_blamed (Some System) d = made (system_told d) SystemSpec (blame (Some System) d) (first_is (system_told d) (system_members d) (first_unlisted (codes "kind" ∷ system_names) d) (system_blamed d))
 
 -- ---- the laws
 

@@ -7,13 +7,13 @@ use Rattle.std.specs.Cmp.Lexicographic.{pointwise}
 use Rattle.serde_json.specs.declared.value.Value.{Value}
 use Rattle.serde_json.specs.View.{members_view}
 use Rattle.jh_num.proofs.Public.{list_any_map}
-use Rattle.jh_spec.specs.Json.{first_unlisted}
+use Rattle.jh_spec.specs.Json.{first_unlisted_of}
 
 abbrev pub key_unlisted : List (List ℕ) → List (String Global) → Option (List ℕ)
 key_unlisted names [] = None
 key_unlisted names (key ∷ keys) = if list_any (λ listed. pointwise nat_eq listed (string_bytes key)) names then key_unlisted names keys else Some (string_bytes key)
 
-pub first_unlisted_keys : (names : List (List ℕ)) (entries : List (String Global × Value)) → first_unlisted names (members_view entries) ≡ key_unlisted names (map (λ entry. entry.0) entries)
+pub first_unlisted_keys : (names : List (List ℕ)) (entries : List (String Global × Value)) → first_unlisted_of names (members_view entries) ≡ key_unlisted names (map (λ entry. entry.0) entries)
 first_unlisted_keys names [] = refl
 first_unlisted_keys names (e ∷ es) =
     ap (λ (rest : Option (List ℕ)). if list_any (λ listed. pointwise nat_eq listed (string_bytes e.0)) names then rest else Some (string_bytes e.0)) (first_unlisted_keys names es)

@@ -4,7 +4,7 @@ use Rattle.serde_json.specs.Data.{Data}
 use Rattle.serde_json.specs.Find.{as_object}
 use Rattle.jh_spec.specs.declared.fault.JsonFault.{JsonFault}
 use Rattle.jh_spec.specs.declared.fault.JsonFault.TheVariants.{Json, Member, NoMemory}
-use Rattle.jh_spec.specs.Json.{IsText, unlisted}
+use Rattle.jh_spec.specs.Json.{IsText, first_unlisted}
 
 infixl 10 ◌>>=◌
 -- the next step, where this one finds no fault
@@ -24,7 +24,7 @@ no_name (Some name) = Err (Member name)
 
 -- an object has these names alone, or the first of the others is at fault
 abbrev pub all_listed : List (List ℕ) → Data → Result ⊤ JsonFault
-all_listed names d = no_name (unlisted names d)
+all_listed names d = no_name (first_unlisted names d)
 
 -- an error is the fault of the member of this name, or want of memory
 abbrev pub IsFaultOf : List ℕ → JsonFault → Type 0

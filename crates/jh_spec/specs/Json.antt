@@ -33,17 +33,17 @@ abbrev pub is_listed : List (List ℕ) → List ℕ → Bool
 is_listed names name = list_any (λ listed. pointwise nat_eq listed name) names
 
 -- the first name in an object that isn't listed; an object's names stand in order of their bytes
-abbrev pub first_unlisted : List (List ℕ) → Members → Option (List ℕ)
-first_unlisted names no_members = None
-first_unlisted names (member name d ms) = if is_listed names name then first_unlisted names ms else Some name
+abbrev pub first_unlisted_of : List (List ℕ) → Members → Option (List ℕ)
+first_unlisted_of names no_members = None
+first_unlisted_of names (member name d ms) = if is_listed names name then first_unlisted_of names ms else Some name
 
 -- the first name that isn't listed, where the value is an object and has one
-abbrev pub unlisted : List (List ℕ) → Data → Option (List ℕ)
-unlisted names d = option_and_then (first_unlisted names) (as_object d)
+abbrev pub first_unlisted : List (List ℕ) → Data → Option (List ℕ)
+first_unlisted names d = option_and_then (first_unlisted_of names) (as_object d)
 
 -- the value is an object, and has no other names than these
 abbrev pub has_only : List (List ℕ) → Data → Bool
-has_only names d = option_map_or (λ ms. is_none (first_unlisted names ms)) (as_object d) false
+has_only names d = option_map_or (λ ms. is_none (first_unlisted_of names ms)) (as_object d) false
 
 -- ---- numbers
 

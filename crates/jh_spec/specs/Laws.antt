@@ -13,7 +13,7 @@ use Rattle.jh_cellcfg.specs.declared.region.Region.{Region}
 use Rattle.jh_cellcfg.specs.Spelling.{console_bytes}
 use Rattle.jh_spec.specs.declared.spec.Kind.{Kind}
 use Rattle.jh_spec.specs.declared.spec.Kind.TheVariants.{Cell, System}
-use Rattle.jh_spec.specs.Json.{number_told, list_told, unlisted}
+use Rattle.jh_spec.specs.Json.{number_told, list_told, first_unlisted}
 use Rattle.jh_spec.specs.Fields.{u8_at, u16_at, u32_at, u64_at, u32_told, u64_told}
 use Rattle.jh_spec.specs.Cpus.{cpus_told}
 use Rattle.jh_spec.specs.Cells.{cell_name, cpu_set_size, cpu_set_in, regions_in, irqchips_in, devices_in, console_at, region_at, cell_names, system_names, cell_told}
@@ -163,8 +163,9 @@ abbrev pub first_at_fault : List (List ℕ × Bool) → Option (List ℕ)
 first_at_fault members = option_map (λ (member : List ℕ × Bool). member.0) (find (λ (member : List ℕ × Bool). member.1) members)
 
 -- the member of an object of this kind that is at fault: the first of those that are listed, else the first name that
--- isn't listed, in the order of an object's names, which is that of their bytes; without a kind the member `kind` is
+-- isn't listed, in the order of an object's names, which is that of their bytes; without a kind the member `kind`; none
+-- where no member is at fault
 abbrev pub blame : Option Kind → Data → Option (List ℕ)
 blame None d = Some (codes "kind")
-blame (Some Cell) d = option_or (first_at_fault (cell_members d)) (unlisted names_with_kind d)
-blame (Some System) d = option_or (first_at_fault (system_members d)) (unlisted (codes "kind" ∷ system_names) d)
+blame (Some Cell) d = option_or (first_at_fault (cell_members d)) (first_unlisted names_with_kind d)
+blame (Some System) d = option_or (first_at_fault (system_members d)) (first_unlisted (codes "kind" ∷ system_names) d)

@@ -25,7 +25,7 @@ impl From<NoMemory> for JsonFault {
     }
 }
 
-/// The fault of the member of this name.
+/// The fault of the member of this name, or want of memory for the name.
 pub fn fault_of(alloc: Global, name: &str) -> JsonFault
     ensures { IsFaultOf name.now result }
 {

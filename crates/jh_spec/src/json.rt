@@ -4,7 +4,7 @@ ghost use Rattle.std.specs.List.{list_any};
 ghost use Rattle.std.specs.Cmp.Lexicographic.{pointwise};
 ghost use Rattle.serde_json.specs.Find.{as_str, as_object};
 ghost use Rattle.serde_json.specs.View.{view, members_view};
-ghost use Rattle.jh_spec.specs.Json.{IsText, told_at, first_unlisted, unlisted, has_only, number_told, number_below};
+ghost use Rattle.jh_spec.specs.Json.{IsText, told_at, first_unlisted_of, first_unlisted, has_only, number_told, number_below};
 ghost use Rattle.jh_spec.specs.Faults.{IsNoObject};
 
 use crate::fault::JsonFault;
@@ -57,7 +57,7 @@ fn is_listed(names: &[&str], name: &str) -> bool
 
 /// The least of an object's names, in order of bytes, that isn't listed.
 fn first_unlisted_of<'v>(members: &'v Map<String, Value>, names: &[&str]) -> Option<&'v str>
-    ensures { option_map (λ name. name.now) result ≡ first_unlisted (map (λ listed. listed.now) names.now) (members_view members.now.entries) }
+    ensures { option_map (λ name. name.now) result ≡ first_unlisted_of (map (λ listed. listed.now) names.now) (members_view members.now.entries) }
 {
     for name in members.keys() {
         if !is_listed(names, name.as_str()) {
@@ -67,9 +67,10 @@ fn first_unlisted_of<'v>(members: &'v Map<String, Value>, names: &[&str]) -> Opt
     None
 }
 
-/// The least name of an object, in order of bytes, that isn't listed; `None` where the value is no object.
+/// The least name of an object, in order of bytes, that isn't listed; `None` where there is none, or the value is no
+/// object.
 pub fn first_unlisted<'v>(object: &'v Value, names: &[&str]) -> Option<&'v str>
-    ensures { option_map (λ name. name.now) result ≡ unlisted (map (λ listed. listed.now) names.now) (view object.now) }
+    ensures { option_map (λ name. name.now) result ≡ first_unlisted (map (λ listed. listed.now) names.now) (view object.now) }
 {
     let members = object.as_object()?;
     first_unlisted_of(members, names)

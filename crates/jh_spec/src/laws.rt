@@ -37,7 +37,7 @@ pub fn the_first_fault_is_to_blame()
         → ((spec : TheSpec) × (spec_told d ≡ Ok spec)) ↔ (blame (kind_told d) d ≡ None) }
 {}
 
-/// The bitmap has the bytes that it is to have, and bit i mod 8 of byte i div 8 is set exactly where the list names
+/// The bitmap has as many bytes as it is to have, and bit i mod 8 of byte i div 8 is set exactly where the list names
 /// CPU i.
 pub fn a_cpu_that_is_named_has_its_bit()
     ensures size { (it : BitmapOfCpus) → length it.bitmap ≡ it.bytes }

@@ -44,7 +44,7 @@ system_of platform root = record {
 abbrev pub system_spelling : SystemConfig → List ℕ
 system_spelling s = codes "JHSYST" ++ (u16_bytes 13 ++ (platform_bytes (platform_of s) ++ body_bytes s.root))
 
--- the fields of a system but root have the values of their types
+-- the fields of a system but root have the values of their types; those of the bytes of root's head are left open
 pub record IsPlatform (p : Platform) : Type 0 where
   pub flags : p.flags < 2 ^ 32
   pub hypervisor_memory : IsRegion p.hypervisor_memory

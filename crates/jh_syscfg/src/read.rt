@@ -35,7 +35,6 @@ impl Platform {
     pub fn with(self, root: CellConfig) -> SystemConfig
         ensures { result ≡ system_of self root }
     {
-        let root_head = self.root_head;
         SystemConfig {
             flags: self.flags,
             hypervisor_memory: self.hypervisor_memory,
@@ -44,7 +43,7 @@ impl Platform {
             pci_mmconfig_end_bus: self.pci_mmconfig_end_bus,
             pci_is_virtual: self.pci_is_virtual,
             pci_domain: self.pci_domain,
-            root_head,
+            root_head: self.root_head,
             root,
         }
     }

@@ -12,7 +12,6 @@ impl Platform {
     pub fn of(system: &SystemConfig) -> Platform
         ensures { result ≡ platform_of system.now }
     {
-        let root_head = system.root_head;
         Platform {
             flags: system.flags,
             hypervisor_memory: system.hypervisor_memory,
@@ -21,7 +20,7 @@ impl Platform {
             pci_mmconfig_end_bus: system.pci_mmconfig_end_bus,
             pci_is_virtual: system.pci_is_virtual,
             pci_domain: system.pci_domain,
-            root_head,
+            root_head: system.root_head,
         }
     }
 }

@@ -38,7 +38,7 @@ fn system<'a>() -> &'a [u8] {
     ]
 }
 
-/// The cell `demo` up to its time for a reply: id 1, CPU 2, a loadable region of 64 KB at 0, which is root's
+/// The bytes of the cell `demo` up to its time for a reply. The cell has id 1, CPU 2, a loadable region of 64 KB at 0, which is root's
 /// 0x7f900000, its communication page at 0x80000000, the device's page, the link's regions, and the link's device.
 fn demo_front<'a>() -> &'a [u8] {
     &[

@@ -30,7 +30,7 @@ impl Meeting {
         self.met.load(Ordering::SeqCst)
     }
 
-    /// Looks until the worker's second turn has begun, and counts that. After 100,000,000 looks it goes on all the same.
+    /// Looks until the other worker has come to its second turn, and counts that. After 100,000,000 looks it goes on all the same.
     fn await_second(&self, came: &AtomicU64) {
         for _ in 0..100_000_000u64 {
             if came.load(Ordering::SeqCst) > 0 {

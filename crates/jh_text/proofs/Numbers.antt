@@ -8,7 +8,8 @@ use Rattle.std.proofs.lemmas.Bool.{lt-ltb, lt-leb, ltb-true, le-leb, ne_eqb, eq-
 use Rattle.std.proofs.lemmas.Fmt.{digits_is_IsNumeral}
 use Rattle.std.proofs.lemmas.Option.{none-some, same_Some}
 use Rattle.std.proofs.Math.Nat.{pow-le-pow_left}
-use Rattle.jh_text.specs.Private.Reading.{◌>>=◌, is_lower, lower_digit, with_digit, with_written_digit, digits_until, begins_canonical, number_until}
+use Rattle.jh_script.specs.Operations.{◌>>=◌}
+use Rattle.jh_text.specs.Private.Reading.{is_no_capital, lower_digit, with_digit, with_written_digit, digits_until, begins_canonical, number_until}
 use Rattle.jh_text.proofs.WrittenDigits.{is_canonical, digits_of_canonical, canonical_digits, several_canonical}
 use Rattle.jh_text.proofs.Splits.{Lacks, Lacks_cons}
 use Rattle.jh_script.proofs.Public.{value_ge}
@@ -19,9 +20,9 @@ no_digit radix byte d high none small = ne_eqb d byte (λ e. omega (arith, ap di
 
 -- so it is no digit that is read
 pub end_is_no_digit : (radix end c d : ℕ) → radix ≤ 16 → digit_value end ≡ 36 → lower_digit radix c ≡ Some d → (c == end) ≡ false
-end_is_no_digit radix end c d high none digit = by (is_lower c && is_digit c radix) refl digit
+end_is_no_digit radix end c d high none digit = by (is_no_capital c && is_digit c radix) refl digit
   where
-    by : (t : Bool) → (is_lower c && is_digit c radix) ≡ t → (if t then Some (digit_value c) else None) ≡ Some d → (c == end) ≡ false
+    by : (t : Bool) → (is_no_capital c && is_digit c radix) ≡ t → (if t then Some (digit_value c) else None) ≡ Some d → (c == end) ≡ false
     by true is e = no_digit radix end c high none (ltb-true (digit_value c) radix (and_parts _ _ is).1)
     by false is e = absurd (none-some _ e)
 
@@ -71,12 +72,12 @@ until_nothing radix end n (c ∷ text) none = absurd (let no : ⊥ = omega arith
 -- ---- from the digits of a number to the number
 
 -- digits are read one after the other
-on_again : (radix end n : ℕ) (ds rest : List ℕ) → 0 < radix → radix ≤ 16 → digit_value end ≡ 36 → AllDigits radix ds → list_all is_lower ds ≡ true → digits_value_after radix n ds < 2 ^ 64
+on_again : (radix end n : ℕ) (ds rest : List ℕ) → 0 < radix → radix ≤ 16 → digit_value end ≡ 36 → AllDigits radix ds → list_all is_no_capital ds ≡ true → digits_value_after radix n ds < 2 ^ 64
     → digits_until radix end n (ds ++ end ∷ rest) ≡ Some (digits_value_after radix n ds, rest)
 unfolding digits_until
 on_again radix end n [] rest some high none all lower small = rw (eq-eqb end end refl) refl
 on_again radix end n (d ∷ ds) rest some high none all lower small =
-    let plain : (is_lower d ≡ true) × (list_all is_lower ds ≡ true) = and_parts _ _ lower in
+    let plain : (is_no_capital d ≡ true) × (list_all is_no_capital ds ≡ true) = and_parts _ _ lower in
     let m : ℕ = n * radix + digit_value d in
     let below : m < 2 ^ 64 = omega (arith, value_ge radix m ds some, small) in
     rw (no_digit radix end d high none all.0, plain.0, lt-ltb (digit_value d) radix all.0, lt-ltb m (2 ^ 64) below)
@@ -91,7 +92,7 @@ begins_again radix end (c ∷ []) rest high none all plain = by (eqb c 48)
     by true = eq-eqb end end refl
     by false = rw (no_digit radix end c high none all.0) refl
 begins_again radix end (c ∷ d ∷ ds) rest high none all plain =
-    let nonzero : eqb c 48 ≡ false = (several_canonical (c == 48) (list_all is_lower (c ∷ d ∷ ds)) plain).0 in
+    let nonzero : eqb c 48 ≡ false = (several_canonical (c == 48) (list_all is_no_capital (c ∷ d ∷ ds)) plain).0 in
     rw (nonzero, no_digit radix end c high none all.0) refl
 
 -- the digits of a number are read again
@@ -109,7 +110,7 @@ number_again radix end most n rest low high none some small fits =
       le-leb n most fits,
     ) refl
   where
-    lower_of : (ds : List ℕ) → is_canonical ds ≡ true → list_all is_lower ds ≡ true
+    lower_of : (ds : List ℕ) → is_canonical ds ≡ true → list_all is_no_capital ds ≡ true
     lower_of [] plain = absurd (false≢true plain)
     lower_of (c ∷ []) plain = plain
     lower_of (c ∷ d ∷ ds) plain = (several_canonical _ _ plain).1
@@ -120,7 +121,7 @@ unfolding number_until
 one_digit_until end most c rest none low high =
     let value : digit_value c ≡ c - 48 = grind arith in
     let all : AllDigits 10 (c ∷ []) = (omega arith, tt) in
-    let lower : is_lower c ≡ true = grind arith in
+    let lower : is_no_capital c ≡ true = grind arith in
     let after : digits_value_after 10 0 (c ∷ []) ≡ c - 48 = omega arith in
     rw (
       begins_again 10 end (c ∷ []) rest (omega arith) none all (rw lower refl),
@@ -154,7 +155,7 @@ record Digits (radix end n : ℕ) (text : List ℕ) (value : ℕ) (rest : List �
   ds : List ℕ
   whole : text ≡ ds ++ end ∷ rest
   digits : list_all (λ c. is_digit c radix) ds ≡ true
-  lower : list_all is_lower ds ≡ true
+  lower : list_all is_no_capital ds ≡ true
   is : digits_value_after radix n ds ≡ value
   small : value < 2 ^ 64
 
@@ -164,7 +165,7 @@ on_spelled radix end n value [] rest small e = absurd (none-some _ e)
 on_spelled radix end n value (c ∷ text) rest small e = by (λ m below read. on_spelled radix end m value text rest below read) (eqb c end) refl e
   where
     more : ((m : ℕ) → m < 2 ^ 64 → digits_until radix end m text ≡ Some (value, rest) → Digits radix end m text value rest)
-        → (lower digit fits : Bool) → is_lower c ≡ lower → nat_lt (digit_value c) radix ≡ digit → nat_lt (n * radix + digit_value c) (2 ^ 64) ≡ fits
+        → (lower digit fits : Bool) → is_no_capital c ≡ lower → nat_lt (digit_value c) radix ≡ digit → nat_lt (n * radix + digit_value c) (2 ^ 64) ≡ fits
         → ((if lower && digit then Some (digit_value c) else None) >>= λ d. (if nat_lt (n * radix + d) (2 ^ 64) then Some (n * radix + d) else None) >>= λ m. digits_until radix end m text) ≡ Some (value, rest)
         → Digits radix end n (c ∷ text) value rest
     more next false digit fits l d f e = absurd (none-some _ e)
@@ -195,17 +196,17 @@ on_spelled radix end n value (c ∷ text) rest small e = by (λ m below read. on
           is = ap (λ (x : ℕ × List ℕ). x.0) same;
           small = subst (λ (x : ℕ × List ℕ). x.0 < 2 ^ 64) same small;
         }
-    by next false h e = more next (is_lower c) (nat_lt (digit_value c) radix) (nat_lt (n * radix + digit_value c) (2 ^ 64)) refl refl refl e
+    by next false h e = more next (is_no_capital c) (nat_lt (digit_value c) radix) (nat_lt (n * radix + digit_value c) (2 ^ 64)) refl refl refl e
 
 -- a text that begins so has a plain word before the end
-canonical_of : (radix end : ℕ) (ds rest : List ℕ) → radix ≤ 16 → digit_value end ≡ 36 → list_all (λ c. is_digit c radix) ds ≡ true → list_all is_lower ds ≡ true → begins_canonical end (ds ++ end ∷ rest) ≡ true → is_canonical ds ≡ true
+canonical_of : (radix end : ℕ) (ds rest : List ℕ) → radix ≤ 16 → digit_value end ≡ 36 → list_all (λ c. is_digit c radix) ds ≡ true → list_all is_no_capital ds ≡ true → begins_canonical end (ds ++ end ∷ rest) ≡ true → is_canonical ds ≡ true
 canonical_of radix end [] [] high none digits lower begins = absurd (false≢true (rw (eq-eqb end end refl) at begins))
 canonical_of radix end [] (r ∷ rest) high none digits lower begins =
     absurd (false≢true (rw (ne_eqb end 48 (λ e. omega (arith, none, ap digit_value e)), eq-eqb end end refl) at begins))
 canonical_of radix end (c ∷ []) rest high none digits lower begins = lower
 canonical_of radix end (c ∷ d ∷ ds) rest high none digits lower begins = by (eqb c 48) begins
   where
-    by : (t : Bool) → (if t then d == end else not (c == end)) ≡ true → (if t then false else list_all is_lower (c ∷ d ∷ ds)) ≡ true
+    by : (t : Bool) → (if t then d == end else not (c == end)) ≡ true → (if t then false else list_all is_no_capital (c ∷ d ∷ ds)) ≡ true
     by true h =
         let all = and_parts _ _ digits in
         let small = ltb-true (digit_value d) radix (and_parts _ _ all.1).0 in

@@ -16,7 +16,8 @@ use Rattle.jh_history.specs.declared.entry.Heard.{Heard}
 use Rattle.jh_history.specs.declared.entry.Heard.TheVariants as heard
 use Rattle.jh_text.specs.Ranges.{IsTypedAct, IsTyped}
 use Rattle.jh_text.specs.Text.{hexadecimal, got_text, ok_text, decision_text, settled_text, heard_text, act_words, entry_words, entry_text, line, journal_text}
-use Rattle.jh_text.specs.Private.Reading.{◌>>=◌, max_u64, number_until, hexadecimal_until, answer_of, got_of, ok_of, decision_of, settled_of, heard_of, outcome_of}
+use Rattle.jh_script.specs.Operations.{◌>>=◌}
+use Rattle.jh_text.specs.Private.Reading.{max_u64, number_until, hexadecimal_until, answer_of, got_of, ok_of, decision_of, settled_of, heard_of, outcome_of}
 use Rattle.jh_text.proofs.Numbers.{Lacks_digits}
 use Rattle.jh_text.proofs.Splits.{Lacks, Lacks_cons, Lacks_append, split_once, split_once_front}
 use Rattle.jh_text.proofs.Spellings.{decimal_again, hexadecimal_again, answer_again, got_again, ok_again, decision_again, settled_again, heard_again}

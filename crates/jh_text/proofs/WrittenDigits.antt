@@ -6,15 +6,15 @@ use Rattle.std.specs.List.{list_all}
 use Rattle.std.specs.Str.Parse.{digits_value, digits_value_after}
 use Rattle.std.proofs.lemmas.Bool.{cases_lt, and_parts, ltb-true, lt-ltb, le-ltb, false≢true, eq-eqb, ne_eqb}
 use Rattle.std.proofs.Math.Nat.{mul-add-div_right, mul-add-mod_self_right, div-eq_of_lt, mod-eq_of_lt, le-mul_of_pos_right, pow-zero, pow-suc, mul_comm}
-use Rattle.jh_text.specs.Private.Reading.{is_lower}
+use Rattle.jh_text.specs.Private.Reading.{is_no_capital}
 use Rattle.jh_text.proofs.Digits.{none_written, next_written, first_written, fewer_left, some_left}
 use Rattle.jh_script.proofs.Public.{value_ge}
 
 -- a word of digits in lower case that doesn't begin with a 0 that isn't all of it
 abbrev pub is_canonical : List ℕ → Bool
 is_canonical [] = false
-is_canonical (c ∷ []) = list_all is_lower (c ∷ [])
-is_canonical (c ∷ d ∷ digits) = if c == 48 then false else list_all is_lower (c ∷ d ∷ digits)
+is_canonical (c ∷ []) = list_all is_no_capital (c ∷ [])
+is_canonical (c ∷ d ∷ digits) = if c == 48 then false else list_all is_no_capital (c ∷ d ∷ digits)
 
 -- ---- the last digit of a number
 
@@ -66,16 +66,16 @@ last_digit base n low more fits =
 
 -- ---- from digits to the number and back
 
-lower_glyph : (c : ℕ) → digit_value c < 16 → is_lower c ≡ true → digit_glyph false (digit_value c) ≡ c
+lower_glyph : (c : ℕ) → digit_value c < 16 → is_no_capital c ≡ true → digit_glyph false (digit_value c) ≡ c
 lower_glyph c small lower = grind arith
 
 -- digits in lower case behind those of a number that is not 0
-digits_after : (base n : ℕ) (ds : List ℕ) → 2 ≤ base → base ≤ 16 → 0 < n → list_all (λ c. is_digit c base) ds ≡ true → list_all is_lower ds ≡ true
+digits_after : (base n : ℕ) (ds : List ℕ) → 2 ≤ base → base ≤ 16 → 0 < n → list_all (λ c. is_digit c base) ds ≡ true → list_all is_no_capital ds ≡ true
     → digits_value_after base n ds < base ^ 64 → digits base false (digits_value_after base n ds) ≡ digits base false n ++ ds
 digits_after base n [] low high some all lower fits = sym (append-nil (digits base false n))
 digits_after base n (c ∷ ds) low high some all lower fits =
     let is : (is_digit c base ≡ true) × (list_all (λ x. is_digit x base) ds ≡ true) = and_parts _ _ all in
-    let plain : (is_lower c ≡ true) × (list_all is_lower ds ≡ true) = and_parts _ _ lower in
+    let plain : (is_no_capital c ≡ true) × (list_all is_no_capital ds ≡ true) = and_parts _ _ lower in
     let small : digit_value c < base = ltb-true (digit_value c) base is.0 in
     let m : ℕ = n * base + digit_value c in
     let positive : 0 < base = omega arith in
@@ -109,7 +109,7 @@ digits_of_canonical base (c ∷ []) low high all plain fits =
     ap (digits base false) value ∙ one_digit base (digit_value c) small ∙ ap (λ g. g ∷ []) (lower_glyph c (omega arith) (and_parts _ _ plain).0)
 digits_of_canonical base (c ∷ d ∷ ds) low high all plain fits =
     let is = and_parts _ _ all in
-    let parts : ((c == 48) ≡ false) × (list_all is_lower (c ∷ d ∷ ds) ≡ true) = several_canonical _ _ plain in
+    let parts : ((c == 48) ≡ false) × (list_all is_no_capital (c ∷ d ∷ ds) ≡ true) = several_canonical _ _ plain in
     let lower = and_parts _ _ parts.1 in
     let small : digit_value c < base = ltb-true (digit_value c) base is.0 in
     let glyph = lower_glyph c (omega arith) lower.0 in
@@ -121,15 +121,15 @@ digits_of_canonical base (c ∷ d ∷ ds) low high all plain fits =
 
 -- ---- the digits of a number are plain
 
-glyph_lower : (d : ℕ) → is_lower (digit_glyph false d) ≡ true
-glyph_lower d = elim (cases_lt d 10) as (λ _. is_lower (digit_glyph false d) ≡ true) [
+glyph_lower : (d : ℕ) → is_no_capital (digit_glyph false d) ≡ true
+glyph_lower d = elim (cases_lt d 10) as (λ _. is_no_capital (digit_glyph false d) ≡ true) [
   | inl less ↦ rw (lt-ltb d 10 less) (grind arith)
   | inr more ↦ rw (le-ltb d 10 more) (grind arith)
 ]
 
-onto_lower : (k base n : ℕ) (written : List ℕ) → 2 ≤ base → list_all is_lower written ≡ true → list_all is_lower (digits_onto k base false n written) ≡ true
+onto_lower : (k base n : ℕ) (written : List ℕ) → 2 ≤ base → list_all is_no_capital written ≡ true → list_all is_no_capital (digits_onto k base false n written) ≡ true
 onto_lower zero base n written low lower = lower
-onto_lower (suc k) base n written low lower = elim (cases_lt n base) as (λ _. list_all is_lower (digits_onto (suc k) base false n written) ≡ true) [
+onto_lower (suc k) base n written low lower = elim (cases_lt n base) as (λ _. list_all is_no_capital (digits_onto (suc k) base false n written) ≡ true) [
   | inl less ↦ rw (first_written k (suc k) base n written refl less, glyph_lower n) lower
   | inr more ↦ rw (← next_written k (suc k) base n written refl low more) (onto_lower k base (n / base) (digit_glyph false (n % base) ∷ written) low (rw (glyph_lower (n % base)) lower))
 ]
@@ -146,7 +146,7 @@ quotient_some base n low more = elim (cases_lt 0 (n / base)) as (λ _. 0 < n / b
   | inr none ↦ absurd (some_left base n low more (omega arith))
 ]
 
-all_lower : (base n : ℕ) (ds : List ℕ) → 2 ≤ base → digits base false n ≡ ds → list_all is_lower ds ≡ true
+all_lower : (base n : ℕ) (ds : List ℕ) → 2 ≤ base → digits base false n ≡ ds → list_all is_no_capital ds ≡ true
 all_lower base n ds low e = rw (← e, ← none_written base n) (onto_lower 64 base n [] low refl)
 
 no_digit : (base n : ℕ) → 2 ≤ base → n < base ^ 64 → digits base false n ≢ []

@@ -5,7 +5,7 @@ use Rattle.jh_text.specs.declared.fault.JournalFault.{JournalFault}
 use Rattle.jh_text.specs.declared.fault.JournalFault.TheVariants.{Line, TooLong, NoMemory}
 
 -- the words for a fault of a journal's text
-abbrev pub fault_text : JournalFault → List ℕ
-fault_text (Line number) = codes "line " ++ decimal number
-fault_text TooLong = codes "journal too long"
-fault_text NoMemory = codes "want of memory"
+abbrev pub journal_fault_text : JournalFault → List ℕ
+journal_fault_text (Line number) = codes "line " ++ decimal number
+journal_fault_text TooLong = codes "journal too long"
+journal_fault_text NoMemory = codes "want of memory"

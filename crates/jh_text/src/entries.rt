@@ -96,7 +96,7 @@ fn read(text: &mut Reader) -> Option<Act>
 {
     let width = text.width()?;
     let at = text.hexadecimal(b' ', u64::MAX)?;
-    if !text.pass_sign() {
+    if !text.pass_equals() {
         return None;
     }
     let got = read_got(text, max_of_width(width))?;
@@ -148,7 +148,7 @@ fn attempt(text: &mut Reader) -> Option<(u8, u64, u64, bool)>
     let width = text.width()?;
     let at = text.hexadecimal(b' ', u64::MAX)?;
     let value = text.hexadecimal(b' ', max_of_width(width))?;
-    if !text.pass_sign() {
+    if !text.pass_equals() {
         return None;
     }
     let ok = read_ok(text)?;
@@ -163,7 +163,7 @@ fn fetch(text: &mut Reader) -> Option<Act>
     ensures spelled { IfSome result (λ act. codes "fetch " ++ text.old ≡ join_with_byte 32 (act_words act) ++ 10 ∷ text.new) }
 {
     let at = text.hexadecimal(b' ', u64::MAX)?;
-    if !text.pass_sign() {
+    if !text.pass_equals() {
         return None;
     }
     let got = read_got(text, u32::MAX as u64)?;
@@ -192,7 +192,7 @@ fn call(text: &mut Reader) -> Option<Act>
     let code = text.decimal(b' ', u64::MAX)?;
     let a = text.hexadecimal(b' ', u64::MAX)?;
     let b = text.hexadecimal(b' ', u64::MAX)?;
-    if !text.pass_sign() {
+    if !text.pass_equals() {
         return None;
     }
     if text.pass("begin\n") {
@@ -210,7 +210,7 @@ fn noted(text: &mut Reader) -> Option<Act>
     ensures spelled { IfSome result (λ act. codes "noted " ++ text.old ≡ join_with_byte 32 (act_words act) ++ 10 ∷ text.new) }
 {
     let id = text.decimal(b' ', u32::MAX as u64)? as u32;
-    if !text.pass_sign() {
+    if !text.pass_equals() {
         return None;
     }
     let how = read_heard(text)?;

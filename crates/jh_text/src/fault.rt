@@ -29,10 +29,10 @@ impl From<NoMemory> for JournalFault {
 }
 
 impl fmt::Display for JournalFault {
-    ghost use Rattle.jh_text.specs.FaultText.{fault_text};
+    ghost use Rattle.jh_text.specs.FaultText.{journal_fault_text};
     ghost use Rattle.std.specs.Prelude.{Some};
 
-    ghost output = { λ fault. Some (fault_text fault) };
+    ghost output = { λ fault. Some (journal_fault_text fault) };
 
     fn fmt<W: fmt::Write>(&self, f: &mut fmt::Formatter<W>) -> fmt::Result {
         match self {

@@ -17,7 +17,8 @@ pub fn texts_differ()
         → journal_text a ≡ journal_text b → a ≡ b }
 {}
 
-/// What is printed of a journal is its text and no other journal's, and what is read is printed as the same bytes.
+/// What is printed of a journal of readable entries, as many as a journal may have, is its text and no other journal's,
+/// and what is read is printed as the same bytes.
 pub fn texts_go_both_ways()
     ensures printed { (entries : List Entry) → AllByRecursion IsReadable entries → length entries ≤ max_entries
         → IsJournalText (journal_text entries) entries }

@@ -164,7 +164,7 @@ fn width_digit(digit: u8) -> Option<u8>
     }
 }
 
-/// The number below 0 that has these digits behind its sign, where it is one of 64 bits.
+/// The number as far below 0 as n is above, where n isn't 0 and it is one of 64 bits.
 fn negative(n: u64) -> Option<i64>
     ensures value { result ≡ negative n }
 {
@@ -247,9 +247,10 @@ impl<'a> Reader<'a> {
         }
     }
 
-    /// Whether an equals sign and a space stand at the front: then they are passed over.
+    /// Whether an equals sign and a space stand at the front: then they are passed over. As `pass` of "= ", by two
+    /// comparisons, since this stands in most lines.
     #[inline(always)]
-    pub(crate) fn pass_sign(&mut self) -> bool
+    pub(crate) fn pass_equals(&mut self) -> bool
         ensures value { result ≡ begins (codes "= ") self.old }
         ensures whole { IsTrue result → self.old ≡ codes "= " ++ self.new }
         ensures left { self.new ≡ (if result then behind (codes "= ") self.old else self.old) }
@@ -263,7 +264,7 @@ impl<'a> Reader<'a> {
         }
     }
 
-    /// A number with a sign, the last word of its line.
+    /// A number of 64 bits, with a minus sign where it is below 0: the last word of its line.
     #[inline(always)]
     #[tactic(auto, unfolding(crate::specs::Private::Reading::answer_of))]
     pub(crate) fn answer(&mut self) -> Option<i64>
@@ -279,6 +280,7 @@ impl<'a> Reader<'a> {
                 let n = self.decimal(b'\n', i64::MAX as u64)?;
                 Some(n as i64)
             }
+            // for the proof: the definition has this case too
             [] => None,
         }
     }

@@ -4,8 +4,8 @@ ghost use Rattle.jh_turn.specs.Histories.{Grows};
 
 /// A value that callers take turns on, with a history that only grows. A caller is a number.
 ///
-/// Its meaning is in five ghost members, of which `Shared` says all that it promises: `whose`, `origin`, `serves`, `history`
-/// and `answers`.
+/// Its meaning is in five ghost members, `whose`, `origin`, `serves`, `history` and `answers`, beside the type `Origin`: all
+/// that `Shared` promises is said by these.
 pub trait Turner {
     /// One entry of the history.
     type Entry;
@@ -18,7 +18,7 @@ pub trait Turner {
     ghost whose: { Self.Entry → ℕ };
     // What no turn changes.
     ghost origin: { Self → Origin };
-    // The callers that are served, which the origin says.
+    // The callers that a value of this origin serves.
     ghost serves: { Origin → ℕ → Type 0 };
     // All entries so far, the first one first.
     ghost history: { Self → List Self.Entry };

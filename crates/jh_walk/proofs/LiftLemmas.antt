@@ -2,7 +2,7 @@
 use Rattle.std.proofs.Common.{◌≡◌, ◌≢◌, ℕ, ◌+◌, ◌-◌, ◌*◌, ◌%◌, ◌<◌, ◌≤◌, inl, inr, zero, suc, ap, ◌∙◌, sym, subst, arith, refl}
 use Rattle.jh_desc.specs.Descriptors.{read_of}
 use Rattle.jh_num.specs.declared.level.TheConstants.{LAST_LEVEL}
-use Rattle.jh_walk.specs.Pages.{sum_below, by_next, count, page_weight, times, Weight, AlikeBut, AreAligned, IsReached}
+use Rattle.jh_walk.specs.Pages.{sum_below, by_next, count, page_weight, times, Weight, AreAlikeBut, AreAligned, IsReached}
 use Rattle.jh_desc.specs.declared.descriptor.Descriptor.{Descriptor}
 use Rattle.jh_desc.specs.declared.descriptor.Descriptor.TheVariants.{Invalid, Table, Leaf}
 use Rattle.jh_walk.proofs.SumLemmas.{sum_same, sum_falls, term_le, others_none}
@@ -52,7 +52,7 @@ none_below : (word : ℕ → ℕ) (n page q i next : ℕ) → i < 512 → read_o
 none_below word n page q i next lt is none = sym (slot_is (page_weight q) word n page i next is) ∙ none
 
 -- where the page isn't reached, nothing changes
-pub count_same : (w : Weight) (word word' : ℕ → ℕ) (inner : ℕ) → AlikeBut inner w word word' → (n page : ℕ) → AreAligned word n page → times word n page inner ≡ 0 → count w word' n page ≡ count w word n page
+pub count_same : (w : Weight) (word word' : ℕ → ℕ) (inner : ℕ) → AreAlikeBut inner w word word' → (n page : ℕ) → AreAligned word n page → times word n page inner ≡ 0 → count w word' n page ≡ count w word n page
 count_same w word word' inner alike zero page all none = count_none w word' page ∙ sym (count_none w word page)
 count_same w word word' inner alike (suc n) page all none =
     let ne : page ≢ inner = other_page word n page inner none in
@@ -78,7 +78,7 @@ on_times word (suc n) page m inner (inr (next, (names, on))) =
     omega arith
 
 -- what falls by one at a page that is reached once falls by one in all
-pub count_falls : (w : Weight) (word word' : ℕ → ℕ) (inner m : ℕ) → AlikeBut inner w word word' → count w word' m inner + 1 ≡ count w word m inner → (n page : ℕ) → AreAligned word n page → times word n page inner ≤ 1 → IsReached word n page m inner → count w word' n page + 1 ≡ count w word n page
+pub count_falls : (w : Weight) (word word' : ℕ → ℕ) (inner m : ℕ) → AreAlikeBut inner w word word' → count w word' m inner + 1 ≡ count w word m inner → (n page : ℕ) → AreAligned word n page → times word n page inner ≤ 1 → IsReached word n page m inner → count w word' n page + 1 ≡ count w word n page
 count_falls w word word' inner m alike fall zero page all once on = elim on [ ]
 count_falls w word word' inner m alike fall (suc n) page all once (inl (e, is)) =
     subst (λ z. count w word' z page + 1 ≡ count w word z page) (sym e) (subst (λ z. count w word' m z + 1 ≡ count w word m z) (sym is) fall)

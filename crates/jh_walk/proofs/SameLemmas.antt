@@ -10,13 +10,13 @@ use Rattle.jh_desc.specs.Levels.{index_of}
 use Rattle.jh_num.specs.declared.level.TheConstants.{LAST_LEVEL}
 use Rattle.jh_num.specs.Levels.{slot_size}
 use Rattle.jh_walk.specs.Walks.{walk_of, walk_on, probes_of, probes_on, descriptor_at}
-use Rattle.jh_walk.specs.Pages.{sum_below, by_next, count, page_weight, times, SameTables}
+use Rattle.jh_walk.specs.Pages.{sum_below, by_next, count, page_weight, times, HaveSameTables}
 use Rattle.jh_walk.proofs.SumLemmas.{sum_same}
 use Rattle.jh_walk.proofs.LiftLemmas.{slot_counts, count_more, count_none, next_same, self_times, slot_is, slot_le}
 use Rattle.jh_walk.proofs.GrowLemmas.{index_small}
 
 -- the words of a page that the page leads to are the same too
-same_below : (w w' : ℕ → ℕ) (n t i next : ℕ) → SameTables w w' (suc n) t → i < 512 → read_of (w (t + 8 * i)) (LAST_LEVEL - n) ≡ Table next → SameTables w w' n next
+same_below : (w w' : ℕ → ℕ) (n t i next : ℕ) → HaveSameTables w w' (suc n) t → i < 512 → read_of (w (t + 8 * i)) (LAST_LEVEL - n) ≡ Table next → HaveSameTables w w' n next
 same_below w w' n t i next same lt leads = record {
   words = λ q j some small.
       let e : slot_counts (page_weight q) w n t i ≡ times w n next q = slot_is (page_weight q) w n t i next leads in
@@ -24,7 +24,7 @@ same_below w w' n t i next same lt leads = record {
       same.words q j (omega arith) small;
 }
 
-same_here : (w w' : ℕ → ℕ) (n t i : ℕ) → SameTables w w' (suc n) t → i < 512 → w' (t + 8 * i) ≡ w (t + 8 * i)
+same_here : (w w' : ℕ → ℕ) (n t i : ℕ) → HaveSameTables w w' (suc n) t → i < 512 → w' (t + 8 * i) ≡ w (t + 8 * i)
 same_here w w' n t i same lt = same.words t i (self_times w n t t refl) lt
 
 on_same : (on on' : ℕ → Option Hit) (level at : ℕ) (d : Descriptor) → ((next : ℕ) → d ≡ Table next → on' next ≡ on next) → walk_on on' level at d ≡ walk_on on level at d
@@ -32,7 +32,7 @@ on_same on on' level at Invalid h = refl
 on_same on on' level at (Leaf out rights device) h = refl
 on_same on on' level at (Table next) h = ap (λ o. if nat_lt next ADDRESS_END then o else None) (h next refl)
 
-pub walk_same : (w w' : ℕ → ℕ) (n t at : ℕ) → SameTables w w' n t → walk_of w' n t at ≡ walk_of w n t at
+pub walk_same : (w w' : ℕ → ℕ) (n t at : ℕ) → HaveSameTables w w' n t → walk_of w' n t at ≡ walk_of w n t at
 unfolding walk_of
 walk_same w w' zero t at same = refl
 walk_same w w' (suc n) t at same =
@@ -47,7 +47,7 @@ probes_on_same on on' Invalid h = refl
 probes_on_same on on' (Leaf out rights device) h = refl
 probes_on_same on on' (Table next) h = ap (λ (o : List Probe). if nat_lt next ADDRESS_END then o else []) (h next refl)
 
-pub probes_same : (w w' : ℕ → ℕ) (n t at : ℕ) → SameTables w w' n t → probes_of w' n t at ≡ probes_of w n t at
+pub probes_same : (w w' : ℕ → ℕ) (n t at : ℕ) → HaveSameTables w w' n t → probes_of w' n t at ≡ probes_of w n t at
 unfolding probes_of
 probes_same w w' zero t at same = refl
 probes_same w w' (suc n) t at same =
@@ -58,7 +58,7 @@ probes_same w w' (suc n) t at same =
     ∙ ap (λ l. first ∷ l) (probes_on_same (λ next. probes_of w n next at) (λ next. probes_of w' n next at) (read_of (w (descriptor_at (LAST_LEVEL - n) t at)) (LAST_LEVEL - n)) (λ next leads.
     probes_same w w' n next at (same_below w w' n t (index_of (LAST_LEVEL - n) at) next same small leads)))
 
-pub times_same : (w w' : ℕ → ℕ) (n t q : ℕ) → SameTables w w' n t → times w' n t q ≡ times w n t q
+pub times_same : (w w' : ℕ → ℕ) (n t q : ℕ) → HaveSameTables w w' n t → times w' n t q ≡ times w n t q
 times_same w w' zero t q same = count_none (page_weight q) w' t ∙ sym (count_none (page_weight q) w t)
 times_same w w' (suc n) t q same =
     let slots : sum_below 512 (slot_counts (page_weight q) w' n t) ≡ sum_below 512 (slot_counts (page_weight q) w n t) = sum_same 512 (slot_counts (page_weight q) w' n t) (slot_counts (page_weight q) w n t) (λ i lt.

@@ -36,7 +36,7 @@ abbrev pub times : (ℕ → ℕ) → ℕ → ℕ → ℕ → ℕ
 times word n table page = count (page_weight page) word n table
 
 -- the 512 words of each page that is reached are the same
-pub record SameTables (word word' : ℕ → ℕ) (n table : ℕ) : Type 0 where
+pub record HaveSameTables (word word' : ℕ → ℕ) (n table : ℕ) : Type 0 where
   pub words : (page slot : ℕ) → 0 < times word n table page → slot < 512 → word' (page + 8 * slot) ≡ word (page + 8 * slot)
 
 -- each page that is reached is aligned
@@ -44,7 +44,7 @@ abbrev pub AreAligned : (ℕ → ℕ) → ℕ → ℕ → Type 0
 AreAligned word n table = (page : ℕ) → 0 < times word n table page → page % 4096 ≡ 0
 
 -- aligned pages other than `inner` have the same words and weights
-pub record AlikeBut (inner : ℕ) (weight : Weight) (word word' : ℕ → ℕ) : Type 0 where
+pub record AreAlikeBut (inner : ℕ) (weight : Weight) (word word' : ℕ → ℕ) : Type 0 where
   pub words : (page slot : ℕ) → page % 4096 ≡ 0 → page ≢ inner → slot < 512 → word' (page + 8 * slot) ≡ word (page + 8 * slot)
   pub weights : (n page : ℕ) → page % 4096 ≡ 0 → page ≢ inner → weight word' n page ≡ weight word n page
 
@@ -74,25 +74,25 @@ Grows word word' (suc n) table =
     (slot : ℕ) → slot < 512 → IsKept (Grows word word' n) (read_of (word (table + 8 * slot)) (LAST_LEVEL - n)) (word' (table + 8 * slot) ≡ word (table + 8 * slot))
 
 -- a change of words within one page alone, among aligned pages that are reached from a table with so many levels left
-pub record PageChange : Type 0 where
+pub record TableChange : Type 0 where
   pub page : ℕ
   pub weight : Weight
   pub before : ℕ → ℕ
   pub after : ℕ → ℕ
   pub left : ℕ
   pub table : ℕ
-  pub alike : AlikeBut page weight before after
+  pub alike : AreAlikeBut page weight before after
   pub aligned : AreAligned before left table
 
 -- how often the page was reached from the table
-abbrev pub times_before : PageChange → ℕ
+abbrev pub times_before : TableChange → ℕ
 times_before c = times c.before c.left c.table c.page
 
 -- the page was reached once, with `left` levels left at it
-pub record WasReachedOnce (c : PageChange) (left : ℕ) : Type 0 where
+pub record WasReachedOnce (c : TableChange) (left : ℕ) : Type 0 where
   pub once : times_before c ≤ 1
   pub reached : IsReached c.before c.left c.table left c.page
 
 -- what is counted from a table with so many levels left is 1 less after the change
-abbrev pub FallsAt : PageChange → ℕ → ℕ → Type 0
+abbrev pub FallsAt : TableChange → ℕ → ℕ → Type 0
 FallsAt c left table = count c.weight c.after left table + 1 ≡ count c.weight c.before left table

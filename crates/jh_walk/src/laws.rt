@@ -3,7 +3,7 @@ ghost use Rattle.std.specs.Prelude.{◌≡◌, ℕ, ◌/◌, ◌≤◌, length, 
 ghost use Rattle.jh_desc.specs.declared.descriptor.Hit.{Hit as AnyHit};
 ghost use Rattle.jh_walk.specs.Walks.{levels, probes_of, walk_of};
 ghost use Rattle.jh_walk.specs.Paths.{shifted, EndsAtLeaf};
-ghost use Rattle.jh_walk.specs.Pages.{FallsAt, Grows, PageChange, SameTables, WasReachedOnce, count, times, times_before};
+ghost use Rattle.jh_walk.specs.Pages.{FallsAt, Grows, TableChange, HaveSameTables, WasReachedOnce, count, times, times_before};
 
 /// A walk gives something exactly where table descriptors, level by level from its first table on, lead to a
 /// leaf.
@@ -25,17 +25,17 @@ pub fn a_walk_reads_few()
 
 /// A walk, its reads and how often each page is reached depend on the words of the pages that are reached alone.
 pub fn walks_read_their_pages()
-    ensures walk { (word word' : ℕ → ℕ) (n table at : ℕ) → SameTables word word' n table → walk_of word' n table at ≡ walk_of word n table at }
-    ensures probes { (word word' : ℕ → ℕ) (n table at : ℕ) → SameTables word word' n table → probes_of word' n table at ≡ probes_of word n table at }
-    ensures pages { (word word' : ℕ → ℕ) (n table q : ℕ) → SameTables word word' n table → times word' n table q ≡ times word n table q }
+    ensures walk { (word word' : ℕ → ℕ) (n table at : ℕ) → HaveSameTables word word' n table → walk_of word' n table at ≡ walk_of word n table at }
+    ensures probes { (word word' : ℕ → ℕ) (n table at : ℕ) → HaveSameTables word word' n table → probes_of word' n table at ≡ probes_of word n table at }
+    ensures pages { (word word' : ℕ → ℕ) (n table q : ℕ) → HaveSameTables word word' n table → times word' n table q ≡ times word n table q }
 {}
 
 /// A change within one page alone changes nothing of what is counted from a table that doesn't reach the page.
 /// Where it takes 1 off what is counted from the page, it takes 1 off what is counted from a table that reaches the
 /// page once.
 pub fn changes_are_lifted()
-    ensures elsewhere { (c : PageChange) → times_before c ≡ 0 → count c.weight c.after c.left c.table ≡ count c.weight c.before c.left c.table }
-    ensures falls { (c : PageChange) (left : ℕ) → WasReachedOnce c left → FallsAt c left c.page → FallsAt c c.left c.table }
+    ensures elsewhere { (c : TableChange) → times_before c ≡ 0 → count c.weight c.after c.left c.table ≡ count c.weight c.before c.left c.table }
+    ensures falls { (c : TableChange) (left : ℕ) → WasReachedOnce c left → FallsAt c left c.page → FallsAt c c.left c.table }
 {}
 
 /// Where the words that read valid stay, in all tables that are reached, what a walk found it still finds,

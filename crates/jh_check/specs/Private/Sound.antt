@@ -8,12 +8,12 @@ use Rattle.jh_check.specs.declared.rule.Rule.TheVariants.{Hypervisor, OutOfRange
 use Rattle.jh_check.specs.Regions.{is_misshapen, breaks_alone}
 use Rattle.jh_check.specs.Findings.{in_cell}
 
--- the region breaks a rule that speaks of root's regions, or one of those of other cells
+-- the region breaks a rule that is for root's regions alone, or the one that is for other cells' alone
 abbrev pub breaks_in_cell : ℕ → List Region → Region → Bool
 breaks_in_cell cell earlier region =
     if cell == 0 then not (region.phys_start == region.virt_start) || is_comm region else is_comm region && is_misshapen earlier region
 
--- the region, where it has a size, breaks one of the rules about one region
+-- the region, its size aside, breaks one of the rules about one region
 abbrev pub breaks_one : Region → ℕ → List Region → Region → Bool
 breaks_one memory cell earlier region =
     breaks_alone Hypervisor memory cell earlier region

@@ -1,8 +1,9 @@
--- How the reader finds the one entry with whose line a text begins, as functions on lists: each gives what it reads,
--- and what stands behind it.
+-- How the reader finds the one entry with whose line a text begins, as functions on lists: a reader gives what it
+-- reads, and what stands behind it.
 use Rattle.std.specs.Prelude.{◌≡◌, ℕ, ◌+◌, ◌-◌, ◌*◌, ◌^◌, ◌&&◌, ℤ, pos, ◌-ℤ◌, Bool, true, false, ◌==◌, nat_le, nat_lt, if◌then◌else◌, not, Option, Some, None, option_and_then, option_map, List, [], ◌∷◌, ◌++◌, length, take, drop, codes}
 use Rattle.std.specs.Char.{is_ascii_uppercase, is_digit, digit_value}
 use Rattle.std.specs.Str.{bytes_eq}
+use Rattle.jh_script.specs.Operations.{◌>>=◌}
 use Rattle.jh_text.specs.Ranges.{is_width}
 use Rattle.jh_history.specs.declared.entry.Entry.{Entry}
 use Rattle.jh_history.specs.declared.entry.Act.{Act}
@@ -11,11 +12,6 @@ use Rattle.jh_history.specs.declared.entry.Settled.{Settled}
 use Rattle.jh_history.specs.declared.entry.Settled.TheVariants as settled
 use Rattle.jh_history.specs.declared.entry.Heard.{Heard}
 use Rattle.jh_history.specs.declared.entry.Heard.TheVariants as heard
-
-infixl 10 ◌>>=◌
--- the next step of a `do`, where this one finds something
-abbrev pub ◌>>=◌ : {A B : Type 0} → Option A → (A → Option B) → Option B
-o >>= f = option_and_then f o
 
 -- what a function found, seen by view, is what the function on lists finds
 abbrev pub Finds : {X Y : Type 0} → (X → Y) → Option X → Option Y → Type 0
@@ -46,18 +42,18 @@ abbrev pub last : List ℕ → List ℕ
 last word = word ++ 10 ∷ []
 
 -- what the function reads behind an equals sign and a space
-abbrev pub behind_sign : {A : Type 0} → (List ℕ → Option (A × List ℕ)) → List ℕ → Option (A × List ℕ)
-behind_sign reads text = if begins (codes "= ") text then reads (behind (codes "= ") text) else None
+abbrev pub behind_equals : {A : Type 0} → (List ℕ → Option (A × List ℕ)) → List ℕ → Option (A × List ℕ)
+behind_equals reads text = if begins (codes "= ") text then reads (behind (codes "= ") text) else None
 
 -- ---- numbers
 
 -- the byte is no letter in upper case
-abbrev pub is_lower : ℕ → Bool
-is_lower c = not (is_ascii_uppercase c)
+abbrev pub is_no_capital : ℕ → Bool
+is_no_capital c = not (is_ascii_uppercase c)
 
 -- the digit that the byte is, in lower case
 abbrev pub lower_digit : ℕ → ℕ → Option ℕ
-lower_digit radix c = if is_lower c && is_digit c radix then Some (digit_value c) else None
+lower_digit radix c = if is_no_capital c && is_digit c radix then Some (digit_value c) else None
 
 -- the number with one more digit
 abbrev pub with_digit : ℕ → ℕ → ℕ → Option ℕ
@@ -80,7 +76,7 @@ begins_canonical end [] = false
 begins_canonical end (c ∷ []) = not (c == end)
 begins_canonical end (c ∷ d ∷ text) = if c == 48 then d == end else not (c == end)
 
--- the number that the word before the end is, where it is most at most
+-- the number that the word before the end is, where it is at most `most`
 unfoldable pub number_until : ℕ → ℕ → ℕ → List ℕ → Option (ℕ × List ℕ)
 number_until radix end most text =
     if begins_canonical end text then (digits_until radix end 0 text >>= λ x. if nat_le x.0 most then Some x else None) else None
@@ -89,13 +85,13 @@ number_until radix end most text =
 abbrev pub max_u64 : ℕ
 max_u64 = 2 ^ 64 - 1
 
--- the number whose digits stand behind `0x` in the word before the end, where it is most at most
+-- the number whose digits stand behind `0x` in the word before the end, where it is at most `most`
 unfoldable pub hexadecimal_until : ℕ → ℕ → List ℕ → Option (ℕ × List ℕ)
 hexadecimal_until end most (a ∷ x ∷ text) = if a == 48 then (if x == 120 then number_until 16 end most text else None) else None
 hexadecimal_until end most (a ∷ []) = None
 hexadecimal_until end most [] = None
 
--- the number below 0 that has these digits behind its sign, where it is one of 64 bits
+-- the number as far below 0 as n is above, where n isn't 0 and it is one of 64 bits
 abbrev pub negative : ℕ → Option ℤ
 negative n = if n == 0 then None else (if nat_le n (2 ^ 63) then Some (pos 0 -ℤ pos n) else None)
 
@@ -118,7 +114,7 @@ width_of (c ∷ d ∷ text) = if d == 32 then option_map (λ width. (width, text
 
 -- ---- the last word of a line
 
--- what a read or a fetch gave, most at most; no value where it was a violation
+-- what a read or a fetch gave, at most `most`; no value where it was a violation
 unfoldable pub got_of : ℕ → List ℕ → Option (Option ℕ × List ℕ)
 got_of most text =
     if begins (codes "0") text then mapped Some (hexadecimal_until 10 most text)
@@ -157,7 +153,7 @@ unfoldable pub read_of : List ℕ → Option (Act × List ℕ)
 read_of text = do
   width ← width_of text
   at ← hexadecimal_until 32 max_u64 width.1
-  got ← behind_sign (got_of (256 ^ width.0 - 1)) at.1
+  got ← behind_equals (got_of (256 ^ width.0 - 1)) at.1
   Some (Read width.0 at.0 got.0, got.1)
 
 -- the width, the address and the value of a write or a wait, and whether it was granted
@@ -166,7 +162,7 @@ attempt_of text = do
   width ← width_of text
   at ← hexadecimal_until 32 max_u64 width.1
   value ← hexadecimal_until 32 (256 ^ width.0 - 1) at.1
-  ok ← behind_sign ok_of value.1
+  ok ← behind_equals ok_of value.1
   Some ((width.0, at.0, value.0, ok.0), ok.1)
 
 -- a write, behind its name
@@ -181,7 +177,7 @@ await_of text = mapped (λ x. Await x.0 x.1 x.2 x.3) (attempt_of text)
 unfoldable pub fetch_of : List ℕ → Option (Act × List ℕ)
 fetch_of text = do
   at ← hexadecimal_until 32 max_u64 text
-  got ← behind_sign (got_of (2 ^ 32 - 1)) at.1
+  got ← behind_equals (got_of (2 ^ 32 - 1)) at.1
   Some (Fetch at.0 got.0, got.1)
 
 -- an interrupt, behind its name and the equals sign
@@ -203,13 +199,13 @@ call_of text = do
   code ← number_until 10 32 max_u64 text
   a ← hexadecimal_until 32 max_u64 code.1
   b ← hexadecimal_until 32 max_u64 a.1
-  behind_sign (outcome_of code.0 a.0 b.0) b.1
+  behind_equals (outcome_of code.0 a.0 b.0) b.1
 
 -- how a cell met the note of a change, behind the name
 unfoldable pub noted_of : List ℕ → Option (Act × List ℕ)
 noted_of text = do
   id ← number_until 10 32 (2 ^ 32 - 1) text
-  how ← behind_sign heard_of id.1
+  how ← behind_equals heard_of id.1
   Some (Noted id.0 how.0, how.1)
 
 -- a hypercall, an act of a call that is open, or a stop

@@ -9,7 +9,8 @@ use Rattle.jh_turn.specs.Ports.{opened_value, seen_by, IsPortOf}
 use Rattle.jh_turn.specs.Private.Rule.{Slot, hand, view}
 
 module _ {T E A : Type 0} where
-  -- the first seat has the hands of these callers, which have seen this history, and not the turn
+  -- the seat is of the object, knows the opened value, and has the hands of these callers, which have seen this history,
+  -- and not the turn
   abbrev pub HasToGive : List E → List ℕ → Shared T E A → Seat (Slot T) (View T E) → Type 0
   HasToGive seen callers shared seat = (seat.table_id ≡ shared.table.shared.table_id) × (seat.me.0 ≡ view (Some (opened_value shared)) (map (λ who. hand who seen) callers) false)
 

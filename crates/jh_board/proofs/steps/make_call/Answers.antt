@@ -15,19 +15,19 @@ use Rattle.jh_board.proofs.KeptLemmas.{ready_kept}
 use Rattle.jh_board.proofs.MadeLemmas.{cells_made, nothing_made, ready_made, KeepsCells}
 use Rattle.jh_board.proofs.steps.make_call.Goals as goal
 
-pub returns-then-not-is_call-clause-lives : goal.returns-then-not-is_call-clause-lives
-returns-then-not-is_call-clause-lives c =
+pub returns-then-not-is_of_call-clause-lives : goal.returns-then-not-is_of_call-clause-lives
+returns-then-not-is_of_call-clause-lives c =
     let held = c.args.held.now in
-    sym (nothing_made held.call held.cells.lives c.args.entry.now.act (sym c.is_call.ensures ∙ c.if-not-is_call.true)).1
+    sym (nothing_made held.call held.cells.lives c.args.entry.now.act (sym c.is_of_call.ensures ∙ c.if-not-is_of_call.true)).1
 
-pub returns-then-not-is_call-clause-named : goal.returns-then-not-is_call-clause-named
-returns-then-not-is_call-clause-named c =
+pub returns-then-not-is_of_call-clause-named : goal.returns-then-not-is_of_call-clause-named
+returns-then-not-is_of_call-clause-named c =
     let held = c.args.held.now in
     let P : Option CellConfig → Type 0 = λ config. IfSome config NamesCpu in
-    subst P (sym (nothing_made held.call held.cells.lives c.args.entry.now.act (sym c.is_call.ensures ∙ c.if-not-is_call.true)).0) tt
+    subst P (sym (nothing_made held.call held.cells.lives c.args.entry.now.act (sym c.is_of_call.ensures ∙ c.if-not-is_of_call.true)).0) tt
 
-pub returns-then-not-is_call-clause-ready : goal.returns-then-not-is_call-clause-ready
-returns-then-not-is_call-clause-ready c = λ h.
+pub returns-then-not-is_of_call-clause-ready : goal.returns-then-not-is_of_call-clause-ready
+returns-then-not-is_of_call-clause-ready c = λ h.
     let old : Held = c.args.held.now in
     let new : Held = record old { call = c.count_entry.new.call } in
     ready_kept old new c.count_entry.new.call refl refl (omega arith) (λ q held. held) h

@@ -4,7 +4,7 @@ use Rattle.std.specs.List.{list_any}
 use Rattle.jh_check.specs.declared.rule.Rule.TheVariants.{VirtOverlap}
 use Rattle.jh_check.specs.Private.Cells.{cells_of}
 use Rattle.jh_check.specs.Findings.{found_at, rules_in_order}
-use Rattle.jh_check.specs.Verdicts.{is_invalid}
+use Rattle.jh_check.specs.Verdicts.{makes_invalid}
 use Rattle.jh_check.proofs.VerdictLemmas.{list_step, list_hit, list_done}
 use Rattle.jh_check.proofs.verdict.is_invalid.Goals as goal
 
@@ -18,8 +18,8 @@ returns-then-branch c =
     let b = c.in_ok-breaks.ensures in
     let i = c.if-branch.true in
     let h : c.loop-i.i < length rules_in_order = c.loop-i-test.true in
-    let e : list_any (is_invalid c.args.number) (found c.loop-i.i (get_or rules_in_order c.loop-i.i VirtOverlap)) ≡ true = cc in
-    list_hit (is_invalid c.args.number) found rules_in_order c.loop-i.i VirtOverlap _ h e c.loop-i.invariant
+    let e : list_any (makes_invalid c.args.number) (found c.loop-i.i (get_or rules_in_order c.loop-i.i VirtOverlap)) ≡ true = cc in
+    list_hit (makes_invalid c.args.number) found rules_in_order c.loop-i.i VirtOverlap _ h e c.loop-i.invariant
 
 pub loop-i-preserved : goal.loop-i-preserved
 loop-i-preserved c =
@@ -28,9 +28,9 @@ loop-i-preserved c =
     let b = c.in_ok-breaks.ensures in
     let i = c.if-branch.false in
     let h : c.loop-i.i < length rules_in_order = c.loop-i-test.true in
-    let e : list_any (is_invalid c.args.number) (found c.loop-i.i (get_or rules_in_order c.loop-i.i VirtOverlap)) ≡ false = cc in
-    list_step (is_invalid c.args.number) found rules_in_order c.loop-i.i VirtOverlap _ h e c.loop-i.invariant
+    let e : list_any (makes_invalid c.args.number) (found c.loop-i.i (get_or rules_in_order c.loop-i.i VirtOverlap)) ≡ false = cc in
+    list_step (makes_invalid c.args.number) found rules_in_order c.loop-i.i VirtOverlap _ h e c.loop-i.invariant
 
 pub returns : goal.returns
 returns c =
-    list_done (is_invalid c.args.number) (found_at c.args.setup.now.hypervisor.now (cells_of c.args.setup.now ++ c.args.new.now ∷ [])) rules_in_order c.loop-i.i _ c.loop-i-test.false c.loop-i.invariant
+    list_done (makes_invalid c.args.number) (found_at c.args.setup.now.hypervisor.now (cells_of c.args.setup.now ++ c.args.new.now ∷ [])) rules_in_order c.loop-i.i _ c.loop-i-test.false c.loop-i.invariant

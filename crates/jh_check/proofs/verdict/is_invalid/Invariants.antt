@@ -4,10 +4,10 @@ use Rattle.std.specs.List.{list_any}
 use Rattle.jh_check.specs.Private.Cells.{cells_of}
 use Rattle.jh_check.specs.Lists.{found_from}
 use Rattle.jh_check.specs.Findings.{found_at, rules_in_order}
-use Rattle.jh_check.specs.Verdicts.{is_invalid}
+use Rattle.jh_check.specs.Verdicts.{makes_invalid}
 use Rattle.jh_check.proofs.verdict.is_invalid.Given as goal
 
 abbrev pub invariant-loop-i : goal.invariant-loop-i
 invariant-loop-i l =
-    list_any (is_invalid l.number) (found_from (found_at l.setup.hypervisor.now (cells_of l.setup ++ l.new ∷ [])) l.i (drop l.i rules_in_order))
-    ≡ list_any (is_invalid l.number) (found_from (found_at l.setup.hypervisor.now (cells_of l.setup ++ l.new ∷ [])) 0 rules_in_order)
+    list_any (makes_invalid l.number) (found_from (found_at l.setup.hypervisor.now (cells_of l.setup ++ l.new ∷ [])) l.i (drop l.i rules_in_order))
+    ≡ list_any (makes_invalid l.number) (found_from (found_at l.setup.hypervisor.now (cells_of l.setup ++ l.new ∷ [])) 0 rules_in_order)

@@ -1,7 +1,7 @@
 -- The board is read, and the journal of its run told.
 use Rattle.std.proofs.Common.{[], Ok, inl}
 use Rattle.jh_outside.specs.Trail.{no_ask}
-use Rattle.jh_cli.specs.Run.{IsRan}
+use Rattle.jh_cli.specs.Run.{IsToldRun}
 use Rattle.jh_cli.specs.Private.Endings.{reply_of}
 use Rattle.jh_cli.proofs.BoardLemmas.{opens}
 use Rattle.jh_cli.proofs.OrderLemmas.{board_behind}
@@ -10,7 +10,7 @@ use Rattle.jh_cli.proofs.run.run.Goals as goal
 
 pub returns-clause-ends : goal.returns-clause-ends
 returns-clause-ends g c =
-    opens (g.F.Files.contents c.args.files.now) c.args.board.now IsRan c.in_ok-image.image c.in_ok-image.ensures.image c.in_ok-image.ensures.admitted (Ok c.in_ok-render.field-0) c.in_ok-render.ensures
+    opens (g.F.Files.contents c.args.files.now) c.args.board.now IsToldRun c.in_ok-image.image c.in_ok-image.ensures.image c.in_ok-image.ensures.admitted (Ok c.in_ok-render.field-0) c.in_ok-render.ensures
 
 pub returns-clause-counted : goal.returns-clause-counted
 returns-clause-counted g c =

@@ -24,7 +24,8 @@ IsUncut claims region =
     is_mapped region ≡ true → is_comm region ≡ false → (at : ℕ) → at % PAGE_SIZE ≡ 0 → IsTrue (has_address region at)
     → are_cut claims.holders (place_in region at) PAGE_SIZE ≡ false
 
--- the claims are sound: what must hold of a cell's regions where a descriptor is asked for
+-- the claims are sound: the communication page is aligned and begins below the end of addresses, no two regions have an
+-- address in common, each is fit, and each of root's is uncut
 pub record AreSoundClaims (claims : Claims) : Type 0 where
   pub comm_aligned : claims.comm % PAGE_SIZE ≡ 0
   pub comm_bound : claims.comm < ADDRESS_END

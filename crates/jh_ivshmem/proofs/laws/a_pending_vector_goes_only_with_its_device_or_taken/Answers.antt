@@ -1,7 +1,7 @@
 -- After each call the device's endpoint is found again, and its vector is pending there still.
 use Rattle.jh_ivshmem.specs.Links.{pending_of}
 use Rattle.jh_ivshmem.proofs.PendingLemmas.{pending_written, pending_configured, pending_joined, pending_reset, pending_left, pending_taken}
-use Rattle.jh_ivshmem.proofs.laws.a_pending_vector_goes_only_by_its_own.Goals as goal
+use Rattle.jh_ivshmem.proofs.laws.a_pending_vector_goes_only_with_its_device_or_taken.Goals as goal
 
 pub returns-clause-written : goal.returns-clause-written
 returns-clause-written c = λ p e bar at value. pending_written e bar at value p.list p.cell p.device p.vector p.pending

@@ -2,8 +2,8 @@
 use Rattle.std.proofs.Common.{sym, ◌∙◌}
 use Rattle.jh_history.specs.Lives.{is_on_board}
 use Rattle.jh_cli.proofs.CpuLemmas.{none_below, one_more, one_less, all_below}
-use Rattle.jh_cli.proofs.schedule.cpus_of.Goals.{then-is_on_board, else-is_on_board}
-use Rattle.jh_cli.proofs.schedule.cpus_of.Goals as goal
+use Rattle.jh_cli.proofs.schedule.cpu_mask_of.Goals.{then-is_on_board, else-is_on_board}
+use Rattle.jh_cli.proofs.schedule.cpu_mask_of.Goals as goal
 
 pub loop-cpu-init : goal.loop-cpu-init
 loop-cpu-init c = none_below (is_on_board c.args.image.now)

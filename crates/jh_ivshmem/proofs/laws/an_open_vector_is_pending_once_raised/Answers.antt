@@ -1,6 +1,6 @@
 -- A raise of an open vector sets its own place alone, and leaves control on but for one-shot.
 use Rattle.jh_ivshmem.proofs.LawLemmas.{raised_pending, raised_control, raised_others}
-use Rattle.jh_ivshmem.proofs.laws.a_raise_of_an_open_vector_is_pending.Goals as goal
+use Rattle.jh_ivshmem.proofs.laws.an_open_vector_is_pending_once_raised.Goals as goal
 
 pub returns-clause-pending : goal.returns-clause-pending
 returns-clause-pending c = raised_pending

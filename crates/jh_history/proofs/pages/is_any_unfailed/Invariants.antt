@@ -4,8 +4,8 @@ use Rattle.jh_check.specs.Refusals.{any_below}
 use Rattle.jh_cpu.specs.declared.cpu.Cpu.{Cpu}
 use Rattle.jh_history.specs.Cpus.{ListsCpus}
 use Rattle.jh_history.specs.Lives.{is_on_board}
-use Rattle.jh_history.specs.Pages.{is_left}
-use Rattle.jh_history.proofs.pages.is_any_left.Given as goal
+use Rattle.jh_history.specs.Pages.{is_unfailed_of}
+use Rattle.jh_history.proofs.pages.is_any_unfailed.Given as goal
 
 abbrev pub invariant-loop-i : goal.invariant-loop-i
-invariant-loop-i l = (state : ℕ → Cpu) → ListsCpus l.cpus state → any_below (λ i. is_on_board l.image i && is_left l.cell (state i)) l.i ≡ false
+invariant-loop-i l = (state : ℕ → Cpu) → ListsCpus l.cpus state → any_below (λ i. is_on_board l.image i && is_unfailed_of l.cell (state i)) l.i ≡ false
