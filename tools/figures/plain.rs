@@ -1,4 +1,4 @@
-//! A plain program with the commands `check`, `play`, `audit` and `soak` of `jailhouse`, written from its
+//! A plain program with the commands `check`, `play`, `audit`, `run` and `soak` of `jailhouse`, written from its
 //! published documents alone: ordered and hashed maps, sorted vectors, no proofs.
 
 use std::collections::HashMap;

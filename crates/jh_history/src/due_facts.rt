@@ -52,8 +52,8 @@ pub fn a_cell_that_comes_may_live()
         o.phase ≡ ToCreate config → MayLive image f.cells config }
 {}
 
-/// What the hypervisor writes by an entry that is due, it writes into the page of a cell that lives, or of the one
-/// that comes by this entry.
+/// A communication page into which the hypervisor writes by an entry that is due is that of a cell that lives, or of the
+/// one that comes by this entry.
 pub fn pages_written_are_of_cells()
     ensures { (image : TheImage) (f : Facts) (entry : TheEntry) (write : ThePageWrite) → IsDueEntry image f entry →
         page_write_by image f entry entry.act ≡ Some write → HasPage f entry.act write.cell }

@@ -52,7 +52,7 @@ pub fn accesses_end_as_granted()
 
 /// A byte of physical memory that a cell besides root holds for itself changes only by an entry of that cell, or of a
 /// live cell besides root with a device linked to one of its devices, of which the byte's region is a section, or as
-/// one of a word of a state table, of a device of one of these cells or of root. A byte of a communication page changes
+/// that of a word of a state table, of a device of one of these cells or of root. A byte of a communication page changes
 /// only by an entry of its cell, or where the hypervisor writes into that page.
 pub fn what_a_cell_holds_is_its_own()
     ensures memory { (m : AdmittedMoment) (live : TheLive) (number place : ℕ) →
