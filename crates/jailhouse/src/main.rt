@@ -32,5 +32,5 @@ fn main(rt: HostRuntime) -> ExitCode {
         ),
         Err(NoMemory) => Status::NoMemory,
     };
-    ExitCode::from(status.number())
+    ExitCode::from(status.exit_number())
 }

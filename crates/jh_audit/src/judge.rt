@@ -23,7 +23,7 @@ use std::alloc::Global;
 const SHORTEST_LINE: usize = 9;
 
 /// Makes what is due to the entry's CPU, and tells it. A CPU that the board lacks makes nothing.
-fn try_entry(board: &mut Board, entry: &Entry) -> Result<Option<Entry>, NoMemory>
+fn make_due(board: &mut Board, entry: &Entry) -> Result<Option<Entry>, NoMemory>
     requires { length board.old.entries < board.old.limit }
     ensures { IfOk result (λ made. MakesDue board.old entry.now.cpu made board.new) }
 {
@@ -69,7 +69,7 @@ fn compare(board: &mut Board, entry: &Entry) -> Result<Compared, NoMemory>
 {
     // for the proof: the entries so far are legal
     let _ = board.journal();
-    let expected = try_entry(board, entry)?;
+    let expected = make_due(board, entry)?;
     if is_expected(expected, entry) {
         Ok(Compared::Same)
     } else {

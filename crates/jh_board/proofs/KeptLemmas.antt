@@ -22,7 +22,7 @@ use Rattle.jh_board.specs.declared.held.Held.{Held}
 use Rattle.jh_board.specs.declared.indexed.ProgramIndex.{ProgramIndex}
 use Rattle.jh_board.specs.Indexed.{AreProgramIndices}
 use Rattle.jh_board.specs.Pages.{byte_of, HoldsComm, HoldsPlace, HoldsWordOf, MemoryView}
-use Rattle.jh_board.specs.Means.{Means, HoldsPageOf, HoldsWordsOf, IsReadyFor, IsReadyIn, IsReadyToGoOn}
+use Rattle.jh_board.specs.Means.{Means, HoldsCommOf, HoldsWordsOf, IsReadyFor, IsReadyIn, IsReadyToGoOn}
 
 -- the pages that are held stay so
 abbrev pub KeepsPages : MemoryView → MemoryView → Type 0
@@ -55,8 +55,8 @@ pub ready_kept : (old new : Held) (call : Option OpenCall) → new.coming_region
 ready_kept old new None regions cells spare pages h = tt
 ready_kept old new (Some o) regions cells spare pages h = ready_in_kept old new o.phase regions cells spare pages h
 
-pub pages_kept : (old new : Held) (cells : List Live) → KeepsPages old.memory new.memory → All (HoldsPageOf old) cells → All (HoldsPageOf new) cells
-pages_kept old new cells pages h = All-weaker (HoldsPageOf old) (HoldsPageOf new) (λ live. comms_kept old.memory new.memory live.config.id pages) cells h
+pub pages_kept : (old new : Held) (cells : List Live) → KeepsPages old.memory new.memory → All (HoldsCommOf old) cells → All (HoldsCommOf new) cells
+pages_kept old new cells pages h = All-weaker (HoldsCommOf old) (HoldsCommOf new) (λ live. comms_kept old.memory new.memory live.config.id pages) cells h
 
 pub all_words_kept : (old new : Held) (cells : List Live) → KeepsPages old.memory new.memory → All (λ (live : Live). HoldsWordsOf old live.config) cells → All (λ (live : Live). HoldsWordsOf new live.config) cells
 all_words_kept old new cells pages h =

@@ -15,7 +15,7 @@ use Rattle.jh_board.specs.declared.held.Held.{Held}
 use Rattle.jh_board.specs.Indexed.{AreProgramIndices}
 use Rattle.jh_board.specs.Pages.{byte_of, comm_byte, MemoryView}
 use Rattle.jh_num.specs.Pages.{paged_byte}
-use Rattle.jh_board.specs.Means.{Means, HoldsPageOf, HoldsWordsOf}
+use Rattle.jh_board.specs.Means.{Means, HoldsCommOf, HoldsWordsOf}
 use Rattle.jh_board.proofs.ListLemmas.{slice_get_replicate}
 
 -- what is held at opening
@@ -28,7 +28,7 @@ Means_opened image held cpu bytes cpus same system alone programs joined words c
   cells = alone;
   endpoints = joined;
   call = closed;
-  pages = All-from_recursion (HoldsPageOf held) [] tt;
+  pages = All-from_recursion (HoldsCommOf held) [] tt;
   words = All-from_recursion (λ (live : Live). HoldsWordsOf held live.config) [] tt;
   root_words = words;
   named = All-from_recursion (λ (live : Live). NamesCpu live.config) [] tt;

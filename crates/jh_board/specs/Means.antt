@@ -16,8 +16,8 @@ use Rattle.jh_board.specs.Pages.{byte_of, HoldsComm, HoldsWordOf}
 use Rattle.jh_board.specs.declared.held.Held.{Held}
 
 -- the communication page of the cell is held
-abbrev pub HoldsPageOf : Held → Live → Type 0
-HoldsPageOf held live = HoldsComm held.memory.comms live.config.id
+abbrev pub HoldsCommOf : Held → Live → Type 0
+HoldsCommOf held live = HoldsComm held.memory.comms live.config.id
 
 -- the pages of the words of the cell's devices in their state tables are held
 abbrev pub HoldsWordsOf : Held → CellConfig → Type 0
@@ -43,7 +43,8 @@ abbrev pub IsReadyToGoOn : Held → Option OpenCall → Type 0
 IsReadyToGoOn held None = Unit {0}
 IsReadyToGoOn held (Some o) = IsReadyIn held o.phase
 
--- what is held is as the facts say, and needs no memory for what the open call goes on to do
+-- what is held is as the facts say, by which each live cell names a CPU, and needs no memory for what the open call
+-- goes on to do
 pub record Means (image : Image) (held : Held) (facts : Facts) : Type 0 where
   pub bytes : (q : Place) → byte_of held.memory q ≡ facts.byte q
   pub cpus : ListsCpus held.cpus facts.cpu
@@ -51,7 +52,7 @@ pub record Means (image : Image) (held : Held) (facts : Facts) : Type 0 where
   pub cells : held.cells.lives ≡ facts.cells
   pub endpoints : held.endpoints.list ≡ facts.endpoints
   pub call : held.call ≡ facts.call
-  pub pages : All (HoldsPageOf held) facts.cells
+  pub pages : All (HoldsCommOf held) facts.cells
   pub words : All (λ (live : Live). HoldsWordsOf held live.config) facts.cells
   pub root_words : HoldsWordsOf held image.system.root
   pub named : EachNamesCpu facts.cells

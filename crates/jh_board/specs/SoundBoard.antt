@@ -6,8 +6,8 @@ use Rattle.jh_history.specs.Admitted.{IsAdmitted}
 use Rattle.jh_board.specs.Means.{Means}
 use Rattle.jh_board.specs.declared.board.Board.TheInside.{Inside}
 
--- the board's image is admitted, its journal is legal and within the limit, what is held is as the facts say, and the CPU
--- to be asked first is one of 16
+-- the board's image is admitted, its journal is legal and within the limit, what is held is as the facts say, and the
+-- CPU that is kept as the last one's is one of 16
 pub record IsSoundBoard (b : Inside) : Type 0 where
   pub admitted : IsAdmitted b.image
   pub legal : IsLegal b.image b.journal.entries

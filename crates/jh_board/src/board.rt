@@ -245,15 +245,15 @@ impl Board {
         self.image.pool_pages()
     }
 
-    /// Takes the memory for so many more entries of the journal at once, where it takes less than bit by bit.
+    /// Takes the memory for so many more entries of the journal at once.
     pub fn reserve(&mut self, more: usize) -> Result<(), NoMemory>
         ensures { self.new ≡ self.old }
     {
         self.journal.reserve(more)
     }
 
-    /// Makes the entry that is due to the CPU, if one is. Other CPUs are asked only where its call waits for a cell
-    /// that says nothing.
+    /// Makes the entry that is due to the CPU, if one is. Whether anything is due to another is looked for only where
+    /// its call waits for a cell that says nothing.
     pub fn make_due(&mut self, cpu: u8) -> Result<Option<Entry>, TurnFault>
         requires { IsTrue (is_on_board self.old.image cpu) }
         ensures ok { IfOk result (λ made. MakesDue self.old cpu made self.new) }

@@ -179,6 +179,7 @@ impl LiveCells {
         let regions = CellRegions::new(alloc, new.memory_regions.as_slice())?;
         self.cells.reserve()?;
         self.regions.reserve(1)?;
+        // for the proof: so many regions fit into no memory, so both sums are numbers of 64 bits
         let Some(count) = self.region_count.checked_add(new.memory_regions.len()) else {
             return Err(NoMemory);
         };

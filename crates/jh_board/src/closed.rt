@@ -42,11 +42,11 @@ fn open_all(closed: &mut ByteSet)
     };
     match closed.remove(all) {
         Ok(()) => (),
-        // what takes all away needs no room
+        // there is room for one range more
         Err(_) => unreachable!(),
     }
     if let Some(range) = closed.ranges().first() {
-        // no range ends behind the last place, and none below it is left
+        // for the proof: no range ends behind the last place, and none below it is left
         range_ends_within_64_bits(*range);
         unreachable!()
     }

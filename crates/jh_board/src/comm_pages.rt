@@ -108,6 +108,7 @@ impl CommPages {
         ensures others { (other k : ℕ) → (other ≡ cell → k ≢ offset) → comm_byte self.new other k ≡ comm_byte self.old other k }
         ensures held { (other : ℕ) → HoldsComm self.old other → HoldsComm self.new other }
     {
+        // the page is held
         if let Some(page) = self.pages.get_mut(&cell) {
             page.set(offset as usize, byte);
         }
@@ -121,6 +122,7 @@ impl CommPages {
         ensures others { (other k : ℕ) → other ≢ write.now.cell → comm_byte self.new other k ≡ comm_byte self.old other k }
         ensures held { (other : ℕ) → HoldsComm self.old other → HoldsComm self.new other }
     {
+        // the page is held
         if let Some(page) = self.pages.get_mut(&write.cell) {
             page.change(&write.change);
         }

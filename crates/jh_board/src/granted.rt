@@ -165,7 +165,7 @@ fn open_whole(image: &IndexedImage, cells: &LiveCells, cell: u32, wanted: &Wante
 }
 
 /// The devices of the configuration of the cell, where these cells live besides root.
-pub fn devices_of<'a>(image: &'a IndexedImage, cells: &'a LiveCells, cell: u32) -> &'a [PciDevice]
+pub fn list_in<'a>(image: &'a IndexedImage, cells: &'a LiveCells, cell: u32) -> &'a [PciDevice]
     ensures { result.now ≡ list_in image.now cells.now.lives cell }
 {
     if cell == image.root() {
@@ -191,7 +191,7 @@ fn behind_in(
 {
     if is_within(wanted) {
         let region = open_whole(image, cells, cell, wanted);
-        let devices = Devices::new(cell, devices_of(image, cells, cell), endpoints);
+        let devices = Devices::new(cell, list_in(image, cells, cell), endpoints);
         answer_behind(&devices, region, ecam_of(&image.image().system), wanted)
     } else {
         Reach::Nothing

@@ -8,8 +8,8 @@ ghost use Rattle.jh_board.specs.Maps.{AdmittedMap, grant_of_map};
 use jh_history::legal_journals_are_sound;
 use jh_map::maps_tell_each_address;
 
-/// After a legal journal the map of a cell tells of each address, and of each right, exactly what the cell is granted
-/// there.
+/// After a legal journal of an admitted image the map of a cell tells of each address, and of each right, exactly what
+/// the cell is granted there.
 pub fn maps_tell_what_is_granted()
     ensures { (m : AdmittedMap) (access : TheAccess) (at : ℕ) → grant_of_map m.id m.runs access at ≡ granted m.image (facts m.image m.entries) m.id access at }
 {

@@ -17,7 +17,7 @@ use jh_num::{NoMemory, PAGE_SIZE};
 use std::alloc::Global;
 use std::marker::Model;
 
-/// The memory of a board: that of the machine, and a communication page for each cell that has lived.
+/// The memory of a board: physical memory, and the communication pages of cells.
 #[derive(Drop)]
 pub struct Memory {
     physical: Physical,
@@ -247,7 +247,7 @@ impl Memory {
     }
 
     /// Holds the communication page of the cell. No byte changes.
-    pub fn hold_page(&mut self, cell: u32) -> Result<(), NoMemory>
+    pub fn hold_comm(&mut self, cell: u32) -> Result<(), NoMemory>
         ensures bytes { (q : ThePlace) → byte_of self.new q ≡ byte_of self.old q }
         ensures held { OnOk result (HoldsComm self.new.comms cell) }
         ensures others { (q : ThePlace) → HoldsPlace self.old q → HoldsPlace self.new q }

@@ -145,6 +145,7 @@ impl Physical {
         ensures others { (q : ℕ) → q ≢ place → paged_byte self.new q ≡ paged_byte self.old q }
         ensures held { (q : ℕ) → HoldsPage self.old q → HoldsPage self.new q }
     {
+        // the page is held
         if let Some(page) = self.pages.get_mut(&(place / PAGE_SIZE)) {
             page.set((place % PAGE_SIZE) as usize, byte);
         }

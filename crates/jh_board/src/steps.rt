@@ -27,7 +27,7 @@ ghost use Rattle.jh_board.specs.Private.Steps.{decides_to_go_on, create_of, chan
 use crate::cell_regions::CellRegions;
 use crate::cells::LiveCells;
 use crate::devices::{change_devices, prepare_devices, write_endpoint_word_if};
-use crate::granted::devices_of;
+use crate::granted::list_in;
 use crate::held::Held;
 use crate::indexed::{IndexedImage, ProgramIndex};
 use crate::memory::Memory;
@@ -152,7 +152,7 @@ fn make_ready(held: &mut Held, config: &CellConfig) -> Result<(), NoMemory>
     ensures means { (i : Image) (f : Facts) → NeedsNothingYet f (Some config.now) → Means i held.old f → Means i held.new f }
 {
     let regions = held.cells.prepare(held.alloc, config)?;
-    held.memory.hold_page(config.id)?;
+    held.memory.hold_comm(config.id)?;
     prepare_devices(&mut held.memory, &mut held.endpoints, config)?;
     held.coming_regions = Some(regions);
     Ok(())
@@ -240,7 +240,7 @@ fn make_devices(image: &IndexedImage, held: &mut Held, entry: &Entry, reach: &Re
             if !is_of_device(reach) {
                 return;
             }
-            let list = devices_of(image, &held.cells, entry.cell);
+            let list = list_in(image, &held.cells, entry.cell);
             let word = write_device(&mut held.endpoints, entry.cell, list, reach, value);
             write_endpoint_word_if(&mut held.memory, word);
         }

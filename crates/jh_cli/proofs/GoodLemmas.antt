@@ -39,7 +39,7 @@ use Rattle.jh_image.specs.Images.{IsImage}
 use Rattle.jh_image.specs.Laws.{AreKnown}
 use Rattle.jh_image.proofs.Public.{SpellingsAreFaultless}
 use Rattle.jh_run.specs.Maps.{IsMapsAnswer}
-use Rattle.jh_run.specs.Soak.{soak_board}
+use Rattle.jh_run.specs.Soak.{soak_image}
 use Rattle.jh_cli.specs.declared.status.Status.{Status}
 use Rattle.jh_cli.specs.declared.status.Status.TheVariants.{Good, Found, ReadFault, WriteFault, NoMemory, Full}
 use Rattle.jh_cli.specs.Limits.{asked_of_a_file, asked_of_a_journal}
@@ -50,13 +50,13 @@ use Rattle.jh_cli.specs.Reading.{Reply, FileKind, EndsAt, Reads, IsCountedFault}
 use Rattle.jh_cli.specs.Check.{IsCellFile, CellRefusal, IsSystemFile, SystemRefusal, system_file, EndsAmong, ChecksCells, Checks, checked_status}
 use Rattle.jh_cli.specs.Pack.{IsSpecFile, SpecRefusal, spec_file, Packs, packed}
 use Rattle.jh_cli.specs.Boards.{stopped, EndsAtBoard}
-use Rattle.jh_cli.specs.Play.{AreCpus, IsSchedule, ScheduleRefusal, schedule_file, IsPlayed, played_status, PlaysBy, Plays}
+use Rattle.jh_cli.specs.Play.{AreCpus, IsScheduleFile, ScheduleRefusal, schedule_file, IsPlayed, played_status, PlaysBy, Plays}
 use Rattle.jh_cli.specs.Run.{Runs}
 use Rattle.jh_cli.specs.Map.{map_reply, IsMapped, MapsBy, Maps}
 use Rattle.jh_cli.specs.Soak.{AreRounds, Soaks}
 use Rattle.jh_cli.specs.Audit.{IsJournalFile, JournalRefusal, journal_file, IsAudited, AuditsBy, Audits, verdict_status}
 use Rattle.jh_cli.specs.Outcome.{Outcome, Sent}
-use Rattle.jh_cli.specs.Complete.{IsKnownBoard, FileSpells, HoldCells, AreGoodToCheck, IsGoodToPack, AreGoodToPlay, AreGoodToRun, AreGoodToAudit, AreGood, MayEndWith}
+use Rattle.jh_cli.specs.Complete.{IsKnownBoard, FileHolds, HoldCells, AreGoodToCheck, IsGoodToPack, AreGoodToPlay, AreGoodToRun, AreGoodToAudit, AreGood, MayEndWith}
 use Rattle.jh_cli.proofs.StatusLemmas.{run_ends}
 use Rattle.jh_cli.proofs.KnownLemmas.{all_told, each_is_told, is_image, stops}
 
@@ -95,7 +95,7 @@ of_verdict : (reply : Reply) (status : Status) → reply.status ≡ status → I
 of_verdict reply status is one = inl (subst IsVerdict (sym is) one)
 
 stops_unrefused : {A : Type 0} (Answer : Status → Type 0) (most : ℕ) (contents : Contents) (name : List ℕ) (Why : List ℕ → List ℕ → Type 0) (Form : List ℕ → A → Type 0) (value : A) (reply : Reply)
-    → IsSound Why Form most value → FileSpells most contents name Form value → EndsAt most contents name Why reply → IsAnswered Answer reply
+    → IsSound Why Form most value → FileHolds most contents name Form value → EndsAt most contents name Why reply → IsAnswered Answer reply
 stops_unrefused Answer most contents name Why Form value reply sound held (inl fault) = inr (ap (λ (s : Reply). s.status) fault)
 stops_unrefused Answer most contents name Why Form value reply sound held (inr is) =
     let same : is.bytes ≡ held.bytes = handed_held (contents name) most held.bytes is.bytes held.holds held.within is.handed in
@@ -103,7 +103,7 @@ stops_unrefused Answer most contents name Why Form value reply sound held (inr i
 
 -- what follows a file that holds a value is what was read of it
 reads_unrefused : {A : Type 0} (Answer : Status → Type 0) (contents : Contents) (name : List ℕ) (kind : FileKind A) (next : A → Reply → Type 0) (value : A) (reply : Reply)
-    → IsSound kind.Refusal kind.Form kind.most value → FileSpells kind.most contents name kind.Form value
+    → IsSound kind.Refusal kind.Form kind.most value → FileHolds kind.most contents name kind.Form value
     → ((bytes : List ℕ) (other : A) → kind.Form bytes value → kind.Form bytes other → next other reply → IsAnswered Answer reply)
     → Reads contents name kind next reply → IsAnswered Answer reply
 reads_unrefused Answer contents name kind next value reply sound held rest (inl stops) = stops_unrefused Answer kind.most contents name kind.Refusal kind.Form value reply sound held stops
@@ -131,7 +131,7 @@ cell_sound faultless cell bytes words within form (inr bad) =
 
 -- each of the files holds a cell
 one_of_cells : (contents : Contents) (before : List (List ℕ)) (name : List ℕ) (rest : List (List ℕ)) (cells : List CellConfig)
-    → HoldCells contents (before ++ name ∷ rest) cells → (cell : CellConfig) × FileSpells asked_of_a_file contents name IsCellFile cell
+    → HoldCells contents (before ++ name ∷ rest) cells → (cell : CellConfig) × FileHolds asked_of_a_file contents name IsCellFile cell
 one_of_cells contents [] name rest [] held = absurd held
 one_of_cells contents [] name rest (cell ∷ cells) held = (cell, held.0)
 one_of_cells contents (b ∷ before) name rest [] held = absurd held
@@ -209,12 +209,12 @@ same_schedule one other same text = ap (λ (items : List (Option ℕ)). unless (
 pub same_for_image : (image : Image) (one other : ℕ) (text : List ℕ) → AreCpus image one → AreCpus image other → schedule_of one text ≡ schedule_of other text
 same_for_image image one other text h k = same_schedule one other (λ n lt. h n lt ∙ sym (k n lt)) text
 
-pub schedule_sound : (image : Image) (items : List ℕ) → IsSound (ScheduleRefusal image) (IsSchedule image) asked_of_a_file items
+pub schedule_sound : (image : Image) (items : List ℕ) → IsSound (ScheduleRefusal image) (IsScheduleFile image) asked_of_a_file items
 schedule_sound image items bytes words within form (inl over) = no_more asked_of_a_file bytes within over.0
 schedule_sound image items bytes words within form (inr bad) =
     ok_err (schedule_of form.cpus bytes) items bad.fault form.spelled (same_for_image image form.cpus bad.cpus bytes form.are bad.are ∙ bad.first)
 
-pub one_schedule : (image : Image) (bytes one other : List ℕ) → IsSchedule image bytes one → IsSchedule image bytes other → one ≡ other
+pub one_schedule : (image : Image) (bytes one other : List ℕ) → IsScheduleFile image bytes one → IsScheduleFile image bytes other → one ≡ other
 one_schedule image bytes one other h k = ok_one (schedule_of h.cpus bytes) one other h.spelled (same_for_image image h.cpus k.cpus bytes h.are k.are ∙ k.spelled)
 
 -- what a play of the items ends with
@@ -225,7 +225,7 @@ played_unrefused : (image : Image) (items other : List ℕ) (reply : Reply) → 
 played_unrefused image items other reply same is =
     inl (ap (λ (s : Reply). s.status) is.told ∙ ap (λ (xs : List ℕ). played_status (played image max_entries xs).full) (sym same))
 
-plays_unrefused : (contents : Contents) (schedule : List ℕ) (image : Image) (items : List ℕ) (reply : Reply) → FileSpells asked_of_a_file contents schedule (IsSchedule image) items
+plays_unrefused : (contents : Contents) (schedule : List ℕ) (image : Image) (items : List ℕ) (reply : Reply) → FileHolds asked_of_a_file contents schedule (IsScheduleFile image) items
     → PlaysBy contents schedule image reply → IsAnswered (IsPlayOf image items) reply
 plays_unrefused contents schedule image items reply held h =
     reads_unrefused (IsPlayOf image items) contents schedule (schedule_file image) (IsPlayed image) items reply (schedule_sound image items) held
@@ -253,7 +253,7 @@ verdict_unrefused : (verdict : Verdict) → IsVerdict (verdict_status verdict)
 verdict_unrefused (Legal count quiet) = inl refl
 verdict_unrefused (Illegal line expected) = inr refl
 
-audits_unrefused : NoBadLine → NotLong → (contents : Contents) (journal : List ℕ) (image : Image) (entries : List Entry) (reply : Reply) → FileSpells asked_of_a_journal contents journal IsJournalFile entries
+audits_unrefused : NoBadLine → NotLong → (contents : Contents) (journal : List ℕ) (image : Image) (entries : List Entry) (reply : Reply) → FileHolds asked_of_a_journal contents journal IsJournalFile entries
     → AuditsBy contents journal image reply → IsAnswered IsVerdict reply
 audits_unrefused no_bad not_long contents journal image entries reply held h =
     reads_unrefused IsVerdict contents journal journal_file (IsAudited image) entries reply (journal_sound no_bad not_long entries) held
@@ -278,7 +278,7 @@ mapped_unrefused : (image : Image) (cpus other : List ℕ) (reply : Reply) → c
 mapped_unrefused image cpus other reply same (found, is, told) =
     inl (ap (λ (s : Reply). s.status) told ∙ mapped_status image other found is ∙ ap (λ (xs : List ℕ). played_status (items image max_entries xs []).full) (sym same))
 
-maps_unrefused : (contents : Contents) (schedule : List ℕ) (image : Image) (cpus : List ℕ) (reply : Reply) → FileSpells asked_of_a_file contents schedule (IsSchedule image) cpus
+maps_unrefused : (contents : Contents) (schedule : List ℕ) (image : Image) (cpus : List ℕ) (reply : Reply) → FileHolds asked_of_a_file contents schedule (IsScheduleFile image) cpus
     → MapsBy contents schedule image reply → IsAnswered (IsMapOf image cpus) reply
 maps_unrefused contents schedule image cpus reply held h =
     reads_unrefused (IsMapOf image cpus) contents schedule (schedule_file image) (IsMapped image) cpus reply (schedule_sound image cpus) held
@@ -304,7 +304,7 @@ run_unrefused unrefused contents board reply good (inr (image, is, admitted, ran
 
 soak_unrefused : (word : List ℕ) (reply : Reply) (rounds : ℕ) → AreRounds word rounds → Soaks word reply → IsAnswered IsRunEnd reply
 soak_unrefused word reply rounds are (inl none) = absurd (none.0 rounds are)
-soak_unrefused word reply rounds are (inr (n, others, soaked)) = inl (run_ends (soak_board n) soaked.entries reply.status soaked.run.ends)
+soak_unrefused word reply rounds are (inr (n, others, soaked)) = inl (run_ends (soak_image n) soaked.entries reply.status soaked.run.ends)
 
 -- ---- all of them
 

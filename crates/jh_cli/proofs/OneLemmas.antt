@@ -36,7 +36,7 @@ use Rattle.jh_cli.specs.Reading.{Reply, EndsAt, SpellsAt, Reads}
 use Rattle.jh_cli.specs.Check.{IsCellFile, CellRefusal, IsSystemFile, SystemRefusal, SpellCells, ChecksCells, checked}
 use Rattle.jh_cli.specs.Pack.{IsSpecFile, SpecRefusal}
 use Rattle.jh_cli.specs.Play.{ScheduleRefusal}
-use Rattle.jh_cli.specs.Audit.{JournalRefusal, IsAudited, verdict_status, verdict_text}
+use Rattle.jh_cli.specs.Audit.{JournalRefusal, IsAudited, verdict_status, verdict_line}
 use Rattle.jh_cli.specs.Complete.{AreKnownNames}
 use Rattle.jh_cli.proofs.GoodLemmas.{CellsAreFaultless, no_more, cell_sound, same_for_image}
 use Rattle.jh_cli.proofs.StopLemmas.{refusal_reply}
@@ -50,7 +50,7 @@ OneCell = (a b : CellConfig) → IsCell a → IsCell b → IsWithinLimits a → 
 -- ---- one file
 
 abbrev verdict_reply : Verdict → Reply
-verdict_reply verdict = record { status = verdict_status verdict; text = verdict_text verdict }
+verdict_reply verdict = record { status = verdict_status verdict; text = verdict_line verdict }
 
 abbrev pub IsRead : Reply → Type 0
 IsRead reply = reply.status ≢ ReadFault

@@ -10,7 +10,7 @@ use Rattle.jh_image.specs.declared.fault.ImageCause.TheVariants.{ReadFault, Over
 use Rattle.jh_image.specs.declared.fault.ImageFault.{ImageFault}
 use Rattle.jh_image.specs.declared.fault.ImageFault.TheVariants.{Refused, NoMemory}
 use Rattle.jh_image.specs.Causes.{OnRefused}
-use Rattle.jh_image.specs.Order.{board_files, ask_for as ask_at, AsksBoard, AsksBoardUntil, until_the_board, until_a_file}
+use Rattle.jh_image.specs.Order.{board_files, last_ask as ask_at, AsksBoard, AsksBoardUntil, until_the_board, until_a_file}
 use Rattle.jh_cli.specs.declared.ending.Ending.{Ending}
 use Rattle.jh_cli.specs.declared.ending.CallFault.{CallFault}
 use Rattle.jh_cli.specs.declared.ending.CallFault.TheVariants as stop

@@ -20,7 +20,7 @@ use Rattle.jh_cli.specs.Reading.{Reply}
 use Rattle.jh_cli.specs.Check.{IsSystemFile, SystemRefusal, ChecksCells}
 use Rattle.jh_cli.specs.Pack.{IsSpecFile, SpecRefusal, packed}
 use Rattle.jh_cli.specs.Boards.{stopped, EndsAtBoard, Opens}
-use Rattle.jh_cli.specs.Play.{IsSchedule, ScheduleRefusal, IsPlayed, PlaysBy}
+use Rattle.jh_cli.specs.Play.{IsScheduleFile, ScheduleRefusal, IsPlayed, PlaysBy}
 use Rattle.jh_cli.specs.Map.{map_reply, IsMapped, MapsBy}
 use Rattle.jh_cli.specs.Audit.{IsJournalFile, JournalRefusal, IsAudited, AuditsBy}
 use Rattle.jh_cli.specs.Outcome.{Outcome}
@@ -88,13 +88,13 @@ one_outcome cells systems one_cell one_system no_bad not_long one_journal not_bo
     (λ (spec : Spec) (s : Reply). s ≡ record { status = Good; text = packed spec }) one other (λ s a b r q. a ∙ sym b) h k read also
 one_outcome cells systems one_cell one_system no_bad not_long one_journal not_both one_line one_image unrefused one_cause one_maps contents (Some (PlayOf board schedule)) one other serial told h k read also =
     one_opening one_cause one_image unrefused contents board (PlaysBy contents schedule) one other told.0
-    (λ image a b. one_reading asked_of_a_file contents schedule told.1.0 (ScheduleRefusal image) (IsSchedule image) (schedule_words image) (one_schedule image) (λ bytes s words form why. schedule_sound image s bytes words form.within form why)
+    (λ image a b. one_reading asked_of_a_file contents schedule told.1.0 (ScheduleRefusal image) (IsScheduleFile image) (schedule_words image) (one_schedule image) (λ bytes s words form why. schedule_sound image s bytes words form.within form why)
     (IsPlayed image) one other (λ s x y r q. x.told ∙ sym y.told) a b read also) h k read also
 one_outcome cells systems one_cell one_system no_bad not_long one_journal not_both one_line one_image unrefused one_cause one_maps contents (Some (RunOf board)) one other serial told h k read also = absurd serial
 one_outcome cells systems one_cell one_system no_bad not_long one_journal not_both one_line one_image unrefused one_cause one_maps contents (Some (SoakOf rounds)) one other serial told h k read also = absurd serial
 one_outcome cells systems one_cell one_system no_bad not_long one_journal not_both one_line one_image unrefused one_cause one_maps contents (Some (MapOf board schedule)) one other serial told h k read also =
     one_opening one_cause one_image unrefused contents board (MapsBy contents schedule) one other told.0
-    (λ image a b. one_reading asked_of_a_file contents schedule told.1.0 (ScheduleRefusal image) (IsSchedule image) (schedule_words image) (one_schedule image) (λ bytes s words form why. schedule_sound image s bytes words form.within form why)
+    (λ image a b. one_reading asked_of_a_file contents schedule told.1.0 (ScheduleRefusal image) (IsScheduleFile image) (schedule_words image) (one_schedule image) (λ bytes s words form why. schedule_sound image s bytes words form.within form why)
     (IsMapped image) one other (λ s x y r q. one_mapped one_maps image s one other x y) a b read also) h k read also
 one_outcome cells systems one_cell one_system no_bad not_long one_journal not_both one_line one_image unrefused one_cause one_maps contents (Some (AuditOf board journal)) one other serial told h k read also =
     one_opening one_cause one_image unrefused contents board (AuditsBy contents journal) one other told.0

@@ -4,7 +4,7 @@ use Rattle.jh_script.specs.declared.image.Image.{Image}
 use Rattle.jh_history.specs.declared.entry.Entry.{Entry}
 use Rattle.jh_history.specs.Due.{IsLegal, IsQuiet}
 use Rattle.jh_run.specs.Ends.{is_full, IsFullAndBusy}
-use Rattle.jh_run.specs.Soak.{soak_board}
+use Rattle.jh_run.specs.Soak.{soak_image}
 use Rattle.jh_run.specs.declared.ended.Ended.{Ended}
 use Rattle.jh_run.specs.declared.ended.Ended.TheVariants.{Unstopped, Full}
 use Rattle.jh_text.specs.Faults.{max_entries}
@@ -32,7 +32,7 @@ other reply one is differs also = differs (ap exit_number (sym is ∙ also))
 
 pub soak_counted : (old new : ℕ) (failed word : List ℕ) (reply : Reply) → Soaks word reply → IsCountedFault old new failed reply
 soak_counted old new failed word reply (inl none) read = absurd (other reply status.Refused (ap (λ (s : Reply). s.status) none.1) (omega arith) read)
-soak_counted old new failed word reply (inr (rounds, are, soaked)) read = absurd (by (run_ends (soak_board rounds) soaked.entries reply.status soaked.run.ends)) where
+soak_counted old new failed word reply (inr (rounds, are, soaked)) read = absurd (by (run_ends (soak_image rounds) soaked.entries reply.status soaked.run.ends)) where
   by : (reply.status ≡ status.Good) ⊎ (reply.status ≡ status.Full) → ⊥
   by (inl is) = other reply status.Good is (omega arith) read
   by (inr is) = other reply status.Full is (omega arith) read

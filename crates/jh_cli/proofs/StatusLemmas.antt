@@ -7,7 +7,7 @@ use Rattle.jh_history.specs.Items.{played}
 use Rattle.jh_image.specs.declared.fault.ImageCause.{ImageCause}
 use Rattle.jh_image.specs.declared.fault.ImageCause.TheVariants.{ReadFault as CantBeRead, Oversize, Json, Member, System, Findings, PoolSmall, Preload as BadPreload, Program as BadProgram}
 use Rattle.jh_spec.specs.declared.spec.Spec.{Spec}
-use Rattle.jh_run.specs.Soak.{soak_board}
+use Rattle.jh_run.specs.Soak.{soak_image}
 use Rattle.jh_audit.specs.declared.verdict.Verdict.{Verdict}
 use Rattle.jh_audit.specs.declared.verdict.Verdict.TheVariants.{Legal, Illegal}
 use Rattle.jh_check.specs.Lists.{is_any, capped}
@@ -87,7 +87,7 @@ run_other reply (inr is) = other reply Full is (omega arith)
 
 soak_other : (word : List ℕ) (reply : Reply) → Soaks word reply → IsOther reply
 soak_other word reply (inl none) = other reply Refused (ap (λ (s : Reply). s.status) none.1) (omega arith)
-soak_other word reply (inr (rounds, are, soaked)) = run_other reply (run_ends (soak_board rounds) soaked.entries reply.status soaked.run.ends)
+soak_other word reply (inr (rounds, are, soaked)) = run_other reply (run_ends (soak_image rounds) soaked.entries reply.status soaked.run.ends)
 
 audited_other : (verdict : Verdict) → exit_number (verdict_status verdict) ≢ 5
 audited_other (Legal count quiet) = omega arith

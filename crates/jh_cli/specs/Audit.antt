@@ -38,16 +38,16 @@ JournalRefusal bytes words = RefusesOversizeAt asked_of_a_journal bytes words �
 abbrev pub journal_file : FileKind (List Entry)
 journal_file = record { most = asked_of_a_journal; Refusal = JournalRefusal; Form = IsJournalFile }
 
--- the line that tells that the entry was due instead of the one in this line
-abbrev pub due_text : ℕ → Entry → List ℕ
-due_text number entry = codes "illegal line " ++ (decimal number ++ (codes ": due " ++ (entry_text entry ++ 10 ∷ [])))
+-- the line that tells that the entry was due instead of the one in the journal's line of this number
+abbrev pub due_line : ℕ → Entry → List ℕ
+due_line number entry = codes "illegal line " ++ (decimal number ++ (codes ": due " ++ (entry_text entry ++ 10 ∷ [])))
 
 -- the line that tells the verdict
-abbrev pub verdict_text : Verdict → List ℕ
-verdict_text (Legal count true) = codes "legal " ++ (decimal count ++ (codes " quiet" ++ 10 ∷ []))
-verdict_text (Legal count false) = codes "legal " ++ (decimal count ++ (codes " unfinished" ++ 10 ∷ []))
-verdict_text (Illegal number (Some entry)) = due_text number entry
-verdict_text (Illegal number None) = codes "illegal line " ++ (decimal number ++ (codes ": nothing due" ++ 10 ∷ []))
+abbrev pub verdict_line : Verdict → List ℕ
+verdict_line (Legal count true) = codes "legal " ++ (decimal count ++ (codes " quiet" ++ 10 ∷ []))
+verdict_line (Legal count false) = codes "legal " ++ (decimal count ++ (codes " unfinished" ++ 10 ∷ []))
+verdict_line (Illegal number (Some entry)) = due_line number entry
+verdict_line (Illegal number None) = codes "illegal line " ++ (decimal number ++ (codes ": nothing due" ++ 10 ∷ []))
 
 -- the status of the verdict: good where the journal is legal, and found where it isn't
 abbrev pub verdict_status : Verdict → Status
@@ -58,7 +58,7 @@ verdict_status (Illegal number expected) = Found
 pub record IsAudited (image : Image) (entries : List Entry) (reply : Reply) : Type 0 where
   pub verdict : Verdict
   pub judged : Judges image entries verdict
-  pub told : reply ≡ record { status = verdict_status verdict; text = verdict_text verdict }
+  pub told : reply ≡ record { status = verdict_status verdict; text = verdict_line verdict }
 
 -- what an audit of the journal by the image ends with
 abbrev pub AuditsBy : Contents → List ℕ → Image → Reply → Type 0

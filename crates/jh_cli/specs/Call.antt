@@ -1,5 +1,5 @@
--- What a call says of its status, of the files that it reads and of the sink. Each call of the program has this one word
--- as its contract, so it holds of all of them alike.
+-- What a call says of its status, of the files that it reads and of the sink. Each call of the program has this one
+-- definition (`IsCall`) as its contract, so it holds of all of them alike.
 use Rattle.std.specs.Prelude.{◌≡◌, ◌≢◌, ◌⊎◌, Option}
 use Rattle.jh_outside.specs.Count.{Rose}
 use Rattle.jh_outside.specs.declared.files.Files as files_told
@@ -16,9 +16,9 @@ use Rattle.jh_cli.specs.declared.status.Status.TheVariants.{ReadFault, WriteFaul
 
 -- `S` are the states of the files, and `files` is what they tell
 module _ {S : Type 0} (files : files_told.Ghosts S) where
-  -- the reply is an outcome of the request; the files that the request names are read for it in their order, each once and
-  -- no other, up to the one where the call ends; and that a file can't be read is told only where the count rose, of the
-  -- read that failed
+  -- the reply is an outcome of the request; the files that the request names, and those that a board lists, are read for
+  -- it in their order, each once and no other, up to the one where the call ends; and that a file can't be read is told
+  -- only where the count rose, of the read that failed
   pub record IsReplyTo (request : Option Request) (s t : S) (reply : Reply) : Type 0 where
     pub outcome : Outcome (files.contents s) request reply
     pub read : AsksFor files s t (files.contents s) request reply
@@ -36,7 +36,8 @@ module _ {S K : Type 0} (files : files_told.Ghosts S) (sink : sink_told.Ghosts K
   pub record IsCall (request : Option Request) (s t : S) (k l : K) (status : Status) : Type 0 where
     -- the status, and what was appended, are those of an outcome of the request
     pub ends : Ends request s t k l status
-    -- a fault of reading or writing comes only where the count rose in this call
+    -- a fault of reading or writing comes only where its count rose in this call, and that of reading with the line of the
+    -- read that failed
     pub read_fault : status ≡ ReadFault → Rose (files.faults s) (files.faults t) × Appended (sink.written k) (sink.written l) (fault_line (files.failed t))
     pub write_fault : status ≡ WriteFault → Rose (sink.faults k) (sink.faults l)
     -- with any other status but want of memory the name of the failed read is what it was

@@ -16,7 +16,7 @@ use Rattle.jh_text.specs.Faults.{max_entries}
 use Rattle.jh_cli.specs.Words.{Request, CheckOf, PackOf, PlayOf, RunOf, MapOf, AuditOf, SoakOf}
 use Rattle.jh_cli.specs.Check.{IsCellFile, IsSystemFile}
 use Rattle.jh_cli.specs.Pack.{IsSpecFile}
-use Rattle.jh_cli.specs.Play.{IsSchedule, played_status}
+use Rattle.jh_cli.specs.Play.{IsScheduleFile, played_status}
 use Rattle.jh_cli.specs.Audit.{IsJournalFile}
 use Rattle.jh_cli.specs.Soak.{AreRounds}
 use Rattle.jh_cli.specs.declared.status.Status.{Status}
@@ -24,8 +24,8 @@ use Rattle.jh_cli.specs.declared.status.Status.TheVariants.{Good, Found, Full}
 use Rattle.jh_cli.specs.Limits.{asked_of_a_file, asked_of_a_journal}
 
 module _ {A : Type 0} where
-  -- the file of this name holds these bytes, fewer than `most`, and they spell the value
-  pub record FileSpells (most : ℕ) (contents : Contents) (name : List ℕ) (Form : List ℕ → A → Type 0) (value : A) : Type 0 where
+  -- the file of this name holds bytes, fewer than `most`, that spell this value
+  pub record FileHolds (most : ℕ) (contents : Contents) (name : List ℕ) (Form : List ℕ → A → Type 0) (value : A) : Type 0 where
     pub bytes : List ℕ
     pub holds : contents name ≡ Some (Some bytes)
     pub within : length bytes < most
@@ -34,7 +34,7 @@ module _ {A : Type 0} where
 -- the files of these names hold these cells, one each
 abbrev pub HoldCells : Contents → List (List ℕ) → List CellConfig → Type 0
 HoldCells contents [] [] = ⊤
-HoldCells contents (name ∷ names) (cell ∷ cells) = FileSpells asked_of_a_file contents name IsCellFile cell × HoldCells contents names cells
+HoldCells contents (name ∷ names) (cell ∷ cells) = FileHolds asked_of_a_file contents name IsCellFile cell × HoldCells contents names cells
 HoldCells contents _ _ = ⊥
 
 -- the files tell of each of these names all the bytes that it holds, or that it is missing
@@ -57,17 +57,17 @@ AreKnownFiles contents (Some (MapOf board schedule)) = IsKnownBoard contents boa
 AreKnownFiles contents (Some (AuditOf board journal)) = IsKnownBoard contents board × AreKnownNames contents (journal ∷ [])
 AreKnownFiles contents (Some (SoakOf rounds)) = ⊤
 
--- the files of a check hold a system and a cell each, whatever the check finds in them
+-- the first file of a check holds a system and each other one a cell, whatever the check finds in them
 pub record AreGoodToCheck (contents : Contents) (system : List ℕ) (cells : List (List ℕ)) : Type 0 where
   pub of_system : SystemConfig
-  pub system_held : FileSpells asked_of_a_file contents system IsSystemFile of_system
+  pub system_held : FileHolds asked_of_a_file contents system IsSystemFile of_system
   pub of_cells : List CellConfig
   pub cells_held : HoldCells contents cells of_cells
 
 -- the file of a pack holds a configuration's SPEC
 pub record IsGoodToPack (contents : Contents) (name : List ℕ) : Type 0 where
   pub spec : Spec
-  pub spells : FileSpells asked_of_a_file contents name IsSpecFile spec
+  pub spells : FileHolds asked_of_a_file contents name IsSpecFile spec
 
 -- the files tell of the board and of what it lists, which make an image, and the schedule's holds items for it
 pub record AreGoodToPlay (contents : Contents) (board schedule : List ℕ) : Type 0 where
@@ -75,7 +75,7 @@ pub record AreGoodToPlay (contents : Contents) (board schedule : List ℕ) : Typ
   pub image : Image
   pub is : IsImage contents board image
   pub items : List ℕ
-  pub spells : FileSpells asked_of_a_file contents schedule (IsSchedule image) items
+  pub spells : FileHolds asked_of_a_file contents schedule (IsScheduleFile image) items
 
 -- the files tell of the board and of what it lists, which make an image
 pub record AreGoodToRun (contents : Contents) (board : List ℕ) : Type 0 where
@@ -90,7 +90,7 @@ pub record AreGoodToAudit (contents : Contents) (board journal : List ℕ) : Typ
   pub image : Image
   pub is : IsImage contents board image
   pub entries : List Entry
-  pub spells : FileSpells asked_of_a_journal contents journal IsJournalFile entries
+  pub spells : FileHolds asked_of_a_journal contents journal IsJournalFile entries
 
 -- the words have a command, and its files are good for it
 abbrev pub AreGood : Contents → Option Request → Type 0
@@ -103,9 +103,9 @@ AreGood contents (Some (MapOf board schedule)) = AreGoodToPlay contents board sc
 AreGood contents (Some (AuditOf board journal)) = AreGoodToAudit contents board journal
 AreGood contents (Some (SoakOf rounds)) = (n : ℕ) × AreRounds rounds n
 
--- what a call with good words and files ends with: a check with whether something is found, a pack with `Good`, a play
--- with whether the journal stopped at its limit, a map with whether that of the schedule alone did, an audit with whether
--- the journal is legal; a run or a soak ends with `Good` or `Full`, which its outcome parts
+-- what a call with good words and files ends with: a check or an audit with `Good` or `Found`, a pack with `Good`, a play
+-- with whether the journal stopped at its limit, a map with whether that of the schedule's items alone did, a run or a
+-- soak with `Good` or `Full`; where there are two, it is left to the outcome which of them it is
 abbrev pub MayEndWith : (contents : Contents) (request : Option Request) → AreGood contents request → Status → Type 0
 MayEndWith contents None good status = ⊥
 MayEndWith contents (Some (CheckOf system cells)) good status = (status ≡ Good) ⊎ (status ≡ Found)

@@ -22,7 +22,7 @@ abbrev pub AreCpus : Image → ℕ → Type 0
 AreCpus image cpus = (n : ℕ) → n < 16 → has_cpu cpus n ≡ is_on_board image n
 
 -- the bytes are the text of a schedule for the board, and these are its items
-pub record IsSchedule (image : Image) (bytes items : List ℕ) : Type 0 where
+pub record IsScheduleFile (image : Image) (bytes items : List ℕ) : Type 0 where
   pub within : length bytes < asked_of_a_file
   pub cpus : ℕ
   pub are : AreCpus image cpus
@@ -43,7 +43,7 @@ ScheduleRefusal image bytes words = RefusesOversize bytes words ⊎ IsNoSchedule
 
 -- a schedule's file for the board
 abbrev pub schedule_file : Image → FileKind (List ℕ)
-schedule_file image = record { most = asked_of_a_file; Refusal = ScheduleRefusal image; Form = IsSchedule image }
+schedule_file image = record { most = asked_of_a_file; Refusal = ScheduleRefusal image; Form = IsScheduleFile image }
 
 -- the status of a play, by whether the journal stopped at its limit
 abbrev pub played_status : Bool → Status

@@ -17,7 +17,8 @@ pub record Reply : Type 0 where
 abbrev pub IsCountedFault : ℕ → ℕ → List ℕ → Reply → Type 0
 IsCountedFault old new failed reply = reply.status ≡ ReadFault → Rose old new × (reply.text ≡ fault_line failed)
 
--- the file of this name, of which so many bytes are asked, is refused by these words
+-- the reply refuses the file of this name, of which so many bytes are asked, by words that `Why` has for what it
+-- hands out
 pub record IsRefused (most : ℕ) (contents : Contents) (name : List ℕ) (Why : List ℕ → List ℕ → Type 0) (reply : Reply) : Type 0 where
   pub bytes : List ℕ
   pub handed : HandsOut (contents name) most bytes
@@ -59,6 +60,6 @@ module _ {A : Type 0} where
 abbrev pub RefusesOversizeAt : ℕ → List ℕ → List ℕ → Type 0
 RefusesOversizeAt most bytes words = (most ≤ length bytes) × (words ≡ codes "oversize")
 
--- so for a file, which may have 1 MiB
+-- the same of a file, which may have at most 1 MiB
 abbrev pub RefusesOversize : List ℕ → List ℕ → Type 0
 RefusesOversize bytes words = RefusesOversizeAt asked_of_a_file bytes words

@@ -3,7 +3,7 @@ use Rattle.std.specs.Prelude.{◌≡◌, ◌≤◌, ◌⊎◌, ℕ, List, [], �
 use Rattle.jh_history.specs.declared.entry.Entry.{Entry}
 use Rattle.jh_run.specs.declared.summary.Summary.{Summary}
 use Rattle.jh_run.specs.Summaries.{summary_of}
-use Rattle.jh_run.specs.Soak.{soak_board}
+use Rattle.jh_run.specs.Soak.{soak_image}
 use Rattle.jh_cli.specs.Lines.{rounds_line}
 use Rattle.jh_cli.specs.Reading.{Reply}
 use Rattle.jh_cli.specs.Run.{IsMadeByRun}
@@ -29,7 +29,7 @@ summary_line summary =
 -- the summary of a journal that a run of the board of so many rounds may make
 pub record IsSoaked (rounds : ℕ) (reply : Reply) : Type 0 where
   pub entries : List Entry
-  pub run : IsMadeByRun (soak_board rounds) entries reply.status
+  pub run : IsMadeByRun (soak_image rounds) entries reply.status
   pub told : reply.text ≡ summary_line (summary_of entries)
 
 -- the word that tells no number of rounds is refused

@@ -20,64 +20,64 @@ abbrev pub is_operand : List ℕ → Bool
 is_operand [] = true
 is_operand (byte ∷ bytes) = not (byte == 45)
 
--- the two words are one letter for letter
+-- the two words are the same, letter for letter
 abbrev pub is_word : List ℕ → List ℕ → Bool
 is_word word other = pointwise nat_eq word other
 
 -- `check` has a system and 0 to 15 cells
-abbrev pub check_of : List (List ℕ) → Option Request
-check_of [] = None
-check_of (system ∷ cells) = if nat_le (length cells) 15 then Some (CheckOf system cells) else None
+abbrev pub check_command : List (List ℕ) → Option Request
+check_command [] = None
+check_command (system ∷ cells) = if nat_le (length cells) 15 then Some (CheckOf system cells) else None
 
 -- `pack` has a SPEC
-abbrev pub pack_of : List (List ℕ) → Option Request
-pack_of [] = None
-pack_of (spec ∷ []) = Some (PackOf spec)
-pack_of (spec ∷ other ∷ more) = None
+abbrev pub pack_command : List (List ℕ) → Option Request
+pack_command [] = None
+pack_command (spec ∷ []) = Some (PackOf spec)
+pack_command (spec ∷ other ∷ more) = None
 
 -- `play` has a board and a schedule
-abbrev pub play_of : List (List ℕ) → Option Request
-play_of [] = None
-play_of (board ∷ []) = None
-play_of (board ∷ schedule ∷ []) = Some (PlayOf board schedule)
-play_of (board ∷ schedule ∷ other ∷ more) = None
+abbrev pub play_command : List (List ℕ) → Option Request
+play_command [] = None
+play_command (board ∷ []) = None
+play_command (board ∷ schedule ∷ []) = Some (PlayOf board schedule)
+play_command (board ∷ schedule ∷ other ∷ more) = None
 
 -- `run` has a board
-abbrev pub run_of : List (List ℕ) → Option Request
-run_of [] = None
-run_of (board ∷ []) = Some (RunOf board)
-run_of (board ∷ other ∷ more) = None
+abbrev pub run_command : List (List ℕ) → Option Request
+run_command [] = None
+run_command (board ∷ []) = Some (RunOf board)
+run_command (board ∷ other ∷ more) = None
 
 -- `map` has a board and a schedule
-abbrev pub map_of : List (List ℕ) → Option Request
-map_of [] = None
-map_of (board ∷ []) = None
-map_of (board ∷ schedule ∷ []) = Some (MapOf board schedule)
-map_of (board ∷ schedule ∷ other ∷ more) = None
+abbrev pub map_command : List (List ℕ) → Option Request
+map_command [] = None
+map_command (board ∷ []) = None
+map_command (board ∷ schedule ∷ []) = Some (MapOf board schedule)
+map_command (board ∷ schedule ∷ other ∷ more) = None
 
 -- `audit` has a board and a journal
-abbrev pub audit_of : List (List ℕ) → Option Request
-audit_of [] = None
-audit_of (board ∷ []) = None
-audit_of (board ∷ journal ∷ []) = Some (AuditOf board journal)
-audit_of (board ∷ journal ∷ other ∷ more) = None
+abbrev pub audit_command : List (List ℕ) → Option Request
+audit_command [] = None
+audit_command (board ∷ []) = None
+audit_command (board ∷ journal ∷ []) = Some (AuditOf board journal)
+audit_command (board ∷ journal ∷ other ∷ more) = None
 
 -- `soak` has a number of rounds
-abbrev pub soak_of : List (List ℕ) → Option Request
-soak_of [] = None
-soak_of (rounds ∷ []) = Some (SoakOf rounds)
-soak_of (rounds ∷ other ∷ more) = None
+abbrev pub soak_command : List (List ℕ) → Option Request
+soak_command [] = None
+soak_command (rounds ∷ []) = Some (SoakOf rounds)
+soak_command (rounds ∷ other ∷ more) = None
 
 -- the command of this word with these operands; `tables` is none
 abbrev pub command_for : List ℕ → List (List ℕ) → Option Request
 command_for word operands =
-    if is_word word (codes "check") then check_of operands
-    else (if is_word word (codes "pack") then pack_of operands
-    else (if is_word word (codes "play") then play_of operands
-    else (if is_word word (codes "run") then run_of operands
-    else (if is_word word (codes "map") then map_of operands
-    else (if is_word word (codes "audit") then audit_of operands
-    else (if is_word word (codes "soak") then soak_of operands
+    if is_word word (codes "check") then check_command operands
+    else (if is_word word (codes "pack") then pack_command operands
+    else (if is_word word (codes "play") then play_command operands
+    else (if is_word word (codes "run") then run_command operands
+    else (if is_word word (codes "map") then map_command operands
+    else (if is_word word (codes "audit") then audit_command operands
+    else (if is_word word (codes "soak") then soak_command operands
     else None))))))
 
 -- the command of the words: the program's name, the command's word letter for letter, and its operands

@@ -8,7 +8,7 @@ ghost use Rattle.jh_cli.specs.Order.{AsksUntilEnd, AsksIn, AsksBoardAnd};
 ghost use Rattle.jh_cli.specs.Limits.{asked_of_a_journal};
 ghost use Rattle.jh_cli.specs.Lines.{refusal_line};
 ghost use Rattle.jh_cli.specs.Reading.{EndsAt, IsCountedFault};
-ghost use Rattle.jh_cli.specs.Audit.{JournalRefusal, AuditsBy, Audits, due_text, verdict_text, verdict_status};
+ghost use Rattle.jh_cli.specs.Audit.{JournalRefusal, AuditsBy, Audits, due_line, verdict_line, verdict_status};
 ghost use Rattle.jh_cli.specs.Private.JournalFiles.{JudgesFile};
 ghost use Rattle.jh_cli.specs.Private.Endings.{reply_of, OnEnded, OnEnding};
 
@@ -56,8 +56,8 @@ fn judge<F: Files>(
     }
 }
 
-/// The status of an audit.
-fn status_of(verdict: &Verdict) -> Status
+/// The status of the verdict.
+fn verdict_status(verdict: &Verdict) -> Status
     ensures { result ≡ verdict_status verdict.now }
 {
     match verdict {
@@ -67,8 +67,8 @@ fn status_of(verdict: &Verdict) -> Status
 }
 
 /// The line that tells the verdict.
-fn verdict_text(alloc: Global, verdict: &Verdict) -> Result<Vec<u8>, NoMemory>
-    ensures { IfOk result (λ text. text.items ≡ verdict_text verdict.now) }
+fn verdict_line(alloc: Global, verdict: &Verdict) -> Result<Vec<u8>, NoMemory>
+    ensures { IfOk result (λ text. text.items ≡ verdict_line verdict.now) }
 {
     let text = match verdict {
         Verdict::Legal {
@@ -86,14 +86,14 @@ fn verdict_text(alloc: Global, verdict: &Verdict) -> Result<Vec<u8>, NoMemory>
         Verdict::Illegal {
             line,
             expected: Some(entry),
-        } => return due_text(alloc, *line, entry),
+        } => return due_line(alloc, *line, entry),
     };
     Ok(text.into_bytes())
 }
 
 /// The line that tells that this entry was due instead of the journal's.
-fn due_text(alloc: Global, line: u32, entry: &Entry) -> Result<Vec<u8>, NoMemory>
-    ensures { IfOk result (λ text. text.items ≡ due_text line entry.now) }
+fn due_line(alloc: Global, line: u32, entry: &Entry) -> Result<Vec<u8>, NoMemory>
+    ensures { IfOk result (λ text. text.items ≡ due_line line entry.now) }
 {
     let mut text = format!(in alloc; "illegal line {line}: due ")?.into_bytes();
     text.extend_from_slice(print_entry(alloc, entry)?.as_slice())?;
@@ -103,11 +103,11 @@ fn due_text(alloc: Global, line: u32, entry: &Entry) -> Result<Vec<u8>, NoMemory
 
 /// Tells the verdict.
 fn tell_verdict(alloc: Global, verdict: &Verdict) -> Result<Ending, NoMemory>
-    ensures { IfOk result (λ ending. reply_of ending ≡ record { status = verdict_status verdict.now; text = verdict_text verdict.now }) }
+    ensures { IfOk result (λ ending. reply_of ending ≡ record { status = verdict_status verdict.now; text = verdict_line verdict.now }) }
 {
     Ok(Ending {
-        status: status_of(verdict),
-        text: verdict_text(alloc, verdict)?,
+        status: verdict_status(verdict),
+        text: verdict_line(alloc, verdict)?,
     })
 }
 

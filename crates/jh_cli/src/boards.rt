@@ -17,7 +17,7 @@ use jh_outside::Files;
 use jh_script::Image;
 use std::alloc::Global;
 
-/// The call ends since the file is refused for this cause.
+/// The call ends since the file can't be read, or is refused for this cause.
 fn stopped_for(alloc: Global, file: &[u8], cause: &ImageCause) -> CallFault
     ensures { OnEnded result (λ reply. reply ≡ stopped file.now cause.now) }
 {

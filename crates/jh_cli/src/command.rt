@@ -1,8 +1,8 @@
 //! The words of the command line.
-ghost use Rattle.std.specs.Prelude.{◌≡◌, ◌==◌, IfSome, None, map, string_bytes};
+ghost use Rattle.std.specs.Prelude.{◌≡◌, IfSome, map, string_bytes};
 ghost use Rattle.std.specs.List.{list_all};
 ghost use Rattle.std.specs.Option.{option_map};
-ghost use Rattle.jh_cli.specs.Words.{is_operand, check_of, pack_of, play_of, run_of, map_of, audit_of, soak_of, command_for, command_of, request_by, HasFewCells};
+ghost use Rattle.jh_cli.specs.Words.{is_operand, check_command, pack_command, play_command, run_command, map_command, audit_command, soak_command, command_for, command_of, request_by, HasFewCells};
 
 use jh_check::MAX_CELLS;
 
@@ -61,8 +61,8 @@ fn are_operands(words: &[String]) -> bool
 }
 
 /// The command `check`: its operands are a system and up to 15 cells.
-fn check_of(operands: &[String]) -> Option<Command<'_>>
-    ensures command { option_map request_by result ≡ check_of (map string_bytes operands.now) }
+fn check_command(operands: &[String]) -> Option<Command<'_>>
+    ensures command { option_map request_by result ≡ check_command (map string_bytes operands.now) }
     ensures few { IfSome result HasFewCells }
 {
     match operands {
@@ -75,8 +75,8 @@ fn check_of(operands: &[String]) -> Option<Command<'_>>
 }
 
 /// The command `pack`: its one operand is a SPEC.
-fn pack_of(operands: &[String]) -> Option<Command<'_>>
-    ensures command { option_map request_by result ≡ pack_of (map string_bytes operands.now) }
+fn pack_command(operands: &[String]) -> Option<Command<'_>>
+    ensures command { option_map request_by result ≡ pack_command (map string_bytes operands.now) }
     ensures few { IfSome result HasFewCells }
 {
     match operands {
@@ -88,8 +88,8 @@ fn pack_of(operands: &[String]) -> Option<Command<'_>>
 }
 
 /// The command `play`: its operands are a board and a schedule.
-fn play_of(operands: &[String]) -> Option<Command<'_>>
-    ensures command { option_map request_by result ≡ play_of (map string_bytes operands.now) }
+fn play_command(operands: &[String]) -> Option<Command<'_>>
+    ensures command { option_map request_by result ≡ play_command (map string_bytes operands.now) }
     ensures few { IfSome result HasFewCells }
 {
     match operands {
@@ -102,8 +102,8 @@ fn play_of(operands: &[String]) -> Option<Command<'_>>
 }
 
 /// The command `run`: its one operand is a board.
-fn run_of(operands: &[String]) -> Option<Command<'_>>
-    ensures command { option_map request_by result ≡ run_of (map string_bytes operands.now) }
+fn run_command(operands: &[String]) -> Option<Command<'_>>
+    ensures command { option_map request_by result ≡ run_command (map string_bytes operands.now) }
     ensures few { IfSome result HasFewCells }
 {
     match operands {
@@ -115,8 +115,8 @@ fn run_of(operands: &[String]) -> Option<Command<'_>>
 }
 
 /// The command `map`: its operands are a board and a schedule.
-fn map_of(operands: &[String]) -> Option<Command<'_>>
-    ensures command { option_map request_by result ≡ map_of (map string_bytes operands.now) }
+fn map_command(operands: &[String]) -> Option<Command<'_>>
+    ensures command { option_map request_by result ≡ map_command (map string_bytes operands.now) }
     ensures few { IfSome result HasFewCells }
 {
     match operands {
@@ -129,8 +129,8 @@ fn map_of(operands: &[String]) -> Option<Command<'_>>
 }
 
 /// The command `audit`: its operands are a board and a journal.
-fn audit_of(operands: &[String]) -> Option<Command<'_>>
-    ensures command { option_map request_by result ≡ audit_of (map string_bytes operands.now) }
+fn audit_command(operands: &[String]) -> Option<Command<'_>>
+    ensures command { option_map request_by result ≡ audit_command (map string_bytes operands.now) }
     ensures few { IfSome result HasFewCells }
 {
     match operands {
@@ -143,8 +143,8 @@ fn audit_of(operands: &[String]) -> Option<Command<'_>>
 }
 
 /// The command `soak`: its one operand is a word for a number of rounds, which isn't read here.
-fn soak_of(operands: &[String]) -> Option<Command<'_>>
-    ensures command { option_map request_by result ≡ soak_of (map string_bytes operands.now) }
+fn soak_command(operands: &[String]) -> Option<Command<'_>>
+    ensures command { option_map request_by result ≡ soak_command (map string_bytes operands.now) }
     ensures few { IfSome result HasFewCells }
 {
     match operands {
@@ -161,19 +161,19 @@ fn command_for<'a>(word: &str, operands: &'a [String]) -> Option<Command<'a>>
     ensures few { IfSome result HasFewCells }
 {
     if word == "check" {
-        check_of(operands)
+        check_command(operands)
     } else if word == "pack" {
-        pack_of(operands)
+        pack_command(operands)
     } else if word == "play" {
-        play_of(operands)
+        play_command(operands)
     } else if word == "run" {
-        run_of(operands)
+        run_command(operands)
     } else if word == "map" {
-        map_of(operands)
+        map_command(operands)
     } else if word == "audit" {
-        audit_of(operands)
+        audit_command(operands)
     } else if word == "soak" {
-        soak_of(operands)
+        soak_command(operands)
     } else {
         None
     }

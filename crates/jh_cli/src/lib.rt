@@ -1,4 +1,4 @@
-//! The program's one call: words and files in, a text and a status out.
+//! The program's top calls: words and files in, a text and a status out.
 #![tactic(auto)]
 
 mod audit;

@@ -19,7 +19,7 @@ use jh_text::MAX_ENTRIES;
 use std::alloc::Global;
 
 /// Makes the items of the schedule, and tells the maps of the cells that live then, or that the limit stopped an item.
-fn render(alloc: Global, image: Image, cpus: &[u8]) -> Result<Ending, NoMemory>
+fn map_image(alloc: Global, image: Image, cpus: &[u8]) -> Result<Ending, NoMemory>
     requires admitted { IsAdmitted image }
     requires cpus { All (λ cpu. IsTrue (is_on_board image cpu)) cpus.now }
     ensures { IfOk result (λ ending. IsMapped image cpus.now (reply_of ending)) }
@@ -49,7 +49,7 @@ fn map_by<F: Files>(
     ensures asked { OnEnding result (AsksIn F.Files files.old files.new (name.now ∷ [])) }
 {
     let cpus = schedule(alloc, files, name, &image)?;
-    Ok(render(alloc, image, cpus.as_slice())?)
+    Ok(map_image(alloc, image, cpus.as_slice())?)
 }
 
 /// Reads the board, and tells the maps after the schedule.

@@ -11,7 +11,7 @@ use crate::ending::{CallFault, Ending, read_below, refused};
 use crate::limits::MAX_READ;
 use crate::status::Status;
 use jh_cellcfg::write_cell;
-use jh_image::words;
+use jh_image::member_text;
 use jh_num::NoMemory;
 use jh_outside::Files;
 use jh_spec::{JsonFault, Spec, read_spec};
@@ -33,7 +33,7 @@ fn spec<F: Files>(alloc: Global, files: &mut F, name: &str) -> Result<Spec, Call
         Ok(spec) => Ok(spec),
         Err(JsonFault::Json) => Err(refused(alloc, name.as_bytes(), b"json")),
         Err(JsonFault::Member(member)) => {
-            let words = words(alloc, "member ", member.as_slice())?;
+            let words = member_text(alloc, member.as_slice())?;
             Err(refused(alloc, name.as_bytes(), words.as_slice()))
         }
         Err(JsonFault::NoMemory) => Err(CallFault::NoMemory),

@@ -30,7 +30,7 @@ pub fn status_of(ended: Ended) -> Status
 }
 
 /// Plays the image, and tells its journal.
-fn render(alloc: Global, image: Image, cpus: &[u8]) -> Result<Ending, NoMemory>
+fn play_image(alloc: Global, image: Image, cpus: &[u8]) -> Result<Ending, NoMemory>
     requires admitted { IsAdmitted image }
     requires cpus { All (λ cpu. IsTrue (is_on_board image cpu)) cpus.now }
     ensures { IfOk result (λ ending. IsPlayed image cpus.now (reply_of ending)) }
@@ -56,7 +56,7 @@ fn play_by<F: Files>(
     ensures asked { OnEnding result (AsksIn F.Files files.old files.new (name.now ∷ [])) }
 {
     let cpus = schedule(alloc, files, name, &image)?;
-    Ok(render(alloc, image, cpus.as_slice())?)
+    Ok(play_image(alloc, image, cpus.as_slice())?)
 }
 
 /// Reads the board, and plays it by the schedule.

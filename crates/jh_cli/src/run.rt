@@ -19,7 +19,7 @@ use std::sync::Wait;
 use std::thread::Threads;
 
 /// Runs the image, and tells its journal.
-fn render<R: Threads + Wait + Sync, G: Gate + Sync>(
+fn run_image<R: Threads + Wait + Sync, G: Gate + Sync>(
     rt: &R,
     alloc: Global,
     image: Image,
@@ -49,5 +49,5 @@ pub fn run<R: Threads + Wait + Sync, F: Files, G: Gate + Sync>(
     ensures asked { OnEnding result (AsksBoardAnd F.Files files.old files.new (F.contents files.old) board.now []) }
 {
     let image = open(alloc, files, board)?;
-    Ok(render(rt, alloc, image, gate)?)
+    Ok(run_image(rt, alloc, image, gate)?)
 }

@@ -4,7 +4,7 @@ ghost use Rattle.jh_history.specs.Lives.{is_on_board};
 ghost use Rattle.jh_outside.specs.Trail.{AsksAll};
 ghost use Rattle.jh_cli.specs.Order.{AsksUntilEnd};
 ghost use Rattle.jh_cli.specs.Reading.{Spells, EndsAtFile, IsCountedFault};
-ghost use Rattle.jh_cli.specs.Play.{AreCpus, IsSchedule, ScheduleRefusal};
+ghost use Rattle.jh_cli.specs.Play.{AreCpus, IsScheduleFile, ScheduleRefusal};
 ghost use Rattle.jh_cli.specs.Private.Endings.{OnEnded};
 
 use crate::ending::{CallFault, read_below, refused_for};
@@ -36,7 +36,7 @@ pub fn schedule<F: Files>(
     name: &str,
     image: &Image,
 ) -> Result<Seq<u8>, CallFault>
-    ensures ok { IfOk result (Spells (F.contents files.old) name.now (IsSchedule image.now)) }
+    ensures ok { IfOk result (Spells (F.contents files.old) name.now (IsScheduleFile image.now)) }
     ensures present { IfOk result (All (λ cpu. IsTrue (is_on_board image.now cpu))) }
     ensures err { IfErr result (λ stop. OnEnded stop (EndsAtFile (F.contents files.old) name.now (ScheduleRefusal image.now))) }
     ensures counted { IfErr result (λ stop. OnEnded stop (IsCountedFault (F.faults files.old) (F.faults files.new) (F.failed files.new))) }

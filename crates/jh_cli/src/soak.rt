@@ -57,7 +57,7 @@ fn summary_line(alloc: Global, summary: &Summary) -> Result<Vec<u8>, NoMemory>
 }
 
 /// Runs the board of so many rounds, and tells what its journal comes to.
-fn render<R: Threads + Wait + Sync, G: Gate + Sync>(
+fn run_rounds<R: Threads + Wait + Sync, G: Gate + Sync>(
     rt: &R,
     alloc: Global,
     rounds: u32,
@@ -86,7 +86,7 @@ pub fn soak<R: Threads + Wait + Sync, G: Gate + Sync>(
     ensures { OnEnding result (Soaks word.now) }
 {
     match read_rounds(alloc, word)? {
-        Some(rounds) => Ok(render(rt, alloc, rounds, gate)?),
+        Some(rounds) => Ok(run_rounds(rt, alloc, rounds, gate)?),
         None => Ok(Ending {
             status: Status::Refused,
             text: rounds_line(alloc)?,

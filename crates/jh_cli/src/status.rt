@@ -21,7 +21,7 @@ pub enum Status {
 
 impl Status {
     /// The number that the program exits with.
-    pub fn number(self) -> u8
+    pub fn exit_number(self) -> u8
         ensures { result ≡ exit_number self }
     {
         self as u8

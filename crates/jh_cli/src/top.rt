@@ -34,9 +34,9 @@ pub fn serial<F: Files, K: Sink>(
     finish(out, ending)
 }
 
-/// Does all that the program does with these words. With `run` and `soak` it has a worker for each CPU of the board,
-/// in a thread of its own where one can be had, which passes the gate before each of its turns; it waits for them, and
-/// may wait for ever.
+/// Does all that the program does with these words. With `run` and `soak` it has a worker for each CPU of the board: the
+/// calling thread is one, and each other has a thread of its own where one can be had. A worker passes the gate before
+/// each of its turns. The call waits for all of them, and may wait for ever.
 pub fn jailhouse<R: Threads + Wait + Sync, F: Files, K: Sink, G: Gate + Sync>(
     rt: &R,
     alloc: Global,

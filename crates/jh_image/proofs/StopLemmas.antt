@@ -22,7 +22,7 @@ use Rattle.jh_image.specs.Preloads.{IsFaultless}
 use Rattle.jh_image.specs.Files.{Contents, HasBytes, Lists, SpellsSystem, IsPreloadOf}
 use Rattle.jh_image.specs.Images.{SoFar, Stage, nothing, with_listing, with_system, so_far_of, IsNextPreload, IsNextProgram, IsNextFile, a_program, reads_board, reads_system, ReadsTo, nothing_read, one_more_read}
 use Rattle.jh_image.specs.Causes.{cannot_be_read, is_too_large, is_no_object, has_bad_member, is_no_system, has_findings, by_file, by_board, by_system, by_pool, by_preload, by_program, IsCauseOf, OnRefused}
-use Rattle.jh_image.specs.Private.Causes.{HandsOutNothing, IsRefusal, IsBoardRefusal, IsUnsound, IsPoolSmall, IsProgramCause}
+use Rattle.jh_image.specs.Private.Causes.{IsFileRefusal, IsRefusal, IsBoardRefusal, IsUnadmitted, IsPoolSmall, IsProgramCause}
 
 -- what holds of the file and the cause that are refused
 pub on_refusal : (P : List ℕ → ImageCause → Type 0) (name : List ℕ) (cause : ImageCause) (fault : ImageFault) → OnRefused (IsRefusal name cause) fault → P name cause → OnRefused P fault
@@ -40,7 +40,7 @@ refused_stops contents board name wanted stops file cause h =
 
 -- the next file can't be read, or is too large
 pub unread_stops : (contents : Contents) (board name : List ℕ) (stage : Stage) → ReadsTo contents board stage → IsNextFile board stage name
-    → (file : List ℕ) (cause : ImageCause) → HandsOutNothing contents name file cause → IsCauseOf contents board file cause
+    → (file : List ℕ) (cause : ImageCause) → IsFileRefusal contents name file cause → IsCauseOf contents board file cause
 unread_stops contents board name stage read next file ReadFault h =
     subst (λ f. IsCauseOf contents board f ReadFault) (sym h) (record { stage = stage; read = read; stops = by_file stage name ReadFault next cannot_be_read })
 unread_stops contents board name stage read next file Oversize h =
@@ -74,7 +74,7 @@ system_read contents board listing system read spells sound =
 
 -- or isn't
 pub unsound_stops : (contents : Contents) (board : List ℕ) (listing : Listing) (system : SystemConfig) → ReadsTo contents board (with_listing listing) → SpellsSystem contents listing.system system
-    → (file : List ℕ) (cause : ImageCause) → IsUnsound board listing.system system file cause → IsCauseOf contents board file cause
+    → (file : List ℕ) (cause : ImageCause) → IsUnadmitted board listing.system system file cause → IsCauseOf contents board file cause
 unsound_stops contents board listing system read spells file (Findings found) h =
     let stops : IsCauseOf contents board listing.system (Findings (capped (findings system [])))
     = record { stage = with_listing listing; read = read; stops = by_system listing (Findings (capped (findings system []))) (has_findings system spells h.2) } in
@@ -106,7 +106,7 @@ program_stops contents board so_far entry read next file (BadProgram fault) h =
 program_stops contents board so_far entry read next file _ h = absurd h
 
 -- where nothing is found, a system with a small pool isn't admitted
-small_unsound : (board name : List ℕ) (system : SystemConfig) → findings system [] ≡ [] → (file : List ℕ) (cause : ImageCause) → IsPoolSmall board system file cause → IsUnsound board name system file cause
+small_unsound : (board name : List ℕ) (system : SystemConfig) → findings system [] ≡ [] → (file : List ℕ) (cause : ImageCause) → IsPoolSmall board system file cause → IsUnadmitted board name system file cause
 small_unsound board name system clean file (PoolSmall need have) h = (clean, h)
 small_unsound board name system clean file _ h = absurd h
 
@@ -114,6 +114,6 @@ pub checked_ok : {X : Type 0} (system : SystemConfig) → findings system [] ≡
 checked_ok system clean (Ok x) h = record { clean = clean; room = h }
 checked_ok system clean (Err e) h = tt
 
-pub checked_err : {X : Type 0} (board name : List ℕ) (system : SystemConfig) → findings system [] ≡ [] → (r : Result X ImageFault) → IfErr r (OnRefused (IsPoolSmall board system)) → IfErr r (OnRefused (IsUnsound board name system))
+pub checked_err : {X : Type 0} (board name : List ℕ) (system : SystemConfig) → findings system [] ≡ [] → (r : Result X ImageFault) → IfErr r (OnRefused (IsPoolSmall board system)) → IfErr r (OnRefused (IsUnadmitted board name system))
 checked_err board name system clean (Ok x) h = tt
-checked_err board name system clean (Err e) h = on_refused (IsPoolSmall board system) (IsUnsound board name system) e (small_unsound board name system clean) h
+checked_err board name system clean (Err e) h = on_refused (IsPoolSmall board system) (IsUnadmitted board name system) e (small_unsound board name system clean) h

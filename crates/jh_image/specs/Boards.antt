@@ -72,7 +72,7 @@ is_same_cpu one other = pointwise nat_eq one.cell other.cell && (one.cpu == othe
 -- no CPU of a cell stands twice
 unfoldable pub are_distinct : List NamedCpu → Bool
 are_distinct [] = true
-are_distinct (seat ∷ seats) = not (list_any (is_same_cpu seat) seats) && are_distinct seats
+are_distinct (cpu ∷ cpus) = not (list_any (is_same_cpu cpu) cpus) && are_distinct cpus
 
 -- the files of programs, where no two are of one CPU of one cell
 abbrev pub where_distinct : List ProgramFile → Option (List ProgramFile)
@@ -130,12 +130,12 @@ listing_made d = record {
 }
 
 -- what an object tells: the board's listing, or the member that is at fault
-unfoldable pub object_told : Data → Result Listing JsonFault
-object_told d = unless_at_fault (member_fault d) (listing_made d)
+unfoldable pub listing_told : Data → Result Listing JsonFault
+listing_told d = unless_at_fault (member_fault d) (listing_made d)
 
 -- what a value tells, which must be an object
 abbrev pub board_told : Data → Result Listing JsonFault
-board_told d = if is_some (as_object d) then object_told d else Err Json
+board_told d = if is_some (as_object d) then listing_told d else Err Json
 
 -- what is answered to these bytes: what their value tells, or that they are no object's text
 abbrev pub IsListingAnswer : List ℕ → Result Listing JsonFault → Type 0

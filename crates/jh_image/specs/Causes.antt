@@ -64,8 +64,8 @@ pub record IsProgramFault (contents : Contents) (so_far : SoFar) (file : Program
 
 -- ---- the first cause
 
--- why the reading stops at the stage: the file that is named, and the cause. A small pool and a preload's place, told by
--- its number from 0, are the board's faults.
+-- why the reading stops at the stage: the file that is named, and the cause. A small pool and a preload at fault, which
+-- is told by its number from 0, are the board's faults.
 pub data HasCause (contents : Contents) (board : List ℕ) : Stage → List ℕ → ImageCause → Type 0 where
   by_file : (stage : Stage) (file : List ℕ) (cause : ImageCause) → IsNextFile board stage file → IsFileFault contents file cause → HasCause contents board stage file cause
   by_board : (cause : ImageCause) → IsBoardFault contents board cause → HasCause contents board nothing board cause

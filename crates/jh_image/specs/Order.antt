@@ -23,9 +23,9 @@ abbrev pub board_files : List ℕ → Listing → List (List ℕ)
 board_files board listing = board ∷ listing.system ∷ (map preload_name listing.preloads ++ map program_name listing.programs)
 
 -- the read of the file at which this cause is found
-abbrev pub ask_for : ImageCause → List ℕ → Ask
-ask_for ReadFault name = faulted name
-ask_for _ name = handed name
+abbrev pub last_ask : ImageCause → List ℕ → Ask
+last_ask ReadFault name = faulted name
+last_ask _ name = handed name
 
 -- `files` says what each read does to the files, and which name they keep
 module _ {S : Type 0} (files : Ghosts S) (contents : Contents) (board : List ℕ) where
@@ -37,5 +37,5 @@ module _ {S : Type 0} (files : Ghosts S) (contents : Contents) (board : List ℕ
 
   -- the files of the board were read up to the one where the cause is found: the board alone, or what it lists
   pub data AsksBoardUntil (cause : ImageCause) (s t : S) : Type 0 where
-    until_the_board : AsksUntil files (board ∷ []) (ask_for cause) s t → AsksBoardUntil cause s t
-    until_a_file : (listing : Listing) → Lists contents board listing → AsksUntil files (board_files board listing) (ask_for cause) s t → AsksBoardUntil cause s t
+    until_the_board : AsksUntil files (board ∷ []) (last_ask cause) s t → AsksBoardUntil cause s t
+    until_a_file : (listing : Listing) → Lists contents board listing → AsksUntil files (board_files board listing) (last_ask cause) s t → AsksBoardUntil cause s t

@@ -5,12 +5,16 @@ use Rattle.jh_script.specs.FaultText.{script_fault_text}
 use Rattle.jh_image.specs.declared.fault.ImageCause.{ImageCause}
 use Rattle.jh_image.specs.declared.fault.ImageCause.TheVariants.{ReadFault, Oversize, Json, Member, System, Findings, PoolSmall, Preload, Program}
 
+-- the words for a member at fault
+abbrev pub member_text : List ℕ → List ℕ
+member_text name = codes "member " ++ name
+
 -- the words for a cause
 abbrev pub cause_text : ImageCause → List ℕ
 cause_text ReadFault = codes "read fault"
 cause_text Oversize = codes "oversize"
 cause_text Json = codes "json"
-cause_text (Member name) = codes "member " ++ name
+cause_text (Member name) = member_text name
 cause_text (System fault) = config_fault_text fault
 cause_text (Findings found) = codes "findings " ++ decimal (length found)
 cause_text (PoolSmall need have) = codes "pool " ++ (decimal need ++ (codes " " ++ decimal have))

@@ -2,7 +2,7 @@
 ghost use Rattle.std.specs.Prelude.{◌≤◌, ◌<◌, [], IfErr, OnOk};
 ghost use Rattle.jh_history.specs.Admitted.{root_pages, pool_pages, IsAdmittedSystem};
 ghost use Rattle.jh_image.specs.Causes.{OnRefused};
-ghost use Rattle.jh_image.specs.Private.Causes.{IsUnsound, IsPoolSmall};
+ghost use Rattle.jh_image.specs.Private.Causes.{IsUnadmitted, IsPoolSmall};
 
 use crate::fault::{ImageCause, ImageFault};
 use crate::refusal::refused;
@@ -33,7 +33,7 @@ pub(crate) fn check_system(
     system: &SystemConfig,
 ) -> Result<(), ImageFault>
     ensures ok { OnOk result (IsAdmittedSystem system.now) }
-    ensures err { IfErr result (OnRefused (IsUnsound board.now name.now system.now)) }
+    ensures err { IfErr result (OnRefused (IsUnadmitted board.now name.now system.now)) }
 {
     let found = check(alloc, system, &[])?;
     if !found.is_empty() {

@@ -2,7 +2,7 @@
 ghost use Rattle.std.specs.Prelude.{◌≡◌, ◌≤◌, IfOk, true, length, map};
 ghost use Rattle.serde_json.specs.View.{view};
 ghost use Rattle.jh_spec.specs.Faults.{IsWantedReading};
-ghost use Rattle.jh_image.specs.Boards.{object_told, IsListingAnswer, are_distinct, named_cpu_of};
+ghost use Rattle.jh_image.specs.Boards.{listing_told, IsListingAnswer, are_distinct, named_cpu_of};
 
 use crate::file_name::FileName;
 use crate::list::{preloads, programs};
@@ -39,10 +39,10 @@ pub struct Listing {
     pub programs: Seq<ProgramFile>,
 }
 
-/// What an object's members tell.
-#[tactic(auto, unfolding(crate::specs::Boards::object_told))]
-fn members(alloc: Global, object: &Value) -> Result<Listing, JsonFault>
-    ensures told { IsWantedReading (object_told (view object.now)) result }
+/// The listing that an object tells, or the member that is at fault.
+#[tactic(auto, unfolding(crate::specs::Boards::listing_told))]
+fn listing_told(alloc: Global, object: &Value) -> Result<Listing, JsonFault>
+    ensures told { IsWantedReading (listing_told (view object.now)) result }
     ensures few { IfOk result (λ listing. length listing.preloads ≤ 64) }
     ensures distinct { IfOk result (λ listing. are_distinct (map named_cpu_of listing.programs) ≡ true) }
 {
@@ -76,5 +76,5 @@ pub fn read_board(alloc: Global, bytes: &[u8]) -> Result<Listing, JsonFault>
     ensures distinct { IfOk result (λ listing. are_distinct (map named_cpu_of listing.programs) ≡ true) }
 {
     let object = object(alloc, bytes)?;
-    members(alloc, &object)
+    listing_told(alloc, &object)
 }

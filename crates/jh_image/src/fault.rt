@@ -10,13 +10,13 @@ use jh_script::ScriptFault;
 /// What stopped the reading of a board's files, or want of memory.
 #[derive(Drop)]
 pub enum ImageFault {
-    /// The file with this name, as its bytes, for this cause.
+    /// The file of this name, in UTF-8, can't be read or is refused, for this cause.
     Refused { file: Seq<u8>, cause: ImageCause },
     NoMemory,
 }
 
-/// Why a file can't be read or is refused. The first cause in the order of reading decides: the board, then the system, then
-/// each preload, then each program.
+/// Why a file can't be read or is refused. The first cause in the order of reading decides: the board, then the system,
+/// then each preload, then each program.
 #[derive(Drop)]
 pub enum ImageCause {
     /// The file can't be read.
@@ -31,12 +31,12 @@ pub enum ImageCause {
     System(ConfigFault),
     /// The check finds something in the system alone: the first thousand findings.
     Findings(Seq<Finding>),
-    /// Root takes `need` pages, and the pool has `have`. It names the board.
+    /// Root takes `need` pages, and the pool has `have`. The file that is named is the board.
     PoolSmall { need: u64, have: u64 },
     /// The preload with this number, from 0, ends past the places, or meets the hypervisor's memory or an
-    /// earlier preload. It names the board.
+    /// earlier preload. The file that is named is the board.
     Preload { number: u32 },
-    /// The program's text is none.
+    /// The text of the program's file has this fault.
     Program(ScriptFault),
 }
 

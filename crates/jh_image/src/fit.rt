@@ -17,7 +17,7 @@ fn is_apart(earlier: &[Preload], preload: &Preload) -> bool
 
 /// Whether the preload ends within the places, and meets neither the hypervisor's memory nor one of the earlier
 /// preloads.
-pub(crate) fn is_fit(hypervisor: &Region, earlier: &[Preload], preload: &Preload) -> bool
+pub(crate) fn is_faultless(hypervisor: &Region, earlier: &[Preload], preload: &Preload) -> bool
     ensures { IsTrue result ↔ IsFaultless hypervisor.now earlier.now preload.now }
 {
     is_sound_preload(hypervisor, preload) && is_apart(earlier, preload)

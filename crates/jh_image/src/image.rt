@@ -7,14 +7,14 @@ ghost use Rattle.jh_image.specs.Preloads.{IsFaultless};
 ghost use Rattle.jh_image.specs.Files.{IsPreloadOf};
 ghost use Rattle.jh_outside.specs.Ask.{handed};
 ghost use Rattle.jh_outside.specs.Trail.{Asks, AsksAll, AsksUntil};
-ghost use Rattle.jh_image.specs.Order.{ask_for, preload_name, program_name, AsksBoard, AsksBoardUntil};
+ghost use Rattle.jh_image.specs.Order.{last_ask, preload_name, program_name, AsksBoard, AsksBoardUntil};
 ghost use Rattle.jh_image.specs.Images.{with_listing, with_system, so_far_of, IsNextPreload, IsComplete, ReadsTo};
 ghost use Rattle.jh_image.specs.Causes.{IsCauseOf, OnRefused, IsImageAnswer, IsCounted};
 
 use crate::admission::check_system;
 use crate::board::{Listing, PreloadFile};
 use crate::fault::{ImageCause, ImageFault};
-use crate::fit::is_fit;
+use crate::fit::is_faultless;
 use crate::read::{read_listing, read_preload, read_program_file, read_system_file};
 use crate::refusal::refused;
 use jh_cellcfg::SystemConfig;
@@ -38,7 +38,7 @@ fn read_admitted<F: Files>(
     ensures never_falls { F.faults files.old ≤ F.faults files.new }
     ensures kept { F.contents files.new ≡ F.contents files.old }
     ensures asked { OnOk result (Asks F.Files files.old (handed listing.now.system ∷ []) files.new) }
-    ensures asked_until { IfErr result (OnRefused (λ _ cause. Asks F.Files files.old (ask_for cause listing.now.system ∷ []) files.new)) }
+    ensures asked_until { IfErr result (OnRefused (λ _ cause. Asks F.Files files.old (last_ask cause listing.now.system ∷ []) files.new)) }
 {
     let system = read_system_file(alloc, files, board, listing)?;
     check_system(alloc, board, listing.system.as_str(), &system)?;
@@ -54,20 +54,21 @@ fn next_preload<F: Files>(
     preloads: &[Preload],
     file: &PreloadFile,
 ) -> Result<Preload, ImageFault>
-    requires next { (listing : TheListing) × ReadsTo (F.contents files.old) board.now (with_system (so_far_of listing system.now preloads.now [])) × IsNextPreload (so_far_of listing system.now preloads.now []) file.now }
+    requires next { (listing : TheListing) × ReadsTo (F.contents files.old) board.now (with_system (so_far_of listing system.now preloads.now []))
+        × IsNextPreload (so_far_of listing system.now preloads.now []) file.now }
     requires few { length preloads.now < 64 }
     ensures ok { IfOk result (IsPreloadOf (F.contents files.old) file.now) }
-    ensures fit { IfOk result (IsFaultless system.now.hypervisor_memory preloads.now) }
+    ensures faultless { IfOk result (IsFaultless system.now.hypervisor_memory preloads.now) }
     ensures err { IfErr result (OnRefused (IsCauseOf (F.contents files.old) board.now)) }
     ensures counted { IfErr result (IsCounted (F.faults files.old) (F.faults files.new) (F.failed files.new)) }
     ensures never_falls { F.faults files.old ≤ F.faults files.new }
     ensures kept { F.contents files.new ≡ F.contents files.old }
     ensures asked { OnOk result (Asks F.Files files.old (handed file.now.file ∷ []) files.new) }
-    ensures asked_until { IfErr result (OnRefused (λ _ cause. Asks F.Files files.old (ask_for cause file.now.file ∷ []) files.new)) }
+    ensures asked_until { IfErr result (OnRefused (λ _ cause. Asks F.Files files.old (last_ask cause file.now.file ∷ []) files.new)) }
 {
     let preload = read_preload(alloc, files, file)?;
     let number = preloads.len() as u32;
-    if !is_fit(&system.hypervisor_memory, preloads, &preload) {
+    if !is_faultless(&system.hypervisor_memory, preloads, &preload) {
         return Err(refused(alloc, board, ImageCause::Preload { number }));
     }
     Ok(preload)
@@ -92,11 +93,11 @@ fn read_preloads<F: Files>(
     ensures never_falls { F.faults files.old ≤ F.faults files.new }
     ensures kept { F.contents files.new ≡ F.contents files.old }
     ensures asked { OnOk result (AsksAll F.Files (map preload_name listing.now.preloads) files.old files.new) }
-    ensures asked_until { IfErr result (OnRefused (λ _ cause. AsksUntil F.Files (map preload_name listing.now.preloads) (ask_for cause) files.old files.new)) }
+    ensures asked_until { IfErr result (OnRefused (λ _ cause. AsksUntil F.Files (map preload_name listing.now.preloads) (last_ask cause) files.old files.new)) }
 {
     let mut preloads = Seq::new(alloc);
-    let entries = listing.preloads.as_slice();
-    for file in entries {
+    let items = listing.preloads.as_slice();
+    for file in items {
         let preload = next_preload(alloc, files, board, system, preloads.as_slice(), file)?;
         preloads.push(preload)?;
     }
@@ -124,11 +125,11 @@ fn read_programs<F: Files>(
     ensures never_falls { F.faults files.old ≤ F.faults files.new }
     ensures kept { F.contents files.new ≡ F.contents files.old }
     ensures asked { OnOk result (AsksAll F.Files (map program_name listing.now.programs) files.old files.new) }
-    ensures asked_until { IfErr result (OnRefused (λ _ cause. AsksUntil F.Files (map program_name listing.now.programs) (ask_for cause) files.old files.new)) }
+    ensures asked_until { IfErr result (OnRefused (λ _ cause. AsksUntil F.Files (map program_name listing.now.programs) (last_ask cause) files.old files.new)) }
 {
     let mut programs = Seq::new(alloc);
-    let entries = listing.programs.as_slice();
-    for file in entries {
+    let items = listing.programs.as_slice();
+    for file in items {
         let program = read_program_file(alloc, files, file)?;
         programs.push(program)?;
     }

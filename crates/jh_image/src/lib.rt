@@ -3,11 +3,11 @@
 
 mod admission;
 mod board;
-mod entry;
 mod fault;
 mod file_name;
 mod fit;
 mod image;
+mod item;
 mod laws;
 mod list;
 mod read;
@@ -24,4 +24,4 @@ pub use laws::{
     boards_have_one_cause, boards_make_one_image, boards_that_make_an_image_are_not_refused,
 };
 pub use read::MAX_FILE_SIZE;
-pub use text::{cause_text, words};
+pub use text::{cause_text, member_text};

@@ -8,7 +8,7 @@ ghost use Rattle.jh_spec.specs.Json.{items_told, short_list_told};
 ghost use Rattle.jh_image.specs.Boards.{preload_told, program_told, preloads_told, programs_told, are_distinct, named_cpu_of, is_same_cpu};
 
 use crate::board::{PreloadFile, ProgramFile};
-use crate::entry::{preload, program};
+use crate::item::{preload, program};
 use jh_num::{NoMemory, Seq};
 use serde_json::Value;
 use std::alloc::Global;
@@ -19,13 +19,13 @@ const MAX_PRELOADS: usize = 64;
 /// The most programs of a board.
 const MAX_PROGRAMS: usize = 256;
 
-/// The preloads that the entries tell of, where each tells of one.
-fn preload_entries(alloc: Global, entries: &[Value]) -> Result<Option<Seq<PreloadFile>>, NoMemory>
-    ensures { IfOk result (λ told. told ≡ items_told preload_told (items_view entries.now)) }
+/// The preloads that the items tell of, where each tells of one.
+fn preload_items(alloc: Global, items: &[Value]) -> Result<Option<Seq<PreloadFile>>, NoMemory>
+    ensures { IfOk result (λ told. told ≡ items_told preload_told (items_view items.now)) }
 {
     let mut files = Seq::new(alloc);
-    for entry in entries {
-        match preload(alloc, entry)? {
+    for item in items {
+        match preload(alloc, item)? {
             Some(file) => files.push(file)?,
             None => return Ok(None),
         }
@@ -33,13 +33,13 @@ fn preload_entries(alloc: Global, entries: &[Value]) -> Result<Option<Seq<Preloa
     Ok(Some(files))
 }
 
-/// The programs that the entries tell of, where each tells of one.
-fn program_entries(alloc: Global, entries: &[Value]) -> Result<Option<Seq<ProgramFile>>, NoMemory>
-    ensures { IfOk result (λ told. told ≡ items_told program_told (items_view entries.now)) }
+/// The programs that the items tell of, where each tells of one.
+fn program_items(alloc: Global, items: &[Value]) -> Result<Option<Seq<ProgramFile>>, NoMemory>
+    ensures { IfOk result (λ told. told ≡ items_told program_told (items_view items.now)) }
 {
     let mut files = Seq::new(alloc);
-    for entry in entries {
-        match program(alloc, entry)? {
+    for item in items {
+        match program(alloc, item)? {
             Some(file) => files.push(file)?,
             None => return Ok(None),
         }
@@ -52,10 +52,10 @@ fn preload_list(alloc: Global, list: &Value) -> Result<Option<Seq<PreloadFile>>,
     ensures told { IfOk result (λ told. told ≡ short_list_told preload_told 64 (view list.now)) }
     ensures few { IfOk result (λ told. IfSome told (λ files. length files ≤ 64)) }
 {
-    let Some(entries) = list.as_array() else {
+    let Some(items) = list.as_array() else {
         return Ok(None);
     };
-    match preload_entries(alloc, entries.as_slice())? {
+    match preload_items(alloc, items.as_slice())? {
         Some(files) if files.len() <= MAX_PRELOADS => Ok(Some(files)),
         _ => Ok(None),
     }
@@ -65,10 +65,10 @@ fn preload_list(alloc: Global, list: &Value) -> Result<Option<Seq<PreloadFile>>,
 fn program_list(alloc: Global, list: &Value) -> Result<Option<Seq<ProgramFile>>, NoMemory>
     ensures { IfOk result (λ told. told ≡ short_list_told program_told 256 (view list.now)) }
 {
-    let Some(entries) = list.as_array() else {
+    let Some(items) = list.as_array() else {
         return Ok(None);
     };
-    match program_entries(alloc, entries.as_slice())? {
+    match program_items(alloc, items.as_slice())? {
         Some(files) if files.len() <= MAX_PROGRAMS => Ok(Some(files)),
         _ => Ok(None),
     }

@@ -6,9 +6,9 @@ ghost use Rattle.jh_image.specs.Files.{HasBytes, Lists, SpellsSystem, IsPreloadO
 ghost use Rattle.jh_outside.specs.Ask.{handed};
 ghost use Rattle.jh_outside.specs.Trail.{Asks};
 ghost use Rattle.jh_image.specs.Images.{with_listing, ReadsTo};
-ghost use Rattle.jh_image.specs.Order.{ask_for};
+ghost use Rattle.jh_image.specs.Order.{last_ask};
 ghost use Rattle.jh_image.specs.Causes.{OnRefused, IsCounted, IsCauseOf};
-ghost use Rattle.jh_image.specs.Private.Causes.{HandsOutNothing, IsProgramCause};
+ghost use Rattle.jh_image.specs.Private.Causes.{IsFileRefusal, IsProgramCause};
 
 use crate::board::{Listing, PreloadFile, ProgramFile, read_board};
 use crate::fault::{ImageCause, ImageFault};
@@ -30,12 +30,12 @@ pub(crate) fn read_file<F: Files>(
     name: &str,
 ) -> Result<Seq<u8>, ImageFault>
     ensures ok { IfOk result (HasBytes (F.contents files.old) name.now) }
-    ensures err { IfErr result (OnRefused (HandsOutNothing (F.contents files.old) name.now)) }
+    ensures err { IfErr result (OnRefused (IsFileRefusal (F.contents files.old) name.now)) }
     ensures counted { IfErr result (IsCounted (F.faults files.old) (F.faults files.new) (F.failed files.new)) }
     ensures never_falls { F.faults files.old ≤ F.faults files.new }
     ensures kept { F.contents files.new ≡ F.contents files.old }
     ensures asked { OnOk result (Asks F.Files files.old (handed name.now ∷ []) files.new) }
-    ensures asked_until { IfErr result (OnRefused (λ _ cause. Asks F.Files files.old (ask_for cause name.now ∷ []) files.new)) }
+    ensures asked_until { IfErr result (OnRefused (λ _ cause. Asks F.Files files.old (last_ask cause name.now ∷ []) files.new)) }
 {
     match files.read(name, MAX_FILE_SIZE + 1) {
         Ok(bytes) => {
@@ -63,7 +63,7 @@ pub(crate) fn read_listing<F: Files>(
     ensures never_falls { F.faults files.old ≤ F.faults files.new }
     ensures kept { F.contents files.new ≡ F.contents files.old }
     ensures asked { OnOk result (Asks F.Files files.old (handed board.now ∷ []) files.new) }
-    ensures asked_until { IfErr result (OnRefused (λ _ cause. Asks F.Files files.old (ask_for cause board.now ∷ []) files.new)) }
+    ensures asked_until { IfErr result (OnRefused (λ _ cause. Asks F.Files files.old (last_ask cause board.now ∷ []) files.new)) }
 {
     let bytes = read_file(alloc, files, board)?;
     match read_board(alloc, bytes.as_slice()) {
@@ -86,7 +86,7 @@ pub(crate) fn read_system_file<F: Files>(
     ensures never_falls { F.faults files.old ≤ F.faults files.new }
     ensures kept { F.contents files.new ≡ F.contents files.old }
     ensures asked { OnOk result (Asks F.Files files.old (handed listing.now.system ∷ []) files.new) }
-    ensures asked_until { IfErr result (OnRefused (λ _ cause. Asks F.Files files.old (ask_for cause listing.now.system ∷ []) files.new)) }
+    ensures asked_until { IfErr result (OnRefused (λ _ cause. Asks F.Files files.old (last_ask cause listing.now.system ∷ []) files.new)) }
 {
     let name = listing.system.as_str();
     let bytes = read_file(alloc, files, name)?;
@@ -104,12 +104,12 @@ pub(crate) fn read_preload<F: Files>(
     file: &PreloadFile,
 ) -> Result<Preload, ImageFault>
     ensures ok { IfOk result (IsPreloadOf (F.contents files.old) file.now) }
-    ensures err { IfErr result (OnRefused (HandsOutNothing (F.contents files.old) file.now.file)) }
+    ensures err { IfErr result (OnRefused (IsFileRefusal (F.contents files.old) file.now.file)) }
     ensures counted { IfErr result (IsCounted (F.faults files.old) (F.faults files.new) (F.failed files.new)) }
     ensures never_falls { F.faults files.old ≤ F.faults files.new }
     ensures kept { F.contents files.new ≡ F.contents files.old }
     ensures asked { OnOk result (Asks F.Files files.old (handed file.now.file ∷ []) files.new) }
-    ensures asked_until { IfErr result (OnRefused (λ _ cause. Asks F.Files files.old (ask_for cause file.now.file ∷ []) files.new)) }
+    ensures asked_until { IfErr result (OnRefused (λ _ cause. Asks F.Files files.old (last_ask cause file.now.file ∷ []) files.new)) }
 {
     let bytes = read_file(alloc, files, file.file.as_str())?;
     Ok(Preload { at: file.at, bytes })
@@ -128,7 +128,7 @@ pub(crate) fn read_program_file<F: Files>(
     ensures never_falls { F.faults files.old ≤ F.faults files.new }
     ensures kept { F.contents files.new ≡ F.contents files.old }
     ensures asked { OnOk result (Asks F.Files files.old (handed file.now.file ∷ []) files.new) }
-    ensures asked_until { IfErr result (OnRefused (λ _ cause. Asks F.Files files.old (ask_for cause file.now.file ∷ []) files.new)) }
+    ensures asked_until { IfErr result (OnRefused (λ _ cause. Asks F.Files files.old (last_ask cause file.now.file ∷ []) files.new)) }
 {
     let name = file.file.as_str();
     let bytes = read_file(alloc, files, name)?;

@@ -31,7 +31,7 @@ use Rattle.jh_laws.specs.Preloads.{IsPreloaded}
 use Rattle.jh_laws.specs.Writes.{Writes, WritesNot}
 use Rattle.jh_laws.specs.Written.{IsByteBy}
 use Rattle.jh_laws.specs.Ends.{IsAnsweredByRegister}
-use Rattle.jh_laws.specs.RootAlone.{HasNoDevice}
+use Rattle.jh_laws.specs.RootAlone.{HasNoShmemDevice}
 use Rattle.jh_laws.proofs.RootLemmas.{op_well_formed}
 use Rattle.jh_laws.proofs.EndsLemmas.{IsSmallAct, op_small_holds}
 use Rattle.jh_laws.proofs.WordLemmas.{words_page}
@@ -164,7 +164,7 @@ opened_put f (p ∷ ps) place zero d lt has apart =
 opened_put f (p ∷ ps) place (suc i) d lt has apart = opened_put (preloaded f p) ps place i d (omega arith) has (apart_later p ps apart)
 
 -- the bytes at opening, where root has no device
-opening_is : (image : Image) (q : Place) → HasNoDevice image → (facts image []).byte q ≡ loaded_byte image q
+opening_is : (image : Image) (q : Place) → HasNoShmemDevice image → (facts image []).byte q ≡ loaded_byte image q
 opening_is image q bare =
     ap (λ (f : Facts). f.byte q) (facts_nil image)
     ∙ ap (λ (specs : List EndpointSpec). with_words specs (loaded_byte image) q) (no_specs_of_root image bare)
@@ -174,7 +174,7 @@ pub opening_page : (image : Image) (cell offset : ℕ) → (facts image []).byte
 opening_page image cell offset = ap (λ (f : Facts). f.byte (Page cell offset)) (facts_nil image) ∙ words_page (specs_of image.system.root) (loaded_byte image) cell offset
 
 -- what a preload puts stands there at opening
-opening_put : (image : Image) (place : ℕ) (p : Preload) → IsAdmitted image → HasNoDevice image → Contains image.preloads p → IsTrue (has_byte_at p place) → (facts image []).byte (Physical place) ≡ slice_index p.bytes (place - p.at)
+opening_put : (image : Image) (place : ℕ) (p : Preload) → IsAdmitted image → HasNoShmemDevice image → Contains image.preloads p → IsTrue (has_byte_at p place) → (facts image []).byte (Physical place) ≡ slice_index p.bytes (place - p.at)
 opening_put image place p admitted bare held has =
     let same : get_or image.preloads held.0 p ≡ p = held.2 in
     opening_is image (Physical place) bare
@@ -182,7 +182,7 @@ opening_put image place p admitted bare held has =
     ∙ ap (λ (q : Preload). slice_index q.bytes (place - q.at)) same
 
 -- and 0 elsewhere
-opening_none : (image : Image) (place : ℕ) → HasNoDevice image → ((p : Preload) → Contains image.preloads p → IsTrue (has_byte_at p place) → ⊥) → (facts image []).byte (Physical place) ≡ 0
+opening_none : (image : Image) (place : ℕ) → HasNoShmemDevice image → ((p : Preload) → Contains image.preloads p → IsTrue (has_byte_at p place) → ⊥) → (facts image []).byte (Physical place) ≡ 0
 opening_none image place bare none =
     let each : NoneAt image.preloads place = λ k d lt. elim (cases_Bool (has_byte_at (get_or image.preloads k d) place)) [
       | inl has ↦ absurd (none (get_or image.preloads k d) (k, lt, get_or_default image.preloads k (get_or image.preloads k d) d lt) has)
@@ -194,19 +194,19 @@ opening_none image place bare none =
 has_byte_there : (p : Preload) (k : ℕ) → k < length p.bytes → has_byte_at p (p.at + k) ≡ true
 has_byte_there p k lt = and_from (leb p.at (p.at + k)) (ltb (p.at + k) (p.at + length p.bytes)) (le-leb p.at (p.at + k) (omega arith)) (lt-ltb (p.at + k) (p.at + length p.bytes) (omega arith))
 
-byte_put : (image : Image) (p : Preload) (k : ℕ) → IsAdmitted image → HasNoDevice image → Contains image.preloads p → k < length p.bytes → (facts image []).byte (Physical (p.at + k)) ≡ slice_index p.bytes k
+byte_put : (image : Image) (p : Preload) (k : ℕ) → IsAdmitted image → HasNoShmemDevice image → Contains image.preloads p → k < length p.bytes → (facts image []).byte (Physical (p.at + k)) ≡ slice_index p.bytes k
 byte_put image p k admitted bare held lt =
     let same : (p.at + k) - p.at ≡ k = omega arith in
     opening_put image (p.at + k) p admitted bare held (has_byte_there p k lt) ∙ ap (slice_index p.bytes) same
 
-pub opening_byte : (image : Image) (place byte : ℕ) → IsAdmitted image → HasNoDevice image → IsPreloaded image place byte → (facts image []).byte (Physical place) ≡ byte
+pub opening_byte : (image : Image) (place byte : ℕ) → IsAdmitted image → HasNoShmemDevice image → IsPreloaded image place byte → (facts image []).byte (Physical place) ≡ byte
 opening_byte image place byte admitted bare by =
-    ap (λ (q : ℕ). (facts image []).byte (Physical q)) by.there ∙ byte_put image by.preload by.index admitted bare by.there by.within ∙ sym by.byte_is
+    ap (λ (q : ℕ). (facts image []).byte (Physical q)) by.there ∙ byte_put image by.preload by.index admitted bare by.among by.within ∙ sym by.byte_is
 
-pub opening_zero : (image : Image) (place : ℕ) → HasNoDevice image → ((byte : ℕ) → IsPreloaded image place byte → ⊥) → (facts image []).byte (Physical place) ≡ 0
+pub opening_zero : (image : Image) (place : ℕ) → HasNoShmemDevice image → ((byte : ℕ) → IsPreloaded image place byte → ⊥) → (facts image []).byte (Physical place) ≡ 0
 opening_zero image place bare none =
     opening_none image place bare (λ p held has.
     let parts = and_parts (leb p.at place) (ltb place (p.at + length p.bytes)) has in
     let first : p.at ≤ place = leb-true p.at place parts.0 in
     let last : place < p.at + length p.bytes = ltb-true place (p.at + length p.bytes) parts.1 in
-    none (slice_index p.bytes (place - p.at)) (record { preload = p; index = place - p.at; there = held; within = omega arith; there = omega arith; byte_is = refl }))
+    none (slice_index p.bytes (place - p.at)) (record { preload = p; index = place - p.at; among = held; within = omega arith; there = omega arith; byte_is = refl }))

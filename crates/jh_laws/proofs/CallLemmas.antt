@@ -36,7 +36,7 @@ use Rattle.jh_shape.specs.Lives.{configs_of}
 use Rattle.jh_history.specs.Due.{due_at, due, is_idle_but, IsLegal, IsLegalFrom}
 use Rattle.jh_history.proofs.Public.{facts_push, due_split, IsLegal_begin, come_rests, halting_rests, root_unnamed, IsNext, next_from_due, IsOutcomeOf, IsOfProgram, state_parts, IsOfCall, call_parts, coming_from_decision, sound_after, legal_sound, noted_act, settle_act, unless, after_call, call_open}
 use Rattle.jh_history.specs.Sound.{HaltsForCall, IsAboutLive, IsCreate, IsNews, IsOpen, IsSound}
-use Rattle.jh_laws.specs.Ways.{is_phase, is_decide, is_finish, is_undenied_settle, call_begun, begun_by, begun, begun_call, IsBegun, IsNoteOr, IsNoteOrEnd, IsBehindGo, IsBehindCommit, MayFollow}
+use Rattle.jh_laws.specs.Ways.{is_phase, is_decide, is_finish, is_undenied_settle, call_of_begin, begun_by, begun, begun_call, IsBegun, IsNoteOr, IsNoteOrEnd, IsBehindGo, IsBehindCommit, MayFollow}
 use Rattle.jh_laws.proofs.LegalLemmas.{IsLegal_rest}
 use Rattle.jh_history.specs.Commits.{is_commit}
 
@@ -539,7 +539,7 @@ begun_kept (Some entry) None g h = absurd h
 begun_kept (Some entry) (Some o) g h = h
 
 begun_act : (cells : List Live) (coming : Option CellConfig) (b : Option Entry) (call : Option OpenCall) (entry : Entry) (act : Act) → entry.act ≡ act → IsBegun b call → IsBegun (begun_by b entry act) (call_by cells coming call entry act)
-begun_act cells coming b call entry (Begin code a c) is h = (refl, sym (ap call_begun is))
+begun_act cells coming b call entry (Begin code a c) is h = (refl, sym (ap call_of_begin is))
 begun_act cells coming b call entry (Finish answer) is h = tt
 begun_act cells coming b call entry act is h = begun_kept b call (λ (o : OpenCall). phase_after cells coming entry.cell o.call o.phase act) h
 
@@ -559,7 +559,7 @@ begun_none None call is h = refl
 begun_none (Some entry) None is h = absurd h
 begun_none (Some entry) (Some o) is h = absurd (none-some o (sym is))
 
-begun_some : (b : Option Entry) (call : Option OpenCall) (o : OpenCall) → call ≡ Some o → IsBegun b call → (first : Entry) × (b ≡ Some first) × (o.caller ≡ first.cpu) × (o.call ≡ call_begun first.act)
+begun_some : (b : Option Entry) (call : Option OpenCall) (o : OpenCall) → call ≡ Some o → IsBegun b call → (first : Entry) × (b ≡ Some first) × (o.caller ≡ first.cpu) × (o.call ≡ call_of_begin first.act)
 begun_some None None o is h = absurd (none-some o is)
 begun_some None (Some p) o is h = absurd h
 begun_some (Some entry) None o is h = absurd h
@@ -568,14 +568,14 @@ begun_some (Some entry) (Some p) o is h =
     (entry, refl, sym (ap (λ (x : OpenCall). x.caller) e) ∙ h.0, sym (ap (λ (x : OpenCall). x.call) e) ∙ h.1)
 
 -- what the call that is open says of the one that was begun
-pub begun_of : (image : Image) (entries : List Entry) (o : OpenCall) → (facts image entries).call ≡ Some o → (first : Entry) × (begun entries ≡ Some first) × (o.caller ≡ first.cpu) × (o.call ≡ call_begun first.act)
+pub begun_of : (image : Image) (entries : List Entry) (o : OpenCall) → (facts image entries).call ≡ Some o → (first : Entry) × (begun entries ≡ Some first) × (o.caller ≡ first.cpu) × (o.call ≡ call_of_begin first.act)
 begun_of image entries o is = begun_some (begun entries) (facts image entries).call o is (open_call_begun image entries)
 
 -- it is that one
 pub call_of_open : (image : Image) (entries : List Entry) (o : OpenCall) → (facts image entries).call ≡ Some o → begun_call entries ≡ Some o.call
 call_of_open image entries o is =
     let first = begun_of image entries o is in
-    ap (option_map (λ (opening : Entry). call_begun opening.act)) first.1 ∙ ap (λ (call : Call). Some call) (sym first.3)
+    ap (option_map (λ (opening : Entry). call_of_begin opening.act)) first.1 ∙ ap (λ (call : Call). Some call) (sym first.3)
 
 pub same_call : (image : Image) (entries : List Entry) (o : OpenCall) (call : Call) → (facts image entries).call ≡ Some o → begun_call entries ≡ Some call → o.call ≡ call
 same_call image entries o call opens is = same_Some o.call call (sym (call_of_open image entries o opens) ∙ is)

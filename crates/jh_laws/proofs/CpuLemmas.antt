@@ -16,7 +16,7 @@ use Rattle.jh_history.specs.History.{start, after, facts}
 use Rattle.jh_history.specs.Due.{due_at, due, IsLegal, IsLegalFrom}
 use Rattle.jh_history.proofs.Public.{facts_push, IsLegal_begin}
 use Rattle.jh_laws.specs.Outcomes.{is_violation}
-use Rattle.jh_laws.specs.Operations.{op_of, op_by, operations_by, program_in}
+use Rattle.jh_laws.specs.Operations.{op_of_act, op_by, operations_by, program_in}
 use Rattle.jh_laws.proofs.MadeLemmas.{IsSilent, IsNext, AllRoots, moved_by, own_after, other_after, roots_after, roots_at, roots_start, next_made, made_at, made_access, due_at_failed, done_by_moved}
 use Rattle.jh_laws.proofs.LegalLemmas.{IsLegal_rest}
 use Rattle.jh_laws.proofs.FactsLemmas.{facts_append}
@@ -91,7 +91,7 @@ made_own : (image : Image) (f g : Facts) (entry : Entry) (entries : List Entry) 
 made_own image f g entry entries admitted made rest =
     let program = program_in image image.system.root entry.cpu in
     let i = (f.cpu entry.cpu).position in
-    let op : op_by entry.cpu entry ≡ Some made.op = ap (λ (b : Bool). cond b (op_of entry.act) None) (same_number entry.cpu) ∙ (made_access image f entry.cpu entry made admitted).operation in
+    let op : op_by entry.cpu entry ≡ Some made.op = ap (λ (b : Bool). cond b (op_of_act entry.act) None) (same_number entry.cpu) ∙ (made_access image f entry.cpu entry made admitted).operation in
     let one : take i program ++ made.op ∷ operations_by entry.cpu entries ≡ take (i + 1) program ++ operations_by entry.cpu entries =
     sym (append_assoc (take i program) (made.op ∷ []) (operations_by entry.cpu entries)) ∙ ap (λ (xs : List Op). xs ++ operations_by entry.cpu entries) (sym (took program i made.op made.at)) in
     ap (λ (o : Option Op). take i program ++ cons_option o (operations_by entry.cpu entries)) op
@@ -102,7 +102,7 @@ made_own image f g entry entries admitted made rest =
 made_other : (image : Image) (cpu : ℕ) (f g : Facts) (entry : Entry) (entries : List Entry) → IsSilent image → IsNext image f entry → entry.cpu ≢ cpu → IsMadeFrom image cpu (after image f entry) g entries → IsMadeFrom image cpu f g (entry ∷ entries)
 made_other image cpu f g entry entries admitted made ne rest =
     let program = program_in image image.system.root cpu in
-    let op : op_by cpu entry ≡ None = ap (λ (b : Bool). cond b (op_of entry.act) None) (ne_eqb entry.cpu cpu ne) in
+    let op : op_by cpu entry ≡ None = ap (λ (b : Bool). cond b (op_of_act entry.act) None) (ne_eqb entry.cpu cpu ne) in
     ap (λ (o : Option Op). take (f.cpu cpu).position program ++ cons_option o (operations_by cpu entries)) op
     ∙ ap (λ (c : Cpu). take c.position program ++ operations_by cpu entries) (sym (other_after image f entry cpu admitted made (λ e. ne (sym e))))
     ∙ rest
@@ -134,7 +134,7 @@ IsCounted cpu f g entries = (g.cpu cpu).position ≡ (f.cpu cpu).position + leng
 
 counted_own : (image : Image) (f g : Facts) (entry : Entry) (entries : List Entry) → IsSilent image → IsNext image f entry → IsCounted entry.cpu (after image f entry) g entries → IsCounted entry.cpu f g (entry ∷ entries)
 counted_own image f g entry entries admitted made rest =
-    let op : op_by entry.cpu entry ≡ Some made.op = ap (λ (b : Bool). cond b (op_of entry.act) None) (same_number entry.cpu) ∙ (made_access image f entry.cpu entry made admitted).operation in
+    let op : op_by entry.cpu entry ≡ Some made.op = ap (λ (b : Bool). cond b (op_of_act entry.act) None) (same_number entry.cpu) ∙ (made_access image f entry.cpu entry made admitted).operation in
     let more : length (operations_by entry.cpu (entry ∷ entries)) ≡ suc (length (operations_by entry.cpu entries)) = ap (λ (o : Option Op). length (cons_option o (operations_by entry.cpu entries))) op in
     let moved : ((after image f entry).cpu entry.cpu).position ≡ (f.cpu entry.cpu).position + 1 = position_after image f entry admitted made in
     let last : (g.cpu entry.cpu).position ≡ ((after image f entry).cpu entry.cpu).position + length (operations_by entry.cpu entries) = rest in
@@ -142,7 +142,7 @@ counted_own image f g entry entries admitted made rest =
 
 counted_other : (image : Image) (cpu : ℕ) (f g : Facts) (entry : Entry) (entries : List Entry) → IsSilent image → IsNext image f entry → entry.cpu ≢ cpu → IsCounted cpu (after image f entry) g entries → IsCounted cpu f g (entry ∷ entries)
 counted_other image cpu f g entry entries admitted made ne rest =
-    let op : op_by cpu entry ≡ None = ap (λ (b : Bool). cond b (op_of entry.act) None) (ne_eqb entry.cpu cpu ne) in
+    let op : op_by cpu entry ≡ None = ap (λ (b : Bool). cond b (op_of_act entry.act) None) (ne_eqb entry.cpu cpu ne) in
     rest
     ∙ ap (λ (c : Cpu). c.position + length (operations_by cpu entries)) (other_after image f entry cpu admitted made (λ e. ne (sym e)))
     ∙ ap (λ (o : Option Op). (f.cpu cpu).position + length (cons_option o (operations_by cpu entries))) (sym op)

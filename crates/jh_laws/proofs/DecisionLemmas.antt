@@ -39,7 +39,7 @@ use Rattle.jh_history.specs.Due.{due_at, is_idle_but, IsLegal}
 use Rattle.jh_history.proofs.Public.{due_split, IsLegal_begin, other_root, legal_sound, call_open}
 use Rattle.jh_history.specs.Sound.{AreSoundCells}
 use Rattle.jh_laws.specs.Ways.{is_phase, is_decide, begun_call}
-use Rattle.jh_laws.specs.Decisions.{LivesLocked, NoneIsLocked, NoOtherIsLocked, LivesNot, IsIdDecision, IsDestroyDecision, IsReadRefusal, IsRefusedOf, IsCreateDecision, IsDecision}
+use Rattle.jh_laws.specs.Decisions.{LivesLocked, NoneIsLocked, NoOtherIsLocked, LivesNot, IsIdDecision, IsDestroyDecision, IsReadRefusal, IsConfigRefusal, IsCreateDecision, IsDecision}
 use Rattle.jh_laws.proofs.CallLemmas.{phase_expects, phase_of_due, same_call, not_same}
 use Rattle.jh_laws.proofs.HeldLemmas.{live_cell}
 use Rattle.jh_laws.proofs.HvcLemmas.{none_live}
@@ -134,7 +134,7 @@ refused_of config None = refl
 refused_of config (Some number) = refl
 
 read_whole_of : (image : Image) (f : Facts) (caller at : ℕ) (header bytes : List ℕ) → list_any (is_locked f) f.cells ≡ false → bytes_at image f at 132 ≡ Some header → header_fault header ≡ None → bytes_at image f at (size_by_header header) ≡ Some bytes
-    → IsRefusedOf image f caller (config_of bytes) (refused_by (creation_of image f caller at))
+    → IsConfigRefusal image f caller (config_of bytes) (refused_by (creation_of image f caller at))
 read_whole_of image f caller at header bytes free some is all =
     let config : CellConfig = config_of bytes in
     let pages : ℕ = pages_of image.system.root.memory_regions (configs_of f.cells ++ config ∷ []) in

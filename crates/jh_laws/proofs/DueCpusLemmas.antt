@@ -43,7 +43,7 @@ use Rattle.jh_history.specs.Due.{due_at, entry_of, next_act, state_act, act_of, 
 use Rattle.jh_history.specs.Admitted.{IsAdmitted}
 use Rattle.jh_history.specs.Sound.{AreSoundCells, IsHalted, IsAsked, IsHalting, IsCaller, IsOpen, IsSound, IsCalm}
 use Rattle.jh_laws.specs.Ends.{IsAnswered, IsReadBy, IsGotBy}
-use Rattle.jh_laws.specs.Ready.{IsDueIn, NothingElseIsDue, HasHeard, RootHasStopped, IsPhaseDue, IsReadyCaller, IsReadyProgram, IsReadyAt}
+use Rattle.jh_laws.specs.Ready.{IsDueIn, NothingElseIsDue, IsWaitedForNoMore, RootHasStopped, IsPhaseDue, IsReadyCaller, IsReadyProgram, IsReadyAt}
 use Rattle.jh_history.proofs.Public.{goes_calm, goes_running, running_mode, root_unnamed, board_few, halted_to_decide, halted_to_commit, named_board, IsOfProgram, state_parts, call_open, due_at_absent, is_some_entry}
 use Rattle.jh_laws.proofs.HeldLemmas.{found_by_id, live_found}
 use Rattle.jh_laws.proofs.PendingLemmas.{next_some_holds, next_is}
@@ -327,7 +327,7 @@ over_from timeout waited idle h =
 
 -- what an answer tells of the cell
 heard_from : (image : Image) (f : Facts) (o : OpenCall) (config : CellConfig) (waited : ℕ) → AreSoundCells image.system (configs_of f.cells) → f.call ≡ Some o
-    → (is_down (state_word f config.id) ≡ true) ⊎ ((reply_word f config.id ≢ 0) ⊎ (is_over config.msg_reply_timeout waited (is_idle_but image f o.caller) ≡ true)) → HasHeard image f o.caller config waited
+    → (is_down (state_word f config.id) ≡ true) ⊎ ((reply_word f config.id ≢ 0) ⊎ (is_over config.msg_reply_timeout waited (is_idle_but image f o.caller) ≡ true)) → IsWaitedForNoMore image f o.caller config waited
 heard_from image f o config waited sound is h =
     ⊎_elim
     (λ down. inl down)
@@ -342,7 +342,7 @@ heard_from image f o config waited sound is h =
     rest)
     h
 
-from_heard : (image : Image) (f : Facts) (o : OpenCall) (config : CellConfig) (waited : ℕ) → f.call ≡ Some o → HasHeard image f o.caller config waited
+from_heard : (image : Image) (f : Facts) (o : OpenCall) (config : CellConfig) (waited : ℕ) → f.call ≡ Some o → IsWaitedForNoMore image f o.caller config waited
     → (is_down (state_word f config.id) ≡ true) ⊎ ((reply_word f config.id ≢ 0) ⊎ (is_over config.msg_reply_timeout waited (is_idle_but image f o.caller) ≡ true))
 from_heard image f o config waited is h =
     let idle : Bool = is_idle_but image f o.caller in

@@ -27,7 +27,7 @@ use Rattle.jh_history.proofs.Public.{due_split, IsLegal_begin, goes_calm, goes_r
 use Rattle.jh_history.specs.Sound.{IsCalm, IsSound}
 use Rattle.jh_laws.specs.Ways.{is_phase}
 use Rattle.jh_laws.specs.Held.{IsRootOrLive}
-use Rattle.jh_laws.specs.Operations.{op_of}
+use Rattle.jh_laws.specs.Operations.{op_of_act}
 use Rattle.jh_laws.specs.States.{is_stop_act}
 use Rattle.jh_laws.proofs.CallLemmas.{IsMadeBy, Stopping, Running as Runs, Calling, made_by, phase_of_due}
 use Rattle.jh_laws.proofs.HeldLemmas.{cell_live}
@@ -35,7 +35,7 @@ use Rattle.jh_laws.proofs.HeldLemmas.{cell_live}
 -- ---- the operation
 
 abbrev IsOfOp : Op → Act → Type 0
-IsOfOp op act = op_of act ≡ Some op
+IsOfOp op act = op_of_act act ≡ Some op
 
 await_of_op : (op : Op) (width at value : ℕ) (o : Option ℕ) → op ≡ AwaitOp width at value → IfSome (await_of width at value o) (IsOfOp op)
 await_of_op op width at value None is = ap Some (sym is)
@@ -54,11 +54,11 @@ act_of_op image f cell IrqOp = irq_of_op (pending_of cell f.endpoints)
 act_of_op image f cell (HvcOp code a b) =
     cond_both (eqb cell image.system.root.id && is_management (decoded code a b)) (Begin code a b) (Hvc code a b (answer_of (decoded code a b) (seen_of image f cell (decoded code a b)))) (IsOfOp (HvcOp code a b)) (λ _. refl) (λ _. refl)
 
-op_by : (op : Op) (act : Act) (o : Option Act) → IfSome o (IsOfOp op) → o ≡ Some act → op_of act ≡ Some op
+op_by : (op : Op) (act : Act) (o : Option Act) → IfSome o (IsOfOp op) → o ≡ Some act → op_of_act act ≡ Some op
 op_by op act None h is = absurd (none-some act is)
 op_by op act (Some other) h is = let P : Act → Type 0 = IsOfOp op in subst P (same_Some other act is) h
 
-phase_none : (act : Act) → is_phase act ≡ true → op_of act ≡ None
+phase_none : (act : Act) → is_phase act ≡ true → op_of_act act ≡ None
 phase_none (Decide refused) h = refl
 phase_none (Settle how) h = refl
 phase_none Commit h = refl
@@ -76,15 +76,15 @@ cell_of_op : (image : Image) (f : Facts) (id cpu : ℕ) (op : Op) (o : Option Ce
 cell_of_op image f id cpu op None is h = absurd (none-some op h)
 cell_of_op image f id cpu op (Some cell) is h = let live = cell_live image f.cells id cell is in (cell, live.0, live.1, h)
 
-operation_by : (image : Image) (f : Facts) (entry : Entry) (op : Op) → op_of entry.act ≡ Some op → IsMadeBy image f entry → IsOperationOf image f (f.cpu entry.cpu).owner entry.cpu op
-operation_by image f entry op is (Stopping stops) = absurd (none-some op (ap op_of stops ∙ is))
+operation_by : (image : Image) (f : Facts) (entry : Entry) (op : Op) → op_of_act entry.act ≡ Some op → IsMadeBy image f entry → IsOperationOf image f (f.cpu entry.cpu).owner entry.cpu op
+operation_by image f entry op is (Stopping stops) = absurd (none-some op (ap op_of_act stops ∙ is))
 operation_by image f entry op is (Calling phase) = absurd (none-some op (sym (phase_none entry.act phase) ∙ is))
 operation_by image f entry op is (Runs program) =
     let owner : ℕ = (f.cpu entry.cpu).owner in
     let same : program.op ≡ op = same_Some program.op op (sym (op_by program.op entry.act (act_of image f owner program.op) (act_of_op image f owner program.op) program.is) ∙ is) in
     cell_of_op image f owner entry.cpu op (cell_in image f.cells owner) refl (program.at ∙ ap Some same)
 
-pub operation_at : (image : Image) (before rest : List Entry) (entry : Entry) (op : Op) → IsAdmitted image → IsLegal image (before ++ entry ∷ rest) → op_of entry.act ≡ Some op → IsOperationOf image (facts image before) entry.cell entry.cpu op
+pub operation_at : (image : Image) (before rest : List Entry) (entry : Entry) (op : Op) → IsAdmitted image → IsLegal image (before ++ entry ∷ rest) → op_of_act entry.act ≡ Some op → IsOperationOf image (facts image before) entry.cell entry.cpu op
 operation_at image before rest entry op admitted legal is =
     let f : Facts = facts image before in
     let sound = legal_sound image before admitted (IsLegal_begin image before (entry ∷ rest) legal) in

@@ -46,17 +46,17 @@ use Rattle.jh_history.specs.Calls.{is_of_call}
 use Rattle.jh_history.proofs.Public.{due_at_absent, due_at_present, acted_own, alone_start, alone_after, due_split, IsLegal_begin, program_ops_all, few_operations}
 use Rattle.std.specs.List.{AllByRecursion}
 use Rattle.std.proofs.lemmas.List.Elements.{recursion_from_All}
-use Rattle.jh_laws.specs.RootAlone.{HasNoDevice}
+use Rattle.jh_laws.specs.RootAlone.{HasNoShmemDevice}
 use Rattle.jh_laws.specs.Moves.{stepped, ended}
 use Rattle.jh_laws.specs.Outcomes.{is_violation}
-use Rattle.jh_laws.specs.Operations.{op_of, program_in}
+use Rattle.jh_laws.specs.Operations.{op_of_act, program_in}
 use Rattle.jh_laws.proofs.RootLemmas.{op_well_formed}
 use Rattle.jh_laws.proofs.FactsLemmas.{cpu_after_holds}
 
 -- the image may be opened, root has no ivshmem device, and no program has a hypercall
 pub record IsSilent (image : Image) : Type 0 where
   pub admitted : IsAdmitted image
-  pub bare : HasNoDevice image
+  pub bare : HasNoShmemDevice image
   pub silent : HasNoHypercall image
 
 -- so no operation is one
@@ -162,7 +162,7 @@ IsAccess image f cell _ = ⊥
 -- it is one, and that of the operation
 pub record IsAccessOf (image : Image) (f : Facts) (cell : ℕ) (op : Op) (act : Act) : Type 0 where
   pub access : IsAccess image f cell act
-  pub operation : op_of act ≡ Some op
+  pub operation : op_of_act act ≡ Some op
 
 await_equal : (image : Image) (f : Facts) (cell width at value got : ℕ) (act : Act) (b : Bool) → IsTrue (is_width width) → got_by image f cell ToRead at width ≡ Some got → eqb got value ≡ b
     → cond b (Some (Await width at value true)) None ≡ Some act → IsAccessOf image f cell (AwaitOp width at value) act
@@ -324,11 +324,11 @@ no_specs config n (device ∷ devices) none =
     let other : is_endpoint n device ≡ false = and_right (nat_lt n (2 ^ 32)) (eqb device.kind 3) (ne_eqb device.kind 3 none.0) in
     ap (λ (b : Bool). cond b (spec_of config n device ∷ specs_from config (n + 1) devices) (specs_from config (n + 1) devices)) other ∙ no_specs config (n + 1) devices none.1
 
-pub no_specs_of_root : (image : Image) → HasNoDevice image → specs_of image.system.root ≡ []
+pub no_specs_of_root : (image : Image) → HasNoShmemDevice image → specs_of image.system.root ≡ []
 unfolding specs_of
 no_specs_of_root image bare = no_specs image.system.root 0 image.system.root.pci_devices (recursion_from_All (λ (d : PciDevice). d.kind ≢ 3) image.system.root.pci_devices bare.devices)
 
-pub roots_start : (image : Image) → HasNoDevice image → AllRoots image (start image)
+pub roots_start : (image : Image) → HasNoShmemDevice image → AllRoots image (start image)
 roots_start image bare = record {
   cpus = λ cpu. record { owner = refl; asked = refl; stopped = refl };
   alone = alone_start image;

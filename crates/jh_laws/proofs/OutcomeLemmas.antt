@@ -20,7 +20,7 @@ use Rattle.jh_history.proofs.Public.{sound_start, legal_sound, IsLegal_begin}
 use Rattle.jh_history.specs.History.{facts}
 use Rattle.jh_history.specs.Grants.{reach}
 use Rattle.jh_history.specs.Due.{got_by, IsLegal}
-use Rattle.jh_laws.specs.RootAlone.{HasNoDevice}
+use Rattle.jh_laws.specs.RootAlone.{HasNoShmemDevice}
 use Rattle.jh_laws.specs.Ends.{IsAnswered, IsReadBy, IsGotBy, IsAwaitedBy}
 use Rattle.jh_laws.specs.Outcomes.{HasItsOutcome}
 use Rattle.jh_shape.specs.Lives.{configs_of}
@@ -29,7 +29,7 @@ use Rattle.jh_laws.proofs.EndsLemmas.{got_of_cell, reached_of_cell, one_value, w
 use Rattle.jh_laws.proofs.MadeLemmas.{IsSilent, AllRoots, AwaitOf, IsAccess, no_specs_of_root, made_access, made_at}
 
 -- root alone, without devices, is sound
-no_endpoints : (image : Image) → IsAdmitted image → HasNoDevice image → AreEndpoints image [] []
+no_endpoints : (image : Image) → IsAdmitted image → HasNoShmemDevice image → AreEndpoints image [] []
 no_endpoints image admitted bare =
     let P : List EndpointSpec → Type 0 = λ specs. AreEndpoints image [] (endpoints_changed Join specs []) in
     subst P (no_specs_of_root image bare) (sound_start image admitted).endpoints

@@ -23,7 +23,7 @@ use Rattle.jh_history.specs.Sound.{IsSound}
 use Rattle.jh_history.proofs.Public.{legal_sound}
 use Rattle.jh_laws.specs.Ends.{IsAnswered, IsReadBy, IsGotBy, IsAwaitedBy}
 use Rattle.jh_laws.specs.Outcomes.{HasItsOutcome}
-use Rattle.jh_laws.specs.Operations.{op_of, IsDueOp, IsReady, IsCpusOwn}
+use Rattle.jh_laws.specs.Operations.{op_of_act, IsDueOp, IsReady, IsCpusOwn}
 use Rattle.jh_laws.proofs.RootLemmas.{op_well_formed}
 use Rattle.jh_laws.proofs.MadeLemmas.{IsSilent, op_silent, IsMade, due_at_made, due_at_running, made_access, roots_at}
 use Rattle.jh_laws.proofs.OutcomeLemmas.{got_of, reached_of, value_of, outcome}
@@ -135,7 +135,7 @@ await_from image entries width at value (Some v) true sound got awaited =
 await_from image entries width at value (Some v) false sound got awaited = absurd (false≢true (awaited.answered.1 (got.answered.0 refl)))
 
 -- and so is each access
-act_from : (image : Image) (entries : List Entry) (op : Op) (act : Act) → IsSound image (facts image entries) → IsWellFormed op → op_of act ≡ Some op → HasItsOutcome image entries image.system.root act → act_of image (facts image entries) image.system.root.id op ≡ Some act
+act_from : (image : Image) (entries : List Entry) (op : Op) (act : Act) → IsSound image (facts image entries) → IsWellFormed op → op_of_act act ≡ Some op → HasItsOutcome image entries image.system.root act → act_of image (facts image entries) image.system.root.id op ≡ Some act
 act_from image entries op (Read width at got) sound plain is h =
     let P : Op → Type 0 = λ o. IsWellFormed o → act_of image (facts image entries) image.system.root.id o ≡ Some (Read width at got) in
     subst P (same_Some (ReadOp width at) op is)

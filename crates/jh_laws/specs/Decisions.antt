@@ -60,7 +60,7 @@ pub record IsReadRefusal (image : Image) (f : Facts) (at : ℕ) (refused : Optio
   pub rest : (header : List ℕ) → bytes_at image f at 132 ≡ Some header → header_fault header ≡ None → bytes_at image f at (size_by_header header) ≡ None → refused ≡ Some EINVAL
 
 -- what a configuration that was read is refused for: the first cause that holds, or none
-pub record IsRefusedOf (image : Image) (f : Facts) (caller : ℕ) (config : CellConfig) (refused : Option ℤ) : Type 0 where
+pub record IsConfigRefusal (image : Image) (f : Facts) (caller : ℕ) (config : CellConfig) (refused : Option ℤ) : Type 0 where
   pub cause : refused ≡ refusal_by image (configs_of f.cells) (may_give image f caller) config
   pub goes : IsAccepted image.system (configs_of f.cells) config (may_give image f caller) (pages_of image.system.root.memory_regions (configs_of f.cells ++ config ∷ [])) (pool_pages image.system)
       → refused ≡ None
@@ -71,7 +71,7 @@ pub record IsCreateDecision (image : Image) (f : Facts) (caller at : ℕ) (refus
   pub locked : (live : Live) → LivesLocked f live → refused ≡ Some EPERM
   pub unread : NoneIsLocked f → IsReadRefusal image f at refused
   pub read : NoneIsLocked f → (header bytes : List ℕ) → bytes_at image f at 132 ≡ Some header → header_fault header ≡ None
-      → bytes_at image f at (size_by_header header) ≡ Some bytes → IsRefusedOf image f caller (config_of bytes) refused
+      → bytes_at image f at (size_by_header header) ≡ Some bytes → IsConfigRefusal image f caller (config_of bytes) refused
 
 -- what the call is refused for at its Decide, if for anything
 abbrev pub IsDecision : Image → Facts → ℕ → Call → Option ℤ → Type 0

@@ -14,7 +14,7 @@ use Rattle.jh_history.specs.declared.entry.Heard.TheVariants.{Received, Down, Ot
 use Rattle.jh_history.specs.Facts.{Facts}
 use Rattle.jh_history.specs.Calls.{is_named}
 use Rattle.jh_history.specs.Phases.{state_word, reply_word, is_down}
-use Rattle.jh_laws.specs.Moments.{AdmittedSpan, facts_at_last}
+use Rattle.jh_laws.specs.Moments.{AdmittedSpan, facts_before_last}
 use Rattle.jh_laws.specs.Ready.{IsTimeOver}
 
 -- how many of the entries pass the test
@@ -50,13 +50,13 @@ pub record IsHeardBy (image : Image) (f : Facts) (caller : ℕ) (config : CellCo
 -- at the last entry the cell that the call is about has met so the request to shut down that the first entry made
 pub record IsSettledAtLast (s : AdmittedSpan) (call : Call) (how : Settled) : Type 0 where
   pub config : CellConfig
-  pub lives : Contains (configs_of (facts_at_last s).cells) config
+  pub lives : Contains (configs_of (facts_before_last s).cells) config
   pub named : is_named call config.id ≡ true
-  pub settles : IsSettledBy s.image (facts_at_last s) s.first.cpu config (made_by_named call s.between) how
+  pub settles : IsSettledBy s.image (facts_before_last s) s.first.cpu config (made_by_named call s.between) how
 
 -- at the last entry the cell with the id has met so the note that the first entry told it
 pub record IsHeardAtLast (s : AdmittedSpan) (id : ℕ) (how : Heard) : Type 0 where
   pub config : CellConfig
-  pub lives : Contains (configs_of (facts_at_last s).cells) config
+  pub lives : Contains (configs_of (facts_before_last s).cells) config
   pub named : config.id ≡ id
-  pub hears : IsHeardBy s.image (facts_at_last s) s.first.cpu config (made_by_cell id s.between) how
+  pub hears : IsHeardBy s.image (facts_before_last s) s.first.cpu config (made_by_cell id s.between) how

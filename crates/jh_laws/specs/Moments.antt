@@ -44,20 +44,20 @@ pub record AdmittedSpan : Type 0 where
   pub legal : IsLegal image (before ++ first ∷ (between ++ last ∷ rest))
 
 -- the facts just before the first entry
-abbrev pub facts_at_first : AdmittedSpan → Facts
-facts_at_first s = facts s.image s.before
+abbrev pub facts_before_first : AdmittedSpan → Facts
+facts_before_first s = facts s.image s.before
 
 -- the facts just behind the first entry
-abbrev pub facts_past_first : AdmittedSpan → Facts
-facts_past_first s = facts s.image (s.before ++ s.first ∷ [])
+abbrev pub facts_behind_first : AdmittedSpan → Facts
+facts_behind_first s = facts s.image (s.before ++ s.first ∷ [])
 
 -- the facts just before the last entry
-abbrev pub facts_at_last : AdmittedSpan → Facts
-facts_at_last s = facts s.image (s.before ++ s.first ∷ s.between)
+abbrev pub facts_before_last : AdmittedSpan → Facts
+facts_before_last s = facts s.image (s.before ++ s.first ∷ s.between)
 
 -- the facts just behind the last entry
-abbrev pub facts_past_last : AdmittedSpan → Facts
-facts_past_last s = facts s.image (s.before ++ s.first ∷ (s.between ++ s.last ∷ []))
+abbrev pub facts_behind_last : AdmittedSpan → Facts
+facts_behind_last s = facts s.image (s.before ++ s.first ∷ (s.between ++ s.last ∷ []))
 
 -- the facts after the journal
 abbrev pub facts_of : AdmittedJournal → Facts
@@ -114,12 +114,12 @@ abbrev pub call_before : AdmittedMoment → Option Call
 call_before m = begun_call m.before
 
 -- the call that was begun before the first entry, and hasn't ended
-abbrev pub call_at_first : AdmittedSpan → Option Call
-call_at_first s = begun_call s.before
+abbrev pub call_before_first : AdmittedSpan → Option Call
+call_before_first s = begun_call s.before
 
 -- the call that was begun up to the first entry, by it or before it, and hasn't ended
-abbrev pub call_past_first : AdmittedSpan → Option Call
-call_past_first s = begun_call (s.before ++ s.first ∷ [])
+abbrev pub call_behind_first : AdmittedSpan → Option Call
+call_behind_first s = begun_call (s.before ++ s.first ∷ [])
 
 -- ---- what is between
 

@@ -19,19 +19,19 @@ use Rattle.jh_laws.specs.Ends.{IsAnswered, IsReadBy}
 use Rattle.jh_laws.specs.Outcomes.{HasItsOutcome}
 
 -- the operation that the act is, without its outcome; a stop and the later phases of a management call are none
-abbrev pub op_of : Act → Option Op
-op_of (Read width at got) = Some (ReadOp width at)
-op_of (Write width at value ok) = Some (WriteOp width at value)
-op_of (Fetch at got) = Some (FetchOp at)
-op_of (Await width at value ok) = Some (AwaitOp width at value)
-op_of (Irq device vector) = Some IrqOp
-op_of (Hvc code a b answer) = Some (HvcOp code a b)
-op_of (Begin code a b) = Some (HvcOp code a b)
-op_of _ = None
+abbrev pub op_of_act : Act → Option Op
+op_of_act (Read width at got) = Some (ReadOp width at)
+op_of_act (Write width at value ok) = Some (WriteOp width at value)
+op_of_act (Fetch at got) = Some (FetchOp at)
+op_of_act (Await width at value ok) = Some (AwaitOp width at value)
+op_of_act (Irq device vector) = Some IrqOp
+op_of_act (Hvc code a b answer) = Some (HvcOp code a b)
+op_of_act (Begin code a b) = Some (HvcOp code a b)
+op_of_act _ = None
 
 -- the operation of the entry, where the CPU made it
 abbrev pub op_by : ℕ → Entry → Option Op
-op_by cpu entry = if entry.cpu == cpu then op_of entry.act else None
+op_by cpu entry = if entry.cpu == cpu then op_of_act entry.act else None
 
 -- the operations that the CPU made, in order
 abbrev pub operations_by : ℕ → List Entry → List Op
@@ -46,8 +46,8 @@ abbrev pub op_before : AdmittedMoment → CellConfig → Option Op
 op_before m cell = slice_get (program_in m.image cell m.entry.cpu) (state_before m m.entry.cpu).position
 
 -- the cell's operation is due after the entries: a read, write or fetch always is, and an await where the access is a
--- violation or reads the value that it waits for. These are the operations of images whose root has no device, and
--- which have no hypercall: there an interrupt is never due
+-- violation or reads the value that it waits for. So it is where root has no ivshmem device and no program a hypercall:
+-- there an interrupt is never due, and there is no hypercall
 abbrev pub IsDueOp : Image → List Entry → CellConfig → Op → Type 0
 IsDueOp image entries cell (ReadOp width at) = Unit {0}
 IsDueOp image entries cell (WriteOp width at value) = Unit {0}
@@ -72,5 +72,5 @@ pub record IsReady (image : Image) (entries : List Entry) (cell : CellConfig) (c
 pub record IsCpusOwn (image : Image) (entries : List Entry) (cell : CellConfig) (cpu : ℕ) (entry : Entry) : Type 0 where
   pub cpu_is : entry.cpu ≡ cpu
   pub cell_is : entry.cell ≡ (cpu_at image entries cpu).owner
-  pub operation : op_of entry.act ≡ slice_get (program_in image cell cpu) (cpu_at image entries cpu).position
+  pub operation : op_of_act entry.act ≡ slice_get (program_in image cell cpu) (cpu_at image entries cpu).position
   pub outcome : HasItsOutcome image entries cell entry.act

@@ -7,7 +7,7 @@ use Rattle.jh_script.specs.declared.image.Preload.{Preload}
 pub record IsPreloaded (image : Image) (place byte : ℕ) : Type 0 where
   pub preload : Preload
   pub index : ℕ
-  pub there : Contains image.preloads preload
+  pub among : Contains image.preloads preload
   pub within : index < length preload.bytes
   pub there : place ≡ preload.at + index
   pub byte_is : byte ≡ slice_index preload.bytes index

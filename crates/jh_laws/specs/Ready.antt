@@ -37,8 +37,8 @@ abbrev pub IsTimeOver : Image → Facts → ℕ → CellConfig → ℕ → Type 
 IsTimeOver image f caller config waited = ((config.msg_reply_timeout ≢ 0) × (config.msg_reply_timeout ≤ waited)) ⊎ NothingElseIsDue image f caller
 
 -- the cell that was asked or told is waited for no more: it is down, there is a reply, or its time is over
-abbrev pub HasHeard : Image → Facts → ℕ → CellConfig → ℕ → Type 0
-HasHeard image f caller config waited = (is_down (state_word f config.id) ≡ true) ⊎ (reply_word f config.id ≢ 0) ⊎ IsTimeOver image f caller config waited
+abbrev pub IsWaitedForNoMore : Image → Facts → ℕ → CellConfig → ℕ → Type 0
+IsWaitedForNoMore image f caller config waited = (is_down (state_word f config.id) ≡ true) ⊎ (reply_word f config.id ≢ 0) ⊎ IsTimeOver image f caller config waited
 
 -- each CPU of root on the board but the caller has stopped, where it was asked to
 abbrev pub RootHasStopped : Image → Facts → ℕ → Type 0
@@ -48,11 +48,11 @@ RootHasStopped image f caller = (i : ℕ) → is_on_board image i ≡ true → i
 abbrev pub IsPhaseDue : Image → Facts → OpenCall → Phase → Type 0
 IsPhaseDue image f o ToDecide = RootHasStopped image f o.caller
 IsPhaseDue image f o (ToSettle waited) =
-    (config : CellConfig) × Contains (configs_of f.cells) config × (is_named o.call config.id ≡ true) × ((is_passive config ≡ true) ⊎ HasHeard image f o.caller config waited)
+    (config : CellConfig) × Contains (configs_of f.cells) config × (is_named o.call config.id ≡ true) × ((is_passive config ≡ true) ⊎ IsWaitedForNoMore image f o.caller config waited)
 IsPhaseDue image f o (ToCreate config) = Unit {0}
 IsPhaseDue image f o ToCommit = (i : ℕ) → is_named o.call (f.cpu i).owner ≡ true → (f.cpu i).asked ≡ false
 IsPhaseDue image f o (ToNote id about answer) = Unit {0}
-IsPhaseDue image f o (ToNoted id about answer waited) = (config : CellConfig) × Contains (configs_of f.cells) config × (config.id ≡ id) × HasHeard image f o.caller config waited
+IsPhaseDue image f o (ToNoted id about answer waited) = (config : CellConfig) × Contains (configs_of f.cells) config × (config.id ≡ id) × IsWaitedForNoMore image f o.caller config waited
 IsPhaseDue image f o (ToFinish answer) = Unit {0}
 
 -- the CPU has its call open, and its next phase is due

@@ -1,7 +1,8 @@
 -- The legal journals in which root lives alone, and what stands before and behind an entry of one.
-use Rattle.std.specs.Prelude.{◌≢◌, ℕ, List, [], ◌∷◌, ◌++◌, All}
+use Rattle.std.specs.Prelude.{⊥, ℕ, List, [], ◌∷◌, ◌++◌, All}
 use Rattle.jh_cellcfg.specs.declared.config.CellConfig.{CellConfig}
 use Rattle.jh_cellcfg.specs.declared.config.PciDevice.{PciDevice}
+use Rattle.jh_check.specs.Clean.{IsShmem}
 use Rattle.jh_cpu.specs.declared.cpu.Cpu.{Cpu}
 use Rattle.jh_script.specs.declared.image.Image.{Image}
 use Rattle.jh_history.specs.declared.place.Place.{Place}
@@ -11,8 +12,8 @@ use Rattle.jh_history.specs.Due.{IsLegal}
 use Rattle.jh_history.specs.Admitted.{HasNoHypercall, IsAdmitted}
 
 -- root has no ivshmem device
-pub record HasNoDevice (image : Image) : Type 0 where
-  pub devices : All (λ (d : PciDevice). d.kind ≢ 3) image.system.root.pci_devices
+pub record HasNoShmemDevice (image : Image) : Type 0 where
+  pub devices : All (λ (d : PciDevice). IsShmem d → ⊥) image.system.root.pci_devices
 
 -- a legal journal of an image that a board may be opened with, whose root has no ivshmem device, and whose programs have
 -- no hypercall: of one where root lives alone, and has no registers
@@ -20,7 +21,7 @@ pub record RootAloneJournal : Type 0 where
   pub image : Image
   pub entries : List Entry
   pub admitted : IsAdmitted image
-  pub bare : HasNoDevice image
+  pub bare : HasNoShmemDevice image
   pub silent : HasNoHypercall image
   pub legal : IsLegal image entries
 
@@ -32,7 +33,7 @@ pub record RootAloneMoment : Type 0 where
   pub entry : Entry
   pub rest : List Entry
   pub admitted : IsAdmitted image
-  pub bare : HasNoDevice image
+  pub bare : HasNoShmemDevice image
   pub silent : HasNoHypercall image
   pub legal : IsLegal image (before ++ entry ∷ rest)
 

@@ -1,7 +1,7 @@
 -- What entries do to CPUs.
-use Rattle.std.specs.Prelude.{◌≡◌, ◌≢◌, ◌++◌, ◌∷◌, [], ℕ, Bool, true, false, List, length}
+use Rattle.std.specs.Prelude.{◌≡◌, ◌≢◌, ◌++◌, ◌∷◌, [], ℕ, Bool, true, false, List}
 use Rattle.jh_cellcfg.specs.declared.config.CellConfig.{CellConfig}
-use Rattle.jh_cellcfg.specs.Cells.{name_of, is_cpu_set}
+use Rattle.jh_cellcfg.specs.Cells.{is_cpu_set}
 use Rattle.jh_cpu.specs.declared.cpu.Cpu.{Cpu}
 use Rattle.jh_cpu.specs.declared.cpu.Mode.TheVariants.{Running}
 use Rattle.jh_cpu.specs.Changes.{asked_of, resumed, lent, parked, restarted, returned}
@@ -10,7 +10,8 @@ use Rattle.jh_call.specs.declared.call.Call.TheVariants.{Create, Start, Loadable
 use Rattle.jh_script.specs.declared.image.Image.{Image}
 use Rattle.jh_history.specs.declared.entry.Act.{Act}
 use Rattle.jh_history.specs.declared.entry.Act.TheVariants.{Begin, Settle, Commit, Finish, Stop}
-use Rattle.jh_history.specs.Lives.{is_on_board, program_ops}
+use Rattle.jh_history.specs.Cpus.{end_in_root}
+use Rattle.jh_history.specs.Lives.{is_on_board}
 use Rattle.jh_history.specs.Calls.{is_named}
 use Rattle.jh_laws.specs.Moves.{stepped}
 
@@ -52,7 +53,7 @@ HasCommitted image old new (Create at) i before behind =
 HasCommitted image old new (Start id) i before behind = (before.owner ≡ id → behind ≡ restarted before) × (before.owner ≢ id → behind ≡ before)
 HasCommitted image old new (Loadable id) i before behind = (before.owner ≡ id → behind ≡ parked before) × (before.owner ≢ id → behind ≡ before)
 HasCommitted image old new (Destroy id) i before behind =
-    (before.owner ≡ id → behind ≡ returned image.system.root.id (length (program_ops image (name_of image.system.root) i)) before) × (before.owner ≢ id → behind ≡ before)
+    (before.owner ≡ id → behind ≡ returned image.system.root.id (end_in_root image i) before) × (before.owner ≢ id → behind ≡ before)
 HasCommitted image old new call i before behind = ⊥
 
 -- at the end root's CPUs go on, the caller has done its operation, and every other CPU stays as it is

@@ -7,7 +7,7 @@ use Rattle.jh_history.specs.declared.entry.Act.{Act}
 use Rattle.jh_history.specs.declared.entry.Act.TheVariants.{Read, Fetch, Irq, Hvc, Decide, Note, Noted, Finish}
 use Rattle.jh_history.specs.Sound.{AreBytes}
 
--- root's id has 32 bits, and preloads put bytes: so it is of each image that a program can have
+-- root's id has 32 bits, and preloads put bytes: so it is of each image that code can hold
 pub record IsTypedImage (image : Image) : Type 0 where
   pub root : image.system.root.id < 2 ^ 32
   pub bytes : All (λ (p : Preload). AreBytes p.bytes) image.preloads

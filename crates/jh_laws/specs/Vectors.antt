@@ -82,7 +82,8 @@ pub record NotifiesPeer (image : Image) (f : Facts) (entry : Entry) (peer : Endp
 
 -- ---- raised and dropped
 
--- the entry raises the vector of the cell's device, which is open: a doorbell does, or for vector 0 the state of a peer
+-- the entry raises the vector of the cell's device, where it is open: a write to a doorbell does, or for vector 0 a
+-- change of the state of another endpoint of the link
 pub record Raises (image : Image) (f : Facts) (entry : Entry) (id n v : ℕ) : Type 0 where
   pub peer : Endpoint
   pub there : endpoint_at id n f.endpoints ≡ Some peer
@@ -110,9 +111,9 @@ endpoint_behind m e = endpoint_at e.spec.cell e.spec.device (facts_behind m).end
 abbrev pub written_part : Vector → Vector
 written_part vector = record vector { pending = false }
 
--- the endpoint, behind an entry of another cell than its own, has the configuration space, the state and the words and masks
--- of vectors that it had before; its interrupt control is another only where the entry raises a vector of it, which turns it
--- off in one-shot mode; what was pending is pending still, and what is pending was so before or is raised by the entry
+-- the endpoint, behind an entry of another cell than its own, keeps what is fixed of it, its configuration space, its
+-- state and the words and masks of its vectors; its interrupt control is another only where the entry raises a vector
+-- of it; what was pending is pending still, and what is pending was so before or is raised by the entry
 pub record IsKeptByOthers (image : Image) (f : Facts) (entry : Entry) (before behind : Endpoint) : Type 0 where
   pub spec : behind.spec ≡ before.spec
   pub space : behind.space ≡ before.space

@@ -40,10 +40,10 @@ abbrev pub is_undenied_settle : Act → Bool
 is_undenied_settle (Settle how) = is_undenied how
 is_undenied_settle _ = false
 
--- the call that the act begins
-abbrev pub call_begun : Act → Call
-call_begun (Begin code a b) = decoded code a b
-call_begun _ = Unknown
+-- the call that the act begins; for an act that begins none, one of an unknown code
+abbrev pub call_of_begin : Act → Call
+call_of_begin (Begin code a b) = decoded code a b
+call_of_begin _ = Unknown
 
 -- ---- which call is open
 
@@ -59,14 +59,14 @@ begun entries = fold (λ (b : Option Entry) (entry : Entry). begun_by b entry en
 
 -- the call that is open after the entries: the one that was begun last, where no end follows
 abbrev pub begun_call : List Entry → Option Call
-begun_call entries = option_map (λ (opening : Entry). call_begun opening.act) (begun entries)
+begun_call entries = option_map (λ (opening : Entry). call_of_begin opening.act) (begun entries)
 
 -- the call that is open is the one that was begun, by its CPU
 abbrev pub IsBegun : Option Entry → Option OpenCall → Type 0
 IsBegun None None = Unit {0}
 IsBegun None (Some o) = ⊥
 IsBegun (Some entry) None = ⊥
-IsBegun (Some entry) (Some o) = (o.caller ≡ entry.cpu) × (o.call ≡ call_begun entry.act)
+IsBegun (Some entry) (Some o) = (o.caller ≡ entry.cpu) × (o.call ≡ call_of_begin entry.act)
 
 -- ---- what follows what
 

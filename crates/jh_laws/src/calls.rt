@@ -8,7 +8,7 @@ ghost use Rattle.jh_history.specs.declared.entry.Entry.{Entry as TheEntry};
 ghost use Rattle.jh_history.specs.declared.entry.Act.TheVariants.{Begin, Stop, Decide, Settle, Note, Noted, Finish};
 ghost use Rattle.jh_history.specs.Due.{IsQuiet};
 ghost use Rattle.jh_history.specs.Calls.{is_named, is_of_call};
-ghost use Rattle.jh_laws.specs.Moments.{AdmittedJournal, AdmittedMoment, AdmittedSpan, open_call_of, facts_before, call_before, call_at_first, call_past_first, IsCpusNext, NoneFinishesBetween, NoneCommitsBetween};
+ghost use Rattle.jh_laws.specs.Moments.{AdmittedJournal, AdmittedMoment, AdmittedSpan, open_call_of, facts_before, call_before, call_before_first, call_behind_first, IsCpusNext, NoneFinishesBetween, NoneCommitsBetween};
 ghost use Rattle.jh_laws.specs.Creations.{IsMadeByFirst};
 ghost use Rattle.jh_laws.specs.Decisions.{IsDecision};
 ghost use Rattle.jh_laws.specs.Exchanges.{IsSettledAtLast, IsHeardAtLast};
@@ -26,7 +26,7 @@ pub fn one_call_is_open()
 /// What the CPU does next, behind an entry of its call that doesn't end it.
 pub fn calls_go_phase_by_phase()
     ensures { (s : AdmittedSpan) → is_of_call s.first.act ≡ true → is_finish s.first.act ≡ false → IsCpusNext s →
-        (call : TheCall) × (call_past_first s ≡ Some call) × MayFollow call s.first.act s.last.act }
+        (call : TheCall) × (call_behind_first s ≡ Some call) × MayFollow call s.first.act s.last.act }
 {}
 
 /// A create whose Commit makes a cell ends with that cell's id, however many cells are told of it before.
@@ -40,7 +40,7 @@ pub fn a_create_answers_the_new_cells_id()
 pub fn suspended_cpus_make_no_entry()
     ensures roots { (s : AdmittedSpan) → is_decide s.first.act ≡ true → NoneFinishesBetween s →
         s.last.cell ≡ s.image.system.root.id → s.last.cpu ≡ s.first.cpu }
-    ensures cells { (s : AdmittedSpan) (call : TheCall) → call_at_first s ≡ Some call → is_undenied_settle s.first.act ≡ true →
+    ensures cells { (s : AdmittedSpan) (call : TheCall) → call_before_first s ≡ Some call → is_undenied_settle s.first.act ≡ true →
         NoneCommitsBetween s → is_named call s.last.cell ≡ true → s.last.act ≡ Stop }
 {}
 
@@ -55,11 +55,11 @@ pub fn calls_are_decided_by_their_cause()
         m.entry.act ≡ Decide refused → IsDecision m.image (facts_before m) m.entry.cpu call refused }
 {}
 
-/// How a cell met the request to shut down, and the note of a change: to the request a passive cell agrees at once;
-/// else it goes by its state word and its reply at that time, or its time was over: its CPUs had made as many entries
-/// since it was asked or told as its time-out tells, if that isn't 0, or nothing was due to any CPU but the caller.
+/// How a cell met the request to shut down, and the note of a change: to the request a passive cell agrees; else it goes
+/// by its state word and its reply at that time, or its time was over: its CPUs had made as many entries since it was
+/// asked or told as its time-out tells, if that isn't 0, or nothing was due to any CPU but the caller.
 pub fn cells_are_heard_by_their_words()
-    ensures settle { (s : AdmittedSpan) (call : TheCall) (how : TheSettled) → call_at_first s ≡ Some call →
+    ensures settle { (s : AdmittedSpan) (call : TheCall) (how : TheSettled) → call_before_first s ≡ Some call →
         s.first.act ≡ Decide None → IsCpusNext s → s.last.act ≡ Settle how → IsSettledAtLast s call how }
     ensures note { (s : AdmittedSpan) (id other : ℕ) (how : TheHeard) → s.first.act ≡ Note id →
         IsCpusNext s → s.last.act ≡ Noted other how → (other ≡ id) × IsHeardAtLast s id how }

@@ -7,7 +7,7 @@ ghost use Rattle.jh_script.specs.declared.image.Image.{Image as TheImage};
 ghost use Rattle.jh_history.specs.declared.entry.Act.TheVariants.{Decide, Commit};
 ghost use Rattle.jh_history.specs.History.{facts};
 ghost use Rattle.jh_history.specs.Commits.{is_commit, is_other};
-ghost use Rattle.jh_laws.specs.Moments.{AdmittedMoment, AdmittedSpan, facts_before, facts_behind, call_before, call_at_first, IsCpusNext};
+ghost use Rattle.jh_laws.specs.Moments.{AdmittedMoment, AdmittedSpan, facts_before, facts_behind, call_before, call_before_first, IsCpusNext};
 ghost use Rattle.jh_laws.specs.Creations.{IsMadeAsRead};
 
 /// Root lives alone at opening. The Commit of a create adds its cell behind the others, not loadable; that of a
@@ -29,6 +29,6 @@ pub fn cells_live_from_commit_to_commit()
 /// A cell that a create makes has the configuration that was read at the create's address at its Decide, whatever
 /// stands there when it is committed.
 pub fn configurations_are_read_at_the_decide()
-    ensures { (s : AdmittedSpan) (at : ℕ) → call_at_first s ≡ Some (Create at) → s.first.act ≡ Decide None →
+    ensures { (s : AdmittedSpan) (at : ℕ) → call_before_first s ≡ Some (Create at) → s.first.act ≡ Decide None →
         IsCpusNext s → IsMadeAsRead s at }
 {}

@@ -7,14 +7,14 @@ ghost use Rattle.jh_history.specs.declared.place.Place.TheVariants.{Physical, Pa
 ghost use Rattle.jh_history.specs.Admitted.{IsAdmitted};
 ghost use Rattle.jh_history.specs.Lives.{program_ops};
 ghost use Rattle.jh_laws.specs.Preloads.{IsPreloaded};
-ghost use Rattle.jh_laws.specs.RootAlone.{HasNoDevice, byte_at, cpu_at};
+ghost use Rattle.jh_laws.specs.RootAlone.{HasNoShmemDevice, byte_at, cpu_at};
 
-/// Where root has no ivshmem device, a byte of physical memory is at opening the preload's where one puts one there, and
-/// 0 elsewhere. Each byte of a communication page is 0.
+/// Where root has no ivshmem device, a byte of physical memory is at opening the one that a preload puts there, and 0
+/// where none puts one. Each byte of a communication page is 0.
 pub fn memory_opens_with_the_preloads()
-    ensures put { (image : TheImage) (place byte : ℕ) → IsAdmitted image → HasNoDevice image →
+    ensures put { (image : TheImage) (place byte : ℕ) → IsAdmitted image → HasNoShmemDevice image →
         IsPreloaded image place byte → byte_at image [] (Physical place) ≡ byte }
-    ensures zero { (image : TheImage) (place : ℕ) → IsAdmitted image → HasNoDevice image →
+    ensures zero { (image : TheImage) (place : ℕ) → IsAdmitted image → HasNoShmemDevice image →
         ((byte : ℕ) → IsPreloaded image place byte → ⊥) → byte_at image [] (Physical place) ≡ 0 }
     ensures pages { (image : TheImage) (cell offset : ℕ) → byte_at image [] (Page cell offset) ≡ 0 }
 {}

@@ -1,4 +1,4 @@
-//! Which journals are legal and quiet.
+//! Which journals are legal, and that none goes on behind a quiet one.
 ghost use Rattle.std.specs.Prelude.{◌≡◌, List, ◌∷◌, ◌++◌, map, Some};
 ghost use Rattle.jh_script.specs.declared.image.Image.{Image as TheImage};
 ghost use Rattle.jh_history.specs.declared.entry.Entry.{Entry as TheEntry};

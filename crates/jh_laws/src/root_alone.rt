@@ -64,10 +64,10 @@ pub fn entries_of_root_alone_follow_the_program()
         (cpu_at j.image j.entries cpu).position ≡ length (operations_by cpu j.entries) }
 {}
 
-/// An entry is due to a CPU exactly where the board has it, it runs, is neither asked to stop nor stopped,
-/// and its program has an operation at its position that is due: an await where the access is a
-/// violation or reads the awaited value, an interrupt never, since there is no device, and any other always. So a
-/// journal is quiet exactly where no CPU is ready so.
+/// An entry is due to a CPU exactly where the board has it, it runs, is neither asked to stop nor stopped, and its
+/// program has an operation at its position that is due: an await where the access is a violation or reads the awaited
+/// value, an interrupt never, since root has no ivshmem device, and any other always. So a journal is quiet exactly
+/// where no CPU is ready so.
 pub fn ready_cpus_of_root_alone_have_an_entry_due()
     ensures ready { (j : RootAloneJournal) (cpu : ℕ) →
         IsSome (due j.image j.entries cpu) ↔ IsReady j.image j.entries (root_of j) cpu }

@@ -16,13 +16,13 @@ ghost use Rattle.jh_laws.specs.Ready.{IsReadyAt};
 ghost use Rattle.jh_history.specs.Sound.{IsCalm};
 ghost use Rattle.jh_history.specs.Calls.{is_of_call};
 ghost use Rattle.jh_laws.specs.Held.{IsRootOrLive};
-ghost use Rattle.jh_laws.specs.Operations.{op_of, op_before};
+ghost use Rattle.jh_laws.specs.Operations.{op_of_act, op_before};
 ghost use Rattle.jh_laws.specs.Moves.{stepped, ended};
 ghost use Rattle.jh_laws.specs.Outcomes.{is_violation};
 ghost use Rattle.jh_laws.specs.States.{changes_others, is_stop_act, HasBegun, HasSettled, HasCommitted, HasFinished};
 
-/// An entry of a program moves its CPU by one operation, and a violation fails it, too. A stop stops it. No other
-/// CPU changes, unless the entry begins or ends a call, or is a Settle or a Commit.
+/// An entry of a program, but the beginning of a call, moves its CPU by one operation, and a violation fails it, too. A
+/// stop stops it. No other CPU changes, unless the entry begins or ends a call, or is a Settle or a Commit.
 pub fn entries_change_their_cpu()
     ensures moved { (m : AdmittedMoment) → is_of_call m.entry.act ≡ false → is_stop_act m.entry.act ≡ false →
         is_violation m.entry.act ≡ false → state_behind m m.entry.cpu ≡ stepped (state_before m m.entry.cpu) }
@@ -55,7 +55,7 @@ pub fn entries_are_their_cpus_own()
     ensures cell { (m : AdmittedMoment) → m.entry.cell ≡ (state_before m m.entry.cpu).owner }
     ensures runs { (m : AdmittedMoment) → is_stop_act m.entry.act ≡ false →
         IsCalm (state_before m m.entry.cpu) × ((state_before m m.entry.cpu).mode ≡ Runs) }
-    ensures operation { (m : AdmittedMoment) (op : TheOp) → op_of m.entry.act ≡ Some op →
+    ensures operation { (m : AdmittedMoment) (op : TheOp) → op_of_act m.entry.act ≡ Some op →
         (cell : TheConfig) × IsRootOrLive m.image (facts_before m).cells cell × (cell.id ≡ m.entry.cell) × (op_before m cell ≡ Some op) }
 {}
 

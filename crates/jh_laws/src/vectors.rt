@@ -30,9 +30,9 @@ pub fn vectors_are_pending_from_raise_to_drop()
 {}
 
 /// What an entry of one cell does to the endpoint of another: that has the configuration space, the state, and the words
-/// and masks of vectors that it had; its interrupt control is another only where the entry raises a vector of it, which
-/// turns it off in one-shot mode; what was pending is pending still, and nothing else is but what the entry raises. Only
-/// where the entry starts or destroys the endpoint's cell is it otherwise.
+/// and masks of vectors that it had; its interrupt control is another only where the entry raises a vector of it; what
+/// was pending is pending still, and nothing else is but what the entry raises. Only where the entry starts or destroys
+/// the endpoint's cell is it otherwise.
 pub fn devices_of_other_cells_stay()
     ensures { (m : AdmittedMoment) (e : TheEndpoint) → StaysAnothers m e →
         (behind : TheEndpoint) × (endpoint_behind m e ≡ Some behind) ×

@@ -1,20 +1,11 @@
 //! The sections of a device, and a finding. What else is found, and what a new cell is refused for, the rows show.
 
+use crate::cellcfg::plain;
 use jh_cellcfg::{CellConfig, PciDevice, Region, SystemConfig};
 use jh_check::{check, sections_of};
 use jh_num::{NoMemory, Seq};
 use std::alloc::Global;
 use std::test::Fail;
-
-/// Memory at its own addresses.
-fn plain(at: u64, size: u64, flags: u64) -> Region {
-    Region {
-        phys_start: at,
-        virt_start: at,
-        size,
-        flags,
-    }
-}
 
 /// One of two peers, whose sections begin with that region.
 fn device(start: u32) -> PciDevice {

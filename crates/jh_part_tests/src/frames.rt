@@ -1,4 +1,4 @@
-//! Borders of pages and of the hypervisor's range, the last place, words, and pages that are spare.
+//! Borders of pages and of the hypervisor's range, the last place, words, and pages that are held or lent.
 ghost use Rattle.std.specs.Prelude.{◌+◌, ◌≤◌, ◌<◌};
 ghost use Rattle.jh_num.specs.declared.address.TheConstants.{ADDRESS_END};
 ghost use Rattle.jh_frames.specs.Memory.{AreOwnBytes};

@@ -41,13 +41,13 @@ const EMPTY: Region = Region {
 /// In another order than that of the addresses.
 const REGIONS: [Region; 4] = [COMM, MEMORY, EMPTY, UART];
 
-const ALL: Rights = Rights {
+pub(crate) const ALL: Rights = Rights {
     read: true,
     write: true,
     execute: true,
 };
 
-const READ_WRITE: Rights = Rights {
+pub(crate) const READ_WRITE: Rights = Rights {
     read: true,
     write: true,
     execute: false,

@@ -3,8 +3,9 @@ ghost use Rattle.std.specs.Prelude.{◌≡◌, ◌≤◌, length, IfOk};
 ghost use Rattle.jh_shape.specs.SoundClaims.{IsSlot};
 
 use crate::cellcfg::region;
+use crate::map::READ_WRITE;
 use jh_cellcfg::{CellConfig, Region};
-use jh_num::{Rights, Seq};
+use jh_num::Seq;
 use jh_shape::{Target, Want};
 use std::alloc::{AllocError, Global};
 use std::test::Fail;
@@ -90,14 +91,9 @@ fn small_want(level: u8, start: u64) -> Want
 
 #[test]
 fn descriptors_lead_down_to_pages(rt: HostRuntime) {
-    let rights = Rights {
-        read: true,
-        write: true,
-        execute: false,
-    };
     let leaf = Want::Leaf {
         out: 0x6000,
-        rights,
+        rights: READ_WRITE,
         device: true,
     };
     assert_eq!(rt; small_want(1, BASE), Want::Table);

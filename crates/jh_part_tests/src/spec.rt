@@ -16,7 +16,7 @@ fn refusal(alloc: Global, text: &[u8]) -> Option<Vec<u8>> {
 fn refuses(rt: &impl Abort, alloc: Global, text: &str, name: &str) {
     match refusal(alloc, text.as_bytes()) {
         Some(said) => assert_eq!(rt; said.as_slice(), name.as_bytes(), "{text}"),
-        None => assert!(rt; false, "{text} is taken"),
+        None => assert!(rt; false, "{text} is taken, or want of memory"),
     }
 }
 
@@ -24,7 +24,7 @@ fn refuses(rt: &impl Abort, alloc: Global, text: &str, name: &str) {
 fn refuses_cell(rt: &impl Abort, alloc: Global, members: &str, name: &str) {
     match format!(in alloc; "{{\"kind\":\"cell\",\"name\":\"a\",{members}}}") {
         Ok(text) => refuses(rt, alloc, &text, name),
-        Err(_) => assert!(rt; false, "memory suffices"),
+        Err(_) => assert!(rt; false, "want of memory"),
     }
 }
 
@@ -32,7 +32,7 @@ fn refuses_cell(rt: &impl Abort, alloc: Global, members: &str, name: &str) {
 fn refuses_system(rt: &impl Abort, alloc: Global, members: &str, name: &str) {
     match format!(in alloc; "{{\"kind\":\"system\",{members},\"root\":{{\"name\":\"r\"}}}}") {
         Ok(text) => refuses(rt, alloc, &text, name),
-        Err(_) => assert!(rt; false, "memory suffices"),
+        Err(_) => assert!(rt; false, "want of memory"),
     }
 }
 
@@ -54,7 +54,7 @@ fn texts_that_are_no_object_are_refused(rt: HostRuntime) {
     }
 }
 
-/// Texts that lack the kind, a name or root, or have others there.
+/// Objects in which the kind, a name or root is missing or at fault.
 fn members() -> [(&'static str, &'static str); 13] {
     [
         ("{}", "kind"),

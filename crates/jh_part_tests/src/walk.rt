@@ -2,8 +2,9 @@
 ghost use Rattle.std.specs.Prelude.{◌+◌, ◌<◌, ◌≤◌};
 ghost use Rattle.jh_num.specs.declared.address.TheConstants.{ADDRESS_END};
 
+use crate::map::{ALL, READ_WRITE};
 use jh_frames::Frames;
-use jh_num::{Probe, Rights, Steps};
+use jh_num::{Probe, Steps};
 use jh_walk::{Hit, walk};
 use std::test::Fail;
 
@@ -43,18 +44,6 @@ fn walked(memory: &Frames, ipa: u64) -> (Option<Hit>, u64) {
     (hit, steps.count())
 }
 
-const ALL: Rights = Rights {
-    read: true,
-    write: true,
-    execute: true,
-};
-
-const DATA: Rights = Rights {
-    read: true,
-    write: true,
-    execute: false,
-};
-
 #[test]
 fn a_block_is_found_at_the_second_level(rt: HostRuntime) -> Result<(), Fail> {
     let memory = tables(rt.alloc())?;
@@ -76,7 +65,7 @@ fn a_page_is_found_at_the_third_level(rt: HostRuntime) -> Result<(), Fail> {
     let (hit, reads) = walked(&memory, 0x4020_0123);
     let page = Hit {
         out: 0x900_0123,
-        rights: DATA,
+        rights: READ_WRITE,
         device: true,
         span: 0x1000,
     };

@@ -18,7 +18,7 @@ use Rattle.jh_history.specs.Due.{IsLegal}
 use Rattle.jh_history.specs.Lives.{program_ops}
 use Rattle.jh_laws.specs.Held.{IsRootOrLive}
 use Rattle.jh_laws.specs.Moments.{AdmittedMoment, facts_before, state_before}
-use Rattle.jh_laws.specs.Operations.{op_of}
+use Rattle.jh_laws.specs.Operations.{op_of_act}
 use Rattle.jh_laws.specs.Typed.{IsTypedImage, HasTypedAct}
 use Rattle.jh_text.specs.declared.fault.JournalFault.{JournalFault}
 use Rattle.jh_text.specs.declared.fault.JournalFault.TheVariants.{Line, TooLong, NoMemory}
@@ -33,7 +33,7 @@ pub record JournalLaws : Type 0 where
   pub cpu : (m : AdmittedMoment) → m.entry.cpu < 16
   pub cell : (m : AdmittedMoment) → IsTypedImage m.image → m.entry.cell < 2 ^ 32
   pub told : (m : AdmittedMoment) → IsTypedImage m.image → HasTypedAct m.entry.act
-  pub operation : (m : AdmittedMoment) (op : Op) → op_of m.entry.act ≡ Some op
+  pub operation : (m : AdmittedMoment) (op : Op) → op_of_act m.entry.act ≡ Some op
       → (cell : CellConfig) × IsRootOrLive m.image (facts_before m).cells cell × (cell.id ≡ m.entry.cell) × (slice_get (program_ops m.image (name_of cell) m.entry.cpu) (state_before m m.entry.cpu).position ≡ Some op)
 
 -- ---- the operations of programs
@@ -46,7 +46,7 @@ record IsFitOp (op : Op) : Type 0 where
   well_formed : IsWellFormed op
   typed : IsTypedOp op
 
-fit_op : (laws : JournalLaws) (m : AdmittedMoment) (op : Op) → HasTypedNumbers m.image → op_of m.entry.act ≡ Some op → IsFitOp op
+fit_op : (laws : JournalLaws) (m : AdmittedMoment) (op : Op) → HasTypedNumbers m.image → op_of_act m.entry.act ≡ Some op → IsFitOp op
 fit_op laws m op numbers is =
     let own = laws.operation m op is in
     let ops = program_ops m.image (name_of own.0) m.entry.cpu in
@@ -59,7 +59,7 @@ fit_op laws m op numbers is =
 
 -- ---- entries
 
-readable_act : (act : Act) → ((op : Op) → op_of act ≡ Some op → IsFitOp op) → HasTypedAct act → IsReadableAct act
+readable_act : (act : Act) → ((op : Op) → op_of_act act ≡ Some op → IsFitOp op) → HasTypedAct act → IsReadableAct act
 readable_act (Read width at got) fit told = let op = fit (ReadOp width at) refl in (op.well_formed, op.typed, told)
 readable_act (Write width at value ok) fit told = let op = fit (WriteOp width at value) refl in (op.well_formed.0, op.typed, op.well_formed.1)
 readable_act (Fetch at got) fit told = let op = fit (FetchOp at) refl in (op.typed, told)

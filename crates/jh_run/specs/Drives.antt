@@ -10,8 +10,8 @@ use Rattle.jh_turn.specs.Ports.{seen_by}
 use Rattle.jh_run.specs.Ends.{IsFullAndBusy}
 use Rattle.jh_run.specs.Origins.{Origin}
 
--- the entries tell why ports are driven no more, by what a turn was refused for: none was where they are quiet; full, where
--- they are at the limit and not quiet; and want of memory comes at any
+-- what the entries tell by what a turn was refused for: where none was refused, they are quiet; where one was for the
+-- limit, they are at it and not quiet; for want of memory nothing
 abbrev pub ExplainsEnd : Origin → Option TurnFault → List Entry → Type 0
 ExplainsEnd origin None entries = IsQuiet origin.image entries
 ExplainsEnd origin (Some Full) entries = IsFullAndBusy origin.image origin.limit entries

@@ -6,12 +6,12 @@ use Rattle.jh_history.specs.Due.{IsQuiet}
 use Rattle.jh_run.specs.declared.ended.Ended.{Ended}
 use Rattle.jh_run.specs.declared.ended.Ended.TheVariants.{Unstopped, Full}
 
--- the limit stopped the schedule that ended so
+-- the limit stopped the schedule or the run that ended so
 abbrev pub is_full : Ended → Bool
 is_full Unstopped = false
 is_full Full = true
 
--- the journal is at its limit and not quiet. The CPU that has an entry due isn't named, as `IsFullAtCpu` names it: a type's
+-- the journal is at its limit and not quiet. It names no CPU that has an entry due, while `IsFullAtCpu` does: a type's
 -- invariant, which rests on this, can't choose one
 abbrev pub IsFullAndBusy : Image → ℕ → List Entry → Type 0
 IsFullAndBusy image limit entries = (length entries ≡ limit) × ¬ IsQuiet image entries

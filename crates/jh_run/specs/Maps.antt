@@ -12,7 +12,7 @@ use Rattle.jh_text.specs.Maps.{map_text}
 use Rattle.jh_board.specs.Maps.{all_cells, IsMapIn}
 use Rattle.jh_run.specs.Plays.{IsFullAtItem}
 
--- the texts of the maps of these cells, one behind another, where such cells live besides root
+-- the text is the maps of these cells, one behind another, where the cells of the first list live besides root
 abbrev pub AreMaps : Image → List Live → List CellConfig → List ℕ → Type 0
 AreMaps image lives [] text = text ≡ []
 AreMaps image lives (cell ∷ cells) text =

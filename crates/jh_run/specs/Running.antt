@@ -20,8 +20,8 @@ abbrev pub origin_of : Running → Origin
 origin_of running = record { image = running.board.image; limit = running.board.limit }
 
 -- the CPU is served: it is one of the board's
-abbrev pub Serves : Origin → ℕ → Type 0
-Serves origin cpu = IsTrue (is_on_board origin.image cpu)
+abbrev pub ServesCpu : Origin → ℕ → Type 0
+ServesCpu origin cpu = IsTrue (is_on_board origin.image cpu)
 
 -- the entries of the running board
 abbrev pub journal_of : Running → List Entry

@@ -46,7 +46,7 @@ unfoldable pub soak_system : SystemConfig
 soak_system =
     bare_system (region 0x7fc00000 0 0x400000 0) (bare_cell (padded (codes "soak")) 0 0xf (region 0x40000000 0x40000000 0x3fc00000 0xf ∷ []))
 
--- a cell with memory at address 0, which root may load, and a communication region
+-- a cell whose memory has address 0, is at the place, and may be loaded by root, with a communication region
 abbrev pub loadable_cell : List ℕ → ℕ → ℕ → ℕ → CellConfig
 loadable_cell name id cpus place = bare_cell name id cpus (region place 0 0x10000 0x4f ∷ region 0 0x80000000 0x1000 0x23 ∷ [])
 
@@ -114,9 +114,9 @@ programs_of n =
     program (codes "soak") 0 (rounds_ops n) ∷ program (codes "soak") 1 beside_ops
     ∷ program (codes "a") 2 ops_a ∷ program (codes "b") 3 ops_b ∷ []
 
--- the board of so many rounds
-unfoldable pub soak_board : ℕ → Image
-soak_board n = record {
+-- the image of so many rounds
+unfoldable pub soak_image : ℕ → Image
+soak_image n = record {
   system = soak_system;
   preloads = preload 0x48000000 cell_a ∷ preload 0x48010000 cell_b ∷ [];
   programs = programs_of n;

@@ -31,8 +31,8 @@ fn has_made(answer: &Result<Turn, TurnFault>) -> bool {
     matches!(answer, Ok(Turn::Made(_)))
 }
 
-/// A turn of the port behind the gate; whether one follows it, and else for what it was refused, if it was. `round` is the
-/// number of turns of this port before; `idle` becomes false where the turn makes an entry.
+/// A turn of the port behind the gate; whether one follows it, and else for what it was refused, if it was. `round` is
+/// the number of turns of this port before in this call of `drive`; `idle` becomes false where the turn makes an entry.
 fn drive_port<R: Wait, G: Gate>(
     rt: &R,
     shared: &Shared<Running>,
@@ -76,8 +76,8 @@ fn drive_round<R: Wait, G: Gate>(
 }
 
 /// Takes turns at the ports, round by round, until nothing is due to any CPU (`None`), or a turn is
-/// refused. Before each turn the gate is passed, with the number of turns of that port before. It waits
-/// while other callers have the turn, and may wait for ever.
+/// refused. Before each turn the gate is passed, with the number of turns of that port before in this
+/// call. It waits while other callers have the turn, and may wait for ever.
 pub fn drive<R: Wait, G: Gate>(
     rt: &R,
     shared: &Shared<Running>,

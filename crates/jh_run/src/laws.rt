@@ -12,7 +12,7 @@ ghost use Rattle.jh_text.specs.Faults.{IsFault, IsJournalText, max_entries};
 ghost use Rattle.jh_script.specs.declared.image.Image.{Image as TheImage};
 ghost use Rattle.jh_run.specs.Maps.{IsMapsText};
 
-use crate::typed::image_is_typed;
+use crate::typed::numbers_are_typed;
 use jh_laws::{entries_are_their_cpus_own, numbers_keep_to_their_types};
 use jh_map::maps_of_one_cell_are_equal;
 use jh_script::Image;
@@ -30,7 +30,7 @@ pub fn legal_journals_are_readable(image: &Image)
     ensures faultless { IsAdmitted image.now → (entries : List Entry) → IsLegal image.now entries → length entries ≤ max_entries
         → (fault : TheFault) → IsFault (journal_text entries) fault → fault ≡ WantOfMemory }
 {
-    image_is_typed(image);
+    numbers_are_typed(image);
     entries_are_their_cpus_own();
     numbers_keep_to_their_types();
     texts_go_both_ways();

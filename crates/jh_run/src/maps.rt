@@ -25,7 +25,8 @@ fn push_cell_map(
     text: &mut Vec<u8>,
 ) -> Result<(), NoMemory>
     requires { Contains (all_cells board.now.image (facts board.now.image board.now.entries).cells) cell.now }
-    ensures { OnOk result ((runs : List TheRun) × IsMapIn board.now.image (facts board.now.image board.now.entries).cells cell.now.id runs × (text.new.items ≡ text.old.items ++ map_text cell.now runs)) }
+    ensures { OnOk result ((runs : List TheRun) × IsMapIn board.now.image (facts board.now.image board.now.entries).cells cell.now.id runs
+        × (text.new.items ≡ text.old.items ++ map_text cell.now runs)) }
 {
     match board.map_of(cell.id)? {
         Some(runs) => push_map(alloc, text, cell, runs.as_slice()),

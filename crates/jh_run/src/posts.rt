@@ -1,4 +1,4 @@
-//! Posts. A worker has one at a time, or none while it rests. The others that were left lie here.
+//! Posts. A worker is at one at a time, or at none while it rests. Those that were left lie here.
 ghost use Rattle.std.specs.Prelude.{◌≡◌, Option, Some, None, Result, vec_len};
 ghost use Rattle.std.specs.Option.{ForSome};
 ghost use Rattle.jh_history.specs.declared.entry.Entry.{Entry as TheEntry};
@@ -117,7 +117,7 @@ impl<H: Home> Left<H> {
     }
 }
 
-/// The posts of a run that no worker is at, and whether the run has ended.
+/// The posts of a run that were left, and whether the run has ended.
 #[derive(Drop)]
 pub struct Posts<H: Home> {
     left: Mutex<Left<H>>,
@@ -151,7 +151,7 @@ impl<H: Home> Posts<H> {
         self.left.lock(rt).put(post);
     }
 
-    /// The own post, or another one where a worker is at that, once one was left.
+    /// The own post, or another one where that wasn't left, once one was.
     pub fn take<R: Wait>(&self, rt: &R, own: u8) -> Post<H> {
         for _ in rt.forever() {
             let mut left = self.left.lock(rt);
@@ -165,7 +165,7 @@ impl<H: Home> Posts<H> {
         unreachable!()
     }
 
-    /// Leaves the post and takes that of the other caller. Where a worker is at that one, the post comes back and isn't left.
+    /// Leaves the post and takes that of the other caller. Where that one wasn't left, this one comes back instead.
     pub fn trade<R: Wait>(&self, rt: &R, post: Post<H>, other: u8) -> Result<Post<H>, Post<H>> {
         let mut left = self.left.lock(rt);
         match left.take(other) {

@@ -10,8 +10,8 @@ use std::sync::Wait;
 use std::thread;
 
 /// The post for the turn behind one that answered this: the same one while its CPU has entries due, and else that of
-/// the CPU that has. Where a worker is at that one, this one rests. Where nothing is due to any CPU, or the turn was
-/// refused, it ends the run, and the post stays.
+/// the CPU that has. Where that one wasn't left, the worker rests. Where nothing is due to any CPU, or the turn was
+/// refused, the run is ended, and the post stays.
 fn next_post<H: Home, R: Wait>(
     rt: &R,
     posts: &Posts<H>,
@@ -33,7 +33,7 @@ fn next_post<H: Home, R: Wait>(
 }
 
 /// Takes turns, each behind the gate, until a worker finds that nothing is due to any CPU, or that a turn is refused:
-/// first at the own post, and then at that of the CPU that has an entry due.
+/// first at the own post, or at another where that wasn't left, and then at that of the CPU that has an entry due.
 pub fn roam<H: Home, R: Wait, G: Gate>(
     rt: &R,
     shared: &Shared<Running>,
@@ -75,8 +75,8 @@ fn stay<H: Home, R: Wait, G: Gate>(
     unreachable!()
 }
 
-/// What a turn answered; or, where it told of a CPU whose post was left, what the last turn at that post answered,
-/// which is left again.
+/// What the turn answered; or, where that told of a CPU whose post was left, what the last turn at that post answered.
+/// Then the post is left again.
 fn visit<H: Home, R: Wait, G: Gate>(
     rt: &R,
     shared: &Shared<Running>,
@@ -98,9 +98,9 @@ fn visit<H: Home, R: Wait, G: Gate>(
     last
 }
 
-/// The index in the caller's own list for the turn behind one that answered this: the same one while its CPU has
-/// entries due, and else that of the CPU that has. Where a worker is at that one, other threads go first, and the
-/// next post has its turn. Where nothing is due to any CPU, or the turn was refused, it ends the run.
+/// The index in the calling thread's own list for the turn behind one that answered this: the same one while its CPU
+/// has entries due, and else that of the CPU that has. Where that one isn't in the list, other threads go first, and
+/// the next post has its turn. Where nothing is due to any CPU, or the turn was refused, the run is ended.
 fn next_index<H: Home>(
     posts: &Posts<H>,
     own: &[Post<H>],
@@ -126,8 +126,9 @@ fn next_index<H: Home>(
     }
 }
 
-/// Takes turns at the posts of the caller's own list, each behind the gate, until a worker finds that nothing is due
-/// to any CPU, or that a turn is refused. No other worker goes to these; the caller also goes to posts that were left.
+/// Takes turns at the posts of the calling thread's own list, each behind the gate, until a worker finds that nothing is
+/// due to any CPU, or that a turn is refused. No other worker goes to these; the calling thread also goes to posts that
+/// were left.
 pub fn roam_own<H: Home, R: Wait, G: Gate>(
     rt: &R,
     shared: &Shared<Running>,

@@ -35,6 +35,7 @@ fn callers_of_board(alloc: Global, image: &Image) -> Result<Vec<u8>, NoMemory>
     rounds_are_of_the_boards_cpus();
     nothing_is_found_in_what_is_clean(&image.system, &[]);
     sound_bitmaps_name_few_cpus(image.system.root.cpu_set.as_slice());
+    // for the proof: it speaks of the answer by this name
     let callers = cpus_of(alloc, image)?;
     Ok(callers)
 }
@@ -92,9 +93,10 @@ fn end_run(shared: Shared<Running>, driven: Driven) -> Result<(Board, Ended), No
     Ok((board, ended))
 }
 
-/// A worker for each CPU of the image's board, each in a thread of its own where one can be had, until
-/// nothing is due to any CPU or the journal is full. Each worker passes the gate before each of its turns.
-/// It waits for the workers, and may wait for ever.
+/// A worker for each CPU of the image's board, until nothing is due to any CPU or the journal is full: the calling
+/// thread is one, and each other has a thread of its own. A port whose thread can't be started is driven in the calling
+/// thread's own list. Each worker passes the gate before each of its turns. It waits for the workers, and may wait for
+/// ever.
 pub fn run<R: Threads + Wait + Sync, G: Gate + Sync>(
     rt: &R,
     alloc: Global,

@@ -74,6 +74,7 @@ fn finish(board: &mut Board, cpus: &[u8], limit: u32) -> Result<bool, NoMemory>
     requires present { All (λ cpu. IsTrue (is_on_board board.old.image cpu)) cpus.now }
     ensures ok { IfOk result (λ full. Ran board.old (rounds (limit + 1) cpus.now) full board.new) }
 {
+    // for the proof: n is the number of rounds so far
     for n in 0..u64::from(limit) + 1 {
         if board.is_quiet() {
             return Ok(false);
@@ -94,6 +95,7 @@ fn play_on(board: &mut Board, schedule: &[u8], cpus: &[u8], limit: u32) -> Resul
     if follow_on(board, schedule)? {
         return Ok(true);
     }
+    // for the proof: it speaks of the answer by this name
     let full = finish(board, cpus, limit)?;
     Ok(full)
 }

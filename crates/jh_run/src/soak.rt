@@ -2,7 +2,7 @@
 ghost use Rattle.std.specs.Prelude.{◌≡◌, ◌+◌, ◌*◌, ◌^◌, ◌<◌, ◌≤◌, ◌∷◌, [], ◌++◌, IsTrue, IfOk, OnOk};
 ghost use Rattle.jh_cellcfg.specs.Limits.{is_name};
 ghost use Rattle.jh_history.specs.Admitted.{IsAdmitted};
-ghost use Rattle.jh_run.specs.Soak.{region, bare_cell, loadable_cell, soak_system, cell_a, cell_b, number_writes, number_reads, round_ops, rounds_ops, beside_ops, ops_a, ops_b, answer_ops, program, programs_of, preload, soak_board};
+ghost use Rattle.jh_run.specs.Soak.{region, bare_cell, loadable_cell, soak_system, cell_a, cell_b, number_writes, number_reads, round_ops, rounds_ops, beside_ops, ops_a, ops_b, answer_ops, program, programs_of, preload, soak_image};
 
 use jh_cellcfg::{CellConfig, Region, SystemConfig, write_cell};
 use jh_num::{NoMemory, Seq};
@@ -12,7 +12,7 @@ use std::alloc::Global;
 /// How many rounds there may be.
 pub const MAX_ROUNDS: u32 = 400;
 
-/// Where the configurations of the cells are loaded.
+/// Where the configurations of the cells are preloaded.
 const PLACE_A: u64 = 0x4800_0000;
 
 const PLACE_B: u64 = 0x4801_0000;
@@ -69,9 +69,9 @@ fn soak_system(alloc: Global) -> Result<SystemConfig, NoMemory>
     Ok(SystemConfig::bare(region(0x7fc0_0000, 0, 0x40_0000, 0), root))
 }
 
-/// The configuration of a cell with memory at address 0, which root may load, and a communication region, at
-/// its place in memory.
-fn loaded_cell(
+/// The preload at `at` of the configuration of a cell with a communication region and with memory at address 0, which
+/// is at `place` and which root may load.
+fn preloaded_cell(
     alloc: Global,
     at: u64,
     name: [u8; 32],
@@ -80,7 +80,7 @@ fn loaded_cell(
     place: u64,
 ) -> Result<Preload, NoMemory>
     requires { IsTrue (is_name name) }
-    ensures { IfOk result (λ loaded. loaded ≡ preload at (loadable_cell name id cpus place)) }
+    ensures { IfOk result (λ made. made ≡ preload at (loadable_cell name id cpus place)) }
 {
     let memory = region(place, 0, 0x1_0000, 0x4f);
     let communication = region(0, 0x8000_0000, 0x1000, 0x23);
@@ -168,7 +168,7 @@ fn push_round(ops: &mut Seq<Op>, number: u64) -> Result<(), NoMemory>
 }
 
 /// The rounds of root's first CPU.
-fn rounds(alloc: Global, n: u32) -> Result<Seq<Op>, NoMemory>
+fn rounds_ops(alloc: Global, n: u32) -> Result<Seq<Op>, NoMemory>
     requires { n ≤ 400 }
     ensures { IfOk result (λ ops. ops ≡ rounds_ops n) }
 {
@@ -245,36 +245,37 @@ fn preloads(alloc: Global) -> Result<Seq<Preload>, NoMemory>
     ensures { IfOk result (λ preloads. preloads ≡ preload 0x48000000 cell_a ∷ preload 0x48010000 cell_b ∷ []) }
 {
     let mut preloads = Seq::new(alloc);
-    preloads.push(loaded_cell(alloc, PLACE_A, NAME_A, 1, 0x4, 0x5000_0000)?)?;
-    preloads.push(loaded_cell(alloc, PLACE_B, NAME_B, 2, 0x8, 0x6000_0000)?)?;
+    preloads.push(preloaded_cell(alloc, PLACE_A, NAME_A, 1, 0x4, 0x5000_0000)?)?;
+    preloads.push(preloaded_cell(alloc, PLACE_B, NAME_B, 2, 0x8, 0x6000_0000)?)?;
     Ok(preloads)
 }
 
 /// The programs of the four CPUs.
 #[tactic(auto, unfolding(crate::specs::Soak::programs_of))]
-fn programs(alloc: Global, n: u32) -> Result<Seq<Program>, NoMemory>
+fn programs_of(alloc: Global, n: u32) -> Result<Seq<Program>, NoMemory>
     requires { n ≤ 400 }
     ensures { IfOk result (λ programs. programs ≡ programs_of n) }
 {
     let mut programs = Seq::new(alloc);
-    programs.push(program(alloc, b"soak", 0, rounds(alloc, n)?)?)?;
+    programs.push(program(alloc, b"soak", 0, rounds_ops(alloc, n)?)?)?;
     programs.push(program(alloc, b"soak", 1, beside_ops(alloc)?)?)?;
     programs.push(program(alloc, b"a", 2, ops_a(alloc)?)?)?;
     programs.push(program(alloc, b"b", 3, ops_b(alloc)?)?)?;
     Ok(programs)
 }
 
-/// The board of so many rounds, 1 to [`MAX_ROUNDS`]: in each of them root creates two cells, loads the first one,
-/// starts both and destroys them, while its second CPU and the cells' own read and write.
-#[tactic(auto, unfolding(crate::specs::Soak::soak_board))]
+/// The image of so many rounds, 1 to [`MAX_ROUNDS`]: in each of them root creates two cells, loads the first one, starts
+/// both, destroys them and reads what the first one wrote; the cells' own CPUs read and write meanwhile. Root's second
+/// CPU writes and reads numbers once, whatever the rounds.
+#[tactic(auto, unfolding(crate::specs::Soak::soak_image))]
 pub fn soak_image(alloc: Global, n: u32) -> Result<Image, NoMemory>
     requires { (1 ≤ n) × (n ≤ 400) }
-    ensures image { IfOk result (λ image. image ≡ soak_board n) }
+    ensures image { IfOk result (λ image. image ≡ soak_image n) }
     ensures admitted { IfOk result IsAdmitted }
 {
     Ok(Image {
         system: soak_system(alloc)?,
         preloads: preloads(alloc)?,
-        programs: programs(alloc, n)?,
+        programs: programs_of(alloc, n)?,
     })
 }

@@ -2,7 +2,7 @@
 ghost use Rattle.std.specs.Prelude.{◌≡◌, None, Some};
 ghost use Rattle.std.specs.Result.{result_err};
 ghost use Rattle.jh_run.specs.Turns.{Takes};
-ghost use Rattle.jh_run.specs.Running.{whose_entry, origin_of, Serves, journal_of, IsTurnAnswer};
+ghost use Rattle.jh_run.specs.Running.{whose_entry, origin_of, ServesCpu, journal_of, IsTurnAnswer};
 ghost use Rattle.jh_turn.specs.Histories.{Grows};
 
 use crate::running::Running;
@@ -17,7 +17,7 @@ impl Turner for Running {
     type Answer = Result<Turn, TurnFault>;
 
     ghost use Rattle.jh_run.specs.Origins.{Origin as TheOrigin};
-    ghost use Rattle.jh_run.specs.Running.{whose_entry, origin_of, Serves, journal_of, IsTurnAnswer};
+    ghost use Rattle.jh_run.specs.Running.{whose_entry, origin_of, ServesCpu, journal_of, IsTurnAnswer};
 
     ghost Origin = { TheOrigin };
 
@@ -25,14 +25,14 @@ impl Turner for Running {
 
     ghost origin = { origin_of };
 
-    ghost serves = { Serves };
+    ghost serves = { ServesCpu };
 
     ghost history = { journal_of };
 
     ghost answers = { IsTurnAnswer };
 
     fn turn(&mut self, who: u8) -> Result<Turn, TurnFault>
-        requires { Serves (origin_of self.old) who }
+        requires { ServesCpu (origin_of self.old) who }
         ensures origin { origin_of self.new ≡ origin_of self.old }
         ensures history { Grows whose_entry who (journal_of self.old) (journal_of self.new) }
         ensures answer { IsTurnAnswer (origin_of self.old) who (journal_of self.old) (journal_of self.new) result }

@@ -1,4 +1,4 @@
-//! That the numbers of an image are below the ends of their types. Each function reads numbers and answers nothing: its
+//! That some numbers of an image are below the ends of their types. Each function reads numbers and answers nothing: its
 //! contract is what their types say.
 ghost use Rattle.std.specs.Prelude.{◌<◌, ◌^◌, All};
 ghost use Rattle.jh_script.specs.declared.image.Preload.{Preload as ThePreload};
@@ -79,7 +79,7 @@ fn preloads_are_typed(preloads: &[Preload])
 
 /// Root's id, the bytes of the preloads, and the addresses and hypercalls of the programs' operations are as their types
 /// have them.
-pub(crate) fn image_is_typed(image: &Image)
+pub(crate) fn numbers_are_typed(image: &Image)
     ensures { HasTypedNumbers image.now }
 {
     id_is_typed(image.system.root.id);

@@ -64,7 +64,8 @@ fn start<'s, E, H: Home + Send + Sync, R: Threads + Wait + Sync, G: Gate + Sync>
     started.is_ok()
 }
 
-/// Leaves the post of each port that a worker can be started for. The others are the caller's own list, the first port always.
+/// Puts the first port's post into the calling thread's own list, and that of each port that no worker can be started
+/// for, and leaves the others.
 fn spread_out<'s, E, H: Home + Send + Sync, R: Threads + Wait + Sync, G: Gate + Sync>(
     scope: &'s Scope<'s, E>,
     rt: &'s R,
@@ -91,8 +92,8 @@ fn spread_out<'s, E, H: Home + Send + Sync, R: Threads + Wait + Sync, G: Gate + 
     }
 }
 
-/// Drives the caller's own list until the run has ended, and leaves its posts. Where it has one post alone, all others
-/// have workers, and the caller is one of these.
+/// Drives the calling thread's own list until the run has ended, and leaves its posts. Where it has one post alone, all
+/// others have workers, and the calling thread is one of these.
 fn drive_own<H: Home, R: Wait, G: Gate>(
     rt: &R,
     shared: &Shared<Running>,
@@ -112,7 +113,7 @@ fn drive_own<H: Home, R: Wait, G: Gate>(
     roam(rt, shared, posts, gate, first);
 }
 
-/// Spreads the ports over workers and the caller's own list, and drives the latter until the run has ended.
+/// Spreads the ports over workers and the calling thread's own list, and drives the latter until the run has ended.
 fn work<'s, E, H: Home + Send + Sync, R: Threads + Wait + Sync, G: Gate + Sync>(
     scope: &'s Scope<'s, E>,
     rt: &'s R,
@@ -242,9 +243,9 @@ fn drive_at<H: Home + Send + Sync, R: Threads + Wait + Sync, G: Gate + Sync>(
     })
 }
 
-/// Drives the ports by as many workers until nothing is due to any CPU or a turn is refused: the caller is one, and each
-/// other has a thread of its own. A port whose thread can't be started is driven in the caller's own list. It waits for
-/// the workers.
+/// Drives the ports by as many workers until nothing is due to any CPU or a turn is refused: the calling thread is one,
+/// and each other has a thread of its own. A port whose thread can't be started is driven in the calling thread's own
+/// list. It waits for the workers.
 pub fn drive_all<R: Threads + Wait + Sync, G: Gate + Sync>(
     rt: &R,
     alloc: Global,

@@ -35,6 +35,8 @@ impl Platform {
     pub fn with(self, root: CellConfig) -> SystemConfig
         ensures { result ≡ system_of self root }
     {
+        // for the proof: a field that is an array is moved by a name of its own
+        let root_head = self.root_head;
         SystemConfig {
             flags: self.flags,
             hypervisor_memory: self.hypervisor_memory,
@@ -43,7 +45,7 @@ impl Platform {
             pci_mmconfig_end_bus: self.pci_mmconfig_end_bus,
             pci_is_virtual: self.pci_is_virtual,
             pci_domain: self.pci_domain,
-            root_head: self.root_head,
+            root_head,
             root,
         }
     }

@@ -1,5 +1,5 @@
-//! The top call where a read fails in its turn, a sink fills up, memory is wanted, and workers wait for one another. What
-//! it writes for words and files is shown by rows.
+//! The top call where a read fails in its turn, a sink fills up, memory is wanted, and workers wait for one another.
+//! What it writes for words and files is shown by rows.
 
 use crate::meeting::Meeting;
 use jh_cli::{Status, jailhouse};
@@ -139,7 +139,7 @@ fn a_sink_that_fills_up_has_a_front_of_the_text(rt: HostRuntime) -> Result<(), F
     Ok(())
 }
 
-/// Run apart from the others with each allocation failing in turn.
+/// `tools/fail-allocations` runs it with each allocation failing in turn; else there is memory enough.
 #[test]
 fn without_memory_a_run_writes_nothing(rt: HostRuntime) -> Result<(), Fail> {
     let mut files = files(rt.alloc())?;

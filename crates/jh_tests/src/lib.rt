@@ -1,5 +1,5 @@
-//! Tests of the board, of schedules and runs, of the commands and the exchanges, by public calls. It has no code but for
-//! tests.
+//! Tests of the board, of schedules and runs, of the commands and the exchanges, by public calls. It has no code but
+//! for tests.
 #![tactic(auto)]
 
 #[cfg(test)]

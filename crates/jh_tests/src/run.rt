@@ -19,7 +19,7 @@ const BASE: u64 = 0x4000_0000;
 /// More entries than any of the boards makes.
 const AMPLE: u32 = 64;
 
-/// The region, whose page may be read and written.
+/// Root's region: that page, which may be read and written.
 fn region() -> Region {
     Region {
         phys_start: BASE,
@@ -65,7 +65,7 @@ fn image(alloc: Global, ops: &[Op]) -> Result<Image, NoMemory> {
 }
 
 /// The same image, which may be opened.
-fn ready(rt: &impl Abort, alloc: Global, ops: &[Op]) -> Result<Image, NoMemory>
+pub(crate) fn ready(rt: &impl Abort, alloc: Global, ops: &[Op]) -> Result<Image, NoMemory>
     ensures admitted { IfOk result IsAdmitted }
 {
     let image = image(alloc, ops)?;
@@ -74,12 +74,12 @@ fn ready(rt: &impl Abort, alloc: Global, ops: &[Op]) -> Result<Image, NoMemory>
     Ok(image)
 }
 
-fn read(width: u8) -> Op {
+pub(crate) fn read(width: u8) -> Op {
     Op::Read { width, at: BASE }
 }
 
 /// CPU 0 read a zero byte.
-const FIRST: Entry = Entry {
+pub(crate) const FIRST: Entry = Entry {
     cpu: 0,
     cell: 0,
     act: Act::Read {

@@ -28,8 +28,9 @@ pub record BeginsWithLine (text : List ℕ) : Type 0 where
 abbrev pub BeginsWithNoLine : List ℕ → Type 0
 BeginsWithNoLine text = (entry : Entry) (rest : List ℕ) → IsReadable entry → text ≢ line entry ++ rest
 
--- each line before the one with this number, from 1, is the line of an entry, and this one is there and is not: where
--- the text ends without a line feed, what stands behind the last line feed is such a line
+-- the lines before the one with this number, counted from 1, are lines of entries, no more than a journal may have;
+-- something stands behind them, and it begins with the line of no entry: so what stands behind the last line feed of
+-- a text is a bad line
 pub record IsFirstBadLine (text : List ℕ) (number : ℕ) : Type 0 where
   pub before : List Entry
   pub rest : List ℕ

@@ -9,8 +9,8 @@ use Rattle.jh_text.specs.Text.{line, journal_text}
 use Rattle.jh_text.specs.Faults.{max_entries, BeginsWithLine, BeginsWithNoLine}
 use Rattle.jh_text.specs.LinesView.{LinesView}
 
--- from `old` the next line is that of this entry, no more than a journal may have, and behind it is `new`; or nothing
--- is left, and nothing changes
+-- from `old` the next line is that of this entry and not beyond the last that a journal may have, and `new` has passed
+-- it; or nothing is left, and nothing changes
 abbrev pub PassesLine : LinesView → Option Entry → LinesView → Type 0
 PassesLine old (Some entry) new = IsReadable entry × (old.rest ≡ line entry ++ new.rest) × (old.count < max_entries) × (new.count ≡ old.count + 1)
 PassesLine old None new = (old.rest ≡ []) × (new ≡ old)

@@ -14,23 +14,23 @@ place_text true = codes "comm"
 place_text false = codes "phys"
 
 -- `r` with the right to read, else `-`
-abbrev pub read_text : Bool → List ℕ
-read_text true = codes "r"
-read_text false = codes "-"
+abbrev pub read_letter : Bool → List ℕ
+read_letter true = codes "r"
+read_letter false = codes "-"
 
 -- `w` with the right to write, else `-`
-abbrev pub write_text : Bool → List ℕ
-write_text true = codes "w"
-write_text false = codes "-"
+abbrev pub write_letter : Bool → List ℕ
+write_letter true = codes "w"
+write_letter false = codes "-"
 
 -- `x` with the right to execute, else `-`
-abbrev pub execute_text : Bool → List ℕ
-execute_text true = codes "x"
-execute_text false = codes "-"
+abbrev pub execute_letter : Bool → List ℕ
+execute_letter true = codes "x"
+execute_letter false = codes "-"
 
 -- the letters of the three rights
 abbrev pub rights_text : Rights → List ℕ
-rights_text rights = read_text rights.read ++ write_text rights.write ++ execute_text rights.execute
+rights_text rights = read_letter rights.read ++ write_letter rights.write ++ execute_letter rights.execute
 
 -- `page` where the region is of whole pages, `sub` where it is a subpage region
 abbrev pub kind_text : Bool → List ℕ

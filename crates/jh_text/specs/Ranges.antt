@@ -6,8 +6,8 @@ use Rattle.jh_history.specs.declared.entry.Entry.{Entry}
 use Rattle.jh_history.specs.declared.entry.Act.{Act}
 use Rattle.jh_history.specs.declared.entry.Act.TheVariants.{Read, Write, Fetch, Await, Irq, Hvc, Begin, Stop, Decide, Settle, Commit, Note, Noted, Finish}
 
--- widths are 1, 2, 4 or 8, addresses, codes and arguments below 2 ^ 64, ids and devices below 2 ^ 32, vectors below 256, a
--- value has as many bytes as its access, an instruction four, and an answer is one of 64 bits with a sign
+-- widths are 1, 2, 4 or 8; addresses, codes and arguments are below 2 ^ 64, ids and devices below 2 ^ 32, vectors below
+-- 256; a value fits in the bytes of its access, an instruction in four; an answer is a number of 64 bits with a sign
 abbrev pub IsReadableAct : Act → Type 0
 IsReadableAct (Read width at got) = IsTrue (is_width width) × (at < 2 ^ 64) × IfSome got (λ value. value < 256 ^ width)
 IsReadableAct (Write width at value ok) = IsTrue (is_width width) × (at < 2 ^ 64) × (value < 256 ^ width)

@@ -63,6 +63,10 @@ act_words (Note id) = codes "note" ∷ decimal id ∷ []
 act_words (Noted id how) = codes "noted" ∷ decimal id ∷ codes "=" ∷ heard_text how ∷ []
 act_words (Finish answer) = codes "finish" ∷ codes "=" ∷ signed_decimal answer ∷ []
 
+-- the text of an act: its words, with one space between each two
+abbrev pub act_text : Act → List ℕ
+act_text act = join_with_byte 32 (act_words act)
+
 -- the words of an entry: the CPU, the cell that it belonged to, and what it did
 abbrev pub entry_words : Entry → List (List ℕ)
 entry_words entry = decimal entry.cpu ∷ decimal entry.cell ∷ act_words entry.act

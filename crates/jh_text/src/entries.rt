@@ -2,7 +2,7 @@
 ghost use Rattle.std.specs.Prelude.{◌≡◌, ◌^◌, ◌<◌, ◌∷◌, ◌++◌, IfSome, IsTrue, codes};
 ghost use Rattle.std.specs.List.{join_with_byte};
 ghost use Rattle.jh_text.specs.Ranges.{is_width, IsReadableAct, IsReadable};
-ghost use Rattle.jh_text.specs.Text.{act_words, attempt_words, line};
+ghost use Rattle.jh_text.specs.Text.{act_text, attempt_words, line};
 ghost use Rattle.jh_text.specs.Private.Reading.{Reads, attempt_of, read_of, write_of, await_of, fetch_of, irq_of, outcome_of, call_of, noted_of, act_of_call, act_of, entry_of};
 
 use crate::outcomes::{read_decision, read_got, read_heard, read_ok, read_settled};
@@ -29,7 +29,7 @@ pub(crate) fn entry(text: &mut Reader) -> Option<Entry>
 fn act(text: &mut Reader) -> Option<Act>
     ensures value { Reads result text.new (act_of text.old) }
     ensures readable { IfSome result IsReadableAct }
-    ensures spelled { IfSome result (λ act. text.old ≡ join_with_byte 32 (act_words act) ++ 10 ∷ text.new) }
+    ensures spelled { IfSome result (λ act. text.old ≡ act_text act ++ 10 ∷ text.new) }
 {
     if text.pass("read ") {
         return read(text);
@@ -54,7 +54,7 @@ fn act(text: &mut Reader) -> Option<Act>
 fn act_of_call(text: &mut Reader) -> Option<Act>
     ensures value { Reads result text.new (act_of_call text.old) }
     ensures readable { IfSome result IsReadableAct }
-    ensures spelled { IfSome result (λ act. text.old ≡ join_with_byte 32 (act_words act) ++ 10 ∷ text.new) }
+    ensures spelled { IfSome result (λ act. text.old ≡ act_text act ++ 10 ∷ text.new) }
 {
     if text.pass("hvc ") {
         return call(text);
@@ -92,7 +92,7 @@ fn act_of_call(text: &mut Reader) -> Option<Act>
 fn read(text: &mut Reader) -> Option<Act>
     ensures value { Reads result text.new (read_of text.old) }
     ensures readable { IfSome result IsReadableAct }
-    ensures spelled { IfSome result (λ act. codes "read " ++ text.old ≡ join_with_byte 32 (act_words act) ++ 10 ∷ text.new) }
+    ensures spelled { IfSome result (λ act. codes "read " ++ text.old ≡ act_text act ++ 10 ∷ text.new) }
 {
     let width = text.width()?;
     let at = text.hexadecimal(b' ', u64::MAX)?;
@@ -108,7 +108,7 @@ fn read(text: &mut Reader) -> Option<Act>
 fn write(text: &mut Reader) -> Option<Act>
     ensures value { Reads result text.new (write_of text.old) }
     ensures readable { IfSome result IsReadableAct }
-    ensures spelled { IfSome result (λ act. codes "write " ++ text.old ≡ join_with_byte 32 (act_words act) ++ 10 ∷ text.new) }
+    ensures spelled { IfSome result (λ act. codes "write " ++ text.old ≡ act_text act ++ 10 ∷ text.new) }
 {
     let (width, at, value, ok) = attempt(text)?;
     Some(Act::Write {
@@ -124,7 +124,7 @@ fn write(text: &mut Reader) -> Option<Act>
 fn wait(text: &mut Reader) -> Option<Act>
     ensures value { Reads result text.new (await_of text.old) }
     ensures readable { IfSome result IsReadableAct }
-    ensures spelled { IfSome result (λ act. codes "await " ++ text.old ≡ join_with_byte 32 (act_words act) ++ 10 ∷ text.new) }
+    ensures spelled { IfSome result (λ act. codes "await " ++ text.old ≡ act_text act ++ 10 ∷ text.new) }
 {
     let (width, at, value, ok) = attempt(text)?;
     Some(Act::Await {
@@ -160,7 +160,7 @@ fn attempt(text: &mut Reader) -> Option<(u8, u64, u64, bool)>
 fn fetch(text: &mut Reader) -> Option<Act>
     ensures value { Reads result text.new (fetch_of text.old) }
     ensures readable { IfSome result IsReadableAct }
-    ensures spelled { IfSome result (λ act. codes "fetch " ++ text.old ≡ join_with_byte 32 (act_words act) ++ 10 ∷ text.new) }
+    ensures spelled { IfSome result (λ act. codes "fetch " ++ text.old ≡ act_text act ++ 10 ∷ text.new) }
 {
     let at = text.hexadecimal(b' ', u64::MAX)?;
     if !text.pass_equals() {
@@ -175,7 +175,7 @@ fn fetch(text: &mut Reader) -> Option<Act>
 fn irq(text: &mut Reader) -> Option<Act>
     ensures value { Reads result text.new (irq_of text.old) }
     ensures readable { IfSome result IsReadableAct }
-    ensures spelled { IfSome result (λ act. codes "irq = " ++ text.old ≡ join_with_byte 32 (act_words act) ++ 10 ∷ text.new) }
+    ensures spelled { IfSome result (λ act. codes "irq = " ++ text.old ≡ act_text act ++ 10 ∷ text.new) }
 {
     let device = text.decimal(b' ', u32::MAX as u64)? as u32;
     let vector = text.decimal(b'\n', u8::MAX as u64)? as u8;
@@ -187,7 +187,7 @@ fn irq(text: &mut Reader) -> Option<Act>
 fn call(text: &mut Reader) -> Option<Act>
     ensures value { Reads result text.new (call_of text.old) }
     ensures readable { IfSome result IsReadableAct }
-    ensures spelled { IfSome result (λ act. codes "hvc " ++ text.old ≡ join_with_byte 32 (act_words act) ++ 10 ∷ text.new) }
+    ensures spelled { IfSome result (λ act. codes "hvc " ++ text.old ≡ act_text act ++ 10 ∷ text.new) }
 {
     let code = text.decimal(b' ', u64::MAX)?;
     let a = text.hexadecimal(b' ', u64::MAX)?;
@@ -207,7 +207,7 @@ fn call(text: &mut Reader) -> Option<Act>
 fn noted(text: &mut Reader) -> Option<Act>
     ensures value { Reads result text.new (noted_of text.old) }
     ensures readable { IfSome result IsReadableAct }
-    ensures spelled { IfSome result (λ act. codes "noted " ++ text.old ≡ join_with_byte 32 (act_words act) ++ 10 ∷ text.new) }
+    ensures spelled { IfSome result (λ act. codes "noted " ++ text.old ≡ act_text act ++ 10 ∷ text.new) }
 {
     let id = text.decimal(b' ', u32::MAX as u64)? as u32;
     if !text.pass_equals() {

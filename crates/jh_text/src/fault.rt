@@ -7,7 +7,7 @@ use std::fmt;
 /// How many entries a journal may have.
 pub const MAX_ENTRIES: usize = 262_144;
 
-/// The first fault of a text.
+/// The first fault of a text, or want of memory.
 #[derive(Clone, Copy, PartialEq, Eq, Debug)]
 pub enum JournalFault {
     /// The first line that isn't the text of an entry whose numbers are within their ranges, with a line feed

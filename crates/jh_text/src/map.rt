@@ -1,7 +1,7 @@
 //! From the map of a cell to its text.
 ghost use Rattle.std.specs.Prelude.{◌≡◌, ◌++◌, OnOk, IfOk, string_bytes};
 ghost use Rattle.std.specs.List.{flat_map, join_with_byte};
-ghost use Rattle.jh_text.specs.Maps.{place_text, read_text, write_text, execute_text, kind_text, rights_text, run_words, run_line, cell_words, map_text};
+ghost use Rattle.jh_text.specs.Maps.{place_text, read_letter, write_letter, execute_letter, kind_text, rights_text, run_words, run_line, cell_words, map_text};
 ghost use Rattle.jh_text.specs.Text.{words_line};
 
 use jh_cellcfg::CellConfig;
@@ -25,21 +25,21 @@ fn kind_word(page: bool) -> &'static str
 
 /// `r` where one may read, else `-`.
 fn read_letter(may: bool) -> &'static str
-    ensures { result.now ≡ read_text may }
+    ensures { result.now ≡ read_letter may }
 {
     if may { "r" } else { "-" }
 }
 
 /// `w` where one may write, else `-`.
 fn write_letter(may: bool) -> &'static str
-    ensures { result.now ≡ write_text may }
+    ensures { result.now ≡ write_letter may }
 {
     if may { "w" } else { "-" }
 }
 
 /// `x` where one may execute, else `-`.
 fn execute_letter(may: bool) -> &'static str
-    ensures { result.now ≡ execute_text may }
+    ensures { result.now ≡ execute_letter may }
 {
     if may { "x" } else { "-" }
 }

@@ -1,6 +1,6 @@
 //! From entries to their text.
 ghost use Rattle.std.specs.Prelude.{◌≡◌, ◌++◌, ◌∷◌, [], OnOk, IfOk, codes};
-ghost use Rattle.jh_text.specs.Text.{act_words, attempt_words, entry_text, journal_text, hexadecimal, got_text, decision_text};
+ghost use Rattle.jh_text.specs.Text.{act_text, attempt_words, entry_text, journal_text, hexadecimal, got_text, decision_text};
 ghost use Rattle.std.specs.Fmt.{decimal};
 ghost use Rattle.std.specs.List.{join_with_byte};
 
@@ -44,7 +44,7 @@ fn push_entry(text: &mut Vec<u8>, entry: &Entry) -> Result<(), NoMemory>
 
 /// Puts the words of the act at the end, with one space between each two.
 fn push_act(text: &mut Vec<u8>, act: Act) -> Result<(), NoMemory>
-    ensures { OnOk result (text.new.items ≡ text.old.items ++ join_with_byte 32 (act_words act)) }
+    ensures { OnOk result (text.new.items ≡ text.old.items ++ act_text act) }
 {
     match act {
         Act::Read { width, at, got } => push_read(text, width, at, got),
@@ -65,8 +65,8 @@ fn push_act(text: &mut Vec<u8>, act: Act) -> Result<(), NoMemory>
         Act::Hvc { code, a, b, answer } => push_hvc(text, code, a, b, answer),
         Act::Begin { code, a, b } => push_begin(text, code, a, b),
         Act::Stop => push_word(text, "stop"),
-        Act::Decide { refused } => push_decision(text, refused),
-        Act::Settle { how } => push_settled(text, how),
+        Act::Decide { refused } => push_decide(text, refused),
+        Act::Settle { how } => push_settle(text, how),
         Act::Commit => push_word(text, "commit"),
         Act::Note { id } => push_note(text, id),
         Act::Noted { id, how } => push_noted(text, id, how),
@@ -84,7 +84,7 @@ fn push_word(text: &mut Vec<u8>, word: &str) -> Result<(), NoMemory>
 
 /// Puts the words of a read at the end.
 fn push_read(text: &mut Vec<u8>, width: u8, at: u64, got: Option<u64>) -> Result<(), NoMemory>
-    ensures { OnOk result (text.new.items ≡ text.old.items ++ join_with_byte 32 (act_words (Act.Read width at got))) }
+    ensures { OnOk result (text.new.items ≡ text.old.items ++ act_text (Act.Read width at got)) }
 {
     push_word(text, "read ")?;
     push_decimal(text, u64::from(width))?;
@@ -95,7 +95,7 @@ fn push_read(text: &mut Vec<u8>, width: u8, at: u64, got: Option<u64>) -> Result
 
 /// Puts the words of a write at the end.
 fn push_write(text: &mut Vec<u8>, width: u8, at: u64, value: u64, ok: bool) -> Result<(), NoMemory>
-    ensures { OnOk result (text.new.items ≡ text.old.items ++ join_with_byte 32 (act_words (Act.Write width at value ok))) }
+    ensures { OnOk result (text.new.items ≡ text.old.items ++ act_text (Act.Write width at value ok)) }
 {
     push_word(text, "write ")?;
     push_attempt(text, width, at, value, ok)
@@ -103,7 +103,7 @@ fn push_write(text: &mut Vec<u8>, width: u8, at: u64, value: u64, ok: bool) -> R
 
 /// Puts the words of a fetch at the end.
 fn push_fetch(text: &mut Vec<u8>, at: u64, got: Option<u64>) -> Result<(), NoMemory>
-    ensures { OnOk result (text.new.items ≡ text.old.items ++ join_with_byte 32 (act_words (Act.Fetch at got))) }
+    ensures { OnOk result (text.new.items ≡ text.old.items ++ act_text (Act.Fetch at got)) }
 {
     push_word(text, "fetch ")?;
     push_hexadecimal(text, at)?;
@@ -112,7 +112,7 @@ fn push_fetch(text: &mut Vec<u8>, at: u64, got: Option<u64>) -> Result<(), NoMem
 
 /// Puts the words of a wait for a value at the end.
 fn push_await(text: &mut Vec<u8>, width: u8, at: u64, value: u64, ok: bool) -> Result<(), NoMemory>
-    ensures { OnOk result (text.new.items ≡ text.old.items ++ join_with_byte 32 (act_words (Act.Await width at value ok))) }
+    ensures { OnOk result (text.new.items ≡ text.old.items ++ act_text (Act.Await width at value ok)) }
 {
     push_word(text, "await ")?;
     push_attempt(text, width, at, value, ok)
@@ -120,7 +120,7 @@ fn push_await(text: &mut Vec<u8>, width: u8, at: u64, value: u64, ok: bool) -> R
 
 /// Puts the words of an interrupt at the end.
 fn push_irq(text: &mut Vec<u8>, device: u32, vector: u8) -> Result<(), NoMemory>
-    ensures { OnOk result (text.new.items ≡ text.old.items ++ join_with_byte 32 (act_words (Act.Irq device vector))) }
+    ensures { OnOk result (text.new.items ≡ text.old.items ++ act_text (Act.Irq device vector)) }
 {
     push_word(text, "irq = ")?;
     push_decimal(text, u64::from(device))?;
@@ -130,7 +130,7 @@ fn push_irq(text: &mut Vec<u8>, device: u32, vector: u8) -> Result<(), NoMemory>
 
 /// Puts the words of a hypercall that is answered at once at the end.
 fn push_hvc(text: &mut Vec<u8>, code: u64, a: u64, b: u64, answer: i64) -> Result<(), NoMemory>
-    ensures { OnOk result (text.new.items ≡ text.old.items ++ join_with_byte 32 (act_words (Act.Hvc code a b answer))) }
+    ensures { OnOk result (text.new.items ≡ text.old.items ++ act_text (Act.Hvc code a b answer)) }
 {
     push_call(text, code, a, b)?;
     push_signed(text, answer)
@@ -138,15 +138,15 @@ fn push_hvc(text: &mut Vec<u8>, code: u64, a: u64, b: u64, answer: i64) -> Resul
 
 /// Puts the words of a call's beginning at the end.
 fn push_begin(text: &mut Vec<u8>, code: u64, a: u64, b: u64) -> Result<(), NoMemory>
-    ensures { OnOk result (text.new.items ≡ text.old.items ++ join_with_byte 32 (act_words (Act.Begin code a b))) }
+    ensures { OnOk result (text.new.items ≡ text.old.items ++ act_text (Act.Begin code a b)) }
 {
     push_call(text, code, a, b)?;
     push_word(text, "begin")
 }
 
 /// Puts the words at the end that tell how a cell met the request to shut down.
-fn push_settled(text: &mut Vec<u8>, how: Settled) -> Result<(), NoMemory>
-    ensures { OnOk result (text.new.items ≡ text.old.items ++ join_with_byte 32 (act_words (Act.Settle how))) }
+fn push_settle(text: &mut Vec<u8>, how: Settled) -> Result<(), NoMemory>
+    ensures { OnOk result (text.new.items ≡ text.old.items ++ act_text (Act.Settle how)) }
 {
     push_word(text, "settle = ")?;
     push_word(text, settled_word(how))
@@ -154,7 +154,7 @@ fn push_settled(text: &mut Vec<u8>, how: Settled) -> Result<(), NoMemory>
 
 /// Puts the words of a note of a change at the end.
 fn push_note(text: &mut Vec<u8>, id: u32) -> Result<(), NoMemory>
-    ensures { OnOk result (text.new.items ≡ text.old.items ++ join_with_byte 32 (act_words (Act.Note id))) }
+    ensures { OnOk result (text.new.items ≡ text.old.items ++ act_text (Act.Note id)) }
 {
     push_word(text, "note ")?;
     push_decimal(text, u64::from(id))
@@ -162,7 +162,7 @@ fn push_note(text: &mut Vec<u8>, id: u32) -> Result<(), NoMemory>
 
 /// Puts the words at the end that tell how a cell met the note of a change.
 fn push_noted(text: &mut Vec<u8>, id: u32, how: Heard) -> Result<(), NoMemory>
-    ensures { OnOk result (text.new.items ≡ text.old.items ++ join_with_byte 32 (act_words (Act.Noted id how))) }
+    ensures { OnOk result (text.new.items ≡ text.old.items ++ act_text (Act.Noted id how)) }
 {
     push_word(text, "noted ")?;
     push_decimal(text, u64::from(id))?;
@@ -172,7 +172,7 @@ fn push_noted(text: &mut Vec<u8>, id: u32, how: Heard) -> Result<(), NoMemory>
 
 /// Puts the words of a call's end at the end.
 fn push_finish(text: &mut Vec<u8>, answer: i64) -> Result<(), NoMemory>
-    ensures { OnOk result (text.new.items ≡ text.old.items ++ join_with_byte 32 (act_words (Act.Finish answer))) }
+    ensures { OnOk result (text.new.items ≡ text.old.items ++ act_text (Act.Finish answer)) }
 {
     push_word(text, "finish = ")?;
     push_signed(text, answer)
@@ -225,7 +225,7 @@ fn push_call(text: &mut Vec<u8>, code: u64, a: u64, b: u64) -> Result<(), NoMemo
 }
 
 /// Puts the words of a decision at the end.
-fn push_decision(text: &mut Vec<u8>, refused: Option<i64>) -> Result<(), NoMemory>
+fn push_decide(text: &mut Vec<u8>, refused: Option<i64>) -> Result<(), NoMemory>
     ensures { OnOk result (text.new.items ≡ text.old.items ++ codes "decide = " ++ decision_text refused) }
 {
     push_word(text, "decide = ")?;

@@ -55,7 +55,7 @@ impl<'a> JournalLines<'a> {
         }
     }
 
-    /// How many lines are read, 262,144 at most, which is the number of the last of them.
+    /// How many lines are read, which is the number of the last of them: at most 262,144.
     #[inline(always)]
     pub fn count(&self) -> u32
         ensures { result ≡ self.now.count }
@@ -65,13 +65,13 @@ impl<'a> JournalLines<'a> {
 
     /// The entry of the next line, which is passed over; `None` where nothing is left. An entry's numbers are within
     /// their ranges where the CPU is below 16, ids and devices are below 2^32, vectors below 256, widths 1, 2, 4 or 8,
-    /// values as wide as their access (4 bytes of a fetch), codes, addresses and arguments below 2^64, and answers
+    /// values below 256^width (2^32 of a fetch), codes, addresses and arguments below 2^64, and answers
     /// numbers of 64 bits with a sign.
     ///
     /// # Errors
     ///
-    /// The number of the next line, counted from 1, where it isn't such an entry's with a line feed behind it, or that
-    /// it is an entry's behind the last that a journal may have. The line stays the next.
+    /// `Line` with the number of the next line, counted from 1, where it isn't such an entry's with a line feed behind
+    /// it; `TooLong` where it is, behind the last that a journal may have. The line stays the next.
     #[inline(always)]
     pub fn next(&mut self) -> Result<Option<Entry>, JournalFault>
         ensures ok { IfOk result (λ next. PassesLine self.old next self.new) }

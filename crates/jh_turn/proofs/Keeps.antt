@@ -14,7 +14,7 @@ use Rattle.jh_turn.specs.declared.rule.View.{View}
 use Rattle.jh_turn.specs.declared.rule.Opening.{Opening}
 use Rattle.jh_turn.specs.Hands.{caller_of, seen_of}
 use Rattle.jh_turn.specs.Histories.{entries_of, Grows}
-use Rattle.jh_turn.specs.Private.Rule.{free, Slot, Seated, hand, view, HandFits, Fits, IsFree, IsHeld, Kept, Claims, Notes, Releases}
+use Rattle.jh_turn.specs.Private.Rule.{free, Slot, Seated, hand, view, HandFits, Fits, IsFree, IsHeld, HasOneHistory, Claims, Notes, Releases}
 use Rattle.jh_turn.proofs.Prefixes.{prefix_self, prefix_trans, others_stay, grows_on}
 use Rattle.jh_turn.proofs.Seats.{inside, seats_stay, one_there, contains_one}
 
@@ -35,7 +35,7 @@ module _ {T E O : Type 0} (whose : E → ℕ) (origin : T → O) (serves : O →
 
   module _ (key : Opening T) where
     abbrev Rule : St → Type 0
-    Rule = Kept whose origin serves history key
+    Rule = HasOneHistory whose origin serves history key
 
     abbrev Fit : List E → (ℕ → ℕ) → ℕ → V → Type 0
     Fit = Fits whose key.value.value key.callers.items

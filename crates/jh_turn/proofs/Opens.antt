@@ -5,7 +5,7 @@ use Rattle.atomic_table.specs.Table.{Splits}
 use Rattle.jh_turn.specs.declared.rule.Hand.{Hand}
 use Rattle.jh_turn.specs.declared.rule.View.{View}
 use Rattle.jh_turn.specs.declared.rule.Opening.{Opening}
-use Rattle.jh_turn.specs.Private.Rule.{hand, view, without_first, only_first, Kept}
+use Rattle.jh_turn.specs.Private.Rule.{hand, view, without_first, only_first, HasOneHistory}
 use Rattle.jh_turn.proofs.Seating.{split_keeps}
 
 module _ {E : Type 0} (seen : List E) where
@@ -25,6 +25,6 @@ module _ {E : Type 0} (seen : List E) where
 
 module _ {T E O : Type 0} (whose : E → ℕ) (origin : T → O) (serves : O → ℕ → Type 0) (history : T → List E) (key : Opening T) where
   pub splits_first : (id : ℕ) (v : View T E) (left : List ℕ) (seen : List E) (opened : T) → 0 < length left → AllPairs (λ a b. a ≢ b) left → v ≡ view (Some opened) (hands_of seen left) false
-      → Splits (Kept whose origin serves history key) id v (without_first v) (only_first v)
+      → Splits (HasOneHistory whose origin serves history key) id v (without_first v) (only_first v)
   splits_first id v left seen opened some differ is = split_keeps whose origin serves history key id v (hand (slice_index left 0) seen) (hands_of seen (drop 1 left))
       (ap (λ (w : View T E). w.hands) is ∙ first_hand seen left some) (first_apart seen left some differ) (ap (λ (w : View T E). w.holding) is)

@@ -12,7 +12,7 @@ use Rattle.jh_turn.specs.declared.rule.View.{View}
 use Rattle.jh_turn.specs.declared.rule.Opening.{Opening}
 use Rattle.jh_turn.specs.Private.Closing.{HasCaller, IsLast}
 use Rattle.jh_turn.specs.Histories.{entries_of}
-use Rattle.jh_turn.specs.Private.Rule.{free, Slot, without_first, only_first, together, spent_view, opening_view, HandFits, Fits, Kept, hand}
+use Rattle.jh_turn.specs.Private.Rule.{free, Slot, without_first, only_first, together, spent_view, opening_view, HandFits, Fits, HasOneHistory, hand}
 use Rattle.jh_turn.proofs.Prefixes.{prefix_self}
 use Rattle.jh_turn.proofs.Seats.{seats_stay, seats_and_one, only_seat, contains_one, contains_none}
 use Rattle.jh_turn.proofs.Keeps.{hand_fits, not_holder}
@@ -25,7 +25,7 @@ module _ {T E O : Type 0} (whose : E → ℕ) (origin : T → O) (serves : O →
   St = State (Slot T) V
 
   abbrev Rule : St → Type 0
-  Rule = Kept whose origin serves history key
+  Rule = HasOneHistory whose origin serves history key
 
   abbrev Fit : List E → (ℕ → ℕ) → ℕ → V → Type 0
   Fit = Fits whose key.value.value key.callers.items

@@ -3,7 +3,7 @@ use Rattle.std.proofs.Common.{◌≡◌, ℕ, List, [], ◌∷◌, ◌++◌, Som
 use mathlib.Core.List.{IsPrefix}
 use Rattle.jh_turn.specs.Histories.{entries_of, Grows, PortTurn, IsTurn}
 use Rattle.jh_turn.specs.Hands.{seen_of}
-use Rattle.jh_turn.specs.Private.Rule.{Slot, Seated, Claimed}
+use Rattle.jh_turn.specs.Private.Rule.{Slot, Seated, HasClaimed}
 use Rattle.jh_turn.proofs.Prefixes.{entries_append, entries_made, foreign_rest, grown_by, grows_on, prefix_trans}
 use Rattle.jh_turn.proofs.Keeps.{first_slot}
 
@@ -26,7 +26,7 @@ one_value slots a b e f = let slot : Some a ≡ Some b = ap first_slot (sym e �
 
 module _ {T E O A : Type 0} (whose : E → ℕ) (origin : T → O) (serves : O → ℕ → Type 0) (history : T → List E) (answers : O → ℕ → List E → List E → A → Type 0) where
   -- from a claim of the turn and a turn of the value in the slot
-  pub told : (who : ℕ) (me claimed : Seated T E) (k : Claimed whose origin serves history who me claimed) (opened before after : T) (answer : A) → me.0.opened ≡ Some opened → before ≡ k.value.value
+  pub told : (who : ℕ) (me claimed : Seated T E) (k : HasClaimed whose origin serves history who me claimed) (opened before after : T) (answer : A) → me.0.opened ≡ Some opened → before ≡ k.value.value
       → Grows whose who (history before) (history after) → answers (origin before) who (history before) (history after) answer
       → IsTurn whose (answers (origin opened)) (record { caller = who; seen = seen_of me.0.hands; answer = answer; now = history after })
   told who me claimed k opened before after answer from is grew says = turned whose answers (record { caller = who; seen = seen_of me.0.hands; answer = answer; now = history after }) (history before) (origin before) (origin opened)
@@ -34,6 +34,6 @@ module _ {T E O A : Type 0} (whose : E → ℕ) (origin : T → O) (serves : O �
 
 module _ {T E O : Type 0} (whose : E → ℕ) (origin : T → O) (serves : O → ℕ → Type 0) (history : T → List E) where
   -- what the port had seen begins what it sees
-  pub sees_on : (who : ℕ) (me claimed : Seated T E) (k : Claimed whose origin serves history who me claimed) (before after : T) → before ≡ k.value.value → Grows whose who (history before) (history after)
+  pub sees_on : (who : ℕ) (me claimed : Seated T E) (k : HasClaimed whose origin serves history who me claimed) (before after : T) → before ≡ k.value.value → Grows whose who (history before) (history after)
       → IsPrefix (seen_of me.0.hands) (history after)
   sees_on who me claimed k before after is grew = prefix_trans (seen_of me.0.hands) (history before) (history after) (subst (λ x. IsPrefix (seen_of me.0.hands) (history x)) (sym is) k.seen) (grows_on whose who (history before) (history after) grew)

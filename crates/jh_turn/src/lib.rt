@@ -8,7 +8,7 @@
 //! For any value, and for any number of threads:
 //!
 //! - What a port had seen of the history before a turn is the beginning of what it has seen after it. What came between has no
-//!   entry of its caller but the one that this turn made, which is the last.
+//!   entry of its caller but the one that this turn made, if it made one, which is the last.
 //! - The answer is one that the value may give at the opened value's origin, the history just before the turn and what the
 //!   port has seen now, which is the history just after it.
 //! - The closed value has the opened value's origin. Its history begins with the opened one and with what each port has seen,
@@ -22,8 +22,8 @@
 //!
 //! The value lies in the one slot of an `atomic_table`, with two words beside it: the number of the caller that holds the turn,
 //! and the length of the history. A turn claims the first word, takes the value out of the slot, makes the turn, puts the value
-//! back, notes the new length in the second word, and frees the first. The history itself exists in the proofs alone, in what
-//! each seat of the table knows.
+//! back, notes the new length in the second word, and frees the first. Of what a port has seen the port has the length;
+//! the entries exist in the proofs alone, in what each seat of the table knows.
 #![tactic(auto)]
 
 mod crossing;

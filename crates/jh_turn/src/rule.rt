@@ -28,12 +28,12 @@ pub struct Opening<T> {
 }
 
 /// The rule of the table behind the lock.
-pub struct Law;
+pub struct LockRule;
 
-impl<T: Turner> TableRule<Option<Box<T>>, View<T, T::Entry>, Opening<T>> for Law {
-    ghost use Rattle.jh_turn.specs.Private.Rule.{Kept, opening_view};
+impl<T: Turner> TableRule<Option<Box<T>>, View<T, T::Entry>, Opening<T>> for LockRule {
+    ghost use Rattle.jh_turn.specs.Private.Rule.{HasOneHistory, opening_view};
 
-    ghost holds = { Kept T.whose T.origin T.serves T.history };
+    ghost holds = { HasOneHistory T.whose T.origin T.serves T.history };
 
     ghost first = { opening_view T.history };
 }

@@ -2,7 +2,7 @@
 ghost use Rattle.std.specs.Prelude.{◌≡◌, ◌<◌, false, length};
 ghost use Rattle.jh_turn.specs.Hands.{caller_of, seen_of};
 
-use crate::rule::{Law, Opening, View};
+use crate::rule::{LockRule, Opening, View};
 use crate::turner::Turner;
 use atomic_table::{Seat, Table};
 use std::alloc::Global;
@@ -27,7 +27,7 @@ const VALUE: usize = 0;
 ///
 /// Contracts know of it the value that was opened and the callers that ports were made for, which stay.
 pub struct Shared<T: Turner> {
-    table: Table<Option<Box<T>>, View<T, T::Entry>, Opening<T>, Law, Global>,
+    table: Table<Option<Box<T>>, View<T, T::Entry>, Opening<T>, LockRule, Global>,
     ghost sized: { (table.shared.table_id.words ≡ 2) × (table.shared.table_id.slots ≡ 1) },
     ghost some_caller: { 0 < length table.shared.key.callers.items },
 }

@@ -7,6 +7,6 @@ use Rattle.jh_board.specs.declared.held.Held.{Held}
 use Rattle.jh_board.specs.declared.state.JudgedCreate.{JudgedCreate}
 use Rattle.jh_board.specs.Means.{Means}
 
--- what was found is what comes of the create, by whatever facts that stand for what is held
+-- what was found is what comes of the create, by all facts that what is held stands for
 abbrev pub IsJudgedCreate : Image → Held → JudgedCreate → Type 0
 IsJudgedCreate image held found = (f : Facts) → Means image held f → found.creation ≡ creation_of image f found.caller found.at

@@ -7,8 +7,8 @@ use Rattle.jh_shape.specs.Lives.{configs_of}
 use Rattle.jh_board.specs.Private.Closed.{is_closed_by, all_regions, count_regions}
 use Rattle.jh_board.specs.declared.cells.LiveCells.TheInside.{Inside}
 
--- what is kept beside the live cells is theirs: their regions, what they close to root, and how many pages all cells
--- take
+-- what is kept beside the live cells is theirs: their regions, each in range, and how many they are; what they close to
+-- root, in no more ranges than they have regions, with room for one range more; and how many pages all cells take
 pub record FitsItsCells (s : Inside) : Type 0 where
   pub regions : s.regions.items ≡ all_regions s.cells.lives
   pub within : All AreInRange s.regions.items

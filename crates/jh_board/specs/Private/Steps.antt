@@ -144,8 +144,9 @@ pub record IsSameButDevices (old new : Held) : Type 0 where
 abbrev pub joined_cells : List Live → CellConfig → List Live
 joined_cells cells config = cells ++ new_live config ∷ []
 
--- the cell with the configuration may join those that live: its regions were found, and there is room for it and for
--- them; where it names a CPU, fewer than 15 live
+-- the cell with the configuration may join those that live: its CPU set is sound, neither root nor any of them has its
+-- name or its id, its regions are in range and were found, and there is room for it and for them; where it names a CPU,
+-- fewer than 15 live
 pub record MayJoinCells (live : LiveView) (found : Option (List Region)) (config : CellConfig) : Type 0 where
   pub cpus : IsSoundBitmap config.cpu_set
   pub few : NamesCpu config → length live.lives < 15
@@ -157,7 +158,7 @@ pub record MayJoinCells (live : LiveView) (found : Option (List Region)) (config
 
 -- ---- an entry, and the call that goes on by it
 
--- the entry is due where what is held stands for sound facts of an admitted image
+-- the image is admitted, and what is held stands for sound facts, by which the entry is due
 pub record IsNextEntry (image : Image) (held : Held) (entry : Entry) : Type 0 where
   pub facts : Facts
   pub admitted : IsAdmitted image
@@ -169,15 +170,18 @@ pub record IsNextEntry (image : Image) (held : Held) (entry : Entry) : Type 0 wh
 abbrev pub IsRead : Image → Facts → Entry → Option CellConfig → Type 0
 IsRead image facts entry coming = call_by facts.cells coming facts.call entry entry.act ≡ call_after image facts entry
 
--- where the configuration of a cell comes, the open call isn't yet about to make one: whatever is held is ready for it
+-- where the configuration of a cell comes, the open call isn't yet about to make a cell: whatever is held is ready for
+-- what the call goes on to do
 abbrev pub NeedsNothingYet : Facts → Option CellConfig → Type 0
 NeedsNothingYet facts coming = IfSome coming (λ config. (held : Held) → IsReadyToGoOn held facts.call)
 
--- what is held is ready for what the call goes on to do, where it is ready for the cell that comes
+-- what is held is ready for what the call goes on to do behind the entry, where it was ready for what the call went
+-- on to do before it, and is ready for the cell that comes, if one does
 abbrev pub WillBeReady : Image → Facts → Entry → Option CellConfig → Type 0
 WillBeReady image facts entry coming = (held : Held) → IsReadyToGoOn held facts.call → IfSome coming (IsReadyFor held) → IsReadyToGoOn held (call_after image facts entry)
 
--- the entry has all memory that it and the rest of its call take, but for its write
+-- what is held stands for the facts, the configuration is the one that the entry's call reads, and all memory that the
+-- entry and the rest of its call take is held, but for its write
 pub record IsPrepared (image : Image) (held : Held) (facts : Facts) (entry : Entry) (coming : Option CellConfig) : Type 0 where
   pub means : Means image held facts
   pub read : IsRead image facts entry coming

@@ -12,17 +12,17 @@ use Rattle.jh_image.specs.declared.fault.ImageCause.{ImageCause}
 use Rattle.jh_image.specs.declared.fault.ImageCause.TheVariants.{ReadFault, Oversize, Json, Member, Findings, PoolSmall, Program as BadProgram}
 use Rattle.jh_image.specs.Files.{Contents, HasBytes, IsOversize}
 
--- why a file hands out nothing to go on with
-abbrev pub HandsOutNothing : Contents → List ℕ → List ℕ → ImageCause → Type 0
-HandsOutNothing contents name file ReadFault = file ≡ name
-HandsOutNothing contents name file Oversize = (file ≡ name) × IsOversize contents name
-HandsOutNothing contents name file _ = ⊥
+-- the file of this name can't be read, or is too large
+abbrev pub IsFileRefusal : Contents → List ℕ → List ℕ → ImageCause → Type 0
+IsFileRefusal contents name file ReadFault = file ≡ name
+IsFileRefusal contents name file Oversize = (file ≡ name) × IsOversize contents name
+IsFileRefusal contents name file _ = ⊥
 
 -- the file and the cause are these
 abbrev pub IsRefusal : List ℕ → ImageCause → List ℕ → ImageCause → Type 0
 IsRefusal name wanted file cause = (file ≡ name) × (cause ≡ wanted)
 
--- the cause is that of the board's fault
+-- the file is the board of this name, and the cause is that of its fault
 abbrev pub IsBoardRefusal : List ℕ → JsonFault → List ℕ → ImageCause → Type 0
 IsBoardRefusal name boards.Json file cause = IsRefusal name Json file cause
 IsBoardRefusal name (boards.Member member) file cause = IsRefusal name (Member member) file cause
@@ -34,10 +34,10 @@ IsPoolSmall board system file (PoolSmall need have) = (file ≡ board) × (need 
 IsPoolSmall board system file _ = ⊥
 
 -- the system isn't admitted: the check finds something in it alone, or the pool has fewer pages than root takes
-abbrev pub IsUnsound : List ℕ → List ℕ → SystemConfig → List ℕ → ImageCause → Type 0
-IsUnsound board name system file (Findings found) = (file ≡ name) × (found ≡ capped (findings system [])) × (findings system [] ≢ [])
-IsUnsound board name system file (PoolSmall need have) = (findings system [] ≡ []) × IsPoolSmall board system file (PoolSmall need have)
-IsUnsound board name system file _ = ⊥
+abbrev pub IsUnadmitted : List ℕ → List ℕ → SystemConfig → List ℕ → ImageCause → Type 0
+IsUnadmitted board name system file (Findings found) = (file ≡ name) × (found ≡ capped (findings system [])) × (findings system [] ≢ [])
+IsUnadmitted board name system file (PoolSmall need have) = (findings system [] ≡ []) × IsPoolSmall board system file (PoolSmall need have)
+IsUnadmitted board name system file _ = ⊥
 
 -- the text of a program's file has this fault
 pub record IsNoProgram (contents : Contents) (name file : List ℕ) (fault : ScriptFault) : Type 0 where
@@ -48,7 +48,7 @@ pub record IsNoProgram (contents : Contents) (name file : List ℕ) (fault : Scr
 
 -- why a program's file gives no program: it can't be read, is too large, or its text has a fault
 abbrev pub IsProgramCause : Contents → List ℕ → List ℕ → ImageCause → Type 0
-IsProgramCause contents name file ReadFault = HandsOutNothing contents name file ReadFault
-IsProgramCause contents name file Oversize = HandsOutNothing contents name file Oversize
+IsProgramCause contents name file ReadFault = IsFileRefusal contents name file ReadFault
+IsProgramCause contents name file Oversize = IsFileRefusal contents name file Oversize
 IsProgramCause contents name file (BadProgram fault) = IsNoProgram contents name file fault
 IsProgramCause contents name file _ = ⊥

@@ -1,4 +1,4 @@
--- That the numbers of an image are below the ends of their types, as those of any image of the program are.
+-- That some numbers of an image are below the ends of their types, as those of any image of the program are.
 use Rattle.std.specs.Prelude.{◌^◌, ◌<◌, All}
 use Rattle.jh_script.specs.declared.op.Op.{Op}
 use Rattle.jh_script.specs.declared.op.Op.TheVariants.{Read, Write, Fetch, Await, Irq, Hvc}

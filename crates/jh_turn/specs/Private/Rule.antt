@@ -95,7 +95,8 @@ module _ {T E O : Type 0} (origin : T → O) (history : T → List E) where
     pub none_holds : (seat : ℕ) (v : View T E) → get_elem? s.views seat ≡ maybe.some v → v.holding ≡ false
 
 module _ {E : Type 0} (whose : E → ℕ) where
-  -- What a caller has seen is a beginning of the history, and all entries of its own stand in it. A caller has one seat.
+  -- The caller is one of these, and this seat is its one seat. What it has seen is a beginning of the history, and has
+  -- all entries of its own.
   pub record HandFits (callers : List ℕ) (log : List E) (owner : ℕ → ℕ) (seat : ℕ) (h : Hand E) : Type 0 where
     pub named : Contains callers h.caller
     pub one_seat : owner h.caller ≡ seat
@@ -110,7 +111,7 @@ module _ {T E : Type 0} (whose : E → ℕ) where
 
 module _ {T E O : Type 0} (whose : E → ℕ) (origin : T → O) (serves : O → ℕ → Type 0) (history : T → List E) where
   -- There is one history, `log`. It begins with the opened one, and past that has entries of the callers alone.
-  pub record Kept (key : Opening T) (s : State (Slot T) (View T E)) : Type 0 where
+  pub record HasOneHistory (key : Opening T) (s : State (Slot T) (View T E)) : Type 0 where
     pub log : List E
     pub owner : ℕ → ℕ
     pub begins : IsPrefix (history key.value.value) log
@@ -120,7 +121,7 @@ module _ {T E O : Type 0} (whose : E → ℕ) (origin : T → O) (serves : O →
     pub lock : IsFree origin history key.value.value log s ⊎ IsHeld log s
 
   -- the turn is the seat's, which has the slot with the value in it, and has seen the value's whole history
-  pub record Claimed (who : ℕ) (before after : Seated T E) : Type 0 where
+  pub record HasClaimed (who : ℕ) (before after : Seated T E) : Type 0 where
     pub value : Box T Global
     pub has_slot : after.1 ≡ (0, Some value) ∷ before.1
     pub knows : after.0 ≡ holding_view before.0.opened who (history value.value)
@@ -131,4 +132,4 @@ module _ {T E O : Type 0} (whose : E → ℕ) (origin : T → O) (serves : O →
 
   -- the caller has the turn where the step found it free; else the seat is as before
   abbrev pub Claims : Step (Slot T) → Seated T E → ℕ → Seated T E → Type 0
-  Claims step before found after = (found ≡ free → Claimed step.second before after) × (found ≢ free → after ≡ before)
+  Claims step before found after = (found ≡ free → HasClaimed step.second before after) × (found ≢ free → after ≡ before)

@@ -18,7 +18,8 @@ impl<T: Turner> Shared<T> {
         ensures origin { T.origin result ≡ T.origin (opened_value self) }
         ensures begins { IsPrefix (T.history (opened_value self)) (T.history result) }
         ensures seen { All (λ p. IsPrefix (seen_by p) (T.history result)) ports.items }
-        // Of each caller the history has the entries that its port has seen, and no others.
+        // Of each caller the history has the entries that its port has seen; of whoever is no caller, those of the
+        // opened history.
         ensures own { All (λ p. entries_of T.whose (port_caller p) (T.history result) ≡ entries_of T.whose (port_caller p) (seen_by p)) ports.items }
         ensures no_others { (who : ℕ) → ¬ (Contains (all_callers self) who) → entries_of T.whose who (T.history result) ≡ entries_of T.whose who (T.history (opened_value self)) }
     {
@@ -67,11 +68,12 @@ impl<T: Turner> Shared<T> {
 
 impl<T: Turner> Port<T> {
     ghost use Rattle.jh_turn.specs.Private.Rule.{hand};
+    ghost use Rattle.jh_turn.specs.Private.Stages.{IsSameSeat};
     ghost use Rattle.jh_turn.specs.Ports.{port_caller, seen_by};
 
     /// The seat of the port, with its caller's one hand.
     fn into_seat(self) -> Seat<Option<Box<T>>, View<T, T::Entry>>
-        ensures same { (result.table_id ≡ self.seat.table_id) × (result.id ≡ self.seat.id) }
+        ensures same { IsSameSeat self.seat result }
         ensures hand { result.me.0.hands ≡ hand (port_caller self) (seen_by self) ∷ [] }
         ensures waits { (result.me.0.holding ≡ false) × (result.me.1 ≡ []) }
     {

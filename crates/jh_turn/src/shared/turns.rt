@@ -1,5 +1,5 @@
 //! A turn, from the claim to the release.
-ghost use Rattle.std.specs.Prelude.{◌≡◌, ◌∷◌, [], length, Some, None};
+ghost use Rattle.std.specs.Prelude.{◌≡◌, ◌∷◌, [], length, None};
 ghost use mathlib.Core.List.{IsPrefix};
 ghost use Rattle.jh_turn.specs.Histories.{IsTurn};
 
@@ -12,7 +12,7 @@ use std::thread;
 
 impl<T: Turner> Shared<T> {
     ghost use Rattle.jh_turn.specs.Ports.{opened_value, port_caller, seen_by, turn_at, IsPortOf};
-    ghost use Rattle.jh_turn.specs.Private.Rule.{Claimed};
+    ghost use Rattle.jh_turn.specs.Private.Rule.{HasClaimed, HasSlotWith};
     ghost use Rattle.jh_turn.specs.Private.Stages.{IsSameSeat, IsWaiting, IsAtWork, HasDone, MayReturn};
 
     /// A turn of the port's caller. It waits while another caller has the turn, and may wait for ever.
@@ -37,7 +37,7 @@ impl<T: Turner> Shared<T> {
         requires own { seat.old.table_id ≡ self.now.table.shared.table_id }
         requires waits { IsWaiting caller seat.old.me }
         ensures same { IsSameSeat seat.old seat.new }
-        ensures claimed { Claimed T.whose T.origin T.serves T.history caller seat.old.me seat.new.me }
+        ensures claimed { HasClaimed T.whose T.origin T.serves T.history caller seat.old.me seat.new.me }
     {
         for _ in rt.forever() {
             let found = self
@@ -56,9 +56,9 @@ impl<T: Turner> Shared<T> {
     /// Takes the value out of the slot.
     fn take(&self, seat: &mut Seat<Option<Box<T>>, View<T, T::Entry>>) -> Box<T>
         requires own { seat.old.table_id ≡ self.now.table.shared.table_id }
-        requires there { (value : _) × (seat.old.me.1 ≡ (0, Some value) ∷ []) }
+        requires there { (value : _) × HasSlotWith seat.old.me value }
         ensures same { IsSameSeat seat.old seat.new }
-        ensures value { seat.old.me.1 ≡ (0, Some result) ∷ [] }
+        ensures value { HasSlotWith seat.old.me result }
         ensures taken { seat.new.me ≡ (seat.old.me.0, (0, None) ∷ []) }
     {
         match self.table.shared.exchange(seat, VALUE, None) {
@@ -68,7 +68,7 @@ impl<T: Turner> Shared<T> {
         }
     }
 
-    /// Gives the value back, notes the length of its history, and gives the turn up.
+    /// Gives the value back, notes the length of its history, and gives the turn up. `caller` is for the contract alone.
     fn put_back(
         &self,
         seat: &mut Seat<Option<Box<T>>, View<T, T::Entry>>,

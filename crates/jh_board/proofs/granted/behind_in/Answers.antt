@@ -22,7 +22,7 @@ returns-then-is_within c =
     let within = c.is_within.ensures.0 c.if-is_within.true in
     let region = c.open_whole-region.result in
     let ecam = c.ecam_of.result in
-    let same : c.new-devices.result ≡ behind_in.devices = c.new-devices.ensures ∙ ap (λ (list : List PciDevice). record behind_in.devices { list = list }) c.devices_of.ensures in
+    let same : c.new-devices.result ≡ behind_in.devices = c.new-devices.ensures ∙ ap (λ (list : List PciDevice). record behind_in.devices { list = list }) c.list_in.ensures in
     let asks : Devices → Asked = λ d. record { cell = d.cell; region = region; windows = record { start = ecam.start; end = ecam.end; device = window_of_access d wanted.at wanted.width } } in
     let from : ℕ → Asked = λ s. record { cell = cell; region = region; windows = record asked.windows { start = s; end = ecam.end } } in
     let until : ℕ → Asked = λ e. record { cell = cell; region = region; windows = record asked.windows { start = ecam_start c.image.result.now.system; end = e } } in

@@ -10,13 +10,13 @@ use Rattle.jh_cli.proofs.run.run.Goals as goal
 
 pub returns-clause-ends : goal.returns-clause-ends
 returns-clause-ends g c =
-    opens (g.F.Files.contents c.args.files.now) c.args.board.now IsToldRun c.in_ok-image.image c.in_ok-image.ensures.image c.in_ok-image.ensures.admitted (Ok c.in_ok-render.field-0) c.in_ok-render.ensures
+    opens (g.F.Files.contents c.args.files.now) c.args.board.now IsToldRun c.in_ok-image.image c.in_ok-image.ensures.image c.in_ok-image.ensures.admitted (Ok c.in_ok-run_image.field-0) c.in_ok-run_image.ensures
 
 pub returns-clause-counted : goal.returns-clause-counted
 returns-clause-counted g c =
-    ran_counted (g.F.Files.faults c.args.files.now) (g.F.Files.faults c.open.new.files) (g.F.Files.failed c.open.new.files) c.in_ok-image.image (reply_of c.in_ok-render.field-0) c.in_ok-render.ensures
+    ran_counted (g.F.Files.faults c.args.files.now) (g.F.Files.faults c.open.new.files) (g.F.Files.failed c.open.new.files) c.in_ok-image.image (reply_of c.in_ok-run_image.field-0) c.in_ok-run_image.ensures
 
 pub returns-clause-asked : goal.returns-clause-asked
 returns-clause-asked g c =
     let files = c.open.new.files in
-    board_behind g.F.Files (g.F.Files.contents c.args.files.now) c.args.board.now [] c.args.files.now files files c.in_ok-image.ensures.asked (Ok c.in_ok-render.field-0) (inl (no_ask files))
+    board_behind g.F.Files (g.F.Files.contents c.args.files.now) c.args.board.now [] c.args.files.now files files c.in_ok-image.ensures.asked (Ok c.in_ok-run_image.field-0) (inl (no_ask files))

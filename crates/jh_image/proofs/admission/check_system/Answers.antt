@@ -3,7 +3,7 @@ use Rattle.std.proofs.Common.{◌≡◌, [], sym, ◌∙◌, refl}
 use Rattle.std.proofs.lemmas.Bool.{false≢true}
 use Rattle.jh_check.specs.Findings.{findings}
 use Rattle.jh_image.specs.declared.fault.ImageCause.TheVariants.{Findings}
-use Rattle.jh_image.specs.Private.Causes.{IsUnsound}
+use Rattle.jh_image.specs.Private.Causes.{IsUnadmitted}
 use Rattle.jh_check.proofs.Public.{capped_none, capped_nil}
 use Rattle.jh_image.proofs.StopLemmas.{on_refusal, checked_ok, checked_err}
 use Rattle.jh_image.proofs.admission.check_system.Goals as goal
@@ -12,7 +12,7 @@ pub returns-then-not-is_empty-clause-err : goal.returns-then-not-is_empty-clause
 returns-then-not-is_empty-clause-err c =
     let system = c.args.system.now in
     let all = findings system [] in
-    on_refusal (IsUnsound c.args.board.now c.args.name.now system) c.args.name.now (Findings c.in_ok-found.found) c.refused.result c.refused.ensures
+    on_refusal (IsUnadmitted c.args.board.now c.args.name.now system) c.args.name.now (Findings c.in_ok-found.found) c.refused.result c.refused.ensures
     (refl, c.in_ok-found.ensures, λ e. false≢true (sym c.if-not-is_empty.true ∙ c.is_empty.ensures.1 (c.in_ok-found.ensures ∙ capped_nil all e)))
 
 pub returns-clause-ok : goal.returns-clause-ok

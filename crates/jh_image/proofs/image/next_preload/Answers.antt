@@ -4,16 +4,16 @@ use Rattle.std.proofs.lemmas.Grind.{common_steps}
 use Rattle.jh_num.proofs.Public.{passed_up}
 use Rattle.jh_outside.specs.Trail.{Asks}
 use Rattle.jh_image.specs.declared.fault.ImageCause.TheVariants.{Preload as BadPreload}
-use Rattle.jh_image.specs.Order.{ask_for}
+use Rattle.jh_image.specs.Order.{last_ask}
 use Rattle.jh_image.specs.Images.{with_system, so_far_of, a_preload}
 use Rattle.jh_image.specs.Causes.{OnRefused, IsCauseOf}
-use Rattle.jh_image.specs.Private.Causes.{HandsOutNothing}
+use Rattle.jh_image.specs.Private.Causes.{IsFileRefusal}
 use Rattle.jh_image.proofs.StopLemmas.{on_refusal, on_refused, unread_stops, preload_stops}
 use Rattle.jh_image.proofs.image.next_preload.Goals as goal
 
-pub returns-then-not-is_fit-clause-asked_until : goal.returns-then-not-is_fit-clause-asked_until
-returns-then-not-is_fit-clause-asked_until g c =
-    on_refusal (λ _ cause. Asks g.F.Files c.args.files.now (ask_for cause c.args.file.now.file ∷ []) c.read_preload.new.files) c.args.board.now (BadPreload _) c.refused.result c.refused.ensures c.in_ok-preload.ensures.asked
+pub returns-then-not-is_faultless-clause-asked_until : goal.returns-then-not-is_faultless-clause-asked_until
+returns-then-not-is_faultless-clause-asked_until g c =
+    on_refusal (λ _ cause. Asks g.F.Files c.args.files.now (last_ask cause c.args.file.now.file ∷ []) c.read_preload.new.files) c.args.board.now (BadPreload _) c.refused.result c.refused.ensures c.in_ok-preload.ensures.asked
 
 pub returns-in_err-preload-clause-err : goal.returns-in_err-preload-clause-err
 returns-in_err-preload-clause-err g c =
@@ -22,10 +22,10 @@ returns-in_err-preload-clause-err g c =
     let file = c.args.file.now in
     let so_far = so_far_of c.requires.next.0 c.args.system.now c.args.preloads.now [] in
     passed_up c.from_residual.result c.in_err-preload.field-0.0 (λ e. OnRefused (IsCauseOf contents board) e) c.from_residual.ensures.1
-    (on_refused (HandsOutNothing contents file.file) (IsCauseOf contents board) c.in_err-preload.field-0.0 (unread_stops contents board file.file (with_system so_far) c.requires.next.1 (a_preload so_far file c.requires.next.2)) c.in_err-preload.ensures.err)
+    (on_refused (IsFileRefusal contents file.file) (IsCauseOf contents board) c.in_err-preload.field-0.0 (unread_stops contents board file.file (with_system so_far) c.requires.next.1 (a_preload so_far file c.requires.next.2)) c.in_err-preload.ensures.err)
 
-pub returns-then-not-is_fit-clause-err : goal.returns-then-not-is_fit-clause-err
-returns-then-not-is_fit-clause-err g c =
+pub returns-then-not-is_faultless-clause-err : goal.returns-then-not-is_faultless-clause-err
+returns-then-not-is_faultless-clause-err g c =
     let contents = g.F.Files.contents c.args.files.now in
     let board = c.args.board.now in
     let so_far = so_far_of c.requires.next.0 c.args.system.now c.args.preloads.now [] in

@@ -7,7 +7,7 @@ use Rattle.jh_image.specs.Causes.{OnRefused, IsCauseOf}
 use Rattle.jh_image.specs.Private.Causes.{IsProgramCause}
 use Rattle.jh_image.proofs.StopLemmas.{on_refused, program_stops}
 use Rattle.jh_outside.specs.Trail.{Asks, no_ask, AsksAll, AsksUntil}
-use Rattle.jh_image.specs.Order.{ask_for, program_name}
+use Rattle.jh_image.specs.Order.{last_ask, program_name}
 use Rattle.jh_outside.proofs.Public.{loop_more, loop_until}
 use Rattle.jh_image.proofs.LoadLemmas.{ScriptsSoFar, scripts_start, scripts_more, scripts_next, scripts_all, scripts_owned}
 use Rattle.jh_image.proofs.image.read_programs.Goals as goal
@@ -29,8 +29,8 @@ returns-in_err-program-clause-err g c =
     let preloads = c.args.preloads.now in
     let i = c.loop-file.file-index in
     let file = c.file-item.result in
-    let lt : i < length listing.programs = rw c.as_slice-entries.ensures.value at c.loop-file-test.true in
-    let is : file ≡ get_or listing.programs i file = rw c.as_slice-entries.ensures.value at c.file-item.is in
+    let lt : i < length listing.programs = rw c.as_slice-items.ensures.value at c.loop-file-test.true in
+    let is : file ≡ get_or listing.programs i file = rw c.as_slice-items.ensures.value at c.file-item.is in
     let so_far = c.loop-file.invariant.so_far in
     let next = scripts_next contents board listing system preloads i file c.loop-file.programs c.requires.all lt is so_far in
     let unread = rw c.loop-file.invariant.kept at c.in_err-program.ensures.err in
@@ -46,8 +46,8 @@ loop-file-preserved g c =
     let preloads = c.args.preloads.now in
     let i = c.loop-file.file-index in
     let file = c.file-item.result in
-    let lt : i < length listing.programs = rw c.as_slice-entries.ensures.value at c.loop-file-test.true in
-    let is : file ≡ get_or listing.programs i file = rw c.as_slice-entries.ensures.value at c.file-item.is in
+    let lt : i < length listing.programs = rw c.as_slice-items.ensures.value at c.loop-file-test.true in
+    let is : file ≡ get_or listing.programs i file = rw c.as_slice-items.ensures.value at c.file-item.is in
     let of = rw c.loop-file.invariant.kept at c.in_ok-program.ensures.ok in
     record {
       kept = cc;
@@ -59,7 +59,7 @@ loop-file-preserved g c =
 pub returns-clause-owned : goal.returns-clause-owned
 returns-clause-owned g c =
     let listing = c.args.listing.now in
-    let le : length listing.programs ≤ c.loop-file.file-index = rw c.as_slice-entries.ensures.value at c.loop-file-test.false in
+    let le : length listing.programs ≤ c.loop-file.file-index = rw c.as_slice-items.ensures.value at c.loop-file-test.false in
     scripts_owned (g.F.Files.contents c.args.files.now) c.args.board.now listing c.args.system.now c.args.preloads.now c.loop-file.file-index c.loop-file.programs le c.requires.distinct c.loop-file.invariant.so_far
 
 pub returns-in_err-program-clause-asked_until : goal.returns-in_err-program-clause-asked_until
@@ -67,23 +67,23 @@ returns-in_err-program-clause-asked_until g c =
     let files = c.args.listing.now.programs in
     let i = c.loop-file.file-index in
     let file = c.file-item.result in
-    let lt : i < length files = rw c.as_slice-entries.ensures.value at c.loop-file-test.true in
-    let is : file ≡ get_or files i file = rw c.as_slice-entries.ensures.value at c.file-item.is in
+    let lt : i < length files = rw c.as_slice-items.ensures.value at c.loop-file-test.true in
+    let is : file ≡ get_or files i file = rw c.as_slice-items.ensures.value at c.file-item.is in
     let s = c.args.files.now in
     let t = c.loop-file.files in
     let u = c.read_program_file.new.files in
-    passed_up c.from_residual.result c.in_err-program.field-0.0 (λ e. OnRefused (λ _ cause. AsksUntil g.F.Files (map program_name files) (ask_for cause) s u) e) c.from_residual.ensures.1
-    (on_refused (λ _ cause. Asks g.F.Files t (ask_for cause file.file ∷ []) u) (λ _ cause. AsksUntil g.F.Files (map program_name files) (ask_for cause) s u) c.in_err-program.field-0.0
-    (λ _ cause asked. loop_until program_name g.F.Files s t u files i file (ask_for cause) lt is c.loop-file.invariant.asked asked) c.in_err-program.ensures.asked_until)
+    passed_up c.from_residual.result c.in_err-program.field-0.0 (λ e. OnRefused (λ _ cause. AsksUntil g.F.Files (map program_name files) (last_ask cause) s u) e) c.from_residual.ensures.1
+    (on_refused (λ _ cause. Asks g.F.Files t (last_ask cause file.file ∷ []) u) (λ _ cause. AsksUntil g.F.Files (map program_name files) (last_ask cause) s u) c.in_err-program.field-0.0
+    (λ _ cause asked. loop_until program_name g.F.Files s t u files i file (last_ask cause) lt is c.loop-file.invariant.asked asked) c.in_err-program.ensures.asked_until)
 
 pub returns-clause-asked : goal.returns-clause-asked
 returns-clause-asked g c =
     let files = c.args.listing.now.programs in
-    let le : length files ≤ c.loop-file.file-index = rw c.as_slice-entries.ensures.value at c.loop-file-test.false in
+    let le : length files ≤ c.loop-file.file-index = rw c.as_slice-items.ensures.value at c.loop-file-test.false in
     subst (λ fs. AsksAll g.F.Files (map program_name fs) c.args.files.now c.loop-file.files) (take_all c.loop-file.file-index files le) c.loop-file.invariant.asked
 
 pub returns-clause-complete : goal.returns-clause-complete
 returns-clause-complete g c =
     let listing = c.args.listing.now in
-    let le : length listing.programs ≤ c.loop-file.file-index = rw c.as_slice-entries.ensures.value at c.loop-file-test.false in
+    let le : length listing.programs ≤ c.loop-file.file-index = rw c.as_slice-items.ensures.value at c.loop-file-test.false in
     scripts_all (g.F.Files.contents c.args.files.now) c.args.board.now listing c.args.system.now c.args.preloads.now c.loop-file.file-index c.loop-file.programs c.requires.all le c.loop-file.invariant.so_far

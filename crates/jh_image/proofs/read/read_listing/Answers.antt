@@ -3,11 +3,11 @@ use Rattle.std.proofs.Common.{[], ◌∷◌}
 use Rattle.jh_num.proofs.Public.{passed_up}
 use Rattle.jh_outside.specs.Ask.{Ask}
 use Rattle.jh_outside.specs.Trail.{Asks}
-use Rattle.jh_image.specs.Order.{ask_for}
+use Rattle.jh_image.specs.Order.{last_ask}
 use Rattle.jh_image.proofs.OrderLemmas.{board_asked}
 use Rattle.jh_image.specs.Images.{nothing, the_board, nothing_read}
 use Rattle.jh_image.specs.Causes.{OnRefused, IsCauseOf}
-use Rattle.jh_image.specs.Private.Causes.{HandsOutNothing, IsBoardRefusal}
+use Rattle.jh_image.specs.Private.Causes.{IsFileRefusal, IsBoardRefusal}
 use Rattle.jh_image.proofs.StopLemmas.{on_refused, unread_stops, board_stops}
 use Rattle.jh_image.proofs.read.read_listing.Goals as goal
 
@@ -15,14 +15,14 @@ pub returns-clause-asked_until : goal.returns-clause-asked_until
 returns-clause-asked_until g c =
     let board = c.args.board.now in
     let A : Ask → Type 0 = λ ask. Asks g.F.Files c.args.files.now (ask ∷ []) c.read_file.new.files in
-    on_refused (IsBoardRefusal board c.in-Err.fault) (λ _ cause. A (ask_for cause board)) c.refused_board.result (board_asked A board board c.in-Err.fault c.in_ok-bytes.ensures.asked) c.refused_board.ensures
+    on_refused (IsBoardRefusal board c.in-Err.fault) (λ _ cause. A (last_ask cause board)) c.refused_board.result (board_asked A board board c.in-Err.fault c.in_ok-bytes.ensures.asked) c.refused_board.ensures
 
 pub returns-in_err-bytes-clause-err : goal.returns-in_err-bytes-clause-err
 returns-in_err-bytes-clause-err g c =
     let contents = g.F.Files.contents c.args.files.now in
     let board = c.args.board.now in
     passed_up c.from_residual.result c.in_err-bytes.field-0.0 (λ e. OnRefused (IsCauseOf contents board) e) c.from_residual.ensures.1
-    (on_refused (HandsOutNothing contents board) (IsCauseOf contents board) c.in_err-bytes.field-0.0 (unread_stops contents board board nothing nothing_read the_board) c.in_err-bytes.ensures.err)
+    (on_refused (IsFileRefusal contents board) (IsCauseOf contents board) c.in_err-bytes.field-0.0 (unread_stops contents board board nothing nothing_read the_board) c.in_err-bytes.ensures.err)
 
 pub returns-clause-err : goal.returns-clause-err
 returns-clause-err g c =

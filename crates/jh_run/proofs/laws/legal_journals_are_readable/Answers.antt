@@ -12,19 +12,19 @@ laws_of c = record {
 }
 
 pub returns-clause-entries : goal.returns-clause-entries
-returns-clause-entries c = λ admitted entries legal. readable (laws_of c) c.args.image.now admitted c.image_is_typed.ensures entries legal
+returns-clause-entries c = λ admitted entries legal. readable (laws_of c) c.args.image.now admitted c.numbers_are_typed.ensures entries legal
 
 pub returns-clause-text : goal.returns-clause-text
-returns-clause-text c = λ admitted entries legal within. readable_text (laws_of c) c.args.image.now admitted c.image_is_typed.ensures entries legal within
+returns-clause-text c = λ admitted entries legal within. readable_text (laws_of c) c.args.image.now admitted c.numbers_are_typed.ensures entries legal within
 
 pub returns-clause-read : goal.returns-clause-read
 returns-clause-read c = λ admitted entries legal within found other.
-    c.texts_go_both_ways.ensures.one (journal_text entries) found entries other (readable_text (laws_of c) c.args.image.now admitted c.image_is_typed.ensures entries legal within)
+    c.texts_go_both_ways.ensures.one (journal_text entries) found entries other (readable_text (laws_of c) c.args.image.now admitted c.numbers_are_typed.ensures entries legal within)
 
 pub returns-clause-faultless : goal.returns-clause-faultless
 returns-clause-faultless c = λ admitted entries legal within fault is.
     no_fault (journal_text entries) entries fault
     (λ number good bad. c.one_answer.ensures.good_or_bad (journal_text entries) entries number good bad)
     (λ good long. c.one_answer.ensures.good_or_long (journal_text entries) entries good long)
-    (readable_text (laws_of c) c.args.image.now admitted c.image_is_typed.ensures entries legal within)
+    (readable_text (laws_of c) c.args.image.now admitted c.numbers_are_typed.ensures entries legal within)
     is

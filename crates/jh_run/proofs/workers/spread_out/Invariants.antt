@@ -1,4 +1,4 @@
--- The caller's own list has room for the ports that are left, and it or these aren't empty.
+-- The calling thread's own list has room for the ports that are left, and it or these aren't empty.
 use Rattle.std.proofs.Common.{◌+◌, ◌<◌, ◌≤◌, length, vec_capacity}
 use Rattle.jh_run.proofs.workers.spread_out.Given as goal
 

@@ -1,6 +1,6 @@
 -- A caller's number is below the one of a free turn, and who finds it free has claimed it.
 use Rattle.std.proofs.Common.{rules, ◌<◌, arith, ap, subst, ◌∙◌}
-use Rattle.jh_turn.specs.Private.Rule.{Claimed}
+use Rattle.jh_turn.specs.Private.Rule.{HasClaimed}
 use Rattle.jh_turn.proofs.Keeps.{claim_keeps}
 use Rattle.jh_turn.proofs.shared.Shared.claim.Goals as goal
 
@@ -13,4 +13,4 @@ compare_exchange-found-requires g c = let t = g.T.Turner in let small : c.args.c
 
 pub returns-then-found-eq-FREE-clause-claimed : goal.returns-then-found-eq-FREE-clause-claimed
 returns-then-found-eq-FREE-clause-claimed g c = let t = g.T.Turner in
-    subst (λ m. Claimed t.whose t.origin t.serves t.history c.args.caller m c.compare_exchange-found.new.seat.me) c.loop.invariant.1 (c.compare_exchange-found.ensures.2.0 c.if-found-eq-FREE.true)
+    subst (λ m. HasClaimed t.whose t.origin t.serves t.history c.args.caller m c.compare_exchange-found.new.seat.me) c.loop.invariant.1 (c.compare_exchange-found.ensures.2.0 c.if-found-eq-FREE.true)

@@ -14,16 +14,16 @@ use std::alloc::Global;
 
 /// The preload that an item tells of; `None` where it isn't an object of a file's name and a place below 2^64.
 #[tactic(auto, unfolding(crate::specs::Boards::preload_told))]
-pub(crate) fn preload(alloc: Global, entry: &Value) -> Result<Option<PreloadFile>, NoMemory>
-    ensures { IfOk result (λ told. told ≡ preload_told (view entry.now)) }
+pub(crate) fn preload(alloc: Global, item: &Value) -> Result<Option<PreloadFile>, NoMemory>
+    ensures { IfOk result (λ told. told ≡ preload_told (view item.now)) }
 {
-    if !has_only(entry, &["file", "at"]) {
+    if !has_only(item, &["file", "at"]) {
         return Ok(None);
     }
-    let Some(file) = text_at(entry, "file") else {
+    let Some(file) = text_at(item, "file") else {
         return Ok(None);
     };
-    let Some(at) = number_at(entry, "at") else {
+    let Some(at) = number_at(item, "at") else {
         return Ok(None);
     };
     Ok(Some(PreloadFile {
@@ -62,19 +62,19 @@ fn cpu_at(object: &Value, name: &str) -> Option<u8>
 /// The program that an item tells of; `None` where it isn't an object of a cell's name, a CPU below 16 and a file's
 /// name.
 #[tactic(auto, unfolding(crate::specs::Boards::program_told))]
-pub(crate) fn program(alloc: Global, entry: &Value) -> Result<Option<ProgramFile>, NoMemory>
-    ensures { IfOk result (λ told. told ≡ program_told (view entry.now)) }
+pub(crate) fn program(alloc: Global, item: &Value) -> Result<Option<ProgramFile>, NoMemory>
+    ensures { IfOk result (λ told. told ≡ program_told (view item.now)) }
 {
-    if !has_only(entry, &["cell", "cpu", "file"]) {
+    if !has_only(item, &["cell", "cpu", "file"]) {
         return Ok(None);
     }
-    let Some(cell) = cell_name_at(entry, "cell") else {
+    let Some(cell) = cell_name_at(item, "cell") else {
         return Ok(None);
     };
-    let Some(cpu) = cpu_at(entry, "cpu") else {
+    let Some(cpu) = cpu_at(item, "cpu") else {
         return Ok(None);
     };
-    let Some(file) = text_at(entry, "file") else {
+    let Some(file) = text_at(item, "file") else {
         return Ok(None);
     };
     Ok(Some(ProgramFile {

@@ -4,7 +4,7 @@ use Rattle.jh_cellcfg.specs.declared.config.CellConfig.{CellConfig}
 use Rattle.jh_cellcfg.specs.Spelling.{spelling}
 use Rattle.jh_script.specs.declared.image.Preload.{Preload}
 use Rattle.jh_run.specs.Soak.{bare_cell, loadable_cell}
-use Rattle.jh_run.proofs.soak.loaded_cell.Goals as goal
+use Rattle.jh_run.proofs.soak.preloaded_cell.Goals as goal
 
 pub returns : goal.returns
 returns c =

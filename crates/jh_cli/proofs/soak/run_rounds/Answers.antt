@@ -7,7 +7,7 @@ use Rattle.jh_run.specs.Summaries.{summary_of}
 use Rattle.jh_cli.specs.Run.{IsMadeByRun}
 use Rattle.jh_cli.specs.Soak.{summary_line}
 use Rattle.jh_cli.proofs.RunLemmas.{made_by_run}
-use Rattle.jh_cli.proofs.soak.render.Goals as goal
+use Rattle.jh_cli.proofs.soak.run_rounds.Goals as goal
 
 pub returns : goal.returns
 returns g c =

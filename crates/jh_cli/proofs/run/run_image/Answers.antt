@@ -3,7 +3,7 @@ use Rattle.std.proofs.Common.{◌∙◌, ap, List}
 use Rattle.jh_history.specs.declared.entry.Entry.{Entry}
 use Rattle.jh_text.specs.Text.{journal_text}
 use Rattle.jh_cli.proofs.RunLemmas.{made_by_run}
-use Rattle.jh_cli.proofs.run.render.Goals as goal
+use Rattle.jh_cli.proofs.run.run_image.Goals as goal
 
 pub returns : goal.returns
 returns g c =

@@ -2,7 +2,7 @@
 use Rattle.std.proofs.Common.{◌++◌, ◌+◌, sym, ap, ◌∙◌}
 use Rattle.jh_run.specs.Soak.{round_ops, rounds_ops}
 use Rattle.jh_run.proofs.SoakLemmas.{rounds_none, rounds_more}
-use Rattle.jh_run.proofs.soak.rounds.Goals as goal
+use Rattle.jh_run.proofs.soak.rounds_ops.Goals as goal
 
 pub loop-r-init : goal.loop-r-init
 loop-r-init c = c.new-ops.ensures ∙ sym rounds_none

@@ -3,7 +3,7 @@ use Rattle.std.proofs.Common.{◌∙◌, ap, List}
 use Rattle.jh_history.specs.declared.entry.Entry.{Entry}
 use Rattle.jh_text.specs.Text.{journal_text}
 use Rattle.jh_cli.proofs.PlayedLemmas.{IsPlayed_from}
-use Rattle.jh_cli.proofs.play.render.Goals as goal
+use Rattle.jh_cli.proofs.play.play_image.Goals as goal
 
 pub returns : goal.returns
 returns c =
