@@ -1,5 +1,5 @@
 -- The legal journals in which root lives alone, and what stands before and behind an entry of one.
-use Rattle.std.specs.Prelude.{⊥, ℕ, List, [], ◌∷◌, ◌++◌, All}
+use Rattle.std.specs.Prelude.{ℕ, List, [], ◌∷◌, ◌++◌, All}
 use Rattle.jh_cellcfg.specs.declared.config.CellConfig.{CellConfig}
 use Rattle.jh_cellcfg.specs.declared.config.PciDevice.{PciDevice}
 use Rattle.jh_check.specs.Clean.{IsShmem}
