@@ -6,7 +6,7 @@ use Rattle.jh_cellcfg.specs.declared.config.SystemConfig.{SystemConfig}
 use Rattle.jh_cellcfg.specs.Faults.{first_fault}
 use Rattle.jh_cellcfg.specs.Limits.{IsWithinLimits}
 use Rattle.jh_cellcfg.specs.Spelling.{spelling}
-use Rattle.jh_cellcfg.specs.Texts.{fault_text as config_text}
+use Rattle.jh_cellcfg.specs.Texts.{config_fault_text}
 use Rattle.jh_cellcfg.specs.Widths.{IsCell}
 use Rattle.jh_syscfg.specs.SystemFaults.{system_fault}
 use Rattle.jh_spec.specs.declared.spec.Spec.{Spec}
@@ -24,7 +24,7 @@ use Rattle.jh_text.specs.declared.fault.JournalFault.{JournalFault}
 use Rattle.jh_text.specs.declared.fault.JournalFault.TheVariants as journals
 use Rattle.jh_text.specs.Faults.{IsFault}
 use Rattle.jh_text.proofs.Public.{NotBoth, OneLine}
-use Rattle.jh_text.specs.FaultText.{fault_text as journal_fault_text}
+use Rattle.jh_text.specs.FaultText.{journal_fault_text}
 use Rattle.jh_audit.specs.declared.verdict.Verdict.{Verdict}
 use Rattle.jh_audit.specs.declared.verdict.Verdict.TheVariants.{Legal, Illegal}
 use Rattle.jh_audit.specs.Judges.{Judges, IsFirstIllegal}
@@ -106,13 +106,13 @@ pub system_words : (bytes v w : List ℕ) → SystemRefusal bytes v → SystemRe
 system_words bytes v w (inl h) (inl k) = h.1 ∙ sym k.1
 system_words bytes v w (inl h) (inr k) = absurd (no_more asked_of_a_file bytes k.within h.0)
 system_words bytes v w (inr h) (inl k) = absurd (no_more asked_of_a_file bytes h.within k.0)
-system_words bytes v w (inr h) (inr k) = h.told ∙ ap config_text (some_one (system_fault bytes) h.fault k.fault h.first k.first) ∙ sym k.told
+system_words bytes v w (inr h) (inr k) = h.told ∙ ap config_fault_text (some_one (system_fault bytes) h.fault k.fault h.first k.first) ∙ sym k.told
 
 cell_words : (bytes v w : List ℕ) → CellRefusal bytes v → CellRefusal bytes w → v ≡ w
 cell_words bytes v w (inl h) (inl k) = h.1 ∙ sym k.1
 cell_words bytes v w (inl h) (inr k) = absurd (no_more asked_of_a_file bytes k.within h.0)
 cell_words bytes v w (inr h) (inl k) = absurd (no_more asked_of_a_file bytes h.within k.0)
-cell_words bytes v w (inr h) (inr k) = h.told ∙ ap config_text (some_one (first_fault bytes) h.fault k.fault h.first k.first) ∙ sym k.told
+cell_words bytes v w (inr h) (inr k) = h.told ∙ ap config_fault_text (some_one (first_fault bytes) h.fault k.fault h.first k.first) ∙ sym k.told
 
 pub system_values : OneSpelling → (bytes : List ℕ) (a b : SystemConfig) → IsSystemFile bytes a → IsSystemFile bytes b → a ≡ b
 system_values one bytes a b h k = one a b h.typed k.typed h.limits k.limits (sym h.spelled ∙ k.spelled)

@@ -1,5 +1,7 @@
 //! A cell in which each field has another value than all others of its width, so that no two can trade places.
 //! Refusals and limits are shown by the rows.
+ghost use Rattle.std.specs.Prelude.{◌≡◌};
+
 use jh_cellcfg::{CellConfig, Irqchip, PciDevice, Region, is_within_limits, read_cell, write_cell};
 use jh_num::Seq;
 use std::alloc::{AllocError, Global};
