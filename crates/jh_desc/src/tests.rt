@@ -30,7 +30,7 @@ const NONE: Rights = Rights {
     execute: false,
 };
 
-const PLAIN_BLOCK: Descriptor = Descriptor::Leaf {
+const NORMAL_BLOCK: Descriptor = Descriptor::Leaf {
     out: 0x4000_0000,
     rights: ALL,
     device: false,
@@ -95,7 +95,7 @@ fn leaves_have_words(rt: &impl Abort, level: u8, device: bool, said: [u64; 8])
     leaf_has_word(rt, level, rights(true, true, true), device, said[7]);
 }
 
-const PLAIN_BLOCKS: [u64; 8] = [
+const NORMAL_BLOCKS: [u64; 8] = [
     0x0040_0000_4000_073d,
     0x0040_0000_4000_077d,
     0x0040_0000_4000_07bd,
@@ -117,7 +117,7 @@ const DEVICE_BLOCKS: [u64; 8] = [
     0x0000_0000_4000_07c5,
 ];
 
-const PLAIN_PAGES: [u64; 8] = [
+const NORMAL_PAGES: [u64; 8] = [
     0x0040_0000_4000_073f,
     0x0040_0000_4000_077f,
     0x0040_0000_4000_07bf,
@@ -141,28 +141,28 @@ const DEVICE_PAGES: [u64; 8] = [
 
 #[test]
 fn each_block_of_a_gigabyte_has_its_word(rt: HostRuntime) {
-    leaves_have_words(&rt, 1, false, PLAIN_BLOCKS);
+    leaves_have_words(&rt, 1, false, NORMAL_BLOCKS);
     leaves_have_words(&rt, 1, true, DEVICE_BLOCKS);
 }
 
 #[test]
 fn each_block_of_two_megabytes_has_its_word(rt: HostRuntime) {
-    leaves_have_words(&rt, 2, false, PLAIN_BLOCKS);
+    leaves_have_words(&rt, 2, false, NORMAL_BLOCKS);
     leaves_have_words(&rt, 2, true, DEVICE_BLOCKS);
 }
 
 #[test]
 fn each_page_has_its_word(rt: HostRuntime) {
-    leaves_have_words(&rt, 3, false, PLAIN_PAGES);
+    leaves_have_words(&rt, 3, false, NORMAL_PAGES);
     leaves_have_words(&rt, 3, true, DEVICE_PAGES);
 }
 
 #[test]
-fn a_block_of_plain_memory_has_its_word(rt: HostRuntime) {
-    assert_eq!(rt; word(PLAIN_BLOCK, 2), BLOCK);
-    assert_eq!(rt; read(BLOCK, 2), PLAIN_BLOCK);
-    assert_eq!(rt; word(PLAIN_BLOCK, 1), BLOCK);
-    assert_eq!(rt; read(BLOCK, 1), PLAIN_BLOCK);
+fn a_block_of_normal_memory_has_its_word(rt: HostRuntime) {
+    assert_eq!(rt; word(NORMAL_BLOCK, 2), BLOCK);
+    assert_eq!(rt; read(BLOCK, 2), NORMAL_BLOCK);
+    assert_eq!(rt; word(NORMAL_BLOCK, 1), BLOCK);
+    assert_eq!(rt; read(BLOCK, 1), NORMAL_BLOCK);
 }
 
 #[test]

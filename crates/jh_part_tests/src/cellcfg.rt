@@ -89,7 +89,7 @@ pub(crate) fn region(phys_start: u64, virt_start: u64, size: u64, flags: u64) ->
 }
 
 /// Memory at its own addresses.
-pub(crate) fn plain(at: u64, size: u64, flags: u64) -> Region {
+pub(crate) fn memory_at(at: u64, size: u64, flags: u64) -> Region {
     region(at, at, size, flags)
 }
 

@@ -1,6 +1,6 @@
 //! The sections of a device, and a finding. What else is found, and what a new cell is refused for, the rows show.
 
-use crate::cellcfg::plain;
+use crate::cellcfg::memory_at;
 use jh_cellcfg::{CellConfig, PciDevice, Region, SystemConfig};
 use jh_check::{check, sections_of};
 use jh_num::{NoMemory, Seq};
@@ -31,7 +31,7 @@ fn device(start: u32) -> PciDevice {
 
 #[test]
 fn sections_stand_where_the_device_says(rt: HostRuntime) {
-    let regions = [plain(0x7fb0_0000, 0x1000, 0x1); 5];
+    let regions = [memory_at(0x7fb0_0000, 0x1000, 0x1); 5];
     let all = sections_of(&regions, &device(1));
     assert_eq!(rt; all.len(), 4);
     let cut = sections_of(&regions, &device(3));
@@ -45,12 +45,12 @@ fn system(alloc: Global, region: Region) -> Result<SystemConfig, NoMemory> {
         memory_regions: Seq::from_vec(Vec::from_slice(alloc, &[region])?),
         ..CellConfig::empty(alloc, 0)
     };
-    Ok(SystemConfig::bare(plain(0x7fc0_0000, 0x40_0000, 0x3), root))
+    Ok(SystemConfig::bare(memory_at(0x7fc0_0000, 0x40_0000, 0x3), root))
 }
 
 /// How many findings there are where root has a page with these flags.
 fn count(alloc: Global, flags: u64) -> Result<usize, NoMemory> {
-    let system = system(alloc, plain(0x4000_0000, 0x1000, flags))?;
+    let system = system(alloc, memory_at(0x4000_0000, 0x1000, flags))?;
     let found = check(alloc, &system, &[])?;
     Ok(found.len())
 }

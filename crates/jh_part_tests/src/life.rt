@@ -1,7 +1,7 @@
 //! A cell that comes and goes. Each cause of a refusal, alone and beside the others, and a board of 15 cells are
 //! shown by the rows.
 
-use crate::cellcfg::plain;
+use crate::cellcfg::memory_at;
 use jh_cellcfg::{CellConfig, Region, SystemConfig};
 use jh_check::MAX_CELLS;
 use jh_life::Cells;
@@ -37,9 +37,9 @@ fn cell(
 
 /// Root alone, with CPUs 0 to 7 and 1 GB of memory.
 fn alone(alloc: Global) -> Result<Cells, NoMemory> {
-    let memory = plain(ROOT, 0x4000_0000, READ_WRITE);
+    let memory = memory_at(ROOT, 0x4000_0000, READ_WRITE);
     let root = cell(alloc, b'r', 0, 0xff, &[memory])?;
-    let system = SystemConfig::bare(plain(0x8000_0000, 0x1_0000, 0), root);
+    let system = SystemConfig::bare(memory_at(0x8000_0000, 0x1_0000, 0), root);
     Cells::open(alloc, &system)
 }
 
@@ -61,7 +61,7 @@ fn join(alloc: Global, cells: &mut Cells, new: CellConfig) -> Result<bool, NoMem
 fn with_one(alloc: Global) -> Result<Cells, NoMemory> {
     let mut cells = alone(alloc)?;
     cells.reserve()?;
-    let block = plain(ROOT + BLOCK, BLOCK, READ_WRITE);
+    let block = memory_at(ROOT + BLOCK, BLOCK, READ_WRITE);
     let one = cell(alloc, b'a', 1, 0x2, &[block])?;
     join(alloc, &mut cells, one)?;
     // for the proof: the cell has joined

@@ -1,4 +1,4 @@
-//! Accesses of each width at each side of each border, by the plain form and by the index.
+//! Accesses of each width at each side of each border, by a look at each region and by the index.
 ghost use Rattle.std.specs.Prelude.{◌≡◌};
 
 use jh_cellcfg::Region;
