@@ -3,7 +3,7 @@ ghost use Rattle.std.specs.Prelude.{◌≡◌};
 ghost use Rattle.std.specs.Option.{option_map};
 ghost use Rattle.jh_script.specs.declared.op.Op.TheVariants as ops;
 ghost use Rattle.jh_script.specs.Operations.{is_ascii, line_of, line_of_op, none_of, one_of, two_of, three_of, op_of};
-ghost use Rattle.jh_script.specs.Private.Lines.{IsWellFormedLine};
+ghost use Rattle.jh_script.specs.Private.Lines.{IsWellFormedLine, valued_of};
 ghost use Rattle.jh_script.specs.Words.{words, line_gaps};
 
 use crate::number::number;
@@ -92,18 +92,13 @@ fn read(behind: &[u8]) -> Line
 }
 
 /// `write W A V`, by the words behind the name: a write of the value V over W bytes at A.
-#[tactic(auto, unfolding(crate::specs::Operations::line_of_op, crate::specs::Operations::is_well_formed))]
+#[tactic(auto, unfolding(crate::specs::Operations::line_of_op, crate::specs::Operations::is_well_formed, crate::specs::Private::Lines::valued_of))]
 fn write(behind: &[u8]) -> Line
     ensures { result ≡ line_of_op (option_map (λ n. ops.Write n.0 n.1 n.2) (three_of (words line_gaps behind.now))) }
 {
-    let Some((width, at, value)) = three_numbers(behind) else {
-        return Line::Syntax;
-    };
-    match access_width(width) {
-        Some(width) if value <= max_of_width(width) => {
-            Line::Operation(Op::Write { width, at, value })
-        }
-        _ => Line::Width,
+    match valued(behind) {
+        Ok((width, at, value)) => Line::Operation(Op::Write { width, at, value }),
+        Err(line) => line,
     }
 }
 
@@ -123,18 +118,13 @@ fn fetch(behind: &[u8]) -> Line
 }
 
 /// `await W A V`, by the words behind the name: a wait until a read of W bytes at A gives V.
-#[tactic(auto, unfolding(crate::specs::Operations::line_of_op, crate::specs::Operations::is_well_formed))]
+#[tactic(auto, unfolding(crate::specs::Operations::line_of_op, crate::specs::Operations::is_well_formed, crate::specs::Private::Lines::valued_of))]
 fn wait(behind: &[u8]) -> Line
     ensures { result ≡ line_of_op (option_map (λ n. ops.Await n.0 n.1 n.2) (three_of (words line_gaps behind.now))) }
 {
-    let Some((width, at, value)) = three_numbers(behind) else {
-        return Line::Syntax;
-    };
-    match access_width(width) {
-        Some(width) if value <= max_of_width(width) => {
-            Line::Operation(Op::Await { width, at, value })
-        }
-        _ => Line::Width,
+    match valued(behind) {
+        Ok((width, at, value)) => Line::Operation(Op::Await { width, at, value }),
+        Err(line) => line,
     }
 }
 
@@ -157,6 +147,20 @@ fn call(behind: &[u8]) -> Line
     match three_numbers(behind) {
         Some((code, a, b)) => Line::Operation(Op::Hvc { code, a, b }),
         None => Line::Syntax,
+    }
+}
+
+/// The three words of the text as a width, an address and a value that fits the width; or else what the line tells.
+#[tactic(auto, unfolding(crate::specs::Private::Lines::valued_of))]
+fn valued(text: &[u8]) -> Result<(u8, u64, u64), Line>
+    ensures { result ≡ valued_of (three_of (words line_gaps text.now)) }
+{
+    let Some((width, at, value)) = three_numbers(text) else {
+        return Err(Line::Syntax);
+    };
+    match access_width(width) {
+        Some(width) if value <= max_of_width(width) => Ok((width, at, value)),
+        _ => Err(Line::Width),
     }
 }
 
