@@ -15,7 +15,7 @@ use Rattle.jh_history.specs.declared.entry.Heard.{Heard}
 use Rattle.jh_history.specs.declared.entry.Heard.TheVariants as heard
 use Rattle.jh_text.specs.Ranges.{is_width}
 use Rattle.jh_text.specs.Text.{hexadecimal, got_text, ok_text, decision_text, settled_text, heard_text}
-use Rattle.jh_text.specs.Private.Reading.{mapped, begins, max_u64, number_until, hexadecimal_until, answer_of, negative, width_digit, width_of, got_of, ok_of, decision_of, settled_of, heard_of}
+use Rattle.jh_text.specs.Private.Reading.{mapped, begins, max_u64, number_until, hexadecimal_until, front_answer, negative, width_digit, width_of, got_of, ok_of, decision_of, front_settled, front_heard}
 use Rattle.jh_text.proofs.Numbers.{number_again}
 use Rattle.jh_history.proofs.Public.{width_le}
 
@@ -27,16 +27,16 @@ unfolding hexadecimal_until
 hexadecimal_again end most n rest none small fits = number_again 16 end most n rest (omega arith) (omega arith) none (omega arith) small fits
 
 -- digits begin with no sign and no letter above `f`
-unsigned : (ds rest : List ℕ) (n : ℕ) → AllDigits 10 ds → 0 < length ds → number_until 10 10 (2 ^ 63 - 1) (ds ++ 10 ∷ rest) ≡ Some (n, rest) → answer_of (ds ++ 10 ∷ rest) ≡ Some (pos n, rest)
-unfolding answer_of
+unsigned : (ds rest : List ℕ) (n : ℕ) → AllDigits 10 ds → 0 < length ds → number_until 10 10 (2 ^ 63 - 1) (ds ++ 10 ∷ rest) ≡ Some (n, rest) → front_answer (ds ++ 10 ∷ rest) ≡ Some (pos n, rest)
+unfolding front_answer
 unsigned [] rest n all some read = absurd (omega arith)
 unsigned (d ∷ ds) rest n all some read = rw (ne_eqb d 45 (λ e. omega (arith, all.0, ap digit_value e)), read) refl
 
 minus : (n : ℕ) → suc n ≤ 2 ^ 63 → negative (suc n) ≡ Some (negsuc n)
 minus n fits = rw (ne_eqb (suc n) 0 (λ e. omega arith), le-leb (suc n) (2 ^ 63) fits) (ap Some (omega (arith, ints)))
 
-pub answer_again : (z : ℤ) (rest : List ℕ) → FitsSigned w64 z → answer_of (signed_decimal z ++ 10 ∷ rest) ≡ Some (z, rest)
-unfolding answer_of
+pub answer_again : (z : ℤ) (rest : List ℕ) → FitsSigned w64 z → front_answer (signed_decimal z ++ 10 ∷ rest) ≡ Some (z, rest)
+unfolding front_answer
 answer_again (pos n) rest fits =
     let small : n < 2 ^ 63 = omega (arith, ints) in
     let own = decimal_is_IsNumeral n (omega arith) in
@@ -110,14 +110,14 @@ unfolding decision_of
 decision_again None rest fits = refl
 decision_again (Some z) rest fits = rw (answer_is_not z rest 103 (111 ∷ 10 ∷ []) fits (omega arith) (omega arith) (omega arith), answer_again z rest fits) refl
 
-pub settled_again : (how : Settled) (rest : List ℕ) → settled_of (settled_text how ++ 10 ∷ rest) ≡ Some (how, rest)
-unfolding settled_of
+pub settled_again : (how : Settled) (rest : List ℕ) → front_settled (settled_text how ++ 10 ∷ rest) ≡ Some (how, rest)
+unfolding front_settled
 settled_again settled.Agreed rest = refl
 settled_again settled.Denied rest = refl
 settled_again settled.Timeout rest = refl
 
-pub heard_again : (how : Heard) (rest : List ℕ) → heard_of (heard_text how ++ 10 ∷ rest) ≡ Some (how, rest)
-unfolding heard_of
+pub heard_again : (how : Heard) (rest : List ℕ) → front_heard (heard_text how ++ 10 ∷ rest) ≡ Some (how, rest)
+unfolding front_heard
 heard_again heard.Received rest = refl
 heard_again heard.Down rest = refl
 heard_again heard.Other rest = refl

@@ -17,7 +17,7 @@ use Rattle.jh_history.specs.declared.entry.Heard.TheVariants as heard
 use Rattle.jh_text.specs.Ranges.{IsTypedAct, IsTyped}
 use Rattle.jh_text.specs.Text.{hexadecimal, got_text, ok_text, decision_text, settled_text, heard_text, act_words, entry_words, entry_text, line, journal_text}
 use Rattle.jh_script.specs.Operations.{◌>>=◌}
-use Rattle.jh_text.specs.Private.Reading.{max_u64, number_until, hexadecimal_until, answer_of, got_of, ok_of, decision_of, settled_of, heard_of, outcome_of}
+use Rattle.jh_text.specs.Private.Reading.{max_u64, number_until, hexadecimal_until, front_answer, got_of, ok_of, decision_of, front_settled, front_heard, outcome_of}
 use Rattle.jh_text.proofs.Numbers.{Lacks_digits}
 use Rattle.jh_text.proofs.Splits.{Lacks, Lacks_cons, Lacks_append, split_once, split_once_front}
 use Rattle.jh_text.proofs.Spellings.{decimal_again, hexadecimal_again, answer_again, got_again, ok_again, decision_again, settled_again, heard_again}
@@ -154,7 +154,7 @@ second (sign ∷ word ∷ []) = word
 second _ = []
 
 noted : List (List ℕ) → Option (ℕ × Heard)
-noted (id ∷ sign ∷ how ∷ []) = number (2 ^ 32 - 1) id >>= λ n. of_word heard_of how >>= λ h. Some (n, h)
+noted (id ∷ sign ∷ how ∷ []) = number (2 ^ 32 - 1) id >>= λ n. of_word front_heard how >>= λ h. Some (n, h)
 noted _ = None
 
 first : List (List ℕ) → List ℕ
@@ -171,11 +171,11 @@ by_name name rest =
     else (if bytes_eq name (codes "hvc") then call rest
     else (if bytes_eq name (codes "stop") then Some Stop
     else (if bytes_eq name (codes "decide") then (of_word decision_of (second rest) >>= λ r. Some (Decide r))
-    else (if bytes_eq name (codes "settle") then (of_word settled_of (second rest) >>= λ h. Some (Settle h))
+    else (if bytes_eq name (codes "settle") then (of_word front_settled (second rest) >>= λ h. Some (Settle h))
     else (if bytes_eq name (codes "commit") then Some Commit
     else (if bytes_eq name (codes "note") then (number (2 ^ 32 - 1) (first rest) >>= λ n. Some (Note n))
     else (if bytes_eq name (codes "noted") then (noted rest >>= λ x. Some (Noted x.0 x.1))
-    else (if bytes_eq name (codes "finish") then (of_word answer_of (second rest) >>= λ z. Some (Finish z))
+    else (if bytes_eq name (codes "finish") then (of_word front_answer (second rest) >>= λ z. Some (Finish z))
     else None))))))))))))
 
 told : List (List ℕ) → Option Act

@@ -3,7 +3,7 @@ ghost use Rattle.std.specs.Prelude.{◌≡◌, ◌^◌, ◌<◌, ◌∷◌, ◌+
 ghost use Rattle.std.specs.List.{join_with_byte};
 ghost use Rattle.jh_text.specs.Ranges.{is_width, IsReadableAct, IsReadable};
 ghost use Rattle.jh_text.specs.Text.{act_text, attempt_words, line};
-ghost use Rattle.jh_text.specs.Private.Reading.{Reads, attempt_of, read_of, write_of, await_of, fetch_of, irq_of, outcome_of, call_of, noted_of, act_of_call, act_of, entry_of};
+ghost use Rattle.jh_text.specs.Private.Reading.{Reads, attempt_of, front_read, front_write, front_await, fetch_of, front_irq, outcome_of, front_call, noted_of, act_of_call, front_act, front_entry};
 
 use crate::outcomes::{read_decision, read_got, read_heard, read_ok, read_settled};
 use crate::reader::Reader;
@@ -12,9 +12,9 @@ use jh_history::{Act, Entry};
 use jh_script::max_of_width;
 
 /// The entry with whose line the text begins, which is passed over. Where there is none, what is left tells nothing.
-#[tactic(auto, unfolding(crate::specs::Private::Reading::entry_of))]
+#[tactic(auto, unfolding(crate::specs::Private::Reading::front_entry))]
 pub(crate) fn entry(text: &mut Reader) -> Option<Entry>
-    ensures value { Reads result text.new (entry_of text.old) }
+    ensures value { Reads result text.new (front_entry text.old) }
     ensures readable { IfSome result IsReadable }
     ensures spelled { IfSome result (λ entry. text.old ≡ line entry ++ text.new) }
 {
@@ -25,9 +25,9 @@ pub(crate) fn entry(text: &mut Reader) -> Option<Entry>
 }
 
 /// An act: an access, an interrupt, or one of a call.
-#[tactic(auto, unfolding(crate::specs::Private::Reading::act_of))]
+#[tactic(auto, unfolding(crate::specs::Private::Reading::front_act))]
 fn act(text: &mut Reader) -> Option<Act>
-    ensures value { Reads result text.new (act_of text.old) }
+    ensures value { Reads result text.new (front_act text.old) }
     ensures readable { IfSome result IsReadableAct }
     ensures spelled { IfSome result (λ act. text.old ≡ act_text act ++ 10 ∷ text.new) }
 {
@@ -88,9 +88,9 @@ fn act_of_call(text: &mut Reader) -> Option<Act>
 }
 
 /// A read, behind its name.
-#[tactic(auto, unfolding(crate::specs::Private::Reading::read_of))]
+#[tactic(auto, unfolding(crate::specs::Private::Reading::front_read))]
 fn read(text: &mut Reader) -> Option<Act>
-    ensures value { Reads result text.new (read_of text.old) }
+    ensures value { Reads result text.new (front_read text.old) }
     ensures readable { IfSome result IsReadableAct }
     ensures spelled { IfSome result (λ act. codes "read " ++ text.old ≡ act_text act ++ 10 ∷ text.new) }
 {
@@ -104,9 +104,9 @@ fn read(text: &mut Reader) -> Option<Act>
 }
 
 /// A write, behind its name.
-#[tactic(auto, unfolding(crate::specs::Private::Reading::write_of))]
+#[tactic(auto, unfolding(crate::specs::Private::Reading::front_write))]
 fn write(text: &mut Reader) -> Option<Act>
-    ensures value { Reads result text.new (write_of text.old) }
+    ensures value { Reads result text.new (front_write text.old) }
     ensures readable { IfSome result IsReadableAct }
     ensures spelled { IfSome result (λ act. codes "write " ++ text.old ≡ act_text act ++ 10 ∷ text.new) }
 {
@@ -120,9 +120,9 @@ fn write(text: &mut Reader) -> Option<Act>
 }
 
 /// A wait for a value, behind its name.
-#[tactic(auto, unfolding(crate::specs::Private::Reading::await_of))]
+#[tactic(auto, unfolding(crate::specs::Private::Reading::front_await))]
 fn wait(text: &mut Reader) -> Option<Act>
-    ensures value { Reads result text.new (await_of text.old) }
+    ensures value { Reads result text.new (front_await text.old) }
     ensures readable { IfSome result IsReadableAct }
     ensures spelled { IfSome result (λ act. codes "await " ++ text.old ≡ act_text act ++ 10 ∷ text.new) }
 {
@@ -171,9 +171,9 @@ fn fetch(text: &mut Reader) -> Option<Act>
 }
 
 /// An interrupt, behind its name and the equals sign.
-#[tactic(auto, unfolding(crate::specs::Private::Reading::irq_of))]
+#[tactic(auto, unfolding(crate::specs::Private::Reading::front_irq))]
 fn irq(text: &mut Reader) -> Option<Act>
-    ensures value { Reads result text.new (irq_of text.old) }
+    ensures value { Reads result text.new (front_irq text.old) }
     ensures readable { IfSome result IsReadableAct }
     ensures spelled { IfSome result (λ act. codes "irq = " ++ text.old ≡ act_text act ++ 10 ∷ text.new) }
 {
@@ -183,9 +183,9 @@ fn irq(text: &mut Reader) -> Option<Act>
 }
 
 /// A hypercall, behind its name.
-#[tactic(auto, unfolding(crate::specs::Private::Reading::call_of, crate::specs::Private::Reading::outcome_of))]
+#[tactic(auto, unfolding(crate::specs::Private::Reading::front_call, crate::specs::Private::Reading::outcome_of))]
 fn call(text: &mut Reader) -> Option<Act>
-    ensures value { Reads result text.new (call_of text.old) }
+    ensures value { Reads result text.new (front_call text.old) }
     ensures readable { IfSome result IsReadableAct }
     ensures spelled { IfSome result (λ act. codes "hvc " ++ text.old ≡ act_text act ++ 10 ∷ text.new) }
 {

@@ -2,7 +2,7 @@
 ghost use Rattle.std.specs.Prelude.{◌≡◌, ◌≤◌, ◌∷◌, ◌++◌, IfSome, FitsSigned};
 ghost use Rattle.std.specs.Int.{w64};
 ghost use Rattle.jh_text.specs.Text.{got_text, ok_text, decision_text, settled_text, heard_text};
-ghost use Rattle.jh_text.specs.Private.Reading.{Reads, got_of, ok_of, decision_of, settled_of, heard_of};
+ghost use Rattle.jh_text.specs.Private.Reading.{Reads, got_of, ok_of, decision_of, front_settled, front_heard};
 
 use crate::reader::Reader;
 use jh_history::{Heard, Settled};
@@ -85,9 +85,9 @@ pub(crate) fn read_decision(text: &mut Reader) -> Option<Option<i64>>
 }
 
 /// How a cell met the request to shut down.
-#[tactic(auto, unfolding(crate::specs::Private::Reading::settled_of))]
+#[tactic(auto, unfolding(crate::specs::Private::Reading::front_settled))]
 pub(crate) fn read_settled(text: &mut Reader) -> Option<Settled>
-    ensures value { Reads result text.new (settled_of text.old) }
+    ensures value { Reads result text.new (front_settled text.old) }
     ensures spelled { IfSome result (λ how. text.old ≡ settled_text how ++ 10 ∷ text.new) }
 {
     if text.pass("agreed\n") {
@@ -103,9 +103,9 @@ pub(crate) fn read_settled(text: &mut Reader) -> Option<Settled>
 }
 
 /// How a cell met the note of a change.
-#[tactic(auto, unfolding(crate::specs::Private::Reading::heard_of))]
+#[tactic(auto, unfolding(crate::specs::Private::Reading::front_heard))]
 pub(crate) fn read_heard(text: &mut Reader) -> Option<Heard>
-    ensures value { Reads result text.new (heard_of text.old) }
+    ensures value { Reads result text.new (front_heard text.old) }
     ensures spelled { IfSome result (λ how. text.old ≡ heard_text how ++ 10 ∷ text.new) }
 {
     if text.pass("received\n") {

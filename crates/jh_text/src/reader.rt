@@ -4,7 +4,7 @@ ghost use Rattle.std.specs.Char.{digit_value};
 ghost use Rattle.std.specs.Fmt.{decimal, signed_decimal, digits};
 ghost use Rattle.jh_text.specs.Ranges.{is_width};
 ghost use Rattle.jh_text.specs.Text.{hexadecimal};
-ghost use Rattle.jh_text.specs.Private.Reading.{Finds, Reads, begins, behind, lower_digit, with_digit, with_written_digit, digits_until, begins_canonical, number_until, hexadecimal_until, negative, answer_of, width_digit, width_of};
+ghost use Rattle.jh_text.specs.Private.Reading.{Finds, Reads, begins, behind, lower_digit, with_digit, with_written_digit, digits_until, begins_canonical, number_until, hexadecimal_until, negative, front_answer, width_digit, width_of};
 
 use std::marker::Model;
 
@@ -266,9 +266,9 @@ impl<'a> Reader<'a> {
 
     /// A number of 64 bits, with a minus sign where it is below 0: the last word of its line.
     #[inline(always)]
-    #[tactic(auto, unfolding(crate::specs::Private::Reading::answer_of))]
+    #[tactic(auto, unfolding(crate::specs::Private::Reading::front_answer))]
     pub(crate) fn answer(&mut self) -> Option<i64>
-        ensures value { Reads result self.new (answer_of self.old) }
+        ensures value { Reads result self.new (front_answer self.old) }
         ensures spelled { IfSome result (λ z. self.old ≡ signed_decimal z ++ 10 ∷ self.new) }
     {
         match self.rest {
