@@ -3,7 +3,7 @@ ghost use Rattle.std.specs.Prelude.{◌≡◌, ◌^◌, ◌<◌, ◌∷◌, ◌+
 ghost use Rattle.std.specs.List.{join_with_byte};
 ghost use Rattle.jh_text.specs.Ranges.{is_width, IsReadableAct, IsReadable};
 ghost use Rattle.jh_text.specs.Text.{act_text, attempt_words, line};
-ghost use Rattle.jh_text.specs.Private.Reading.{Reads, attempt_of, front_read, front_write, front_await, fetch_of, front_irq, outcome_of, front_call, noted_of, act_of_call, front_act, front_entry};
+ghost use Rattle.jh_text.specs.Private.Reading.{Reads, front_attempt, front_read, front_write, front_await, front_fetch, front_irq, front_outcome, front_call, front_noted, front_act_of_call, front_act, front_entry};
 
 use crate::outcomes::{read_decision, read_got, read_heard, read_ok, read_settled};
 use crate::reader::Reader;
@@ -50,9 +50,9 @@ fn act(text: &mut Reader) -> Option<Act>
 }
 
 /// A hypercall, an act of a call that is open, or a stop.
-#[tactic(auto, unfolding(crate::specs::Private::Reading::act_of_call))]
+#[tactic(auto, unfolding(crate::specs::Private::Reading::front_act_of_call))]
 fn act_of_call(text: &mut Reader) -> Option<Act>
-    ensures value { Reads result text.new (act_of_call text.old) }
+    ensures value { Reads result text.new (front_act_of_call text.old) }
     ensures readable { IfSome result IsReadableAct }
     ensures spelled { IfSome result (λ act. text.old ≡ act_text act ++ 10 ∷ text.new) }
 {
@@ -137,9 +137,9 @@ fn wait(text: &mut Reader) -> Option<Act>
 
 /// The width, the address and the value of a write or a wait, and whether it was granted.
 #[inline(always)]
-#[tactic(auto, unfolding(crate::specs::Private::Reading::attempt_of))]
+#[tactic(auto, unfolding(crate::specs::Private::Reading::front_attempt))]
 fn attempt(text: &mut Reader) -> Option<(u8, u64, u64, bool)>
-    ensures value { Reads result text.new (attempt_of text.old) }
+    ensures value { Reads result text.new (front_attempt text.old) }
     ensures width { IfSome result (λ x. IsTrue (is_width x.0)) }
     ensures at { IfSome result (λ x. x.1 < 2 ^ 64) }
     ensures fits { IfSome result (λ x. x.2 < 256 ^ x.0) }
@@ -156,9 +156,9 @@ fn attempt(text: &mut Reader) -> Option<(u8, u64, u64, bool)>
 }
 
 /// A fetch, behind its name.
-#[tactic(auto, unfolding(crate::specs::Private::Reading::fetch_of))]
+#[tactic(auto, unfolding(crate::specs::Private::Reading::front_fetch))]
 fn fetch(text: &mut Reader) -> Option<Act>
-    ensures value { Reads result text.new (fetch_of text.old) }
+    ensures value { Reads result text.new (front_fetch text.old) }
     ensures readable { IfSome result IsReadableAct }
     ensures spelled { IfSome result (λ act. codes "fetch " ++ text.old ≡ act_text act ++ 10 ∷ text.new) }
 {
@@ -183,7 +183,7 @@ fn irq(text: &mut Reader) -> Option<Act>
 }
 
 /// A hypercall, behind its name.
-#[tactic(auto, unfolding(crate::specs::Private::Reading::front_call, crate::specs::Private::Reading::outcome_of))]
+#[tactic(auto, unfolding(crate::specs::Private::Reading::front_call, crate::specs::Private::Reading::front_outcome))]
 fn call(text: &mut Reader) -> Option<Act>
     ensures value { Reads result text.new (front_call text.old) }
     ensures readable { IfSome result IsReadableAct }
@@ -203,9 +203,9 @@ fn call(text: &mut Reader) -> Option<Act>
 }
 
 /// How a cell met the note of a change, behind the name.
-#[tactic(auto, unfolding(crate::specs::Private::Reading::noted_of))]
+#[tactic(auto, unfolding(crate::specs::Private::Reading::front_noted))]
 fn noted(text: &mut Reader) -> Option<Act>
-    ensures value { Reads result text.new (noted_of text.old) }
+    ensures value { Reads result text.new (front_noted text.old) }
     ensures readable { IfSome result IsReadableAct }
     ensures spelled { IfSome result (λ act. codes "noted " ++ text.old ≡ act_text act ++ 10 ∷ text.new) }
 {

@@ -4,7 +4,7 @@ ghost use Rattle.std.specs.Char.{digit_value};
 ghost use Rattle.std.specs.Fmt.{decimal, signed_decimal, digits};
 ghost use Rattle.jh_text.specs.Ranges.{is_width};
 ghost use Rattle.jh_text.specs.Text.{hexadecimal};
-ghost use Rattle.jh_text.specs.Private.Reading.{Finds, Reads, begins, behind, lower_digit, with_digit, with_written_digit, digits_until, begins_canonical, number_until, hexadecimal_until, negative, front_answer, width_digit, width_of};
+ghost use Rattle.jh_text.specs.Private.Reading.{Finds, Reads, begins, behind, lower_digit, with_digit, with_written_digit, digits_until, begins_canonical, number_until, hexadecimal_until, negative, front_answer, width_digit, front_width};
 
 use std::marker::Model;
 
@@ -287,9 +287,9 @@ impl<'a> Reader<'a> {
 
     /// The number of bytes of an access.
     #[inline(always)]
-    #[tactic(auto, unfolding(crate::specs::Private::Reading::width_of))]
+    #[tactic(auto, unfolding(crate::specs::Private::Reading::front_width))]
     pub(crate) fn width(&mut self) -> Option<u8>
-        ensures value { Reads result self.new (width_of self.old) }
+        ensures value { Reads result self.new (front_width self.old) }
         ensures width { IfSome result (λ width. IsTrue (is_width width)) }
         ensures spelled { IfSome result (λ width. self.old ≡ decimal width ++ 32 ∷ self.new) }
     {

@@ -107,28 +107,28 @@ abbrev pub width_digit : ℕ → Option ℕ
 width_digit c = if is_width (c - 48) then Some (c - 48) else None
 
 -- a width has one digit, behind which a space stands
-unfoldable pub width_of : List ℕ → Option (ℕ × List ℕ)
-width_of [] = None
-width_of (c ∷ []) = None
-width_of (c ∷ d ∷ text) = if d == 32 then option_map (λ width. (width, text)) (width_digit c) else None
+unfoldable pub front_width : List ℕ → Option (ℕ × List ℕ)
+front_width [] = None
+front_width (c ∷ []) = None
+front_width (c ∷ d ∷ text) = if d == 32 then option_map (λ width. (width, text)) (width_digit c) else None
 
 -- ---- the last word of a line
 
 -- what a read or a fetch gave, at most `most`; no value where it was a violation
-unfoldable pub got_of : ℕ → List ℕ → Option (Option ℕ × List ℕ)
-got_of most text =
+unfoldable pub front_got : ℕ → List ℕ → Option (Option ℕ × List ℕ)
+front_got most text =
     if begins (codes "0") text then mapped Some (hexadecimal_until 10 most text)
     else (if begins (last (codes "violation")) text then Some (None, behind (last (codes "violation")) text) else None)
 
 -- whether a write or a wait was granted
-unfoldable pub ok_of : List ℕ → Option (Bool × List ℕ)
-ok_of text =
+unfoldable pub front_ok : List ℕ → Option (Bool × List ℕ)
+front_ok text =
     if begins (last (codes "ok")) text then Some (true, behind (last (codes "ok")) text)
     else (if begins (last (codes "violation")) text then Some (false, behind (last (codes "violation")) text) else None)
 
 -- the number with which a call is refused; none where it goes on
-unfoldable pub decision_of : List ℕ → Option (Option ℤ × List ℕ)
-decision_of text =
+unfoldable pub front_decision : List ℕ → Option (Option ℤ × List ℕ)
+front_decision text =
     if begins (last (codes "go")) text then Some (None, behind (last (codes "go")) text) else mapped Some (front_answer text)
 
 -- how a cell met the request to shut down
@@ -151,33 +151,33 @@ front_heard text =
 -- a read, behind its name
 unfoldable pub front_read : List ℕ → Option (Act × List ℕ)
 front_read text = do
-  width ← width_of text
+  width ← front_width text
   at ← hexadecimal_until 32 max_u64 width.1
-  got ← behind_equals (got_of (256 ^ width.0 - 1)) at.1
+  got ← behind_equals (front_got (256 ^ width.0 - 1)) at.1
   Some (Read width.0 at.0 got.0, got.1)
 
 -- the width, the address and the value of a write or a wait, and whether it was granted
-unfoldable pub attempt_of : List ℕ → Option ((ℕ × ℕ × ℕ × Bool) × List ℕ)
-attempt_of text = do
-  width ← width_of text
+unfoldable pub front_attempt : List ℕ → Option ((ℕ × ℕ × ℕ × Bool) × List ℕ)
+front_attempt text = do
+  width ← front_width text
   at ← hexadecimal_until 32 max_u64 width.1
   value ← hexadecimal_until 32 (256 ^ width.0 - 1) at.1
-  ok ← behind_equals ok_of value.1
+  ok ← behind_equals front_ok value.1
   Some ((width.0, at.0, value.0, ok.0), ok.1)
 
 -- a write, behind its name
 unfoldable pub front_write : List ℕ → Option (Act × List ℕ)
-front_write text = mapped (λ x. Write x.0 x.1 x.2 x.3) (attempt_of text)
+front_write text = mapped (λ x. Write x.0 x.1 x.2 x.3) (front_attempt text)
 
 -- a wait for a value, behind its name
 unfoldable pub front_await : List ℕ → Option (Act × List ℕ)
-front_await text = mapped (λ x. Await x.0 x.1 x.2 x.3) (attempt_of text)
+front_await text = mapped (λ x. Await x.0 x.1 x.2 x.3) (front_attempt text)
 
 -- a fetch, behind its name
-unfoldable pub fetch_of : List ℕ → Option (Act × List ℕ)
-fetch_of text = do
+unfoldable pub front_fetch : List ℕ → Option (Act × List ℕ)
+front_fetch text = do
   at ← hexadecimal_until 32 max_u64 text
-  got ← behind_equals (got_of (2 ^ 32 - 1)) at.1
+  got ← behind_equals (front_got (2 ^ 32 - 1)) at.1
   Some (Fetch at.0 got.0, got.1)
 
 -- an interrupt, behind its name and the equals sign
@@ -188,8 +188,8 @@ front_irq text = do
   Some (Irq device.0 vector.0, vector.1)
 
 -- what comes of a call with its code and its arguments
-unfoldable pub outcome_of : ℕ → ℕ → ℕ → List ℕ → Option (Act × List ℕ)
-outcome_of code a b text =
+unfoldable pub front_outcome : ℕ → ℕ → ℕ → List ℕ → Option (Act × List ℕ)
+front_outcome code a b text =
     if begins (last (codes "begin")) text then Some (Begin code a b, behind (last (codes "begin")) text)
     else mapped (Hvc code a b) (front_answer text)
 
@@ -199,23 +199,23 @@ front_call text = do
   code ← number_until 10 32 max_u64 text
   a ← hexadecimal_until 32 max_u64 code.1
   b ← hexadecimal_until 32 max_u64 a.1
-  behind_equals (outcome_of code.0 a.0 b.0) b.1
+  behind_equals (front_outcome code.0 a.0 b.0) b.1
 
 -- how a cell met the note of a change, behind the name
-unfoldable pub noted_of : List ℕ → Option (Act × List ℕ)
-noted_of text = do
+unfoldable pub front_noted : List ℕ → Option (Act × List ℕ)
+front_noted text = do
   id ← number_until 10 32 (2 ^ 32 - 1) text
   how ← behind_equals front_heard id.1
   Some (Noted id.0 how.0, how.1)
 
 -- a hypercall, an act of a call that is open, or a stop
-unfoldable pub act_of_call : List ℕ → Option (Act × List ℕ)
-act_of_call text =
+unfoldable pub front_act_of_call : List ℕ → Option (Act × List ℕ)
+front_act_of_call text =
     if begins (codes "hvc ") text then front_call (behind (codes "hvc ") text)
-    else (if begins (codes "decide = ") text then mapped Decide (decision_of (behind (codes "decide = ") text))
+    else (if begins (codes "decide = ") text then mapped Decide (front_decision (behind (codes "decide = ") text))
     else (if begins (codes "settle = ") text then mapped Settle (front_settled (behind (codes "settle = ") text))
     else (if begins (codes "note ") text then mapped Note (number_until 10 10 (2 ^ 32 - 1) (behind (codes "note ") text))
-    else (if begins (codes "noted ") text then noted_of (behind (codes "noted ") text)
+    else (if begins (codes "noted ") text then front_noted (behind (codes "noted ") text)
     else (if begins (codes "finish = ") text then mapped Finish (front_answer (behind (codes "finish = ") text))
     else (if begins (last (codes "stop")) text then Some (Stop, behind (last (codes "stop")) text)
     else (if begins (last (codes "commit")) text then Some (Commit, behind (last (codes "commit")) text)
@@ -226,10 +226,10 @@ unfoldable pub front_act : List ℕ → Option (Act × List ℕ)
 front_act text =
     if begins (codes "read ") text then front_read (behind (codes "read ") text)
     else (if begins (codes "write ") text then front_write (behind (codes "write ") text)
-    else (if begins (codes "fetch ") text then fetch_of (behind (codes "fetch ") text)
+    else (if begins (codes "fetch ") text then front_fetch (behind (codes "fetch ") text)
     else (if begins (codes "await ") text then front_await (behind (codes "await ") text)
     else (if begins (codes "irq = ") text then front_irq (behind (codes "irq = ") text)
-    else act_of_call text))))
+    else front_act_of_call text))))
 
 -- the entry with whose line the text begins
 unfoldable pub front_entry : List ℕ → Option (Entry × List ℕ)
