@@ -77,7 +77,7 @@ fn begins_canonical(end: u8, text: &[u8]) -> bool
 
 /// The number that the digits before the end write, and what stands behind the end.
 #[inline(always)]
-fn digits(radix: u32, end: u8, text: &[u8]) -> Option<(u64, &[u8])>
+fn digits_until(radix: u32, end: u8, text: &[u8]) -> Option<(u64, &[u8])>
     requires low { 2 ≤ radix }
     requires high { radix ≤ 16 }
     requires end { digit_value end ≡ 36 }
@@ -102,7 +102,7 @@ fn digits(radix: u32, end: u8, text: &[u8]) -> Option<(u64, &[u8])>
 /// stands behind the end.
 #[inline(always)]
 #[tactic(auto, unfolding(crate::specs::Private::Reading::number_until))]
-fn number(radix: u32, end: u8, most: u64, text: &[u8]) -> Option<(u64, &[u8])>
+fn number_until(radix: u32, end: u8, most: u64, text: &[u8]) -> Option<(u64, &[u8])>
     requires low { 2 ≤ radix }
     requires high { radix ≤ 16 }
     requires end { digit_value end ≡ 36 }
@@ -113,7 +113,7 @@ fn number(radix: u32, end: u8, most: u64, text: &[u8]) -> Option<(u64, &[u8])>
     if !begins_canonical(end, text) {
         return None;
     }
-    let (n, rest) = digits(radix, end, text)?;
+    let (n, rest) = digits_until(radix, end, text)?;
     if most < n {
         return None;
     }
@@ -122,13 +122,13 @@ fn number(radix: u32, end: u8, most: u64, text: &[u8]) -> Option<(u64, &[u8])>
 
 /// As `decimal_number`, whatever digits there are.
 #[inline(never)]
-fn some_digits(end: u8, most: u64, text: &[u8]) -> Option<(u64, &[u8])>
+fn decimal_until(end: u8, most: u64, text: &[u8]) -> Option<(u64, &[u8])>
     requires end { digit_value end ≡ 36 }
     ensures value { Finds (λ x. (x.0, x.1.now)) result (number_until 10 end most text.now) }
     ensures bound { IfSome result (λ x. x.0 ≤ most) }
     ensures spelled { IfSome result (λ x. text.now ≡ decimal x.0 ++ end ∷ x.1.now) }
 {
-    number(10, end, most, text)
+    number_until(10, end, most, text)
 }
 
 /// The number whose decimal digits are the word before the end, where it is `most` at most, and what stands behind the
@@ -147,7 +147,7 @@ fn decimal_number(end: u8, most: u64, text: &[u8]) -> Option<(u64, &[u8])>
         }
         _ => {
             // Taken apart here, so that what the other arm gives stays in registers.
-            let (n, rest) = some_digits(end, most, text)?;
+            let (n, rest) = decimal_until(end, most, text)?;
             Some((n, rest))
         }
     }
@@ -239,7 +239,7 @@ impl<'a> Reader<'a> {
     {
         match self.rest {
             [b'0', b'x', text @ ..] => {
-                let (n, rest) = number(16, end, most, text)?;
+                let (n, rest) = number_until(16, end, most, text)?;
                 self.rest = rest;
                 Some(n)
             }
