@@ -121,6 +121,7 @@ fn number_until(radix: u32, end: u8, most: u64, text: &[u8]) -> Option<(u64, &[u
 }
 
 /// As `decimal_number`, whatever digits there are.
+// A call of its own, so that `decimal_number`, which is inlined, brings only the case of one digit into its callers.
 #[inline(never)]
 fn decimal_until(end: u8, most: u64, text: &[u8]) -> Option<(u64, &[u8])>
     requires end { digit_value end ≡ 36 }
