@@ -11,7 +11,7 @@ ghost use Rattle.jh_audit.specs.Private.Rest.{EndsJournal, EndsAtFault};
 use crate::compared::Compared;
 use crate::verdict::Verdict;
 use jh_board::{Board, TurnFault};
-use jh_history::{Act, Entry};
+use jh_history::Entry;
 use jh_num::NoMemory;
 use jh_script::Image;
 use jh_text::{
@@ -43,23 +43,9 @@ fn is_expected(expected: Option<Entry>, entry: &Entry) -> bool
     ensures { IsTrue result ↔ (expected ≡ Some entry.now) }
 {
     match expected {
-        Some(made) => is_same(&made, entry),
+        Some(made) => made == *entry,
         None => false,
     }
-}
-
-/// Whether the two are one entry.
-fn is_same(one: &Entry, other: &Entry) -> bool
-    ensures { IsTrue result ↔ (one.now ≡ other.now) }
-{
-    one.cpu == other.cpu && one.cell == other.cell && is_same_act(one.act, other.act)
-}
-
-/// Whether the two are one act.
-fn is_same_act(one: Act, other: Act) -> bool
-    ensures { IsTrue result ↔ (one ≡ other) }
-{
-    one == other
 }
 
 /// Makes what is due to the entry's CPU, and compares it with the entry.

@@ -127,11 +127,11 @@ impl<'a> Known for State<'a> {
         self.held.cells.count()
     }
 
-    fn size(&self) -> u32 {
+    fn pool_pages(&self) -> u32 {
         self.image.pool_pages()
     }
 
-    fn used(&self) -> u32 {
+    fn used_pages(&self) -> u32 {
         self.held.cells.used()
     }
 

@@ -30,8 +30,8 @@ is_roots call = is_management call
 -- what a request for information about the hypervisor is answered, by its kind
 abbrev pub info_of : ℕ → Seen → ℤ
 info_of kind seen =
-    if kind == 0 then pos seen.size
-    else (if kind == 1 then pos seen.used
+    if kind == 0 then pos seen.pool_pages
+    else (if kind == 1 then pos seen.used_pages
     else (if kind == 4 then pos seen.cells
     else EINVAL))
 

@@ -27,8 +27,8 @@ fn info(kind: u64, seen: &Seen) -> i64
     ensures { result ≡ info_of kind seen.now }
 {
     match kind {
-        POOL_SIZE => i64::from(seen.size),
-        POOL_USED => i64::from(seen.used),
+        POOL_SIZE => i64::from(seen.pool_pages),
+        POOL_USED => i64::from(seen.used_pages),
         CELL_COUNT => i64::from(seen.cells),
         _ => EINVAL,
     }

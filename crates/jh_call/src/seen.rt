@@ -18,9 +18,9 @@ pub struct Seen {
     /// Whether the caller is root.
     pub root: bool,
     /// The pages that the pool has.
-    pub size: u32,
+    pub pool_pages: u32,
     /// The pages that live cells use.
-    pub used: u32,
+    pub used_pages: u32,
     /// How many cells are live, with root.
     pub cells: u32,
     /// The state word of the live cell that the call names, 0 for root, or none where no live cell has

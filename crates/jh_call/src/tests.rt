@@ -13,8 +13,8 @@ fn seen(root: bool, state: Option<u32>, cpu: CpuSeen) -> Seen
 {
     Seen {
         root,
-        size: 1024,
-        used: 90,
+        pool_pages: 1024,
+        used_pages: 90,
         cells: 3,
         state,
         cpu,

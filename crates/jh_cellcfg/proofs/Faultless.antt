@@ -21,7 +21,7 @@ use Rattle.jh_cellcfg.specs.Faults.{fault_if, first_of, over, u16_at, count_faul
 use Rattle.jh_cellcfg.proofs.Headers.{header_name, header_counts}
 use Rattle.jh_cellcfg.specs.Spelling.{u16_bytes, u32_bytes, region_bytes, irqchip_bytes, device_bytes, counts_of, header_of, header_bytes, parts_bytes, body_bytes, spelling}
 use Rattle.jh_cellcfg.specs.Limits.{is_name, parts_size, whole_size, AreWithinLimits, IsWithinLimits}
-use Rattle.jh_cellcfg.specs.Widths.{IsRegion, IsIrqchip, IsDevice, IsWordArray, IsHeader, IsCell}
+use Rattle.jh_cellcfg.specs.Typed.{IsRegion, IsIrqchip, IsDevice, IsWordArray, IsHeader, IsCell}
 use Rattle.jh_cellcfg.proofs.Splits.{array_splits, list_splits, u32_splits, region_splits, irqchip_splits, device_splits, header_splits}
 use Rattle.jh_cellcfg.proofs.SpelledCells.{Free}
 

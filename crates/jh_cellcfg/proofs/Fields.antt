@@ -7,7 +7,7 @@ use Rattle.std.proofs.lemmas.List.{take-append-drop, length-take, get_or-drop, g
 use Rattle.std.proofs.lemmas.Nat.{le_bytes_2, le_bytes_4, le_bytes_8}
 use Rattle.std.proofs.Math.Nat.{mul-suc}
 use Rattle.jh_cellcfg.specs.Spelling.{u8_bytes, u16_bytes, u32_bytes, u64_bytes, region_bytes, irqchip_bytes, device_bytes, counts_bytes, header_bytes}
-use Rattle.jh_cellcfg.specs.Widths.{IsRegion, IsIrqchip, IsDevice, AreCounts, IsHeader}
+use Rattle.jh_cellcfg.specs.Typed.{IsRegion, IsIrqchip, IsDevice, AreCounts, IsHeader}
 
 abbrev pub IsBytes : List ℕ → Type 0
 IsBytes bytes = (i : ℕ) → get_or bytes i 0 < 256

@@ -5,7 +5,7 @@ use Rattle.std.proofs.lemmas.List.{take_at, drop_at, drop-drop}
 use Rattle.std.proofs.lemmas.Nat.{from_le_bytes-to_le_bytes_4}
 use Rattle.jh_cellcfg.specs.declared.header.Header.{Header}
 use Rattle.jh_cellcfg.specs.Spelling.{u32_bytes, u64_bytes, counts_bytes, header_bytes}
-use Rattle.jh_cellcfg.specs.Widths.{IsHeader}
+use Rattle.jh_cellcfg.specs.Typed.{IsHeader}
 use Rattle.jh_cellcfg.specs.Faults.{counts_at}
 
 -- what stands behind the name

@@ -16,7 +16,7 @@ use Rattle.jh_cellcfg.specs.declared.header.Counts.{Counts}
 use Rattle.jh_cellcfg.specs.declared.header.Header.{Header}
 use Rattle.jh_cellcfg.specs.Spelling.{u16_bytes, counts_of, header_of, header_bytes, parts_bytes, body_bytes, spelling}
 use Rattle.jh_cellcfg.specs.Limits.{is_name, parts_size, whole_size, AreWithinLimits, IsWithinLimits}
-use Rattle.jh_cellcfg.specs.Widths.{IsHeader, IsCell}
+use Rattle.jh_cellcfg.specs.Typed.{IsHeader, IsCell}
 use Rattle.jh_cellcfg.specs.Faults.{fault_if, first_of, over, u16_at, count_fault, limits_fault, length_fault, counts_at, start_fault, body_fault, first_fault}
 use Rattle.jh_cellcfg.proofs.Headers.{header_name, header_counts}
 use Rattle.jh_cellcfg.proofs.Fields.{IsBytes, IsBytes_drop, IsBytes_take, array_field, list_field, both, u32_field, region_field, irqchip_field, device_field, header_field}

@@ -10,7 +10,7 @@ use Rattle.jh_cellcfg.specs.declared.config.Irqchip.{Irqchip}
 use Rattle.jh_cellcfg.specs.declared.config.PciDevice.{PciDevice}
 use Rattle.jh_cellcfg.specs.declared.fault.ConfigFault.{ConfigFault}
 use Rattle.jh_cellcfg.specs.Spelling.{u16_bytes, u32_bytes, u64_bytes, region_bytes, irqchip_bytes, device_bytes, counts_of, header_of, header_bytes, parts_bytes, body_bytes, spelling}
-use Rattle.jh_cellcfg.specs.Widths.{IsRegion, IsIrqchip, IsDevice, IsCell}
+use Rattle.jh_cellcfg.specs.Typed.{IsRegion, IsIrqchip, IsDevice, IsCell}
 use Rattle.jh_cellcfg.specs.Limits.{IsWithinLimits}
 use Rattle.jh_cellcfg.specs.Reading.{records, word_of, same_bytes, region_of, irqchip_of, device_of, config_with, config_of_body, config_of}
 use Rattle.jh_cellcfg.proofs.Headers.{behind_name, regrouped, header_name, header_counts}

@@ -7,7 +7,7 @@ use Rattle.std.proofs.lemmas.Nat.{from_le_bytes-to_le_bytes_2, from_le_bytes-to_
 use Rattle.jh_cellcfg.specs.declared.config.PciDevice.{PciDevice}
 use Rattle.jh_cellcfg.specs.Spelling.{u8_bytes, u16_bytes, u32_bytes, u64_bytes, region_bytes, irqchip_bytes, device_bytes, counts_bytes, header_bytes}
 use Rattle.jh_cellcfg.proofs.Headers.{behind_name, regrouped}
-use Rattle.jh_cellcfg.specs.Widths.{IsRegion, IsIrqchip, IsDevice, AreCounts, IsHeader}
+use Rattle.jh_cellcfg.specs.Typed.{IsRegion, IsIrqchip, IsDevice, AreCounts, IsHeader}
 
 -- two records and what stands behind them
 pub record Same {R : Type 0} (a b : R) (x y : List ℕ) : Type 0 where

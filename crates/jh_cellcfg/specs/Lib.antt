@@ -4,7 +4,7 @@ pub mod Devices
 pub mod Empty
 pub mod Lives
 pub mod Spelling
-pub mod Widths
+pub mod Typed
 pub mod Limits
 pub mod Faults
 pub mod Reading

@@ -3,7 +3,7 @@
 ghost use Rattle.std.specs.Prelude.{◌≡◌, ◌<◌, ◌≤◌, ℕ, List, All, None, length, take};
 ghost use Rattle.jh_cellcfg.specs.declared.config.CellConfig.{CellConfig};
 ghost use Rattle.jh_cellcfg.specs.Spelling.{body_bytes, spelling};
-ghost use Rattle.jh_cellcfg.specs.Widths.{IsCell};
+ghost use Rattle.jh_cellcfg.specs.Typed.{IsCell};
 ghost use Rattle.jh_cellcfg.specs.Limits.{IsWithinLimits};
 ghost use Rattle.jh_cellcfg.specs.Reading.{config_of, config_of_body};
 ghost use Rattle.jh_cellcfg.specs.Faults.{body_fault, header_fault, size_by_header, first_fault};

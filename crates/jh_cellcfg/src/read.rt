@@ -1,7 +1,7 @@
 //! Reading a cell's configuration.
 ghost use Rattle.std.specs.Prelude.{◌≡◌, ◌+◌, ◌≤◌, ◌<◌, ◌^◌, ◌++◌, length, take, drop, IfOk, OnOk};
 ghost use Rattle.jh_cellcfg.specs.Spelling.{u16_bytes, header_bytes, header_of, parts_bytes, body_bytes, spelling};
-ghost use Rattle.jh_cellcfg.specs.Widths.{IsHeader, IsCell};
+ghost use Rattle.jh_cellcfg.specs.Typed.{IsHeader, IsCell};
 ghost use Rattle.jh_cellcfg.specs.Limits.{parts_size, IsWithinLimits};
 ghost use Rattle.jh_cellcfg.specs.Faults.{counts_at, fault_of, refusal, start_fault, body_fault, header_fault, size_by_header, first_fault, Gives};
 ghost use Rattle.jh_cellcfg.specs.Reading.{config_of};

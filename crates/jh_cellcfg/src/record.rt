@@ -2,7 +2,7 @@
 ghost use Rattle.std.specs.Prelude.{◌≡◌, ◌+◌, ◌*◌, ◌<◌, ◌≤◌, ◌^◌, ℕ, List, ◌++◌, length, OnOk, IfOk};
 ghost use Rattle.std.specs.List.{flat_map, AllByRecursion};
 ghost use Rattle.jh_cellcfg.specs.Spelling.{u32_bytes, region_bytes, irqchip_bytes, device_bytes, console_bytes, counts_bytes, header_bytes};
-ghost use Rattle.jh_cellcfg.specs.Widths.{IsRegion, IsIrqchip, IsDevice, IsConsole, AreCounts, IsHeader};
+ghost use Rattle.jh_cellcfg.specs.Typed.{IsRegion, IsIrqchip, IsDevice, IsConsole, AreCounts, IsHeader};
 
 use crate::config::{Console, Irqchip, PciDevice};
 use crate::header::{Counts, Header};

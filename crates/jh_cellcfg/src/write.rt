@@ -2,7 +2,7 @@
 ghost use Rattle.std.specs.Prelude.{◌≡◌, ◌++◌, IfOk};
 ghost use Rattle.jh_cellcfg.specs.Spelling.{counts_of, header_of, parts_bytes, body_bytes, spelling};
 ghost use Rattle.jh_cellcfg.specs.Limits.{AreWithinLimits, IsWithinLimits};
-ghost use Rattle.jh_cellcfg.specs.Widths.{AreCounts};
+ghost use Rattle.jh_cellcfg.specs.Typed.{AreCounts};
 
 use crate::config::CellConfig;
 use crate::header::{Counts, Header, REVISION, SIGNATURE};

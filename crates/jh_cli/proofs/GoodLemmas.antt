@@ -12,7 +12,7 @@ use Rattle.jh_cellcfg.specs.declared.config.SystemConfig.{SystemConfig}
 use Rattle.jh_cellcfg.specs.Faults.{first_fault}
 use Rattle.jh_cellcfg.specs.Limits.{IsWithinLimits}
 use Rattle.jh_cellcfg.specs.Spelling.{spelling}
-use Rattle.jh_cellcfg.specs.Widths.{IsCell}
+use Rattle.jh_cellcfg.specs.Typed.{IsCell}
 use Rattle.jh_syscfg.specs.SystemFaults.{system_fault}
 use Rattle.jh_check.specs.Lists.{is_any, capped}
 use Rattle.jh_check.specs.Findings.{findings}

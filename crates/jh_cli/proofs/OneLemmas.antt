@@ -7,7 +7,7 @@ use Rattle.jh_cellcfg.specs.Faults.{first_fault}
 use Rattle.jh_cellcfg.specs.Limits.{IsWithinLimits}
 use Rattle.jh_cellcfg.specs.Spelling.{spelling}
 use Rattle.jh_cellcfg.specs.Texts.{config_fault_text}
-use Rattle.jh_cellcfg.specs.Widths.{IsCell}
+use Rattle.jh_cellcfg.specs.Typed.{IsCell}
 use Rattle.jh_syscfg.specs.SystemFaults.{system_fault}
 use Rattle.jh_spec.specs.declared.spec.Spec.{Spec}
 use Rattle.jh_spec.specs.declared.fault.JsonFault.{JsonFault}

@@ -8,7 +8,7 @@ use Rattle.jh_cellcfg.specs.Faults.{first_fault}
 use Rattle.jh_cellcfg.specs.Limits.{IsWithinLimits}
 use Rattle.jh_cellcfg.specs.Spelling.{spelling}
 use Rattle.jh_cellcfg.specs.Texts.{config_fault_text}
-use Rattle.jh_cellcfg.specs.Widths.{IsCell}
+use Rattle.jh_cellcfg.specs.Typed.{IsCell}
 use Rattle.jh_syscfg.specs.Layout.{system_spelling, IsSystem, IsSystemWithinLimits}
 use Rattle.jh_syscfg.specs.SystemFaults.{system_fault}
 use Rattle.jh_check.specs.declared.finding.Finding.{Finding}

@@ -49,8 +49,8 @@ cpu_seen image facts cell call = Absent
 abbrev pub seen_of : Image → Facts → ℕ → Call → Seen
 seen_of image facts cell call = record {
   root = cell == image.system.root.id;
-  size = pool_pages image.system;
-  used = pages_of image.system.root.memory_regions (configs_of facts.cells);
+  pool_pages = pool_pages image.system;
+  used_pages = pages_of image.system.root.memory_regions (configs_of facts.cells);
   cells = length facts.cells + 1;
   state = state_seen image facts call;
   cpu = cpu_seen image facts cell call;

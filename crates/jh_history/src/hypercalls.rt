@@ -84,8 +84,8 @@ fn seen_of<K: Known>(known: &K, cell: u32, root: bool, call: &Call) -> Seen
 {
     Seen {
         root,
-        size: known.size(),
-        used: known.used(),
+        pool_pages: known.pool_pages(),
+        used_pages: known.used_pages(),
         cells: known.count(),
         state: state_seen(known, call),
         cpu: cpu_seen(known, cell, root, call),

@@ -45,11 +45,11 @@ pub trait Known {
         ensures { (i : Image) (f : Facts) → Knows self.now i f → result ≡ length f.cells + 1 };
 
     /// How many pages of 4,096 bytes the pool has.
-    fn size(&self) -> u32
+    fn pool_pages(&self) -> u32
         ensures { (i : Image) (f : Facts) → Knows self.now i f → result ≡ pool_pages i.system };
 
     /// How many pages of the pool the live cells use, root too.
-    fn used(&self) -> u32
+    fn used_pages(&self) -> u32
         ensures { (i : Image) (f : Facts) → Knows self.now i f → result ≡ pages_of i.system.root.memory_regions (configs_of f.cells) };
 
     /// Whether a cell that lives besides root, other than the one with the id, is locked: its state is RUNNING_LOCKED.

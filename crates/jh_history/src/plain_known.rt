@@ -119,11 +119,11 @@ impl<'a> Known for Plain<'a> {
         self.cells.configs().len() as u32 + 1
     }
 
-    fn size(&self) -> u32 {
+    fn pool_pages(&self) -> u32 {
         pool_pages(&self.image.system) as u32
     }
 
-    fn used(&self) -> u32 {
+    fn used_pages(&self) -> u32 {
         let root = self.image.system.root.memory_regions.as_slice();
         let cells = self.cells.configs();
         pages_of(root, cells, sum_of_pages(cells), None) as u32

@@ -1,3 +1,3 @@
--- What single steps of the reading answer: clauses of functions that the crate keeps to itself alone cite these, and no
+-- What single steps of the reading answer. Only clauses of functions that the crate keeps to itself cite these. No
 -- public clause rests on them.
 pub mod Causes

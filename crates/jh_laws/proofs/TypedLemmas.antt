@@ -124,8 +124,8 @@ got_fits image f id access at width (Some value) sound typed outcome = read_fits
 
 -- the numbers that are seen are small
 record IsFewSeen (seen : Seen) : Type 0 where
-  size : seen.size < 2 ^ 63
-  used : seen.used < 2 ^ 63
+  pool_pages : seen.pool_pages < 2 ^ 63
+  used_pages : seen.used_pages < 2 ^ 63
   cells : seen.cells < 2 ^ 63
 
 abbrev Fits : ℤ → Type 0
@@ -148,8 +148,8 @@ unknown_fits = record { sfits = omega arith }
 
 info_fits : (kind : ℕ) (seen : Seen) → IsFewSeen seen → Fits (info_of kind seen)
 info_fits kind seen few =
-    cond_both (eqb kind 0) _ _ Fits (λ _. number_fits seen.size few.size)
-    (λ _. cond_both (eqb kind 1) _ _ Fits (λ _. number_fits seen.used few.used)
+    cond_both (eqb kind 0) _ _ Fits (λ _. number_fits seen.pool_pages few.pool_pages)
+    (λ _. cond_both (eqb kind 1) _ _ Fits (λ _. number_fits seen.used_pages few.used_pages)
     (λ _. cond_both (eqb kind 4) _ _ Fits (λ _. number_fits seen.cells few.cells) (λ _. invalid_fits)))
 
 state_fits : (state : Option ℕ) → Fits (state_answer state)
@@ -175,7 +175,7 @@ few_seen image f cell call sound typed =
     let size : pool_pages image.system < 2 ^ 63 = omega (arith, memory) in
     let few = few_typed image f sound typed in
     let long = length_map (λ (live : Live). live.config) f.cells in
-    record { size = size; used = omega (arith, sound.cells.room, size); cells = omega (arith, few, long) }
+    record { pool_pages = size; used_pages = omega (arith, sound.cells.room, size); cells = omega (arith, few, long) }
 
 -- ---- interrupts
 

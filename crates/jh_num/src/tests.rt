@@ -1,4 +1,4 @@
-//! Byte sets against plain bytes, the last probes, lists, and numbers that bytes spell.
+//! Byte sets against lists of booleans, the last probes, lists, and numbers that bytes spell.
 
 use crate::{ByteSet, NoMemory, Probe, Range, Seq, Steps, spelled};
 use std::alloc::Global;
@@ -35,7 +35,7 @@ const CHANGES: [Change; 16] = [
 #[test]
 fn a_byte_set_is_a_list_of_booleans(rt: HostRuntime) -> Result<(), Fail> {
     let mut set = ByteSet::new(rt.alloc());
-    let mut plain = [false; 12];
+    let mut booleans = [false; 12];
     for change in CHANGES {
         let (range, on) = match change {
             Insert(range) => {
@@ -49,13 +49,13 @@ fn a_byte_set_is_a_list_of_booleans(rt: HostRuntime) -> Result<(), Fail> {
         };
         for at in 0..12 {
             if range.start <= at as u64 && (at as u64) < range.end {
-                plain[at] = on;
+                booleans[at] = on;
             }
             let one = Range {
                 start: at as u64,
                 end: at as u64 + 1,
             };
-            assert_eq!(rt; set.meets(one), plain[at], "byte {at}");
+            assert_eq!(rt; set.meets(one), booleans[at], "byte {at}");
         }
     }
     assert!(rt; set.ranges().is_empty());

@@ -1,4 +1,4 @@
--- Definitions that mirror the code: clauses of functions that the crate keeps to itself alone cite them, and no public
+-- Definitions that mirror the code. Only clauses of functions that the crate keeps to itself cite these. No public
 -- clause rests on them.
 pub mod Lines
 pub mod Reading

@@ -1,6 +1,6 @@
 -- What stands before root's name ends by itself, and can be taken from any bytes.
 use Rattle.jh_cellcfg.specs.Spelling.{console_bytes}
-use Rattle.jh_cellcfg.specs.Widths.{IsConsole}
+use Rattle.jh_cellcfg.specs.Typed.{IsConsole}
 use Rattle.jh_cellcfg.proofs.Public.{Splits, u8_splits, u16_splits, u32_splits, u64_splits, array_splits, region_splits, Field, both, array_field, u32_field, region_field, u64_field, u16_field, u8_field}
 use Rattle.jh_syscfg.specs.Layout.{platform_bytes, IsPlatform}
 

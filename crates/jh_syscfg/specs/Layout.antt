@@ -3,7 +3,7 @@ use Rattle.std.specs.Prelude.{◌≡◌, ℕ, ◌<◌, ◌^◌, List, ◌++◌, 
 use Rattle.jh_cellcfg.specs.declared.config.CellConfig.{CellConfig}
 use Rattle.jh_cellcfg.specs.declared.config.SystemConfig.{SystemConfig}
 use Rattle.jh_cellcfg.specs.Spelling.{u8_bytes, u16_bytes, u32_bytes, u64_bytes, region_bytes, console_bytes, body_bytes}
-use Rattle.jh_cellcfg.specs.Widths.{IsRegion, IsConsole, IsCell}
+use Rattle.jh_cellcfg.specs.Typed.{IsRegion, IsConsole, IsCell}
 use Rattle.jh_cellcfg.specs.Limits.{IsWithinLimits}
 use Rattle.jh_syscfg.specs.declared.platform.Platform.{Platform}
 

@@ -9,7 +9,7 @@ use Rattle.jh_history.specs.declared.entry.Act.TheVariants.{Read, Write, Fetch, 
 use Rattle.jh_history.specs.declared.entry.Heard.{Heard}
 use Rattle.jh_text.specs.Ranges.{is_width, IsReadableAct, IsReadable}
 use Rattle.jh_text.specs.Text.{hexadecimal, got_text, ok_text, heard_text, act_words, attempt_words, line}
-use Rattle.jh_text.specs.Private.Reading.{max_u64, read_of, attempt_of, write_of, await_of, fetch_of, irq_of, outcome_of, call_of, noted_of, act_of_call, act_of, entry_of}
+use Rattle.jh_text.specs.Private.Reading.{max_u64, front_read, front_attempt, front_write, front_await, front_fetch, front_irq, front_outcome, front_call, front_noted, front_act_of_call, front_act, front_entry}
 use Rattle.jh_text.proofs.Spellings.{decimal_again, hexadecimal_again, answer_again, answer_is_not, width_again, widest, got_again, ok_again, decision_again, settled_again, heard_again}
 
 -- what stands behind a word and a space
@@ -29,8 +29,8 @@ instruction_below None fits = tt
 instruction_below (Some value) fits = omega arith
 
 read_again : (width at : ℕ) (got : Option ℕ) (rest : List ℕ) → IsTrue (is_width width) → at < 2 ^ 64 → IfSome got (λ value. value < 256 ^ width)
-    → read_of (join_with_byte 32 (decimal width ∷ hexadecimal at ∷ codes "=" ∷ got_text got ∷ []) ++ 10 ∷ rest) ≡ Some (Read width at got, rest)
-unfolding read_of
+    → front_read (join_with_byte 32 (decimal width ∷ hexadecimal at ∷ codes "=" ∷ got_text got ∷ []) ++ 10 ∷ rest) ≡ Some (Read width at got, rest)
+unfolding front_read
 read_again width at got rest h small fits =
     rw (
       behind_word (decimal width) (hexadecimal at ++ 32 ∷ 61 ∷ 32 ∷ got_text got) (10 ∷ rest),
@@ -41,8 +41,8 @@ read_again width at got rest h small fits =
     ) refl
 
 attempt_again : (width at value : ℕ) (ok : Bool) (rest : List ℕ) → IsTrue (is_width width) → at < 2 ^ 64 → value < 256 ^ width
-    → attempt_of (join_with_byte 32 (attempt_words width at value ok) ++ 10 ∷ rest) ≡ Some ((width, at, value, ok), rest)
-unfolding attempt_of
+    → front_attempt (join_with_byte 32 (attempt_words width at value ok) ++ 10 ∷ rest) ≡ Some ((width, at, value, ok), rest)
+unfolding front_attempt
 attempt_again width at value ok rest h small fits =
     let below : value < 2 ^ 64 = omega (arith, widest width h) in
     rw (
@@ -56,18 +56,18 @@ attempt_again width at value ok rest h small fits =
     ) refl
 
 write_again : (width at value : ℕ) (ok : Bool) (rest : List ℕ) → IsTrue (is_width width) → at < 2 ^ 64 → value < 256 ^ width
-    → write_of (join_with_byte 32 (attempt_words width at value ok) ++ 10 ∷ rest) ≡ Some (Write width at value ok, rest)
-unfolding write_of
+    → front_write (join_with_byte 32 (attempt_words width at value ok) ++ 10 ∷ rest) ≡ Some (Write width at value ok, rest)
+unfolding front_write
 write_again width at value ok rest h small fits = rw (attempt_again width at value ok rest h small fits) refl
 
 await_again : (width at value : ℕ) (ok : Bool) (rest : List ℕ) → IsTrue (is_width width) → at < 2 ^ 64 → value < 256 ^ width
-    → await_of (join_with_byte 32 (attempt_words width at value ok) ++ 10 ∷ rest) ≡ Some (Await width at value ok, rest)
-unfolding await_of
+    → front_await (join_with_byte 32 (attempt_words width at value ok) ++ 10 ∷ rest) ≡ Some (Await width at value ok, rest)
+unfolding front_await
 await_again width at value ok rest h small fits = rw (attempt_again width at value ok rest h small fits) refl
 
 fetch_again : (at : ℕ) (got : Option ℕ) (rest : List ℕ) → at < 2 ^ 64 → IfSome got (λ value. value < 2 ^ 32)
-    → fetch_of (join_with_byte 32 (hexadecimal at ∷ codes "=" ∷ got_text got ∷ []) ++ 10 ∷ rest) ≡ Some (Fetch at got, rest)
-unfolding fetch_of
+    → front_fetch (join_with_byte 32 (hexadecimal at ∷ codes "=" ∷ got_text got ∷ []) ++ 10 ∷ rest) ≡ Some (Fetch at got, rest)
+unfolding front_fetch
 fetch_again at got rest small fits =
     rw (
       behind_word (hexadecimal at) (61 ∷ 32 ∷ got_text got) (10 ∷ rest),
@@ -75,8 +75,8 @@ fetch_again at got rest small fits =
       got_again (2 ^ 32 - 1) got rest (omega arith) (instruction_below got fits),
     ) refl
 
-irq_again : (device vector : ℕ) (rest : List ℕ) → device < 2 ^ 32 → vector < 256 → irq_of (join_with_byte 32 (decimal device ∷ decimal vector ∷ []) ++ 10 ∷ rest) ≡ Some (Irq device vector, rest)
-unfolding irq_of
+irq_again : (device vector : ℕ) (rest : List ℕ) → device < 2 ^ 32 → vector < 256 → front_irq (join_with_byte 32 (decimal device ∷ decimal vector ∷ []) ++ 10 ∷ rest) ≡ Some (Irq device vector, rest)
+unfolding front_irq
 irq_again device vector rest d v =
     rw (
       behind_word (decimal device) (decimal vector) (10 ∷ rest),
@@ -85,9 +85,9 @@ irq_again device vector rest d v =
     ) refl
 
 -- a call with its code and its two arguments, and what comes of it
-call_by : (code a b : ℕ) (word rest : List ℕ) (act : Act) → code < 2 ^ 64 → a < 2 ^ 64 → b < 2 ^ 64 → outcome_of code a b (word ++ 10 ∷ rest) ≡ Some (act, rest)
-    → call_of (join_with_byte 32 (decimal code ∷ hexadecimal a ∷ hexadecimal b ∷ codes "=" ∷ word ∷ []) ++ 10 ∷ rest) ≡ Some (act, rest)
-unfolding call_of
+call_by : (code a b : ℕ) (word rest : List ℕ) (act : Act) → code < 2 ^ 64 → a < 2 ^ 64 → b < 2 ^ 64 → front_outcome code a b (word ++ 10 ∷ rest) ≡ Some (act, rest)
+    → front_call (join_with_byte 32 (decimal code ∷ hexadecimal a ∷ hexadecimal b ∷ codes "=" ∷ word ∷ []) ++ 10 ∷ rest) ≡ Some (act, rest)
+unfolding front_call
 call_by code a b word rest act c x y outcome =
     rw (
       behind_word (decimal code) (hexadecimal a ++ 32 ∷ (hexadecimal b ++ 32 ∷ 61 ∷ 32 ∷ word)) (10 ∷ rest),
@@ -99,17 +99,17 @@ call_by code a b word rest act c x y outcome =
       outcome,
     ) refl
 
-pub begin_again : (code a b : ℕ) (rest : List ℕ) → outcome_of code a b (codes "begin" ++ 10 ∷ rest) ≡ Some (Begin code a b, rest)
-unfolding outcome_of
+pub begin_again : (code a b : ℕ) (rest : List ℕ) → front_outcome code a b (codes "begin" ++ 10 ∷ rest) ≡ Some (Begin code a b, rest)
+unfolding front_outcome
 begin_again code a b rest = refl
 
-pub hvc_again : (code a b : ℕ) (answer : ℤ) (rest : List ℕ) → FitsSigned w64 answer → outcome_of code a b (signed_decimal answer ++ 10 ∷ rest) ≡ Some (Hvc code a b answer, rest)
-unfolding outcome_of
+pub hvc_again : (code a b : ℕ) (answer : ℤ) (rest : List ℕ) → FitsSigned w64 answer → front_outcome code a b (signed_decimal answer ++ 10 ∷ rest) ≡ Some (Hvc code a b answer, rest)
+unfolding front_outcome
 hvc_again code a b answer rest z =
     rw (answer_is_not answer rest 98 (101 ∷ 103 ∷ 105 ∷ 110 ∷ 10 ∷ []) z (omega arith) (omega arith) (omega arith), answer_again answer rest z) refl
 
-noted_again : (id : ℕ) (how : Heard) (rest : List ℕ) → id < 2 ^ 32 → noted_of (join_with_byte 32 (decimal id ∷ codes "=" ∷ heard_text how ∷ []) ++ 10 ∷ rest) ≡ Some (Noted id how, rest)
-unfolding noted_of
+noted_again : (id : ℕ) (how : Heard) (rest : List ℕ) → id < 2 ^ 32 → front_noted (join_with_byte 32 (decimal id ∷ codes "=" ∷ heard_text how ∷ []) ++ 10 ∷ rest) ≡ Some (Noted id how, rest)
+unfolding front_noted
 noted_again id how rest small =
     rw (
       behind_word (decimal id) (61 ∷ 32 ∷ heard_text how) (10 ∷ rest),
@@ -118,8 +118,8 @@ noted_again id how rest small =
     ) refl
 
 -- the words of each act lead to the act
-pub act_again : (act : Act) (rest : List ℕ) → IsReadableAct act → act_of (join_with_byte 32 (act_words act) ++ 10 ∷ rest) ≡ Some (act, rest)
-unfolding act_of act_of_call
+pub act_again : (act : Act) (rest : List ℕ) → IsReadableAct act → front_act (join_with_byte 32 (act_words act) ++ 10 ∷ rest) ≡ Some (act, rest)
+unfolding front_act front_act_of_call
 act_again (Read width at got) rest (h, small, fits) = read_again width at got rest h small fits
 act_again (Write width at value ok) rest (h, small, fits) = write_again width at value ok rest h small fits
 act_again (Fetch at got) rest (small, fits) = fetch_again at got rest small fits
@@ -159,8 +159,8 @@ line_parts cpu cell act rest =
     ∙ ap (λ t. cpu ++ 32 ∷ t) (behind_word cell act (10 ∷ rest))
 
 parts_again : (cpu cell : ℕ) (act : Act) (rest : List ℕ) → cpu < 16 → cell < 2 ^ 32 → IsReadableAct act
-    → entry_of (decimal cpu ++ 32 ∷ (decimal cell ++ 32 ∷ (join_with_byte 32 (act_words act) ++ 10 ∷ rest))) ≡ Some (record { cpu = cpu; cell = cell; act = act }, rest)
-unfolding entry_of
+    → front_entry (decimal cpu ++ 32 ∷ (decimal cell ++ 32 ∷ (join_with_byte 32 (act_words act) ++ 10 ∷ rest))) ≡ Some (record { cpu = cpu; cell = cell; act = act }, rest)
+unfolding front_entry
 parts_again cpu cell act rest c i h =
     rw (
       decimal_again 32 15 cpu (decimal cell ++ 32 ∷ (join_with_byte 32 (act_words act) ++ 10 ∷ rest)) refl (omega arith) (omega arith),
@@ -169,8 +169,8 @@ parts_again cpu cell act rest c i h =
     ) refl
 
 -- the line of an entry leads to the entry, and to what stands behind it
-pub entry_again : (entry : Entry) (rest : List ℕ) → IsReadable entry → entry_of (line entry ++ rest) ≡ Some (entry, rest)
+pub entry_again : (entry : Entry) (rest : List ℕ) → IsReadable entry → front_entry (line entry ++ rest) ≡ Some (entry, rest)
 entry_again entry rest h =
-    ap (λ t. entry_of ((t ++ 10 ∷ []) ++ rest)) (text_parts (decimal entry.cpu) (decimal entry.cell) entry.act)
-    ∙ ap entry_of (line_parts (decimal entry.cpu) (decimal entry.cell) (join_with_byte 32 (act_words entry.act)) rest)
+    ap (λ t. front_entry ((t ++ 10 ∷ []) ++ rest)) (text_parts (decimal entry.cpu) (decimal entry.cell) entry.act)
+    ∙ ap front_entry (line_parts (decimal entry.cpu) (decimal entry.cell) (join_with_byte 32 (act_words entry.act)) rest)
     ∙ parts_again entry.cpu entry.cell entry.act rest h.cpu h.cell h.act

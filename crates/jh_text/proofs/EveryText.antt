@@ -13,7 +13,7 @@ use Rattle.jh_text.specs.declared.fault.TheConstants.{MAX_ENTRIES}
 use Rattle.jh_text.specs.Ranges.{is_width, IsReadableAct, IsReadable}
 use Rattle.jh_text.specs.Text.{entry_text, line, journal_text}
 use Rattle.jh_text.specs.Faults.{BeginsWithLine, BeginsWithNoLine, HasAnswer}
-use Rattle.jh_text.specs.Private.Reading.{entry_of}
+use Rattle.jh_text.specs.Private.Reading.{front_entry}
 use Rattle.jh_text.proofs.Lines.{no_line, first_entry, all_push, text_push, too_long}
 
 -- ---- whether an entry is readable is told by its numbers
@@ -89,14 +89,14 @@ readable entry = elim (three (below entry.cpu 16) (below entry.cell (2 ^ 32)) (r
 
 -- ---- a text begins with a line, or with none
 
-line_by : (text rest : List ℕ) (found : Entry) → entry_of text ≡ Some (found, rest) → text ≡ line found ++ rest → BeginsWithLine text ⊎ BeginsWithNoLine text
+line_by : (text rest : List ℕ) (found : Entry) → front_entry text ≡ Some (found, rest) → text ≡ line found ++ rest → BeginsWithLine text ⊎ BeginsWithNoLine text
 line_by text rest found read spelled = elim (readable found) as (λ _. BeginsWithLine text ⊎ BeginsWithNoLine text) [
   | inl h ↦ inl (record { entry = found; rest = rest; readable = h; whole = spelled })
   | inr never ↦ inr (λ entry more h e. never (subst IsReadable (sym (first_entry text rest more found entry read h e).0) h))
 ]
 
 -- an entry is read, with this line or with another
-line_if : (text rest : List ℕ) (found : Entry) → entry_of text ≡ Some (found, rest) → BeginsWithLine text ⊎ BeginsWithNoLine text
+line_if : (text rest : List ℕ) (found : Entry) → front_entry text ≡ Some (found, rest) → BeginsWithLine text ⊎ BeginsWithNoLine text
 line_if text rest found read = elim (cases_Bool (bytes_eq text (line found ++ rest))) as (λ _. BeginsWithLine text ⊎ BeginsWithNoLine text) [
   | inl same ↦ line_by text rest found read ((bytes_eq-Decides text (line found ++ rest)).0 same)
   | inr differ ↦ inr (λ entry more h e.
@@ -105,7 +105,7 @@ line_if text rest found read = elim (cases_Bool (bytes_eq text (line found ++ re
       false≢true (sym differ ∙ (bytes_eq-Decides text (line found ++ rest)).1 spelled))
 ]
 
-first_by : (text : List ℕ) (o : Option (Entry × List ℕ)) → entry_of text ≡ o → BeginsWithLine text ⊎ BeginsWithNoLine text
+first_by : (text : List ℕ) (o : Option (Entry × List ℕ)) → front_entry text ≡ o → BeginsWithLine text ⊎ BeginsWithNoLine text
 first_by text None none = inr (no_line text none)
 first_by text (Some x) read = line_if text x.1 x.0 read
 
@@ -123,7 +123,7 @@ answer_from : (most : ℕ) (text : List ℕ) (before : List Entry) (rest : List 
 answer_from most text before [] all within whole small =
     inl (before, record { readable = all; within = within; whole = whole ∙ append-nil (journal_text before) })
 answer_from zero text before (c ∷ cs) all within whole small = absurd (let no : ⊥ = omega arith in no)
-answer_from (suc most) text before (c ∷ cs) all within whole small = elim (first_by (c ∷ cs) (entry_of (c ∷ cs)) refl) as (λ _. HasAnswer text) [
+answer_from (suc most) text before (c ∷ cs) all within whole small = elim (first_by (c ∷ cs) (front_entry (c ∷ cs)) refl) as (λ _. HasAnswer text) [
   | inr none ↦ inr (inl (length before + 1, record { before = before; rest = c ∷ cs; readable = all; within = within; number_is = refl; whole = whole; more = no_nil c cs; bad = none }))
   | inl first ↦ elim (cases_lt (length before) MAX_ENTRIES) as (λ _. HasAnswer text) [
     | inl room ↦

@@ -7,23 +7,23 @@ use Rattle.jh_text.specs.Ranges.{IsReadable}
 use Rattle.jh_text.specs.Text.{line, journal_text}
 use Rattle.jh_text.specs.declared.fault.TheConstants.{MAX_ENTRIES}
 use Rattle.jh_text.specs.Faults.{BeginsWithNoLine, IsTooLong}
-use Rattle.jh_text.specs.Private.Reading.{entry_of}
+use Rattle.jh_text.specs.Private.Reading.{front_entry}
 use Rattle.jh_text.proofs.Acts.{entry_again}
 
 -- where a line ends, and which entry's it is, is told by the text alone
 pub one_line : (entry other : Entry) (rest more : List ℕ) → IsReadable entry → IsReadable other → line entry ++ rest ≡ line other ++ more → (entry ≡ other) × (rest ≡ more)
 one_line entry other rest more h k e =
-    let parts : (entry, rest) ≡ (other, more) = same_Some _ _ (sym (entry_again entry rest h) ∙ ap entry_of e ∙ entry_again other more k) in
+    let parts : (entry, rest) ≡ (other, more) = same_Some _ _ (sym (entry_again entry rest h) ∙ ap front_entry e ∙ entry_again other more k) in
     (ap (λ (x : Entry × List ℕ). x.0) parts, ap (λ (x : Entry × List ℕ). x.1) parts)
 
 -- where no entry is read, no line begins
-pub no_line : (text : List ℕ) → entry_of text ≡ None → BeginsWithNoLine text
-no_line text none = λ entry rest h e. none-some _ (sym none ∙ ap entry_of e ∙ entry_again entry rest h)
+pub no_line : (text : List ℕ) → front_entry text ≡ None → BeginsWithNoLine text
+no_line text none = λ entry rest h e. none-some _ (sym none ∙ ap front_entry e ∙ entry_again entry rest h)
 
 -- what is read of the text is the entry with whose line it begins
-pub first_entry : (text rest more : List ℕ) (found entry : Entry) → entry_of text ≡ Some (found, rest) → IsReadable entry → text ≡ line entry ++ more → (found ≡ entry) × (rest ≡ more)
+pub first_entry : (text rest more : List ℕ) (found entry : Entry) → front_entry text ≡ Some (found, rest) → IsReadable entry → text ≡ line entry ++ more → (found ≡ entry) × (rest ≡ more)
 first_entry text rest more found entry read h e =
-    let parts : (found, rest) ≡ (entry, more) = same_Some _ _ (sym read ∙ ap entry_of e ∙ entry_again entry more h) in
+    let parts : (found, rest) ≡ (entry, more) = same_Some _ _ (sym read ∙ ap front_entry e ∙ entry_again entry more h) in
     (ap (λ (x : Entry × List ℕ). x.0) parts, ap (λ (x : Entry × List ℕ). x.1) parts)
 
 pub all_push : (entries : List Entry) (entry : Entry) → AllByRecursion IsReadable entries → IsReadable entry → AllByRecursion IsReadable (entries ++ entry ∷ [])

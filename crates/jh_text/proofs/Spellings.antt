@@ -15,7 +15,7 @@ use Rattle.jh_history.specs.declared.entry.Heard.{Heard}
 use Rattle.jh_history.specs.declared.entry.Heard.TheVariants as heard
 use Rattle.jh_text.specs.Ranges.{is_width}
 use Rattle.jh_text.specs.Text.{hexadecimal, got_text, ok_text, decision_text, settled_text, heard_text}
-use Rattle.jh_text.specs.Private.Reading.{mapped, begins, max_u64, number_until, hexadecimal_until, answer_of, negative, width_digit, width_of, got_of, ok_of, decision_of, settled_of, heard_of}
+use Rattle.jh_text.specs.Private.Reading.{mapped, begins, max_u64, number_until, hexadecimal_until, front_answer, negative, width_digit, front_width, front_got, front_ok, front_decision, front_settled, front_heard}
 use Rattle.jh_text.proofs.Numbers.{number_again}
 use Rattle.jh_history.proofs.Public.{width_le}
 
@@ -27,16 +27,16 @@ unfolding hexadecimal_until
 hexadecimal_again end most n rest none small fits = number_again 16 end most n rest (omega arith) (omega arith) none (omega arith) small fits
 
 -- digits begin with no sign and no letter above `f`
-unsigned : (ds rest : List ℕ) (n : ℕ) → AllDigits 10 ds → 0 < length ds → number_until 10 10 (2 ^ 63 - 1) (ds ++ 10 ∷ rest) ≡ Some (n, rest) → answer_of (ds ++ 10 ∷ rest) ≡ Some (pos n, rest)
-unfolding answer_of
+unsigned : (ds rest : List ℕ) (n : ℕ) → AllDigits 10 ds → 0 < length ds → number_until 10 10 (2 ^ 63 - 1) (ds ++ 10 ∷ rest) ≡ Some (n, rest) → front_answer (ds ++ 10 ∷ rest) ≡ Some (pos n, rest)
+unfolding front_answer
 unsigned [] rest n all some read = absurd (omega arith)
 unsigned (d ∷ ds) rest n all some read = rw (ne_eqb d 45 (λ e. omega (arith, all.0, ap digit_value e)), read) refl
 
 minus : (n : ℕ) → suc n ≤ 2 ^ 63 → negative (suc n) ≡ Some (negsuc n)
 minus n fits = rw (ne_eqb (suc n) 0 (λ e. omega arith), le-leb (suc n) (2 ^ 63) fits) (ap Some (omega (arith, ints)))
 
-pub answer_again : (z : ℤ) (rest : List ℕ) → FitsSigned w64 z → answer_of (signed_decimal z ++ 10 ∷ rest) ≡ Some (z, rest)
-unfolding answer_of
+pub answer_again : (z : ℤ) (rest : List ℕ) → FitsSigned w64 z → front_answer (signed_decimal z ++ 10 ∷ rest) ≡ Some (z, rest)
+unfolding front_answer
 answer_again (pos n) rest fits =
     let small : n < 2 ^ 63 = omega (arith, ints) in
     let own = decimal_is_IsNumeral n (omega arith) in
@@ -59,9 +59,9 @@ answer_is_not (negsuc n) rest c cs fits letter feed sign = rw (ne_eqb 45 c sign)
 width_cases : (width : ℕ) → IsTrue (is_width width) → (width ≡ 1) ⊎ (width ≡ 2) ⊎ (width ≡ 4) ⊎ (width ≡ 8)
 width_cases width h = grind arith
 
-pub width_again : (width : ℕ) (rest : List ℕ) → IsTrue (is_width width) → width_of (decimal width ++ 32 ∷ rest) ≡ Some (width, rest)
-unfolding width_of digits
-width_again width rest h = elim (width_cases width h) as (λ _. width_of (decimal width ++ 32 ∷ rest) ≡ Some (width, rest)) [
+pub width_again : (width : ℕ) (rest : List ℕ) → IsTrue (is_width width) → front_width (decimal width ++ 32 ∷ rest) ≡ Some (width, rest)
+unfolding front_width digits
+width_again width rest h = elim (width_cases width h) as (λ _. front_width (decimal width ++ 32 ∷ rest) ≡ Some (width, rest)) [
   | inl one ↦ rw one refl
   | inr (inl two) ↦ rw two refl
   | inr (inr (inl four)) ↦ rw four refl
@@ -95,29 +95,29 @@ width_spelled width (c ∷ d ∷ rest) long space digit = rw (digit_of_width c w
 pub widest : (width : ℕ) → IsTrue (is_width width) → 256 ^ width ≤ 2 ^ 64
 widest width h = omega (arith, pow-le-pow_right {n = 256} (omega arith) {i = width} {j = 8} (width_le width h))
 
-pub got_again : (most : ℕ) (got : Option ℕ) (rest : List ℕ) → most < 2 ^ 64 → IfSome got (λ value. value ≤ most) → got_of most (got_text got ++ 10 ∷ rest) ≡ Some (got, rest)
-unfolding got_of
+pub got_again : (most : ℕ) (got : Option ℕ) (rest : List ℕ) → most < 2 ^ 64 → IfSome got (λ value. value ≤ most) → front_got most (got_text got ++ 10 ∷ rest) ≡ Some (got, rest)
+unfolding front_got
 got_again most None rest room fits = refl
 got_again most (Some value) rest room fits = ap (mapped Some) (hexadecimal_again 10 most value rest refl (omega arith) fits)
 
-pub ok_again : (ok : Bool) (rest : List ℕ) → ok_of (ok_text ok ++ 10 ∷ rest) ≡ Some (ok, rest)
-unfolding ok_of
+pub ok_again : (ok : Bool) (rest : List ℕ) → front_ok (ok_text ok ++ 10 ∷ rest) ≡ Some (ok, rest)
+unfolding front_ok
 ok_again true rest = refl
 ok_again false rest = refl
 
-pub decision_again : (refused : Option ℤ) (rest : List ℕ) → IfSome refused (FitsSigned w64) → decision_of (decision_text refused ++ 10 ∷ rest) ≡ Some (refused, rest)
-unfolding decision_of
+pub decision_again : (refused : Option ℤ) (rest : List ℕ) → IfSome refused (FitsSigned w64) → front_decision (decision_text refused ++ 10 ∷ rest) ≡ Some (refused, rest)
+unfolding front_decision
 decision_again None rest fits = refl
 decision_again (Some z) rest fits = rw (answer_is_not z rest 103 (111 ∷ 10 ∷ []) fits (omega arith) (omega arith) (omega arith), answer_again z rest fits) refl
 
-pub settled_again : (how : Settled) (rest : List ℕ) → settled_of (settled_text how ++ 10 ∷ rest) ≡ Some (how, rest)
-unfolding settled_of
+pub settled_again : (how : Settled) (rest : List ℕ) → front_settled (settled_text how ++ 10 ∷ rest) ≡ Some (how, rest)
+unfolding front_settled
 settled_again settled.Agreed rest = refl
 settled_again settled.Denied rest = refl
 settled_again settled.Timeout rest = refl
 
-pub heard_again : (how : Heard) (rest : List ℕ) → heard_of (heard_text how ++ 10 ∷ rest) ≡ Some (how, rest)
-unfolding heard_of
+pub heard_again : (how : Heard) (rest : List ℕ) → front_heard (heard_text how ++ 10 ∷ rest) ≡ Some (how, rest)
+unfolding front_heard
 heard_again heard.Received rest = refl
 heard_again heard.Down rest = refl
 heard_again heard.Other rest = refl

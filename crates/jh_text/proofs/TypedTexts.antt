@@ -17,7 +17,7 @@ use Rattle.jh_history.specs.declared.entry.Heard.TheVariants as heard
 use Rattle.jh_text.specs.Ranges.{IsTypedAct, IsTyped}
 use Rattle.jh_text.specs.Text.{hexadecimal, got_text, ok_text, decision_text, settled_text, heard_text, act_words, entry_words, entry_text, line, journal_text}
 use Rattle.jh_script.specs.Operations.{◌>>=◌}
-use Rattle.jh_text.specs.Private.Reading.{max_u64, number_until, hexadecimal_until, answer_of, got_of, ok_of, decision_of, settled_of, heard_of, outcome_of}
+use Rattle.jh_text.specs.Private.Reading.{max_u64, number_until, hexadecimal_until, front_answer, front_got, front_ok, front_decision, front_settled, front_heard, front_outcome}
 use Rattle.jh_text.proofs.Numbers.{Lacks_digits}
 use Rattle.jh_text.proofs.Splits.{Lacks, Lacks_cons, Lacks_append, split_once, split_once_front}
 use Rattle.jh_text.proofs.Spellings.{decimal_again, hexadecimal_again, answer_again, got_again, ok_again, decision_again, settled_again, heard_again}
@@ -128,16 +128,16 @@ abbrev address : List ℕ → Option ℕ
 address = of_word (hexadecimal_until 10 max_u64)
 
 access : List (List ℕ) → Option (ℕ × ℕ × Option ℕ)
-access (width ∷ at ∷ sign ∷ got ∷ []) = number 255 width >>= λ w. address at >>= λ a. of_word (got_of max_u64) got >>= λ g. Some (w, a, g)
+access (width ∷ at ∷ sign ∷ got ∷ []) = number 255 width >>= λ w. address at >>= λ a. of_word (front_got max_u64) got >>= λ g. Some (w, a, g)
 access _ = None
 
 attempt : List (List ℕ) → Option (ℕ × ℕ × ℕ × Bool)
 attempt (width ∷ at ∷ value ∷ sign ∷ ok ∷ []) =
-    number 255 width >>= λ w. address at >>= λ a. address value >>= λ v. of_word ok_of ok >>= λ o. Some (w, a, v, o)
+    number 255 width >>= λ w. address at >>= λ a. address value >>= λ v. of_word front_ok ok >>= λ o. Some (w, a, v, o)
 attempt _ = None
 
 fetched : List (List ℕ) → Option (ℕ × Option ℕ)
-fetched (at ∷ sign ∷ got ∷ []) = address at >>= λ a. of_word (got_of max_u64) got >>= λ g. Some (a, g)
+fetched (at ∷ sign ∷ got ∷ []) = address at >>= λ a. of_word (front_got max_u64) got >>= λ g. Some (a, g)
 fetched _ = None
 
 interrupt : List (List ℕ) → Option (ℕ × ℕ)
@@ -146,7 +146,7 @@ interrupt _ = None
 
 call : List (List ℕ) → Option Act
 call (code ∷ first ∷ second ∷ sign ∷ last ∷ []) =
-    number max_u64 code >>= λ c. address first >>= λ a. address second >>= λ b. of_word (outcome_of c a b) last
+    number max_u64 code >>= λ c. address first >>= λ a. address second >>= λ b. of_word (front_outcome c a b) last
 call _ = None
 
 second : List (List ℕ) → List ℕ
@@ -154,7 +154,7 @@ second (sign ∷ word ∷ []) = word
 second _ = []
 
 noted : List (List ℕ) → Option (ℕ × Heard)
-noted (id ∷ sign ∷ how ∷ []) = number (2 ^ 32 - 1) id >>= λ n. of_word heard_of how >>= λ h. Some (n, h)
+noted (id ∷ sign ∷ how ∷ []) = number (2 ^ 32 - 1) id >>= λ n. of_word front_heard how >>= λ h. Some (n, h)
 noted _ = None
 
 first : List (List ℕ) → List ℕ
@@ -170,12 +170,12 @@ by_name name rest =
     else (if bytes_eq name (codes "irq") then (interrupt rest >>= λ x. Some (Irq x.0 x.1))
     else (if bytes_eq name (codes "hvc") then call rest
     else (if bytes_eq name (codes "stop") then Some Stop
-    else (if bytes_eq name (codes "decide") then (of_word decision_of (second rest) >>= λ r. Some (Decide r))
-    else (if bytes_eq name (codes "settle") then (of_word settled_of (second rest) >>= λ h. Some (Settle h))
+    else (if bytes_eq name (codes "decide") then (of_word front_decision (second rest) >>= λ r. Some (Decide r))
+    else (if bytes_eq name (codes "settle") then (of_word front_settled (second rest) >>= λ h. Some (Settle h))
     else (if bytes_eq name (codes "commit") then Some Commit
     else (if bytes_eq name (codes "note") then (number (2 ^ 32 - 1) (first rest) >>= λ n. Some (Note n))
     else (if bytes_eq name (codes "noted") then (noted rest >>= λ x. Some (Noted x.0 x.1))
-    else (if bytes_eq name (codes "finish") then (of_word answer_of (second rest) >>= λ z. Some (Finish z))
+    else (if bytes_eq name (codes "finish") then (of_word front_answer (second rest) >>= λ z. Some (Finish z))
     else None))))))))))))
 
 told : List (List ℕ) → Option Act
@@ -202,10 +202,10 @@ got_small : (got : Option ℕ) → IfSome got (λ value. value < 2 ^ 64) → IfS
 got_small None fits = tt
 got_small (Some value) fits = omega arith
 
-value_again : (got : Option ℕ) → IfSome got (λ value. value < 2 ^ 64) → of_word (got_of max_u64) (got_text got) ≡ Some got
+value_again : (got : Option ℕ) → IfSome got (λ value. value < 2 ^ 64) → of_word (front_got max_u64) (got_text got) ≡ Some got
 value_again got fits = read_again _ got [] (got_again max_u64 got [] (omega arith) (got_small got fits))
 
-granted_again : (ok : Bool) → of_word ok_of (ok_text ok) ≡ Some ok
+granted_again : (ok : Bool) → of_word front_ok (ok_text ok) ≡ Some ok
 granted_again ok = read_again _ ok [] (ok_again ok [])
 
 told_again : (act : Act) → IsTypedAct act → told (act_words act) ≡ Some act

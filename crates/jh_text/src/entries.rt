@@ -3,7 +3,7 @@ ghost use Rattle.std.specs.Prelude.{◌≡◌, ◌^◌, ◌<◌, ◌∷◌, ◌+
 ghost use Rattle.std.specs.List.{join_with_byte};
 ghost use Rattle.jh_text.specs.Ranges.{is_width, IsReadableAct, IsReadable};
 ghost use Rattle.jh_text.specs.Text.{act_text, attempt_words, line};
-ghost use Rattle.jh_text.specs.Private.Reading.{Reads, attempt_of, read_of, write_of, await_of, fetch_of, irq_of, outcome_of, call_of, noted_of, act_of_call, act_of, entry_of};
+ghost use Rattle.jh_text.specs.Private.Reading.{Reads, front_attempt, front_read, front_write, front_await, front_fetch, front_irq, front_outcome, front_call, front_noted, front_act_of_call, front_act, front_entry};
 
 use crate::outcomes::{read_decision, read_got, read_heard, read_ok, read_settled};
 use crate::reader::Reader;
@@ -12,9 +12,9 @@ use jh_history::{Act, Entry};
 use jh_script::max_of_width;
 
 /// The entry with whose line the text begins, which is passed over. Where there is none, what is left tells nothing.
-#[tactic(auto, unfolding(crate::specs::Private::Reading::entry_of))]
+#[tactic(auto, unfolding(crate::specs::Private::Reading::front_entry))]
 pub(crate) fn entry(text: &mut Reader) -> Option<Entry>
-    ensures value { Reads result text.new (entry_of text.old) }
+    ensures value { Reads result text.new (front_entry text.old) }
     ensures readable { IfSome result IsReadable }
     ensures spelled { IfSome result (λ entry. text.old ≡ line entry ++ text.new) }
 {
@@ -25,9 +25,9 @@ pub(crate) fn entry(text: &mut Reader) -> Option<Entry>
 }
 
 /// An act: an access, an interrupt, or one of a call.
-#[tactic(auto, unfolding(crate::specs::Private::Reading::act_of))]
+#[tactic(auto, unfolding(crate::specs::Private::Reading::front_act))]
 fn act(text: &mut Reader) -> Option<Act>
-    ensures value { Reads result text.new (act_of text.old) }
+    ensures value { Reads result text.new (front_act text.old) }
     ensures readable { IfSome result IsReadableAct }
     ensures spelled { IfSome result (λ act. text.old ≡ act_text act ++ 10 ∷ text.new) }
 {
@@ -50,9 +50,9 @@ fn act(text: &mut Reader) -> Option<Act>
 }
 
 /// A hypercall, an act of a call that is open, or a stop.
-#[tactic(auto, unfolding(crate::specs::Private::Reading::act_of_call))]
+#[tactic(auto, unfolding(crate::specs::Private::Reading::front_act_of_call))]
 fn act_of_call(text: &mut Reader) -> Option<Act>
-    ensures value { Reads result text.new (act_of_call text.old) }
+    ensures value { Reads result text.new (front_act_of_call text.old) }
     ensures readable { IfSome result IsReadableAct }
     ensures spelled { IfSome result (λ act. text.old ≡ act_text act ++ 10 ∷ text.new) }
 {
@@ -88,9 +88,9 @@ fn act_of_call(text: &mut Reader) -> Option<Act>
 }
 
 /// A read, behind its name.
-#[tactic(auto, unfolding(crate::specs::Private::Reading::read_of))]
+#[tactic(auto, unfolding(crate::specs::Private::Reading::front_read))]
 fn read(text: &mut Reader) -> Option<Act>
-    ensures value { Reads result text.new (read_of text.old) }
+    ensures value { Reads result text.new (front_read text.old) }
     ensures readable { IfSome result IsReadableAct }
     ensures spelled { IfSome result (λ act. codes "read " ++ text.old ≡ act_text act ++ 10 ∷ text.new) }
 {
@@ -104,9 +104,9 @@ fn read(text: &mut Reader) -> Option<Act>
 }
 
 /// A write, behind its name.
-#[tactic(auto, unfolding(crate::specs::Private::Reading::write_of))]
+#[tactic(auto, unfolding(crate::specs::Private::Reading::front_write))]
 fn write(text: &mut Reader) -> Option<Act>
-    ensures value { Reads result text.new (write_of text.old) }
+    ensures value { Reads result text.new (front_write text.old) }
     ensures readable { IfSome result IsReadableAct }
     ensures spelled { IfSome result (λ act. codes "write " ++ text.old ≡ act_text act ++ 10 ∷ text.new) }
 {
@@ -120,9 +120,9 @@ fn write(text: &mut Reader) -> Option<Act>
 }
 
 /// A wait for a value, behind its name.
-#[tactic(auto, unfolding(crate::specs::Private::Reading::await_of))]
+#[tactic(auto, unfolding(crate::specs::Private::Reading::front_await))]
 fn wait(text: &mut Reader) -> Option<Act>
-    ensures value { Reads result text.new (await_of text.old) }
+    ensures value { Reads result text.new (front_await text.old) }
     ensures readable { IfSome result IsReadableAct }
     ensures spelled { IfSome result (λ act. codes "await " ++ text.old ≡ act_text act ++ 10 ∷ text.new) }
 {
@@ -137,9 +137,9 @@ fn wait(text: &mut Reader) -> Option<Act>
 
 /// The width, the address and the value of a write or a wait, and whether it was granted.
 #[inline(always)]
-#[tactic(auto, unfolding(crate::specs::Private::Reading::attempt_of))]
+#[tactic(auto, unfolding(crate::specs::Private::Reading::front_attempt))]
 fn attempt(text: &mut Reader) -> Option<(u8, u64, u64, bool)>
-    ensures value { Reads result text.new (attempt_of text.old) }
+    ensures value { Reads result text.new (front_attempt text.old) }
     ensures width { IfSome result (λ x. IsTrue (is_width x.0)) }
     ensures at { IfSome result (λ x. x.1 < 2 ^ 64) }
     ensures fits { IfSome result (λ x. x.2 < 256 ^ x.0) }
@@ -156,9 +156,9 @@ fn attempt(text: &mut Reader) -> Option<(u8, u64, u64, bool)>
 }
 
 /// A fetch, behind its name.
-#[tactic(auto, unfolding(crate::specs::Private::Reading::fetch_of))]
+#[tactic(auto, unfolding(crate::specs::Private::Reading::front_fetch))]
 fn fetch(text: &mut Reader) -> Option<Act>
-    ensures value { Reads result text.new (fetch_of text.old) }
+    ensures value { Reads result text.new (front_fetch text.old) }
     ensures readable { IfSome result IsReadableAct }
     ensures spelled { IfSome result (λ act. codes "fetch " ++ text.old ≡ act_text act ++ 10 ∷ text.new) }
 {
@@ -171,9 +171,9 @@ fn fetch(text: &mut Reader) -> Option<Act>
 }
 
 /// An interrupt, behind its name and the equals sign.
-#[tactic(auto, unfolding(crate::specs::Private::Reading::irq_of))]
+#[tactic(auto, unfolding(crate::specs::Private::Reading::front_irq))]
 fn irq(text: &mut Reader) -> Option<Act>
-    ensures value { Reads result text.new (irq_of text.old) }
+    ensures value { Reads result text.new (front_irq text.old) }
     ensures readable { IfSome result IsReadableAct }
     ensures spelled { IfSome result (λ act. codes "irq = " ++ text.old ≡ act_text act ++ 10 ∷ text.new) }
 {
@@ -183,9 +183,9 @@ fn irq(text: &mut Reader) -> Option<Act>
 }
 
 /// A hypercall, behind its name.
-#[tactic(auto, unfolding(crate::specs::Private::Reading::call_of, crate::specs::Private::Reading::outcome_of))]
+#[tactic(auto, unfolding(crate::specs::Private::Reading::front_call, crate::specs::Private::Reading::front_outcome))]
 fn call(text: &mut Reader) -> Option<Act>
-    ensures value { Reads result text.new (call_of text.old) }
+    ensures value { Reads result text.new (front_call text.old) }
     ensures readable { IfSome result IsReadableAct }
     ensures spelled { IfSome result (λ act. codes "hvc " ++ text.old ≡ act_text act ++ 10 ∷ text.new) }
 {
@@ -203,9 +203,9 @@ fn call(text: &mut Reader) -> Option<Act>
 }
 
 /// How a cell met the note of a change, behind the name.
-#[tactic(auto, unfolding(crate::specs::Private::Reading::noted_of))]
+#[tactic(auto, unfolding(crate::specs::Private::Reading::front_noted))]
 fn noted(text: &mut Reader) -> Option<Act>
-    ensures value { Reads result text.new (noted_of text.old) }
+    ensures value { Reads result text.new (front_noted text.old) }
     ensures readable { IfSome result IsReadableAct }
     ensures spelled { IfSome result (λ act. codes "noted " ++ text.old ≡ act_text act ++ 10 ∷ text.new) }
 {

@@ -24,6 +24,7 @@ pub(crate) fn push_decimal(text: &mut Vec<u8>, n: u64) -> Result<(), NoMemory>
 }
 
 /// Puts the decimal digits of the number at the end, however many they are.
+// A call of its own, so that `push_decimal`, which is inlined, brings only the case of one digit into its callers.
 #[inline(never)]
 fn push_digits(text: &mut Vec<u8>, n: u64) -> Result<(), NoMemory>
     ensures { OnOk result (text.new.items ≡ text.old.items ++ decimal n) }

@@ -2,7 +2,7 @@
 ghost use Rattle.std.specs.Prelude.{◌≡◌, ◌≤◌, ◌∷◌, ◌++◌, IfSome, FitsSigned};
 ghost use Rattle.std.specs.Int.{w64};
 ghost use Rattle.jh_text.specs.Text.{got_text, ok_text, decision_text, settled_text, heard_text};
-ghost use Rattle.jh_text.specs.Private.Reading.{Reads, got_of, ok_of, decision_of, settled_of, heard_of};
+ghost use Rattle.jh_text.specs.Private.Reading.{Reads, front_got, front_ok, front_decision, front_settled, front_heard};
 
 use crate::reader::Reader;
 use jh_history::{Heard, Settled};
@@ -39,9 +39,9 @@ pub(crate) fn heard_word(how: Heard) -> &'static str
 
 /// What a read or a fetch gave; without a value where it was a violation.
 #[inline(always)]
-#[tactic(auto, unfolding(crate::specs::Private::Reading::got_of))]
+#[tactic(auto, unfolding(crate::specs::Private::Reading::front_got))]
 pub(crate) fn read_got(text: &mut Reader, most: u64) -> Option<Option<u64>>
-    ensures value { Reads result text.new (got_of most text.old) }
+    ensures value { Reads result text.new (front_got most text.old) }
     ensures bound { IfSome result (λ got. IfSome got (λ value. value ≤ most)) }
     ensures spelled { IfSome result (λ got. text.old ≡ got_text got ++ 10 ∷ text.new) }
 {
@@ -56,9 +56,9 @@ pub(crate) fn read_got(text: &mut Reader, most: u64) -> Option<Option<u64>>
 }
 
 /// Whether a write or a wait was granted.
-#[tactic(auto, unfolding(crate::specs::Private::Reading::ok_of))]
+#[tactic(auto, unfolding(crate::specs::Private::Reading::front_ok))]
 pub(crate) fn read_ok(text: &mut Reader) -> Option<bool>
-    ensures value { Reads result text.new (ok_of text.old) }
+    ensures value { Reads result text.new (front_ok text.old) }
     ensures spelled { IfSome result (λ ok. text.old ≡ ok_text ok ++ 10 ∷ text.new) }
 {
     if text.pass("ok\n") {
@@ -71,9 +71,9 @@ pub(crate) fn read_ok(text: &mut Reader) -> Option<bool>
 }
 
 /// The number with which a call is refused; without one where it goes on.
-#[tactic(auto, unfolding(crate::specs::Private::Reading::decision_of))]
+#[tactic(auto, unfolding(crate::specs::Private::Reading::front_decision))]
 pub(crate) fn read_decision(text: &mut Reader) -> Option<Option<i64>>
-    ensures value { Reads result text.new (decision_of text.old) }
+    ensures value { Reads result text.new (front_decision text.old) }
     ensures fits { IfSome result (λ refused. IfSome refused (FitsSigned w64)) }
     ensures spelled { IfSome result (λ refused. text.old ≡ decision_text refused ++ 10 ∷ text.new) }
 {
@@ -85,9 +85,9 @@ pub(crate) fn read_decision(text: &mut Reader) -> Option<Option<i64>>
 }
 
 /// How a cell met the request to shut down.
-#[tactic(auto, unfolding(crate::specs::Private::Reading::settled_of))]
+#[tactic(auto, unfolding(crate::specs::Private::Reading::front_settled))]
 pub(crate) fn read_settled(text: &mut Reader) -> Option<Settled>
-    ensures value { Reads result text.new (settled_of text.old) }
+    ensures value { Reads result text.new (front_settled text.old) }
     ensures spelled { IfSome result (λ how. text.old ≡ settled_text how ++ 10 ∷ text.new) }
 {
     if text.pass("agreed\n") {
@@ -103,9 +103,9 @@ pub(crate) fn read_settled(text: &mut Reader) -> Option<Settled>
 }
 
 /// How a cell met the note of a change.
-#[tactic(auto, unfolding(crate::specs::Private::Reading::heard_of))]
+#[tactic(auto, unfolding(crate::specs::Private::Reading::front_heard))]
 pub(crate) fn read_heard(text: &mut Reader) -> Option<Heard>
-    ensures value { Reads result text.new (heard_of text.old) }
+    ensures value { Reads result text.new (front_heard text.old) }
     ensures spelled { IfSome result (λ how. text.old ≡ heard_text how ++ 10 ∷ text.new) }
 {
     if text.pass("received\n") {

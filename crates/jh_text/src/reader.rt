@@ -4,7 +4,7 @@ ghost use Rattle.std.specs.Char.{digit_value};
 ghost use Rattle.std.specs.Fmt.{decimal, signed_decimal, digits};
 ghost use Rattle.jh_text.specs.Ranges.{is_width};
 ghost use Rattle.jh_text.specs.Text.{hexadecimal};
-ghost use Rattle.jh_text.specs.Private.Reading.{Finds, Reads, begins, behind, lower_digit, with_digit, with_written_digit, digits_until, begins_canonical, number_until, hexadecimal_until, negative, answer_of, width_digit, width_of};
+ghost use Rattle.jh_text.specs.Private.Reading.{Finds, Reads, begins, behind, lower_digit, with_digit, with_written_digit, digits_until, begins_canonical, number_until, hexadecimal_until, negative, front_answer, width_digit, front_width};
 
 use std::marker::Model;
 
@@ -77,7 +77,7 @@ fn begins_canonical(end: u8, text: &[u8]) -> bool
 
 /// The number that the digits before the end write, and what stands behind the end.
 #[inline(always)]
-fn digits(radix: u32, end: u8, text: &[u8]) -> Option<(u64, &[u8])>
+fn digits_until(radix: u32, end: u8, text: &[u8]) -> Option<(u64, &[u8])>
     requires low { 2 ≤ radix }
     requires high { radix ≤ 16 }
     requires end { digit_value end ≡ 36 }
@@ -102,7 +102,7 @@ fn digits(radix: u32, end: u8, text: &[u8]) -> Option<(u64, &[u8])>
 /// stands behind the end.
 #[inline(always)]
 #[tactic(auto, unfolding(crate::specs::Private::Reading::number_until))]
-fn number(radix: u32, end: u8, most: u64, text: &[u8]) -> Option<(u64, &[u8])>
+fn number_until(radix: u32, end: u8, most: u64, text: &[u8]) -> Option<(u64, &[u8])>
     requires low { 2 ≤ radix }
     requires high { radix ≤ 16 }
     requires end { digit_value end ≡ 36 }
@@ -113,7 +113,7 @@ fn number(radix: u32, end: u8, most: u64, text: &[u8]) -> Option<(u64, &[u8])>
     if !begins_canonical(end, text) {
         return None;
     }
-    let (n, rest) = digits(radix, end, text)?;
+    let (n, rest) = digits_until(radix, end, text)?;
     if most < n {
         return None;
     }
@@ -121,14 +121,15 @@ fn number(radix: u32, end: u8, most: u64, text: &[u8]) -> Option<(u64, &[u8])>
 }
 
 /// As `decimal_number`, whatever digits there are.
+// A call of its own, so that `decimal_number`, which is inlined, brings only the case of one digit into its callers.
 #[inline(never)]
-fn some_digits(end: u8, most: u64, text: &[u8]) -> Option<(u64, &[u8])>
+fn decimal_until(end: u8, most: u64, text: &[u8]) -> Option<(u64, &[u8])>
     requires end { digit_value end ≡ 36 }
     ensures value { Finds (λ x. (x.0, x.1.now)) result (number_until 10 end most text.now) }
     ensures bound { IfSome result (λ x. x.0 ≤ most) }
     ensures spelled { IfSome result (λ x. text.now ≡ decimal x.0 ++ end ∷ x.1.now) }
 {
-    number(10, end, most, text)
+    number_until(10, end, most, text)
 }
 
 /// The number whose decimal digits are the word before the end, where it is `most` at most, and what stands behind the
@@ -147,7 +148,7 @@ fn decimal_number(end: u8, most: u64, text: &[u8]) -> Option<(u64, &[u8])>
         }
         _ => {
             // Taken apart here, so that what the other arm gives stays in registers.
-            let (n, rest) = some_digits(end, most, text)?;
+            let (n, rest) = decimal_until(end, most, text)?;
             Some((n, rest))
         }
     }
@@ -239,7 +240,7 @@ impl<'a> Reader<'a> {
     {
         match self.rest {
             [b'0', b'x', text @ ..] => {
-                let (n, rest) = number(16, end, most, text)?;
+                let (n, rest) = number_until(16, end, most, text)?;
                 self.rest = rest;
                 Some(n)
             }
@@ -266,9 +267,9 @@ impl<'a> Reader<'a> {
 
     /// A number of 64 bits, with a minus sign where it is below 0: the last word of its line.
     #[inline(always)]
-    #[tactic(auto, unfolding(crate::specs::Private::Reading::answer_of))]
+    #[tactic(auto, unfolding(crate::specs::Private::Reading::front_answer))]
     pub(crate) fn answer(&mut self) -> Option<i64>
-        ensures value { Reads result self.new (answer_of self.old) }
+        ensures value { Reads result self.new (front_answer self.old) }
         ensures spelled { IfSome result (λ z. self.old ≡ signed_decimal z ++ 10 ∷ self.new) }
     {
         match self.rest {
@@ -287,9 +288,9 @@ impl<'a> Reader<'a> {
 
     /// The number of bytes of an access.
     #[inline(always)]
-    #[tactic(auto, unfolding(crate::specs::Private::Reading::width_of))]
+    #[tactic(auto, unfolding(crate::specs::Private::Reading::front_width))]
     pub(crate) fn width(&mut self) -> Option<u8>
-        ensures value { Reads result self.new (width_of self.old) }
+        ensures value { Reads result self.new (front_width self.old) }
         ensures width { IfSome result (λ width. IsTrue (is_width width)) }
         ensures spelled { IfSome result (λ width. self.old ≡ decimal width ++ 32 ∷ self.new) }
     {

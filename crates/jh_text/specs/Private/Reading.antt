@@ -96,9 +96,9 @@ abbrev pub negative : ℕ → Option ℤ
 negative n = if n == 0 then None else (if nat_le n (2 ^ 63) then Some (pos 0 -ℤ pos n) else None)
 
 -- the number of 64 bits with a sign that is the last word of its line
-unfoldable pub answer_of : List ℕ → Option (ℤ × List ℕ)
-answer_of [] = None
-answer_of (c ∷ text) =
+unfoldable pub front_answer : List ℕ → Option (ℤ × List ℕ)
+front_answer [] = None
+front_answer (c ∷ text) =
     if c == 45 then (number_until 10 10 max_u64 text >>= λ x. option_map (λ z. (z, x.1)) (negative x.0))
     else mapped pos (number_until 10 10 (2 ^ 63 - 1) (c ∷ text))
 
@@ -107,40 +107,40 @@ abbrev pub width_digit : ℕ → Option ℕ
 width_digit c = if is_width (c - 48) then Some (c - 48) else None
 
 -- a width has one digit, behind which a space stands
-unfoldable pub width_of : List ℕ → Option (ℕ × List ℕ)
-width_of [] = None
-width_of (c ∷ []) = None
-width_of (c ∷ d ∷ text) = if d == 32 then option_map (λ width. (width, text)) (width_digit c) else None
+unfoldable pub front_width : List ℕ → Option (ℕ × List ℕ)
+front_width [] = None
+front_width (c ∷ []) = None
+front_width (c ∷ d ∷ text) = if d == 32 then option_map (λ width. (width, text)) (width_digit c) else None
 
 -- ---- the last word of a line
 
 -- what a read or a fetch gave, at most `most`; no value where it was a violation
-unfoldable pub got_of : ℕ → List ℕ → Option (Option ℕ × List ℕ)
-got_of most text =
+unfoldable pub front_got : ℕ → List ℕ → Option (Option ℕ × List ℕ)
+front_got most text =
     if begins (codes "0") text then mapped Some (hexadecimal_until 10 most text)
     else (if begins (last (codes "violation")) text then Some (None, behind (last (codes "violation")) text) else None)
 
 -- whether a write or a wait was granted
-unfoldable pub ok_of : List ℕ → Option (Bool × List ℕ)
-ok_of text =
+unfoldable pub front_ok : List ℕ → Option (Bool × List ℕ)
+front_ok text =
     if begins (last (codes "ok")) text then Some (true, behind (last (codes "ok")) text)
     else (if begins (last (codes "violation")) text then Some (false, behind (last (codes "violation")) text) else None)
 
 -- the number with which a call is refused; none where it goes on
-unfoldable pub decision_of : List ℕ → Option (Option ℤ × List ℕ)
-decision_of text =
-    if begins (last (codes "go")) text then Some (None, behind (last (codes "go")) text) else mapped Some (answer_of text)
+unfoldable pub front_decision : List ℕ → Option (Option ℤ × List ℕ)
+front_decision text =
+    if begins (last (codes "go")) text then Some (None, behind (last (codes "go")) text) else mapped Some (front_answer text)
 
 -- how a cell met the request to shut down
-unfoldable pub settled_of : List ℕ → Option (Settled × List ℕ)
-settled_of text =
+unfoldable pub front_settled : List ℕ → Option (Settled × List ℕ)
+front_settled text =
     if begins (last (codes "agreed")) text then Some (settled.Agreed, behind (last (codes "agreed")) text)
     else (if begins (last (codes "denied")) text then Some (settled.Denied, behind (last (codes "denied")) text)
     else (if begins (last (codes "timeout")) text then Some (settled.Timeout, behind (last (codes "timeout")) text) else None))
 
 -- how a cell met the note of a change
-unfoldable pub heard_of : List ℕ → Option (Heard × List ℕ)
-heard_of text =
+unfoldable pub front_heard : List ℕ → Option (Heard × List ℕ)
+front_heard text =
     if begins (last (codes "received")) text then Some (heard.Received, behind (last (codes "received")) text)
     else (if begins (last (codes "down")) text then Some (heard.Down, behind (last (codes "down")) text)
     else (if begins (last (codes "other")) text then Some (heard.Other, behind (last (codes "other")) text)
@@ -149,92 +149,92 @@ heard_of text =
 -- ---- what stands behind the name of an act
 
 -- a read, behind its name
-unfoldable pub read_of : List ℕ → Option (Act × List ℕ)
-read_of text = do
-  width ← width_of text
+unfoldable pub front_read : List ℕ → Option (Act × List ℕ)
+front_read text = do
+  width ← front_width text
   at ← hexadecimal_until 32 max_u64 width.1
-  got ← behind_equals (got_of (256 ^ width.0 - 1)) at.1
+  got ← behind_equals (front_got (256 ^ width.0 - 1)) at.1
   Some (Read width.0 at.0 got.0, got.1)
 
 -- the width, the address and the value of a write or a wait, and whether it was granted
-unfoldable pub attempt_of : List ℕ → Option ((ℕ × ℕ × ℕ × Bool) × List ℕ)
-attempt_of text = do
-  width ← width_of text
+unfoldable pub front_attempt : List ℕ → Option ((ℕ × ℕ × ℕ × Bool) × List ℕ)
+front_attempt text = do
+  width ← front_width text
   at ← hexadecimal_until 32 max_u64 width.1
   value ← hexadecimal_until 32 (256 ^ width.0 - 1) at.1
-  ok ← behind_equals ok_of value.1
+  ok ← behind_equals front_ok value.1
   Some ((width.0, at.0, value.0, ok.0), ok.1)
 
 -- a write, behind its name
-unfoldable pub write_of : List ℕ → Option (Act × List ℕ)
-write_of text = mapped (λ x. Write x.0 x.1 x.2 x.3) (attempt_of text)
+unfoldable pub front_write : List ℕ → Option (Act × List ℕ)
+front_write text = mapped (λ x. Write x.0 x.1 x.2 x.3) (front_attempt text)
 
 -- a wait for a value, behind its name
-unfoldable pub await_of : List ℕ → Option (Act × List ℕ)
-await_of text = mapped (λ x. Await x.0 x.1 x.2 x.3) (attempt_of text)
+unfoldable pub front_await : List ℕ → Option (Act × List ℕ)
+front_await text = mapped (λ x. Await x.0 x.1 x.2 x.3) (front_attempt text)
 
 -- a fetch, behind its name
-unfoldable pub fetch_of : List ℕ → Option (Act × List ℕ)
-fetch_of text = do
+unfoldable pub front_fetch : List ℕ → Option (Act × List ℕ)
+front_fetch text = do
   at ← hexadecimal_until 32 max_u64 text
-  got ← behind_equals (got_of (2 ^ 32 - 1)) at.1
+  got ← behind_equals (front_got (2 ^ 32 - 1)) at.1
   Some (Fetch at.0 got.0, got.1)
 
 -- an interrupt, behind its name and the equals sign
-unfoldable pub irq_of : List ℕ → Option (Act × List ℕ)
-irq_of text = do
+unfoldable pub front_irq : List ℕ → Option (Act × List ℕ)
+front_irq text = do
   device ← number_until 10 32 (2 ^ 32 - 1) text
   vector ← number_until 10 10 255 device.1
   Some (Irq device.0 vector.0, vector.1)
 
 -- what comes of a call with its code and its arguments
-unfoldable pub outcome_of : ℕ → ℕ → ℕ → List ℕ → Option (Act × List ℕ)
-outcome_of code a b text =
+unfoldable pub front_outcome : ℕ → ℕ → ℕ → List ℕ → Option (Act × List ℕ)
+front_outcome code a b text =
     if begins (last (codes "begin")) text then Some (Begin code a b, behind (last (codes "begin")) text)
-    else mapped (Hvc code a b) (answer_of text)
+    else mapped (Hvc code a b) (front_answer text)
 
 -- a hypercall, behind its name
-unfoldable pub call_of : List ℕ → Option (Act × List ℕ)
-call_of text = do
+unfoldable pub front_call : List ℕ → Option (Act × List ℕ)
+front_call text = do
   code ← number_until 10 32 max_u64 text
   a ← hexadecimal_until 32 max_u64 code.1
   b ← hexadecimal_until 32 max_u64 a.1
-  behind_equals (outcome_of code.0 a.0 b.0) b.1
+  behind_equals (front_outcome code.0 a.0 b.0) b.1
 
 -- how a cell met the note of a change, behind the name
-unfoldable pub noted_of : List ℕ → Option (Act × List ℕ)
-noted_of text = do
+unfoldable pub front_noted : List ℕ → Option (Act × List ℕ)
+front_noted text = do
   id ← number_until 10 32 (2 ^ 32 - 1) text
-  how ← behind_equals heard_of id.1
+  how ← behind_equals front_heard id.1
   Some (Noted id.0 how.0, how.1)
 
 -- a hypercall, an act of a call that is open, or a stop
-unfoldable pub act_of_call : List ℕ → Option (Act × List ℕ)
-act_of_call text =
-    if begins (codes "hvc ") text then call_of (behind (codes "hvc ") text)
-    else (if begins (codes "decide = ") text then mapped Decide (decision_of (behind (codes "decide = ") text))
-    else (if begins (codes "settle = ") text then mapped Settle (settled_of (behind (codes "settle = ") text))
+unfoldable pub front_act_of_call : List ℕ → Option (Act × List ℕ)
+front_act_of_call text =
+    if begins (codes "hvc ") text then front_call (behind (codes "hvc ") text)
+    else (if begins (codes "decide = ") text then mapped Decide (front_decision (behind (codes "decide = ") text))
+    else (if begins (codes "settle = ") text then mapped Settle (front_settled (behind (codes "settle = ") text))
     else (if begins (codes "note ") text then mapped Note (number_until 10 10 (2 ^ 32 - 1) (behind (codes "note ") text))
-    else (if begins (codes "noted ") text then noted_of (behind (codes "noted ") text)
-    else (if begins (codes "finish = ") text then mapped Finish (answer_of (behind (codes "finish = ") text))
+    else (if begins (codes "noted ") text then front_noted (behind (codes "noted ") text)
+    else (if begins (codes "finish = ") text then mapped Finish (front_answer (behind (codes "finish = ") text))
     else (if begins (last (codes "stop")) text then Some (Stop, behind (last (codes "stop")) text)
     else (if begins (last (codes "commit")) text then Some (Commit, behind (last (codes "commit")) text)
     else None)))))))
 
 -- an act: an access, an interrupt, or one of a call
-unfoldable pub act_of : List ℕ → Option (Act × List ℕ)
-act_of text =
-    if begins (codes "read ") text then read_of (behind (codes "read ") text)
-    else (if begins (codes "write ") text then write_of (behind (codes "write ") text)
-    else (if begins (codes "fetch ") text then fetch_of (behind (codes "fetch ") text)
-    else (if begins (codes "await ") text then await_of (behind (codes "await ") text)
-    else (if begins (codes "irq = ") text then irq_of (behind (codes "irq = ") text)
-    else act_of_call text))))
+unfoldable pub front_act : List ℕ → Option (Act × List ℕ)
+front_act text =
+    if begins (codes "read ") text then front_read (behind (codes "read ") text)
+    else (if begins (codes "write ") text then front_write (behind (codes "write ") text)
+    else (if begins (codes "fetch ") text then front_fetch (behind (codes "fetch ") text)
+    else (if begins (codes "await ") text then front_await (behind (codes "await ") text)
+    else (if begins (codes "irq = ") text then front_irq (behind (codes "irq = ") text)
+    else front_act_of_call text))))
 
 -- the entry with whose line the text begins
-unfoldable pub entry_of : List ℕ → Option (Entry × List ℕ)
-entry_of text = do
+unfoldable pub front_entry : List ℕ → Option (Entry × List ℕ)
+front_entry text = do
   cpu ← number_until 10 32 15 text
   cell ← number_until 10 32 (2 ^ 32 - 1) cpu.1
-  act ← act_of cell.1
+  act ← front_act cell.1
   Some (record { cpu = cpu.0; cell = cell.0; act = act.0 }, act.1)

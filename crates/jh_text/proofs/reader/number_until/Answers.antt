@@ -2,7 +2,7 @@
 use Rattle.std.proofs.Common.{rules, ◌≡◌, Some}
 use Rattle.jh_text.specs.Private.Reading.{number_until}
 use Rattle.jh_text.proofs.Numbers.{number_spelled}
-use Rattle.jh_text.proofs.reader.number.Goals as goal
+use Rattle.jh_text.proofs.reader.number_until.Goals as goal
 
 pub returns-clause-spelled : goal.returns-clause-spelled
 unfolding number_until

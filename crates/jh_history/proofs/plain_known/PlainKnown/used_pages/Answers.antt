@@ -8,7 +8,7 @@ use Rattle.jh_script.specs.declared.image.Image.{Image}
 use Rattle.jh_cellcfg.specs.declared.live.Live.{Live}
 use Rattle.jh_shape.specs.Lives.{configs_of}
 use Rattle.jh_history.specs.Private.PlainView.{PlainView}
-use Rattle.jh_history.proofs.plain_known.PlainKnown.used.Goals as goal
+use Rattle.jh_history.proofs.plain_known.PlainKnown.used_pages.Goals as goal
 
 pub returns : goal.returns
 returns c = λ i f h.

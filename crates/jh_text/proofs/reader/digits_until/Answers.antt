@@ -2,8 +2,8 @@
 use Rattle.std.proofs.Common.{rules, ◌≡◌, ◌-◌, ◌≤◌, ◌<◌, None, Some, length, drop, get_or, length-drop, take_all, sym, ◌∙◌, arith}
 use Rattle.jh_text.specs.Private.Reading.{with_written_digit, digits_until}
 use Rattle.jh_text.proofs.Numbers.{until_end, until_digit, until_other, until_nothing}
-use Rattle.jh_text.proofs.reader.digits.Goals as goal
-use Rattle.jh_text.proofs.reader.digits.Goals.{in_default, in-len1-up+in_default-with_written_digit, in_default-rest-via-then-rest-lt1-2, in_default-rest-via-in-len1-up-rest+else-last-end}
+use Rattle.jh_text.proofs.reader.digits_until.Goals as goal
+use Rattle.jh_text.proofs.reader.digits_until.Goals.{in_default, in-len1-up+in_default-with_written_digit, in_default-rest-via-then-rest-lt1-2, in_default-rest-via-in-len1-up-rest+else-last-end}
 
 pub loop-rest-preserved : goal.loop-rest-preserved
 loop-rest-preserved c =
