@@ -34,6 +34,15 @@ pub struct JudgedCreate {
     pub creation: Creation,
 }
 
+impl JudgedCreate {
+    /// Whether this was found of the create by the caller, of the configuration at the address.
+    fn is_of(&self, caller: u8, at: u64) -> bool
+        ensures { IsTrue result ↔ ((self.now.caller ≡ caller) × (self.now.at ≡ at)) }
+    {
+        self.caller == caller && self.at == at
+    }
+}
+
 /// What a board holds, lent to what reads it, and what was found of the create that is about to be decided.
 #[derive(Drop)]
 pub struct State<'a> {
@@ -141,7 +150,7 @@ impl<'a> Known for State<'a> {
 
     fn refusal(&self, caller: u8, at: u64) -> Result<Option<i64>, NoMemory> {
         if let Some(found) = self.found {
-            if found.caller == caller && found.at == at {
+            if found.is_of(caller, at) {
                 return Ok(found.creation.refusal());
             }
         }
@@ -273,7 +282,7 @@ pub fn creation_of(
     ensures { (f : Facts) → Means image.now held.now f → IfOk result (λ creation. creation ≡ creation_of image.now f caller at) }
 {
     if let Some(found) = found {
-        if found.caller == caller && found.at == at {
+        if found.is_of(caller, at) {
             return Ok(found.creation);
         }
     }
