@@ -208,6 +208,7 @@ fn create_to_decide(held: &Held) -> Option<(u8, u64)> {
 }
 
 /// Finds what comes of the create by the caller, of the configuration at the address, where the CPU decides it next.
+// few entries are the Decide of a create: out of line, this leaves the path of all others short
 #[inline(never)]
 fn find_create_by(
     image: &IndexedImage,
