@@ -44,8 +44,8 @@ program_in image cell cpu = program_ops image (name_of cell) cpu
 abbrev pub op_before : AdmittedMoment → CellConfig → Option Op
 op_before m cell = slice_get (program_in m.image cell m.entry.cpu) (state_before m m.entry.cpu).position
 
--- the cell's operation is due after the entries, where root has no ivshmem device and no program a hypercall: an interrupt
--- is never due there, there is no hypercall, and any other operation is due as it is anywhere
+-- the cell's operation is due after the entries, where root has no ivshmem device and no program a hypercall: there an
+-- interrupt is never due, there is no hypercall, and any other operation is due as it is anywhere
 abbrev pub IsDueOp : Image → List Entry → CellConfig → Op → Type 0
 IsDueOp image entries cell IrqOp = ⊥
 IsDueOp image entries cell (HvcOp code a b) = ⊥
