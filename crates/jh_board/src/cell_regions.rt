@@ -3,13 +3,14 @@ ghost use Rattle.std.specs.Prelude.{◌≡◌, ℕ, ◌+◌, ◌<◌, ◌≤◌,
 ghost use Rattle.jh_num.specs.Bytes.{has_byte};
 ghost use Rattle.std.specs.List.{list_any};
 ghost use Rattle.jh_cellcfg.specs.declared.region.Region.{Region as TheRegion};
-ghost use Rattle.jh_cellcfg.specs.Regions.{has_place, is_comm, is_unshared, is_loadable, SharesNoAddress, IsEmptyOrInRange, AreInRange};
+ghost use Rattle.jh_cellcfg.specs.Regions.{is_unshared, is_loadable, SharesNoAddress, IsEmptyOrInRange, AreInRange};
 ghost use Rattle.jh_shape.specs.Shapes.{takes};
 ghost use Rattle.jh_board.specs.Private.Closed.{is_taken, AreTaken};
 
 use jh_cellcfg::Region;
 use jh_mmio::RegionIndex;
 use jh_num::{ByteSet, NoMemory};
+use jh_shape::takes_places;
 use std::alloc::Global;
 use std::marker::Model;
 
@@ -34,14 +35,6 @@ impl Model for CellRegions {
     ghost view = { λ s. s.by_address };
 
     ghost invariant = { IsCellRegions };
-}
-
-/// Whether a cell, loadable or not, takes the region's places from root.
-fn takes_places(region: &Region, loadable: bool) -> bool
-    ensures takes { (place : ℕ) → takes loadable region.now place ≡ (result && has_place region.now place) }
-    ensures own { result ≡ true → is_comm region.now ≡ false }
-{
-    region.is_unshared() && !(loadable && region.is_loadable())
 }
 
 /// Whether one of the regions is unshared and root's while the cell is loadable.

@@ -51,12 +51,15 @@ impl Page {
         Ok(Page { bytes })
     }
 
-    /// The byte at the offset, which is below 4,096.
-    pub fn get(&self, offset: usize) -> u8
-        requires { offset < 4096 }
+    /// The byte at the offset, 0 past the page's end.
+    pub fn byte(&self, offset: u64) -> u8
         ensures { result ≡ slice_index self.now offset }
     {
-        self.bytes[offset]
+        if offset < self.bytes.len() as u64 {
+            self.bytes[offset as usize]
+        } else {
+            0
+        }
     }
 
     /// The number that so many bytes from the offset on spell, the lowest first.
@@ -93,17 +96,6 @@ impl Page {
         ensures { (k : ℕ) → slice_index self.new k ≡ stored (slice_index self.old) offset bytes.now k }
     {
         self.bytes[offset..offset + bytes.len()].copy_from_slice(bytes);
-    }
-
-    /// The byte at the offset, 0 past the page's end.
-    pub fn byte(&self, offset: u64) -> u8
-        ensures { result ≡ slice_index self.now offset }
-    {
-        if offset < self.bytes.len() as u64 {
-            self.bytes[offset as usize]
-        } else {
-            0
-        }
     }
 
     /// Makes the change to the page, a communication page.

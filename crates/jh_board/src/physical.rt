@@ -60,7 +60,7 @@ impl Physical {
     {
         match self.pages.get(&(place / PAGE_SIZE)) {
             None => 0,
-            Some(page) => page.get((place % PAGE_SIZE) as usize),
+            Some(page) => page.byte(place % PAGE_SIZE),
         }
     }
 

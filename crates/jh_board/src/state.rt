@@ -34,6 +34,15 @@ pub struct JudgedCreate {
     pub creation: Creation,
 }
 
+impl JudgedCreate {
+    /// Whether this was found of the create by the caller, of the configuration at the address.
+    fn is_of(&self, caller: u8, at: u64) -> bool
+        ensures { IsTrue result ↔ ((self.now.caller ≡ caller) × (self.now.at ≡ at)) }
+    {
+        self.caller == caller && self.at == at
+    }
+}
+
 /// What a board holds, lent to what reads it, and what was found of the create that is about to be decided.
 #[derive(Drop)]
 pub struct State<'a> {
@@ -141,7 +150,7 @@ impl<'a> Known for State<'a> {
 
     fn refusal(&self, caller: u8, at: u64) -> Result<Option<i64>, NoMemory> {
         if let Some(found) = self.found {
-            if found.caller == caller && found.at == at {
+            if found.is_of(caller, at) {
                 return Ok(found.creation.refusal());
             }
         }
@@ -199,6 +208,7 @@ fn create_to_decide(held: &Held) -> Option<(u8, u64)> {
 }
 
 /// Finds what comes of the create by the caller, of the configuration at the address, where the CPU decides it next.
+// few entries are the Decide of a create: out of line, this leaves the path of all others short
 #[inline(never)]
 fn find_create_by(
     image: &IndexedImage,
@@ -273,7 +283,7 @@ pub fn creation_of(
     ensures { (f : Facts) → Means image.now held.now f → IfOk result (λ creation. creation ≡ creation_of image.now f caller at) }
 {
     if let Some(found) = found {
-        if found.caller == caller && found.at == at {
+        if found.is_of(caller, at) {
             return Ok(found.creation);
         }
     }

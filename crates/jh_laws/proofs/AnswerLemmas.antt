@@ -1,5 +1,5 @@
 -- What a Settle and a Noted of a legal journal say.
-use Rattle.std.proofs.Common.{◌≡◌, ◌≢◌, ℕ, ◌+◌, ◌-◌, ◌^◌, min, List, [], ◌∷◌, ◌++◌, ℤ, Bool, true, false, Option, Some, None, All, refl, sym, ap, subst, ◌∙◌, ⊎_elim, eqb, arith}
+use Rattle.std.proofs.Common.{◌≡◌, ◌≢◌, ℕ, ◌+◌, ◌-◌, ◌^◌, min, List, [], ◌∷◌, ◌++◌, ℤ, Bool, true, false, Option, Some, None, All, count_by, refl, sym, ap, subst, ◌∙◌, ⊎_elim, eqb, arith}
 use Rattle.std.specs.Prelude.{Contains, find, option_map, option_and_then}
 use Rattle.std.specs.List.{fold}
 use Rattle.std.proofs.lemmas.Option.{none-some, same_Some}
@@ -29,7 +29,7 @@ use Rattle.jh_history.specs.Due.{due_at, is_idle_but, IsLegal}
 use Rattle.jh_history.specs.Admitted.{IsAdmitted}
 use Rattle.jh_history.specs.Sound.{IsSound}
 use Rattle.jh_laws.specs.Ways.{is_phase, is_decide, begun_call}
-use Rattle.jh_laws.specs.Exchanges.{how_many, made_by_named, made_by_cell, IsSettledBy, IsHeardBy}
+use Rattle.jh_laws.specs.Exchanges.{made_by_named, made_by_cell, IsSettledBy, IsHeardBy}
 use Rattle.jh_history.proofs.Public.{sound_after, after_call}
 use Rattle.jh_history.specs.Commits.{is_commit}
 use Rattle.jh_laws.proofs.CallLemmas.{Expects, phase_expects, expects_counted, phase_of_due, same_call, stretch, IsBeside, entry_of_call, not_same}
@@ -110,7 +110,7 @@ settles_there : (image : Image) (f : Facts) (caller : ℕ) (call : Call) (middle
     → f.call ≡ Some (record { caller = caller; call = call; phase = counted_over call phase middle }) → phase_act image f (is_idle_but image f caller) caller call (counted_over call phase middle) ≡ Some (Settle how)
     → (config : CellConfig) × Contains (configs_of f.cells) config × (is_named call config.id ≡ true) × IsSettledBy image f caller config (made_by_named call middle) how
 settles_there image f caller call middle phase settle how zero_is sound is h =
-    let n : ℕ = how_many (λ (e : Entry). is_named call e.cell) middle in
+    let n : ℕ = count_by (λ (e : Entry). is_named call e.cell) middle in
     let e : min (0 + n) (2 ^ 64 - 1) ≡ min n (2 ^ 64 - 1) = omega arith in
     let counts : counted_over call phase middle ≡ ToSettle (made_by_named call middle) =
     ap (λ (p : Phase). counted_over call p middle) zero_is ∙ settle_counts call 0 middle (omega arith) ∙ ap ToSettle e in
@@ -198,7 +198,7 @@ hears_at image before middle rest note noted id other how admitted legal act oth
     let answer : ℤ = told.1 in
     let made = noted_call image f0 note o id about answer of.opens of.caller told.2 act in
     let waits = waits_over image caller o.call (ToNoted id about answer 0) f1 middle (sound_after image f0 note s.sound s.first_due) made s.between others in
-    let n : ℕ = how_many (λ (e : Entry). eqb e.cell id) middle in
+    let n : ℕ = count_by (λ (e : Entry). eqb e.cell id) middle in
     let e : min (0 + n) (2 ^ 64 - 1) ≡ min n (2 ^ 64 - 1) = omega arith in
     let counts : counted_over o.call (ToNoted id about answer 0) middle ≡ ToNoted id about answer (made_by_cell id middle) = noted_counts o.call id about 0 answer middle (omega arith) ∙ ap (ToNoted id about answer) e in
     let acts = own_act image f (record { caller = caller; call = o.call; phase = counted_over o.call (ToNoted id about answer 0) middle }) noted (Noted other how) waits.0 waits.1 s.last_due own hears in

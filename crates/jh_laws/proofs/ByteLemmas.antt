@@ -28,7 +28,7 @@ use Rattle.jh_history.specs.Admitted.{IsAdmitted, has_byte_at, IsOtherPreload}
 use Rattle.jh_history.proofs.Public.{facts_push, facts_nil, IsLegal_begin}
 use Rattle.jh_laws.specs.Outcomes.{is_violation}
 use Rattle.jh_laws.specs.Preloads.{IsPreloaded}
-use Rattle.jh_laws.specs.Writes.{Writes, WritesNot}
+use Rattle.jh_laws.specs.Writes.{WritesByteAlone, WritesNot}
 use Rattle.jh_laws.specs.Written.{IsByteBy}
 use Rattle.jh_laws.specs.Ends.{IsAnsweredByRegister}
 use Rattle.jh_laws.specs.RootAlone.{HasNoShmemDevice}
@@ -49,14 +49,14 @@ no_register image f at width n bar offset e bare by =
     none-some e (subst P bare by.within.is.there)
 
 -- what a write writes, where root lives alone
-is_written : (image : Image) (f : Facts) (act : Act) (place : Place) (byte : ℕ) → IsSilent image → AllRoots image f → Writes image image.system.root act place byte → byte_written image f image.system.root.id act place ≡ byte
+is_written : (image : Image) (f : Facts) (act : Act) (place : Place) (byte : ℕ) → IsSilent image → AllRoots image f → WritesByteAlone image image.system.root act place byte → byte_written image f image.system.root.id act place ≡ byte
 is_written image f (Write width at value true) place byte admitted roots writes =
     let P : List Live → Type 0 = λ cells. IsByteBy image cells image.system.root.id at width value place byte in
     write_puts image f image.system.root.id at width value place byte (roots_sound image f admitted roots) (subst P (sym roots.alone.cells) writes.1)
 is_written image f (Write width at value false) place byte admitted roots writes = absurd (false≢true writes.0)
 is_written image f _ place byte admitted roots writes = absurd writes
 
-byte_kept : (image : Image) (f : Facts) (act : Act) (place : Place) → IsSilent image → AllRoots image f → IsSmallAct act → ((byte : ℕ) → Writes image image.system.root act place byte → ⊥) → byte_written image f image.system.root.id act place ≡ f.byte place
+byte_kept : (image : Image) (f : Facts) (act : Act) (place : Place) → IsSilent image → AllRoots image f → IsSmallAct act → ((byte : ℕ) → WritesByteAlone image image.system.root act place byte → ⊥) → byte_written image f image.system.root.id act place ≡ f.byte place
 byte_kept image f (Write width at value true) place admitted roots small none =
     write_kept image f image.system.root.id at width value place (roots_sound image f admitted roots) small.1
     (λ byte h. let P : List Live → Type 0 = λ cells. IsByteBy image cells image.system.root.id at width value place byte in none byte (refl, subst P roots.alone.cells h))
@@ -76,7 +76,7 @@ after_at_root image f entry place admitted roots made =
     ∙ byte_after_roots image f entry place (by_root image f entry admitted roots made)
     ∙ ap (λ (cell : ℕ). byte_written image f cell entry.act place) (made.cell_is ∙ (roots.cpus entry.cpu).owner)
 
-after_written : (image : Image) (f : Facts) (entry : Entry) (place : Place) (byte : ℕ) → IsSilent image → AllRoots image f → IsNext image f entry → Writes image image.system.root entry.act place byte → (after image f entry).byte place ≡ byte
+after_written : (image : Image) (f : Facts) (entry : Entry) (place : Place) (byte : ℕ) → IsSilent image → AllRoots image f → IsNext image f entry → WritesByteAlone image image.system.root entry.act place byte → (after image f entry).byte place ≡ byte
 after_written image f entry place byte admitted roots made writes =
     after_at_root image f entry place admitted roots made ∙ is_written image f entry.act place byte admitted roots writes
 
@@ -87,7 +87,7 @@ after_kept image f entry place admitted roots made none =
 roots_before : (image : Image) (before rest : List Entry) → IsSilent image → IsLegal image (before ++ rest) → AllRoots image (facts image before)
 roots_before image before rest admitted legal = roots_at image before admitted (IsLegal_begin image before rest legal)
 
-pub byte_written_holds : (image : Image) (before rest : List Entry) (entry : Entry) (place : Place) (byte : ℕ) → IsSilent image → IsLegal image (before ++ entry ∷ rest) → Writes image image.system.root entry.act place byte
+pub byte_written_holds : (image : Image) (before rest : List Entry) (entry : Entry) (place : Place) (byte : ℕ) → IsSilent image → IsLegal image (before ++ entry ∷ rest) → WritesByteAlone image image.system.root entry.act place byte
     → (facts image (before ++ entry ∷ [])).byte place ≡ byte
 byte_written_holds image before rest entry place byte admitted legal writes =
     ap (λ (f : Facts). f.byte place) (facts_push image before entry)
@@ -100,7 +100,7 @@ byte_kept_holds image before rest entry place admitted legal none =
     ∙ after_kept image (facts image before) entry place admitted (roots_before image before (entry ∷ rest) admitted legal) (made_at image before rest entry admitted legal) none
 
 -- a violation writes nothing
-violation_writes : (image : Image) (act : Act) (place : Place) (byte : ℕ) → is_violation act ≡ true → Writes image image.system.root act place byte → ⊥
+violation_writes : (image : Image) (act : Act) (place : Place) (byte : ℕ) → is_violation act ≡ true → WritesByteAlone image image.system.root act place byte → ⊥
 violation_writes image (Write width at value true) place byte h writes = false≢true h
 violation_writes image (Write width at value false) place byte h writes = false≢true writes.0
 violation_writes image _ place byte h writes = writes
@@ -124,7 +124,7 @@ byte_rest image before rest place admitted legal none =
     ∙ kept_from image (facts image before) rest place admitted (roots_before image before rest admitted legal) (IsLegal_rest image before rest legal) none
 
 -- the last entry that wrote the place gave it its byte
-pub byte_last : (image : Image) (before rest : List Entry) (entry : Entry) (place : Place) (byte : ℕ) → IsSilent image → IsLegal image (before ++ entry ∷ rest) → Writes image image.system.root entry.act place byte → AllByRecursion (WritesNot image image.system.root place) rest
+pub byte_last : (image : Image) (before rest : List Entry) (entry : Entry) (place : Place) (byte : ℕ) → IsSilent image → IsLegal image (before ++ entry ∷ rest) → WritesByteAlone image image.system.root entry.act place byte → AllByRecursion (WritesNot image image.system.root place) rest
     → (facts image (before ++ entry ∷ rest)).byte place ≡ byte
 byte_last image before rest entry place byte admitted legal writes none =
     let split : (before ++ entry ∷ []) ++ rest ≡ before ++ entry ∷ rest = append_assoc before (entry ∷ []) rest in

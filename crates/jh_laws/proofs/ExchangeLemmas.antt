@@ -1,8 +1,9 @@
 -- How cells are waited for, and how they met what they were asked and told.
-use Rattle.std.proofs.Common.{◌≡◌, ◌≢◌, ℕ, ◌+◌, ◌-◌, ◌^◌, ◌≤◌, min, List, [], ◌∷◌, ℤ, Bool, true, false, cond, not, ◌||◌, eqb, Some, None, All, refl, sym, ap, ◌∙◌, inl, inr, ⊎_elim, arith}
+use Rattle.std.proofs.Common.{◌≡◌, ◌≢◌, ℕ, ◌+◌, ◌-◌, ◌^◌, ◌≤◌, min, List, [], ◌∷◌, ℤ, Bool, true, false, cond, not, ◌||◌, eqb, Some, None, All, count_by, refl, sym, ap, ◌∙◌, inl, inr, ⊎_elim, arith}
 use Rattle.std.specs.List.{fold}
 use Rattle.std.proofs.lemmas.Bool.{eq-eqb, ne_eqb, cases_Bool, or_from, or_parts, or_left, or_right, not_from_true, not_from_false}
 use Rattle.std.proofs.lemmas.List.Elements.{All-head, All-tail}
+use Rattle.std.proofs.lemmas.List.Sums.{sum_by-cons}
 use Rattle.std.proofs.lemmas.Option.{none-some, same_Some}
 use Rattle.jh_cellcfg.specs.declared.config.CellConfig.{CellConfig}
 use Rattle.jh_cellcfg.specs.Cells.{is_passive}
@@ -25,7 +26,7 @@ use Rattle.jh_shape.specs.Lives.{configs_of}
 use Rattle.jh_history.specs.History.{after}
 use Rattle.jh_history.specs.Due.{is_idle_but, IsLegalFrom}
 use Rattle.jh_history.specs.Sound.{AreSoundCells, IsSound}
-use Rattle.jh_laws.specs.Exchanges.{how_many, IsSettledBy, IsHeardBy}
+use Rattle.jh_laws.specs.Exchanges.{IsSettledBy, IsHeardBy}
 use Rattle.jh_laws.specs.Ready.{IsTimeOver}
 use Rattle.jh_history.proofs.Public.{sound_after}
 use Rattle.jh_laws.proofs.CallLemmas.{IsBeside, entry_of_call, call_counted}
@@ -69,13 +70,14 @@ settle_next cell call n =
     let P : Bool → Type 0 = λ b. cond b (ToSettle (counted_up n)) (ToSettle n) ≡ ToSettle (cond b (counted_up n) n) in
     elim (is_named call cell) as P [ true ↦ refl | false ↦ refl ]
 
-pub settle_counts : (call : Call) (n : ℕ) (entries : List Entry) → n ≤ last_number → counted_over call (ToSettle n) entries ≡ ToSettle (min (n + how_many (λ (e : Entry). is_named call e.cell) entries) last_number)
+pub settle_counts : (call : Call) (n : ℕ) (entries : List Entry) → n ≤ last_number → counted_over call (ToSettle n) entries ≡ ToSettle (min (n + count_by (λ (e : Entry). is_named call e.cell) entries) last_number)
 settle_counts call n [] le = let e : n ≡ min (n + 0) last_number = omega arith in ap ToSettle e
 settle_counts call n (entry ∷ entries) le =
     let b : Bool = is_named call entry.cell in
     ap (λ (p : Phase). counted_over call p entries) (settle_next entry.cell call n)
     ∙ settle_counts call (cond b (counted_up n) n) entries (next_small b n le)
-    ∙ ap ToSettle (count_step b (how_many (λ (e : Entry). is_named call e.cell) entries) n le)
+    ∙ ap ToSettle (count_step b (count_by (λ (e : Entry). is_named call e.cell) entries) n le)
+    ∙ ap (λ (m : ℕ). ToSettle (min (n + m) last_number)) (sym (sum_by-cons (λ (e : Entry). cond (is_named call e.cell) 1 0) entry entries))
 
 -- a wait for the cell that was told
 noted_next : (cell : ℕ) (call : Call) (id about n : ℕ) (answer : ℤ) → counted cell call (ToNoted id about answer n) ≡ ToNoted id about answer (cond (eqb cell id) (counted_up n) n)
@@ -83,13 +85,14 @@ noted_next cell call id about n answer =
     let P : Bool → Type 0 = λ b. cond b (ToNoted id about answer (counted_up n)) (ToNoted id about answer n) ≡ ToNoted id about answer (cond b (counted_up n) n) in
     elim (eqb cell id) as P [ true ↦ refl | false ↦ refl ]
 
-pub noted_counts : (call : Call) (id about n : ℕ) (answer : ℤ) (entries : List Entry) → n ≤ last_number → counted_over call (ToNoted id about answer n) entries ≡ ToNoted id about answer (min (n + how_many (λ (e : Entry). eqb e.cell id) entries) last_number)
+pub noted_counts : (call : Call) (id about n : ℕ) (answer : ℤ) (entries : List Entry) → n ≤ last_number → counted_over call (ToNoted id about answer n) entries ≡ ToNoted id about answer (min (n + count_by (λ (e : Entry). eqb e.cell id) entries) last_number)
 noted_counts call id about n answer [] le = let e : n ≡ min (n + 0) last_number = omega arith in ap (ToNoted id about answer) e
 noted_counts call id about n answer (entry ∷ entries) le =
     let b : Bool = eqb entry.cell id in
     ap (λ (p : Phase). counted_over call p entries) (noted_next entry.cell call id about n answer)
     ∙ noted_counts call id about (cond b (counted_up n) n) answer entries (next_small b n le)
-    ∙ ap (ToNoted id about answer) (count_step b (how_many (λ (e : Entry). eqb e.cell id) entries) n le)
+    ∙ ap (ToNoted id about answer) (count_step b (count_by (λ (e : Entry). eqb e.cell id) entries) n le)
+    ∙ ap (λ (m : ℕ). ToNoted id about answer (min (n + m) last_number)) (sym (sum_by-cons (λ (e : Entry). cond (eqb e.cell id) 1 0) entry entries))
 
 -- ---- what was answered
 

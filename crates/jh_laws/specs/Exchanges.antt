@@ -1,5 +1,5 @@
 -- How a cell met the request to shut down, and the note of a change.
-use Rattle.std.specs.Prelude.{◌≡◌, ◌≢◌, ◌^◌, ◌-◌, ℕ, true, false, Bool, ◌==◌, ◌+◌, min, if◌then◌else◌, List, [], ◌∷◌, Contains}
+use Rattle.std.specs.Prelude.{◌≡◌, ◌≢◌, ◌^◌, ◌-◌, ℕ, true, false, ◌==◌, min, List, count_by, Contains}
 use Rattle.jh_cellcfg.specs.declared.config.CellConfig.{CellConfig}
 use Rattle.jh_cellcfg.specs.Cells.{is_passive}
 use Rattle.jh_shape.specs.Lives.{configs_of}
@@ -17,18 +17,13 @@ use Rattle.jh_history.specs.Phases.{state_word, reply_word, is_down}
 use Rattle.jh_laws.specs.Moments.{AdmittedSpan, facts_before_last}
 use Rattle.jh_laws.specs.Ready.{IsTimeOver}
 
--- how many of the entries pass the test
-abbrev pub how_many : (Entry → Bool) → List Entry → ℕ
-how_many test [] = 0
-how_many test (entry ∷ entries) = (if test entry then 1 else 0) + how_many test entries
-
 -- how many of the entries were made by CPUs of the cell that the call is about, but at most the last number of 64 bits
 abbrev pub made_by_named : Call → List Entry → ℕ
-made_by_named call entries = min (how_many (λ (e : Entry). is_named call e.cell) entries) (2 ^ 64 - 1)
+made_by_named call entries = min (count_by (λ (e : Entry). is_named call e.cell) entries) (2 ^ 64 - 1)
 
 -- how many of the entries were made by CPUs of the cell with the id, but at most the last number of 64 bits
 abbrev pub made_by_cell : ℕ → List Entry → ℕ
-made_by_cell id entries = min (how_many (λ (e : Entry). e.cell == id) entries) (2 ^ 64 - 1)
+made_by_cell id entries = min (count_by (λ (e : Entry). e.cell == id) entries) (2 ^ 64 - 1)
 
 -- how the cell met the request to shut down: it agrees where it is passive, down or says so; any other reply denies;
 -- without a reply its time was over

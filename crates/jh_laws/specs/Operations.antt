@@ -7,7 +7,6 @@ use Rattle.jh_cpu.specs.declared.cpu.Mode.TheVariants.{Running}
 use Rattle.jh_script.specs.declared.image.Image.{Image}
 use Rattle.jh_script.specs.declared.op.Op.{Op}
 use Rattle.jh_script.specs.declared.op.Op.TheVariants.{Read as ReadOp, Write as WriteOp, Fetch as FetchOp, Await as AwaitOp, Irq as IrqOp, Hvc as HvcOp}
-use Rattle.jh_history.specs.declared.access.Access.TheVariants.{Read as ToRead}
 use Rattle.jh_history.specs.declared.entry.Entry.{Entry}
 use Rattle.jh_history.specs.declared.entry.Act.{Act}
 use Rattle.jh_history.specs.declared.entry.Act.TheVariants.{Read, Write, Fetch, Await, Irq, Hvc, Begin}
@@ -15,7 +14,7 @@ use Rattle.jh_history.specs.History.{facts}
 use Rattle.jh_history.specs.Lives.{is_on_board, program_ops}
 use Rattle.jh_laws.specs.Moments.{AdmittedMoment, state_before}
 use Rattle.jh_laws.specs.RootAlone.{cpu_at}
-use Rattle.jh_laws.specs.Ends.{IsAnswered, IsReadBy}
+use Rattle.jh_laws.specs.Ready.{IsDueIn}
 use Rattle.jh_laws.specs.Outcomes.{HasItsOutcome}
 
 -- the operation that the act is, without its outcome; a stop and the later phases of a management call are none
@@ -45,16 +44,12 @@ program_in image cell cpu = program_ops image (name_of cell) cpu
 abbrev pub op_before : AdmittedMoment → CellConfig → Option Op
 op_before m cell = slice_get (program_in m.image cell m.entry.cpu) (state_before m m.entry.cpu).position
 
--- the cell's operation is due after the entries: a read, write or fetch always is, and an await where the access is a
--- violation or reads the value that it waits for. So it is where root has no ivshmem device and no program a hypercall:
--- there an interrupt is never due, and there is no hypercall
+-- the cell's operation is due after the entries, where root has no ivshmem device and no program a hypercall: there an
+-- interrupt is never due, there is no hypercall, and any other operation is due as it is anywhere
 abbrev pub IsDueOp : Image → List Entry → CellConfig → Op → Type 0
-IsDueOp image entries cell (ReadOp width at) = Unit {0}
-IsDueOp image entries cell (WriteOp width at value) = Unit {0}
-IsDueOp image entries cell (FetchOp at) = Unit {0}
-IsDueOp image entries cell (AwaitOp width at value) = IsAnswered image (facts image entries) cell.id ToRead at width → IsReadBy image (facts image entries) cell.id ToRead at width value
 IsDueOp image entries cell IrqOp = ⊥
 IsDueOp image entries cell (HvcOp code a b) = ⊥
+IsDueOp image entries cell op = IsDueIn image (facts image entries) cell.id op
 
 -- the CPU, which is the cell's, is one of the board's, runs, is neither asked to stop nor stopped, and
 -- its program has an operation at its position that is due

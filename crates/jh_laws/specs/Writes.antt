@@ -7,10 +7,10 @@ use Rattle.jh_history.specs.declared.entry.Entry.{Entry}
 use Rattle.jh_history.specs.declared.entry.Act.{Act}
 use Rattle.jh_laws.specs.Written.{Puts}
 
--- the cell's act writes the byte at the place: it is a write that succeeded
-abbrev pub Writes : Image → CellConfig → Act → Place → ℕ → Type 0
-Writes image cell act place byte = Puts image [] cell.id act place byte
+-- the cell's act writes the byte at the place, where no cell lives besides root: it is a write that succeeded
+abbrev pub WritesByteAlone : Image → CellConfig → Act → Place → ℕ → Type 0
+WritesByteAlone image cell act place byte = Puts image [] cell.id act place byte
 
 -- the entry, made by the cell, writes nothing at the place
 abbrev pub WritesNot : Image → CellConfig → Place → Entry → Type 0
-WritesNot image cell place entry = (byte : ℕ) → Writes image cell entry.act place byte → ⊥
+WritesNot image cell place entry = (byte : ℕ) → WritesByteAlone image cell entry.act place byte → ⊥

@@ -5,7 +5,7 @@ ghost use Rattle.jh_history.specs.declared.entry.Entry.{Entry as TheEntry};
 ghost use Rattle.jh_history.specs.Due.{due, IsQuiet};
 ghost use Rattle.jh_laws.specs.RootAlone.{RootAloneJournal, RootAloneMoment, byte_at, byte_before, byte_behind, own_cell, cpu_at, cpu_before, cpu_behind, entries_of, root_of};
 ghost use Rattle.jh_laws.specs.Outcomes.{HasItsOutcome, is_violation};
-ghost use Rattle.jh_laws.specs.Writes.{Writes, WritesNot};
+ghost use Rattle.jh_laws.specs.Writes.{WritesByteAlone, WritesNot};
 ghost use Rattle.jh_laws.specs.Moves.{stepped, ended};
 ghost use Rattle.jh_laws.specs.Operations.{IsReady, IsCpusOwn, operations_by, program_in};
 
@@ -19,7 +19,7 @@ pub fn accesses_of_root_alone_go_by_grants()
 
 /// An entry gives each place that it writes the byte that it writes there, and no other place changes.
 pub fn entries_of_root_alone_write_their_bytes()
-    ensures written { (m : RootAloneMoment) (place : ThePlace) (byte : ℕ) → Writes m.image (own_cell m) m.entry.act place byte →
+    ensures written { (m : RootAloneMoment) (place : ThePlace) (byte : ℕ) → WritesByteAlone m.image (own_cell m) m.entry.act place byte →
         byte_behind m place ≡ byte }
     ensures others { (m : RootAloneMoment) (place : ThePlace) → WritesNot m.image (own_cell m) place m.entry →
         byte_behind m place ≡ byte_before m place }
@@ -27,7 +27,7 @@ pub fn entries_of_root_alone_write_their_bytes()
 
 /// Each byte has the value that the last entry which wrote it gave it, and its opening value where none did.
 pub fn bytes_of_root_alone_are_the_last_written()
-    ensures last { (m : RootAloneMoment) (place : ThePlace) (byte : ℕ) → Writes m.image (own_cell m) m.entry.act place byte →
+    ensures last { (m : RootAloneMoment) (place : ThePlace) (byte : ℕ) → WritesByteAlone m.image (own_cell m) m.entry.act place byte →
         All (WritesNot m.image (own_cell m) place) m.rest → byte_at m.image (entries_of m) place ≡ byte }
     ensures opening { (j : RootAloneJournal) (place : ThePlace) → All (WritesNot j.image (root_of j) place) j.entries →
         byte_at j.image j.entries place ≡ byte_at j.image [] place }

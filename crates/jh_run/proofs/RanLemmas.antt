@@ -6,14 +6,15 @@ use Rattle.jh_history.specs.Due.{IsQuiet}
 use Rattle.jh_history.specs.Items.{rounds}
 use Rattle.jh_laws.specs.Items.{ItemsLead, IsCutShort}
 use Rattle.jh_board.specs.BoardView.{BoardView}
-use Rattle.jh_run.specs.Private.Ran.{Ran, IsSameBoard}
+use Rattle.jh_run.specs.Plays.{IsBoardOf}
+use Rattle.jh_run.specs.Private.Ran.{Ran}
 use Rattle.jh_run.proofs.RunLemmas.{lead_append, cut_behind, cut_before, lead_quiet}
 
 -- no items
 pub Ran_nil : (old : BoardView) → Ran old [] false old
 Ran_nil old = (refl, refl)
 
-kept : (old mid new : BoardView) → IsSameBoard old mid → IsSameBoard mid new → IsSameBoard old new
+kept : (old mid new : BoardView) → IsBoardOf old.image old.limit mid → IsBoardOf mid.image mid.limit new → IsBoardOf old.image old.limit new
 kept old mid new h k = k ∙ ap (λ (v : BoardView). let w : BoardView = record v { entries = new.entries } in w) h
 
 -- items after others, on a board of the same image and limit
@@ -27,11 +28,11 @@ moved image limit mid new ys true is_image is_limit h =
     let Q : ℕ → Type 0 = λ n. IsCutShort image n ys mid.entries new.entries in
     (subst Q is_limit (subst P is_image h.0), refl)
 
-joined : (old mid new : BoardView) (xs ys : List ℕ) (full : Bool) → Ran old xs false mid → IsSameBoard mid new → Ran (record { image = old.image; limit = old.limit; entries = mid.entries }) ys full (record { image = old.image; limit = old.limit; entries = new.entries }) → Ran old (xs ++ ys) full new
+joined : (old mid new : BoardView) (xs ys : List ℕ) (full : Bool) → Ran old xs false mid → IsBoardOf mid.image mid.limit new → Ran (record { image = old.image; limit = old.limit; entries = mid.entries }) ys full (record { image = old.image; limit = old.limit; entries = new.entries }) → Ran old (xs ++ ys) full new
 joined old mid new xs ys false h k m = (lead_append old.image old.limit xs ys old.entries mid.entries new.entries h.0 m.0, kept old mid new h.1 k)
 joined old mid new xs ys true h k m = (cut_behind old.image old.limit xs ys old.entries mid.entries new.entries h.0 m.0, kept old mid new h.1 k)
 
-same_board : (mid new : BoardView) (ys : List ℕ) (full : Bool) → Ran mid ys full new → IsSameBoard mid new
+same_board : (mid new : BoardView) (ys : List ℕ) (full : Bool) → Ran mid ys full new → IsBoardOf mid.image mid.limit new
 same_board mid new ys false h = h.1
 same_board mid new ys true h = h.1
 

@@ -2,7 +2,7 @@
 use Rattle.std.specs.Prelude.{ℕ, zero, suc, ◌+◌, ◌-◌, ◌*◌, List, [], ◌∷◌, ◌++◌, length, replicate, codes}
 use Rattle.jh_cellcfg.specs.declared.region.Region.{Region}
 use Rattle.jh_cellcfg.specs.declared.config.CellConfig.{CellConfig}
-use Rattle.jh_cellcfg.specs.Empty.{bare_system}
+use Rattle.jh_cellcfg.specs.Empty.{empty_cell, bare_system}
 use Rattle.jh_cellcfg.specs.declared.config.SystemConfig.{SystemConfig}
 use Rattle.jh_cellcfg.specs.Spelling.{spelling}
 use Rattle.jh_script.specs.declared.op.Op.{Op}
@@ -23,23 +23,7 @@ padded name = name ++ replicate (32 - length name) 0
 
 -- a cell of that name and id, with these regions and with CPUs below 8
 abbrev pub bare_cell : List ℕ → ℕ → ℕ → List Region → CellConfig
-bare_cell name id cpus regions = record {
-  name = name;
-  id = id;
-  flags = 0;
-  vpci_irq_base = 0;
-  cpu_reset_address = 0;
-  msg_reply_timeout = 0;
-  console = replicate 32 0;
-  cpu_set = cpus ∷ replicate 7 0;
-  memory_regions = regions;
-  cache_regions = [];
-  irqchips = [];
-  pio_regions = [];
-  pci_devices = [];
-  pci_caps = [];
-  stream_ids = [];
-}
+bare_cell name id cpus regions = record (empty_cell id) { name = name; cpu_set = cpus ∷ replicate 7 0; memory_regions = regions }
 
 -- the system, whose root has CPUs 0 to 3
 unfoldable pub soak_system : SystemConfig

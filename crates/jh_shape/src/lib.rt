@@ -18,6 +18,6 @@ pub use laws::{
     what_live_cells_hold_is_closed,
 };
 pub use pages::{cell_pages, pages_of};
-pub use region::any_takes;
+pub use region::{any_takes, takes_places};
 pub use target::Target;
 pub use want::Want;

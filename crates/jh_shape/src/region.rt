@@ -1,7 +1,7 @@
 //! A region against a slot.
-ghost use Rattle.std.specs.Prelude.{◌≡◌, ◌+◌, ◌*◌, ◌^◌, ◌<◌, ◌≤◌, ◌||◌, length, nat_lt};
+ghost use Rattle.std.specs.Prelude.{◌≡◌, ℕ, ◌+◌, ◌*◌, ◌^◌, ◌<◌, ◌≤◌, ◌&&◌, ◌||◌, true, false, length, nat_lt};
 ghost use Rattle.std.specs.List.{list_any};
-ghost use Rattle.jh_cellcfg.specs.Regions.{virt_end, phys_end, place_in};
+ghost use Rattle.jh_cellcfg.specs.Regions.{virt_end, phys_end, has_place, is_comm, place_in};
 ghost use Rattle.jh_cellcfg.specs.declared.region.Region.{Region};
 ghost use Rattle.jh_shape.specs.declared.marks.TheConstants.{SLOTS, WORD_BITS};
 ghost use Rattle.jh_shape.specs.Private.Marks.{is_beyond, is_inside, is_marked, is_place_beyond, past_slot, AreMarkedBelow, AreMarkedWithin};
@@ -86,11 +86,19 @@ pub(crate) fn any_in_part(regions: &[Region], place: u128, size: u128) -> bool
         .any(|region| meets_in_part(region, place, size))
 }
 
+/// Whether a cell, loadable or not, takes the region's places from root.
+pub fn takes_places(region: &Region, loadable: bool) -> bool
+    ensures takes { (place : ℕ) → takes loadable region.now place ≡ (result && has_place region.now place) }
+    ensures own { result ≡ true → is_comm region.now ≡ false }
+{
+    region.is_unshared() && !(loadable && region.is_loadable())
+}
+
 /// Whether the region of a cell, loadable or not, takes the place from root.
 fn takes(region: &Region, loadable: bool, place: u64) -> bool
     ensures { result ≡ takes loadable region.now place }
 {
-    region.is_unshared() && !(loadable && region.is_loadable()) && region.has_place(place)
+    takes_places(region, loadable) && region.has_place(place)
 }
 
 /// Whether one of the regions of a cell, loadable or not, takes the place from root.

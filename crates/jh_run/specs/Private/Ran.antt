@@ -1,13 +1,10 @@
 -- What items do to a board.
-use Rattle.std.specs.Prelude.{◌≡◌, ℕ, Bool, true, false, List}
+use Rattle.std.specs.Prelude.{ℕ, Bool, true, false, List}
 use Rattle.jh_laws.specs.Items.{ItemsLead, IsCutShort}
 use Rattle.jh_board.specs.BoardView.{BoardView}
-
--- the one board has the image and the limit of the other
-abbrev pub IsSameBoard : BoardView → BoardView → Type 0
-IsSameBoard old new = new ≡ record old { entries = new.entries }
+use Rattle.jh_run.specs.Plays.{IsBoardOf}
 
 -- the items of the CPUs lead from the one board to the other: to their end, or until the limit stops one
 abbrev pub Ran : BoardView → List ℕ → Bool → BoardView → Type 0
-Ran old cpus false new = ItemsLead old.image old.limit cpus old.entries new.entries × IsSameBoard old new
-Ran old cpus true new = IsCutShort old.image old.limit cpus old.entries new.entries × IsSameBoard old new
+Ran old cpus false new = ItemsLead old.image old.limit cpus old.entries new.entries × IsBoardOf old.image old.limit new
+Ran old cpus true new = IsCutShort old.image old.limit cpus old.entries new.entries × IsBoardOf old.image old.limit new
