@@ -114,15 +114,11 @@ impl RegionIndex {
         ensures own { IfSome result (Contains self.now) }
         ensures first { IfSome result (λ r. IsTrue (has_address r at)) }
     {
-        match self.at(at) {
-            Some(region) => {
-                if has_whole(&region, at, width) {
-                    Some(region)
-                } else {
-                    None
-                }
-            }
-            None => None,
+        let region = self.at(at)?;
+        if has_whole(&region, at, width) {
+            Some(region)
+        } else {
+            None
         }
     }
 
@@ -133,15 +129,11 @@ impl RegionIndex {
         ensures { result ≡ position (takes_all (has_byte closed.now.ranges) at width) self.now }
     {
         let regions = self.regions.as_slice();
-        match number_at(regions, self.order.as_slice(), at) {
-            Some(number) => {
-                if takes_all(&regions[number], closed, at, width) {
-                    Some(number)
-                } else {
-                    None
-                }
-            }
-            None => None,
+        let number = number_at(regions, self.order.as_slice(), at)?;
+        if takes_all(&regions[number], closed, at, width) {
+            Some(number)
+        } else {
+            None
         }
     }
 

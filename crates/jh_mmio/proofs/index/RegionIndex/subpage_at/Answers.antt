@@ -8,20 +8,20 @@ use Rattle.jh_mmio.specs.Dispatch.{takes_all}
 use Rattle.jh_mmio.proofs.HittingLemmas.{subpage_found, subpage_other, subpage_none}
 use Rattle.jh_mmio.proofs.index.RegionIndex.subpage_at.Goals as goal
 
-pub returns-in-None : goal.returns-in-None
-returns-in-None c =
+pub returns-in_err-number : goal.returns-in_err-number
+returns-in_err-number c =
     let same = c.as_slice-regions.ensures.value ∙ c.self.view_is in
     let P : List Region → Type 0 = λ xs. None ≡ position (takes_all (has_byte c.args.closed.now.ranges) c.args.at c.args.width) xs in
-    subst P same (subpage_none c.as_slice-regions.result.now (has_byte c.args.closed.now.ranges) c.args.at c.args.width no_region c.requires.some c.in-None.ensures)
+    c.from_residual.ensures ∙ subst P same (subpage_none c.as_slice-regions.result.now (has_byte c.args.closed.now.ranges) c.args.at c.args.width no_region c.requires.some c.in_err-number.ensures)
 
 pub returns-then-takes_all : goal.returns-then-takes_all
 returns-then-takes_all c =
     let same = c.as_slice-regions.ensures.value ∙ c.self.view_is in
-    let P : List Region → Type 0 = λ xs. Some c.in-Some.number ≡ position (takes_all (has_byte c.args.closed.now.ranges) c.args.at c.args.width) xs in
-    subst P same (subpage_found c.as_slice-regions.result.now (has_byte c.args.closed.now.ranges) c.args.at c.args.width c.in-Some.number no_region c.requires.some c.in-Some.ensures (sym c.if-takes_all.ensures))
+    let P : List Region → Type 0 = λ xs. Some c.in_ok-number.number ≡ position (takes_all (has_byte c.args.closed.now.ranges) c.args.at c.args.width) xs in
+    subst P same (subpage_found c.as_slice-regions.result.now (has_byte c.args.closed.now.ranges) c.args.at c.args.width c.in_ok-number.number no_region c.requires.some c.in_ok-number.ensures (sym c.if-takes_all.ensures))
 
 pub returns-else-takes_all : goal.returns-else-takes_all
 returns-else-takes_all c =
     let same = c.as_slice-regions.ensures.value ∙ c.self.view_is in
     let P : List Region → Type 0 = λ xs. None ≡ position (takes_all (has_byte c.args.closed.now.ranges) c.args.at c.args.width) xs in
-    subst P same (subpage_other c.as_slice-regions.result.now (has_byte c.args.closed.now.ranges) c.args.at c.args.width c.in-Some.number no_region c.requires.some c.in-Some.ensures (sym c.if-takes_all.ensures))
+    subst P same (subpage_other c.as_slice-regions.result.now (has_byte c.args.closed.now.ranges) c.args.at c.args.width c.in_ok-number.number no_region c.requires.some c.in_ok-number.ensures (sym c.if-takes_all.ensures))
