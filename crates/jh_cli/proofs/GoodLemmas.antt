@@ -122,7 +122,7 @@ some_none o x h k = cc
 pub system_sound : SpellingsAreFaultless → (system : SystemConfig) → IsSound SystemRefusal IsSystemFile asked_of_a_file system
 system_sound faultless system bytes words within form (inl over) = no_more asked_of_a_file bytes within over.0
 system_sound faultless system bytes words within form (inr bad) =
-    some_none (system_fault bytes) bad.fault (ap system_fault form.spelled ∙ faultless system form.typed form.limits) bad.first
+    some_none (system_fault bytes) bad.fault (ap system_fault form.is.spelled ∙ faultless system form.is.typed form.is.limits) bad.first
 
 pub cell_sound : CellsAreFaultless → (cell : CellConfig) → IsSound CellRefusal IsCellFile asked_of_a_file cell
 cell_sound faultless cell bytes words within form (inl over) = no_more asked_of_a_file bytes within over.0
