@@ -122,7 +122,7 @@ cell_values one bytes a b h k = one a b h.typed k.typed h.limits k.limits (sym h
 
 module _ (faultless : CellsAreFaultless) (one_cell : OneCell) (contents : Contents) where
   cell_apart : (bytes : List ℕ) (cell : CellConfig) (words : List ℕ) → IsCellFile bytes cell → CellRefusal bytes words → ⊥
-  cell_apart bytes cell words form why = cell_sound faultless cell bytes words form.within form why
+  cell_apart bytes cell words form why = cell_sound faultless cell bytes words form why
 
   not_both : (name : List ℕ) → contents name ≢ None → (cell : CellConfig) (reply : Reply) → SpellsAt asked_of_a_file contents name IsCellFile cell → EndsAt asked_of_a_file contents name CellRefusal reply → IsRead reply → ⊥
   not_both name told cell reply = spelled_or_stopped asked_of_a_file contents name told CellRefusal IsCellFile cell_apart cell reply
