@@ -79,9 +79,13 @@ handed_held told most bytes handed is within h =
     let hands : handed ≡ take most bytes = subst (λ (t : KnownFile). HandsOut t most handed) is h in
     hands ∙ take_all most bytes (omega arith)
 
--- a file that holds a value ends no call but where it can't be read
-abbrev pub IsSound : {A : Type 0} → (List ℕ → List ℕ → Type 0) → (List ℕ → A → Type 0) → ℕ → A → Type 0
-IsSound Why Form most value = (bytes words : List ℕ) → length bytes < most → Form bytes value → Why bytes words → ⊥
+-- what spells a value isn't refused
+abbrev pub IsSound : {A : Type 0} → (List ℕ → List ℕ → Type 0) → (List ℕ → A → Type 0) → A → Type 0
+IsSound Why Form value = (bytes words : List ℕ) → Form bytes value → Why bytes words → ⊥
+
+-- what spells a value is less than is asked of its file
+abbrev IsWithin : {A : Type 0} → (List ℕ → A → Type 0) → ℕ → A → Type 0
+IsWithin Form most value = (bytes : List ℕ) → Form bytes value → length bytes < most
 
 -- it is answered so, or could not be read
 abbrev pub IsAnswered : (Status → Type 0) → Reply → Type 0
@@ -95,20 +99,20 @@ of_verdict : (reply : Reply) (status : Status) → reply.status ≡ status → I
 of_verdict reply status is one = inl (subst IsVerdict (sym is) one)
 
 stops_unrefused : {A : Type 0} (Answer : Status → Type 0) (most : ℕ) (contents : Contents) (name : List ℕ) (Why : List ℕ → List ℕ → Type 0) (Form : List ℕ → A → Type 0) (value : A) (reply : Reply)
-    → IsSound Why Form most value → FileHolds most contents name Form value → EndsAt most contents name Why reply → IsAnswered Answer reply
-stops_unrefused Answer most contents name Why Form value reply sound held (inl fault) = inr (ap (λ (s : Reply). s.status) fault)
-stops_unrefused Answer most contents name Why Form value reply sound held (inr is) =
-    let same : is.bytes ≡ held.bytes = handed_held (contents name) most held.bytes is.bytes held.holds held.within is.handed in
-    absurd (sound held.bytes is.words held.within held.spelled (subst (λ bytes. Why bytes is.words) same is.why))
+    → IsSound Why Form value → IsWithin Form most value → FileHolds contents name Form value → EndsAt most contents name Why reply → IsAnswered Answer reply
+stops_unrefused Answer most contents name Why Form value reply sound within held (inl fault) = inr (ap (λ (s : Reply). s.status) fault)
+stops_unrefused Answer most contents name Why Form value reply sound within held (inr is) =
+    let same : is.bytes ≡ held.bytes = handed_held (contents name) most held.bytes is.bytes held.holds (within held.bytes held.spelled) is.handed in
+    absurd (sound held.bytes is.words held.spelled (subst (λ bytes. Why bytes is.words) same is.why))
 
 -- what follows a file that holds a value is what was read of it
 reads_unrefused : {A : Type 0} (Answer : Status → Type 0) (contents : Contents) (name : List ℕ) (kind : FileKind A) (next : A → Reply → Type 0) (value : A) (reply : Reply)
-    → IsSound kind.Refusal kind.Form kind.most value → FileHolds kind.most contents name kind.Form value
+    → IsSound kind.Refusal kind.Form value → IsWithin kind.Form kind.most value → FileHolds contents name kind.Form value
     → ((bytes : List ℕ) (other : A) → kind.Form bytes value → kind.Form bytes other → next other reply → IsAnswered Answer reply)
     → Reads contents name kind next reply → IsAnswered Answer reply
-reads_unrefused Answer contents name kind next value reply sound held rest (inl stops) = stops_unrefused Answer kind.most contents name kind.Refusal kind.Form value reply sound held stops
-reads_unrefused Answer contents name kind next value reply sound held rest (inr (other, spells, went)) =
-    let same : spells.bytes ≡ held.bytes = handed_held (contents name) kind.most held.bytes spells.bytes held.holds held.within spells.handed in
+reads_unrefused Answer contents name kind next value reply sound within held rest (inl stops) = stops_unrefused Answer kind.most contents name kind.Refusal kind.Form value reply sound within held stops
+reads_unrefused Answer contents name kind next value reply sound within held rest (inr (other, spells, went)) =
+    let same : spells.bytes ≡ held.bytes = handed_held (contents name) kind.most held.bytes spells.bytes held.holds (within held.bytes held.spelled) spells.handed in
     rest held.bytes other held.spelled (subst (λ bytes. kind.Form bytes other) same spells.spelled) went
 
 pub no_more : (most : ℕ) (bytes : List ℕ) → length bytes < most → most ≤ length bytes → ⊥
@@ -119,19 +123,19 @@ some_none o x h k = cc
 
 -- ---- check
 
-pub system_sound : SpellingsAreFaultless → (system : SystemConfig) → IsSound SystemRefusal IsSystemFile asked_of_a_file system
-system_sound faultless system bytes words within form (inl over) = no_more asked_of_a_file bytes within over.0
-system_sound faultless system bytes words within form (inr bad) =
-    some_none (system_fault bytes) bad.fault (ap system_fault form.spelled ∙ faultless system form.typed form.limits) bad.first
+pub system_sound : SpellingsAreFaultless → (system : SystemConfig) → IsSound SystemRefusal IsSystemFile system
+system_sound faultless system bytes words form (inl over) = no_more asked_of_a_file bytes form.within over.0
+system_sound faultless system bytes words form (inr bad) =
+    some_none (system_fault bytes) bad.fault (ap system_fault form.is.spelled ∙ faultless system form.is.typed form.is.limits) bad.first
 
-pub cell_sound : CellsAreFaultless → (cell : CellConfig) → IsSound CellRefusal IsCellFile asked_of_a_file cell
-cell_sound faultless cell bytes words within form (inl over) = no_more asked_of_a_file bytes within over.0
-cell_sound faultless cell bytes words within form (inr bad) =
+pub cell_sound : CellsAreFaultless → (cell : CellConfig) → IsSound CellRefusal IsCellFile cell
+cell_sound faultless cell bytes words form (inl over) = no_more asked_of_a_file bytes form.within over.0
+cell_sound faultless cell bytes words form (inr bad) =
     some_none (first_fault bytes) bad.fault (ap first_fault form.spelled ∙ faultless cell form.typed form.limits) bad.first
 
 -- each of the files holds a cell
 one_of_cells : (contents : Contents) (before : List (List ℕ)) (name : List ℕ) (rest : List (List ℕ)) (cells : List CellConfig)
-    → HoldCells contents (before ++ name ∷ rest) cells → (cell : CellConfig) × FileHolds asked_of_a_file contents name IsCellFile cell
+    → HoldCells contents (before ++ name ∷ rest) cells → (cell : CellConfig) × FileHolds contents name IsCellFile cell
 one_of_cells contents [] name rest [] held = absurd held
 one_of_cells contents [] name rest (cell ∷ cells) held = (cell, held.0)
 one_of_cells contents (b ∷ before) name rest [] held = absurd held
@@ -141,7 +145,7 @@ among_unrefused : CellsAreFaultless → (contents : Contents) (names : List (Lis
 among_unrefused faultless contents names cells reply held among =
     let split : HoldCells contents (among.before ++ among.name ∷ among.rest) cells = subst (λ (ns : List (List ℕ)). HoldCells contents ns cells) among.split held in
     let one = one_of_cells contents among.before among.name among.rest cells split in
-    stops_unrefused IsVerdict asked_of_a_file contents among.name CellRefusal IsCellFile one.0 reply (cell_sound faultless one.0) one.1 among.stops
+    stops_unrefused IsVerdict asked_of_a_file contents among.name CellRefusal IsCellFile one.0 reply (cell_sound faultless one.0) (λ bytes form. form.within) one.1 among.stops
 
 checked_unrefused : (any : Bool) → IsVerdict (cond any Found Good)
 checked_unrefused true = inr refl
@@ -154,17 +158,17 @@ cells_unrefused faultless contents names cells system reply held (inr all) =
 
 check_unrefused : CellsAreFaultless → SpellingsAreFaultless → (contents : Contents) (system : List ℕ) (cells : List (List ℕ)) (reply : Reply) → AreGoodToCheck contents system cells → Checks contents system cells reply → IsAnswered IsVerdict reply
 check_unrefused cells_faultless systems_faultless contents system cells reply good h =
-    reads_unrefused IsVerdict contents system system_file (ChecksCells contents cells) good.of_system reply (system_sound systems_faultless good.of_system) good.system_held
+    reads_unrefused IsVerdict contents system system_file (ChecksCells contents cells) good.of_system reply (system_sound systems_faultless good.of_system) (λ bytes form. form.within) good.system_held
     (λ bytes other form form_other went. cells_unrefused cells_faultless contents cells good.of_cells other reply good.cells_held went) h
 
 -- ---- pack
 
-pub spec_sound : (spec : Spec) → IsSound SpecRefusal IsSpecFile asked_of_a_file spec
-spec_sound spec bytes words within form (inl over) = no_more asked_of_a_file bytes within over.0
-spec_sound spec bytes words within form (inr (inl bad)) =
+pub spec_sound : (spec : Spec) → IsSound SpecRefusal IsSpecFile spec
+spec_sound spec bytes words form (inl over) = no_more asked_of_a_file bytes form.0 over.0
+spec_sound spec bytes words form (inr (inl bad)) =
     let told = form.1 in
     ok_err (spec_told told.0) spec specs.Json told.2 (bad.1 told.0 told.1)
-spec_sound spec bytes words within form (inr (inr bad)) =
+spec_sound spec bytes words form (inr (inr bad)) =
     let told = form.1 in
     let faulty = bad.faulty in
     let read : Some faulty.0 ≡ Some told.0 = sym faulty.1.value ∙ told.1.value in
@@ -173,7 +177,7 @@ spec_sound spec bytes words within form (inr (inr bad)) =
 
 pack_unrefused : (contents : Contents) (name : List ℕ) (reply : Reply) → IsGoodToPack contents name → Packs contents name reply → IsAnswered (λ status. status ≡ Good) reply
 pack_unrefused contents name reply good h =
-    reads_unrefused (λ status. status ≡ Good) contents name spec_file (λ (spec : Spec) (s : Reply). s ≡ record { status = Good; text = packed spec }) good.spec reply (spec_sound good.spec) good.spells
+    reads_unrefused (λ status. status ≡ Good) contents name spec_file (λ (spec : Spec) (s : Reply). s ≡ record { status = Good; text = packed spec }) good.spec reply (spec_sound good.spec) (λ bytes form. form.0) good.spells
     (λ bytes other form form_other went. inl (ap (λ (s : Reply). s.status) went)) h
 
 -- ---- boards
@@ -209,9 +213,9 @@ same_schedule one other same text = ap (λ (items : List (Option ℕ)). unless (
 pub same_for_image : (image : Image) (one other : ℕ) (text : List ℕ) → AreCpus image one → AreCpus image other → schedule_of one text ≡ schedule_of other text
 same_for_image image one other text h k = same_schedule one other (λ n lt. h n lt ∙ sym (k n lt)) text
 
-pub schedule_sound : (image : Image) (items : List ℕ) → IsSound (ScheduleRefusal image) (IsScheduleFile image) asked_of_a_file items
-schedule_sound image items bytes words within form (inl over) = no_more asked_of_a_file bytes within over.0
-schedule_sound image items bytes words within form (inr bad) =
+pub schedule_sound : (image : Image) (items : List ℕ) → IsSound (ScheduleRefusal image) (IsScheduleFile image) items
+schedule_sound image items bytes words form (inl over) = no_more asked_of_a_file bytes form.within over.0
+schedule_sound image items bytes words form (inr bad) =
     ok_err (schedule_of form.cpus bytes) items bad.fault form.spelled (same_for_image image form.cpus bad.cpus bytes form.are bad.are ∙ bad.first)
 
 pub one_schedule : (image : Image) (bytes one other : List ℕ) → IsScheduleFile image bytes one → IsScheduleFile image bytes other → one ≡ other
@@ -225,10 +229,10 @@ played_unrefused : (image : Image) (items other : List ℕ) (reply : Reply) → 
 played_unrefused image items other reply same is =
     inl (ap (λ (s : Reply). s.status) is.told ∙ ap (λ (xs : List ℕ). played_status (played image max_entries xs).full) (sym same))
 
-plays_unrefused : (contents : Contents) (schedule : List ℕ) (image : Image) (items : List ℕ) (reply : Reply) → FileHolds asked_of_a_file contents schedule (IsScheduleFile image) items
+plays_unrefused : (contents : Contents) (schedule : List ℕ) (image : Image) (items : List ℕ) (reply : Reply) → FileHolds contents schedule (IsScheduleFile image) items
     → PlaysBy contents schedule image reply → IsAnswered (IsPlayOf image items) reply
 plays_unrefused contents schedule image items reply held h =
-    reads_unrefused (IsPlayOf image items) contents schedule (schedule_file image) (IsPlayed image) items reply (schedule_sound image items) held
+    reads_unrefused (IsPlayOf image items) contents schedule (schedule_file image) (IsPlayed image) items reply (schedule_sound image items) (λ bytes form. form.within) held
     (λ bytes other form form_other is. played_unrefused image items other reply (one_schedule image bytes items other form form_other) is) h
 
 play_unrefused : OneImage → BoardsAreUnrefused → (contents : Contents) (board schedule : List ℕ) (reply : Reply) (good : AreGoodToPlay contents board schedule) → Plays contents board schedule reply
@@ -241,9 +245,9 @@ play_unrefused one_image unrefused contents board schedule reply good (inr (imag
 
 -- ---- audit
 
-pub journal_sound : NoBadLine → NotLong → (entries : List Entry) → IsSound JournalRefusal IsJournalFile asked_of_a_journal entries
-journal_sound no_bad not_long entries bytes words within form (inl over) = no_more asked_of_a_journal bytes within over.0
-journal_sound no_bad not_long entries bytes words within form (inr bad) = faultless bad.fault bad.is_of_text bad.first where
+pub journal_sound : NoBadLine → NotLong → (entries : List Entry) → IsSound JournalRefusal IsJournalFile entries
+journal_sound no_bad not_long entries bytes words form (inl over) = no_more asked_of_a_journal bytes form.within over.0
+journal_sound no_bad not_long entries bytes words form (inr bad) = faultless bad.fault bad.is_of_text bad.first where
   faultless : (fault : JournalFault) → fault ≢ journals.NoMemory → IsFault bytes fault → ⊥
   faultless (journals.Line number) other first = no_bad bytes entries number form.spelled first
   faultless journals.TooLong other first = not_long bytes entries form.spelled first
@@ -253,10 +257,10 @@ verdict_unrefused : (verdict : Verdict) → IsVerdict (verdict_status verdict)
 verdict_unrefused (Legal count quiet) = inl refl
 verdict_unrefused (Illegal line expected) = inr refl
 
-audits_unrefused : NoBadLine → NotLong → (contents : Contents) (journal : List ℕ) (image : Image) (entries : List Entry) (reply : Reply) → FileHolds asked_of_a_journal contents journal IsJournalFile entries
+audits_unrefused : NoBadLine → NotLong → (contents : Contents) (journal : List ℕ) (image : Image) (entries : List Entry) (reply : Reply) → FileHolds contents journal IsJournalFile entries
     → AuditsBy contents journal image reply → IsAnswered IsVerdict reply
 audits_unrefused no_bad not_long contents journal image entries reply held h =
-    reads_unrefused IsVerdict contents journal journal_file (IsAudited image) entries reply (journal_sound no_bad not_long entries) held
+    reads_unrefused IsVerdict contents journal journal_file (IsAudited image) entries reply (journal_sound no_bad not_long entries) (λ bytes form. form.within) held
     (λ bytes other form form_other is. of_verdict reply (verdict_status is.verdict) (ap (λ (s : Reply). s.status) is.told) (verdict_unrefused is.verdict)) h
 
 audit_unrefused : BoardsAreUnrefused → NoBadLine → NotLong → (contents : Contents) (board journal : List ℕ) (reply : Reply) → AreGoodToAudit contents board journal → Audits contents board journal reply → IsAnswered IsVerdict reply
@@ -278,10 +282,10 @@ mapped_unrefused : (image : Image) (cpus other : List ℕ) (reply : Reply) → c
 mapped_unrefused image cpus other reply same (found, is, told) =
     inl (ap (λ (s : Reply). s.status) told ∙ mapped_status image other found is ∙ ap (λ (xs : List ℕ). played_status (items image max_entries xs []).full) (sym same))
 
-maps_unrefused : (contents : Contents) (schedule : List ℕ) (image : Image) (cpus : List ℕ) (reply : Reply) → FileHolds asked_of_a_file contents schedule (IsScheduleFile image) cpus
+maps_unrefused : (contents : Contents) (schedule : List ℕ) (image : Image) (cpus : List ℕ) (reply : Reply) → FileHolds contents schedule (IsScheduleFile image) cpus
     → MapsBy contents schedule image reply → IsAnswered (IsMapOf image cpus) reply
 maps_unrefused contents schedule image cpus reply held h =
-    reads_unrefused (IsMapOf image cpus) contents schedule (schedule_file image) (IsMapped image) cpus reply (schedule_sound image cpus) held
+    reads_unrefused (IsMapOf image cpus) contents schedule (schedule_file image) (IsMapped image) cpus reply (schedule_sound image cpus) (λ bytes form. form.within) held
     (λ bytes other form form_other is. mapped_unrefused image cpus other reply (one_schedule image bytes cpus other form form_other) is) h
 
 map_unrefused : OneImage → BoardsAreUnrefused → (contents : Contents) (board schedule : List ℕ) (reply : Reply) (good : AreGoodToPlay contents board schedule) → Maps contents board schedule reply

@@ -71,7 +71,7 @@ module _ (contents : Contents) where
   lists board listing is h = record { bytes = h.bytes; has = has board h.bytes is h.has; told = h.told }
 
   spells : (name : List ℕ) (system : SystemConfig) → IsKnown name → SpellsSystem contents name system → SpellsSystem (all_told contents) name system
-  spells name system is h = record { bytes = h.bytes; has = has name h.bytes is h.has; typed = h.typed; limits = h.limits; spelled = h.spelled }
+  spells name system is h = record { bytes = h.bytes; has = has name h.bytes is h.has; is = h.is }
 
   preload_of : (file : PreloadFile) (preload : Preload) → IsKnown file.file → IsPreloadOf contents file preload → IsPreloadOf (all_told contents) file preload
   preload_of file preload is h = record { has = has file.file preload.bytes is h.has; at = h.at }

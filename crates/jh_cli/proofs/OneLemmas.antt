@@ -115,14 +115,14 @@ cell_words bytes v w (inr h) (inl k) = absurd (no_more asked_of_a_file bytes h.w
 cell_words bytes v w (inr h) (inr k) = h.told ∙ ap config_fault_text (some_one (first_fault bytes) h.fault k.fault h.first k.first) ∙ sym k.told
 
 pub system_values : OneSpelling → (bytes : List ℕ) (a b : SystemConfig) → IsSystemFile bytes a → IsSystemFile bytes b → a ≡ b
-system_values one bytes a b h k = one a b h.typed k.typed h.limits k.limits (sym h.spelled ∙ k.spelled)
+system_values one bytes a b h k = one a b h.is.typed k.is.typed h.is.limits k.is.limits (sym h.is.spelled ∙ k.is.spelled)
 
 cell_values : OneCell → (bytes : List ℕ) (a b : CellConfig) → IsCellFile bytes a → IsCellFile bytes b → a ≡ b
 cell_values one bytes a b h k = one a b h.typed k.typed h.limits k.limits (sym h.spelled ∙ k.spelled)
 
 module _ (faultless : CellsAreFaultless) (one_cell : OneCell) (contents : Contents) where
   cell_apart : (bytes : List ℕ) (cell : CellConfig) (words : List ℕ) → IsCellFile bytes cell → CellRefusal bytes words → ⊥
-  cell_apart bytes cell words form why = cell_sound faultless cell bytes words form.within form why
+  cell_apart bytes cell words form why = cell_sound faultless cell bytes words form why
 
   not_both : (name : List ℕ) → contents name ≢ None → (cell : CellConfig) (reply : Reply) → SpellsAt asked_of_a_file contents name IsCellFile cell → EndsAt asked_of_a_file contents name CellRefusal reply → IsRead reply → ⊥
   not_both name told cell reply = spelled_or_stopped asked_of_a_file contents name told CellRefusal IsCellFile cell_apart cell reply

@@ -81,23 +81,23 @@ pub one_outcome : CellsAreFaultless → SpellingsAreFaultless → OneCell → On
     → (contents : Contents) (request : Option Request) (one other : Reply) → IsSerial request → AreKnownFiles contents request → Outcome contents request one → Outcome contents request other → IsRead one → IsRead other → one ≡ other
 one_outcome cells systems one_cell one_system no_bad not_long one_journal not_both one_line one_image unrefused one_cause one_maps contents None one other serial told h k read also = h ∙ sym k
 one_outcome cells systems one_cell one_system no_bad not_long one_journal not_both one_line one_image unrefused one_cause one_maps contents (Some (CheckOf system names)) one other serial told h k read also =
-    one_reading asked_of_a_file contents system told.0 SystemRefusal IsSystemFile system_words (system_values one_system) (λ bytes s words form why. system_sound systems s bytes words form.within form why)
+    one_reading asked_of_a_file contents system told.0 SystemRefusal IsSystemFile system_words (system_values one_system) (λ bytes s words form why. system_sound systems s bytes words form why)
     (ChecksCells contents names) one other (λ s a b. one_check cells one_cell contents names s one other told.1 a b) h k read also
 one_outcome cells systems one_cell one_system no_bad not_long one_journal not_both one_line one_image unrefused one_cause one_maps contents (Some (PackOf name)) one other serial told h k read also =
-    one_reading asked_of_a_file contents name told.0 SpecRefusal IsSpecFile spec_words spec_values (λ bytes s words form why. spec_sound s bytes words form.0 form why)
+    one_reading asked_of_a_file contents name told.0 SpecRefusal IsSpecFile spec_words spec_values (λ bytes s words form why. spec_sound s bytes words form why)
     (λ (spec : Spec) (s : Reply). s ≡ record { status = Good; text = packed spec }) one other (λ s a b r q. a ∙ sym b) h k read also
 one_outcome cells systems one_cell one_system no_bad not_long one_journal not_both one_line one_image unrefused one_cause one_maps contents (Some (PlayOf board schedule)) one other serial told h k read also =
     one_opening one_cause one_image unrefused contents board (PlaysBy contents schedule) one other told.0
-    (λ image a b. one_reading asked_of_a_file contents schedule told.1.0 (ScheduleRefusal image) (IsScheduleFile image) (schedule_words image) (one_schedule image) (λ bytes s words form why. schedule_sound image s bytes words form.within form why)
+    (λ image a b. one_reading asked_of_a_file contents schedule told.1.0 (ScheduleRefusal image) (IsScheduleFile image) (schedule_words image) (one_schedule image) (λ bytes s words form why. schedule_sound image s bytes words form why)
     (IsPlayed image) one other (λ s x y r q. x.told ∙ sym y.told) a b read also) h k read also
 one_outcome cells systems one_cell one_system no_bad not_long one_journal not_both one_line one_image unrefused one_cause one_maps contents (Some (RunOf board)) one other serial told h k read also = absurd serial
 one_outcome cells systems one_cell one_system no_bad not_long one_journal not_both one_line one_image unrefused one_cause one_maps contents (Some (SoakOf rounds)) one other serial told h k read also = absurd serial
 one_outcome cells systems one_cell one_system no_bad not_long one_journal not_both one_line one_image unrefused one_cause one_maps contents (Some (MapOf board schedule)) one other serial told h k read also =
     one_opening one_cause one_image unrefused contents board (MapsBy contents schedule) one other told.0
-    (λ image a b. one_reading asked_of_a_file contents schedule told.1.0 (ScheduleRefusal image) (IsScheduleFile image) (schedule_words image) (one_schedule image) (λ bytes s words form why. schedule_sound image s bytes words form.within form why)
+    (λ image a b. one_reading asked_of_a_file contents schedule told.1.0 (ScheduleRefusal image) (IsScheduleFile image) (schedule_words image) (one_schedule image) (λ bytes s words form why. schedule_sound image s bytes words form why)
     (IsMapped image) one other (λ s x y r q. one_mapped one_maps image s one other x y) a b read also) h k read also
 one_outcome cells systems one_cell one_system no_bad not_long one_journal not_both one_line one_image unrefused one_cause one_maps contents (Some (AuditOf board journal)) one other serial told h k read also =
     one_opening one_cause one_image unrefused contents board (AuditsBy contents journal) one other told.0
     (λ image a b. one_reading asked_of_a_journal contents journal told.1.0 JournalRefusal IsJournalFile (journal_words not_both one_line) (λ bytes x y f g. one_journal bytes x y f.spelled g.spelled)
-    (λ bytes s words form why. journal_sound no_bad not_long s bytes words form.within form why)
+    (λ bytes s words form why. journal_sound no_bad not_long s bytes words form why)
     (IsAudited image) one other (λ entries x y r q. one_audited image entries one other x y) a b read also) h k read also

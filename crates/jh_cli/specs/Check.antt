@@ -9,13 +9,12 @@ use Rattle.jh_cellcfg.specs.Limits.{IsWithinLimits}
 use Rattle.jh_cellcfg.specs.Spelling.{spelling}
 use Rattle.jh_cellcfg.specs.Texts.{config_fault_text}
 use Rattle.jh_cellcfg.specs.Typed.{IsCell}
-use Rattle.jh_syscfg.specs.Layout.{system_spelling, IsSystem, IsSystemWithinLimits}
 use Rattle.jh_syscfg.specs.SystemFaults.{system_fault}
 use Rattle.jh_check.specs.declared.finding.Finding.{Finding}
 use Rattle.jh_check.specs.Findings.{findings}
 use Rattle.jh_check.specs.Lists.{capped, is_any}
 use Rattle.jh_check.specs.Texts.{finding_text}
-use Rattle.jh_image.specs.Files.{Contents}
+use Rattle.jh_image.specs.Files.{Contents, IsSystemSpelling}
 use Rattle.jh_cli.specs.Reading.{Reply, FileKind, Spells, EndsAtFile, Reads, RefusesOversize}
 use Rattle.jh_cli.specs.declared.status.Status.{Status}
 use Rattle.jh_cli.specs.declared.status.Status.TheVariants.{Good, Found}
@@ -42,9 +41,7 @@ CellRefusal bytes words = RefusesOversize bytes words ⊎ IsNoCell bytes words
 -- the bytes of a file are those of this system
 pub record IsSystemFile (bytes : List ℕ) (system : SystemConfig) : Type 0 where
   pub within : length bytes < asked_of_a_file
-  pub typed : IsSystem system
-  pub limits : IsSystemWithinLimits system
-  pub spelled : bytes ≡ system_spelling system
+  pub is : IsSystemSpelling bytes system
 
 -- the bytes of a file are no system's, for the fault that these words tell
 pub record IsNoSystem (bytes words : List ℕ) : Type 0 where

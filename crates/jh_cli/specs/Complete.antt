@@ -1,6 +1,6 @@
 -- Good words and files: the words have a command, and each file that they name is in its grammar and within its
 -- limits. A call with them isn't refused.
-use Rattle.std.specs.Prelude.{◌≡◌, ◌≢◌, ◌<◌, ℕ, ◌⊎◌, List, [], ◌∷◌, length, Option, None, Some, ⊤}
+use Rattle.std.specs.Prelude.{◌≡◌, ◌≢◌, ℕ, ◌⊎◌, List, [], ◌∷◌, Option, None, Some, ⊤}
 use Rattle.std.specs.List.{AllByRecursion}
 use Rattle.jh_cellcfg.specs.declared.config.CellConfig.{CellConfig}
 use Rattle.jh_cellcfg.specs.declared.config.SystemConfig.{SystemConfig}
@@ -21,20 +21,18 @@ use Rattle.jh_cli.specs.Audit.{IsJournalFile}
 use Rattle.jh_cli.specs.Soak.{AreRounds}
 use Rattle.jh_cli.specs.declared.status.Status.{Status}
 use Rattle.jh_cli.specs.declared.status.Status.TheVariants.{Good, Found, Full}
-use Rattle.jh_cli.specs.Limits.{asked_of_a_file, asked_of_a_journal}
 
 module _ {A : Type 0} where
-  -- the file of this name holds bytes, fewer than `most`, that spell this value
-  pub record FileHolds (most : ℕ) (contents : Contents) (name : List ℕ) (Form : List ℕ → A → Type 0) (value : A) : Type 0 where
+  -- the file of this name holds bytes that spell this value
+  pub record FileHolds (contents : Contents) (name : List ℕ) (Form : List ℕ → A → Type 0) (value : A) : Type 0 where
     pub bytes : List ℕ
     pub holds : contents name ≡ Some (Some bytes)
-    pub within : length bytes < most
     pub spelled : Form bytes value
 
 -- the files of these names hold these cells, one each
 abbrev pub HoldCells : Contents → List (List ℕ) → List CellConfig → Type 0
 HoldCells contents [] [] = ⊤
-HoldCells contents (name ∷ names) (cell ∷ cells) = FileHolds asked_of_a_file contents name IsCellFile cell × HoldCells contents names cells
+HoldCells contents (name ∷ names) (cell ∷ cells) = FileHolds contents name IsCellFile cell × HoldCells contents names cells
 HoldCells contents _ _ = ⊥
 
 -- the files tell of each of these names all the bytes that it holds, or that it is missing
@@ -60,14 +58,14 @@ AreKnownFiles contents (Some (SoakOf rounds)) = ⊤
 -- the first file of a check holds a system and each other one a cell, whatever the check finds in them
 pub record AreGoodToCheck (contents : Contents) (system : List ℕ) (cells : List (List ℕ)) : Type 0 where
   pub of_system : SystemConfig
-  pub system_held : FileHolds asked_of_a_file contents system IsSystemFile of_system
+  pub system_held : FileHolds contents system IsSystemFile of_system
   pub of_cells : List CellConfig
   pub cells_held : HoldCells contents cells of_cells
 
 -- the file of a pack holds a configuration's SPEC
 pub record IsGoodToPack (contents : Contents) (name : List ℕ) : Type 0 where
   pub spec : Spec
-  pub spells : FileHolds asked_of_a_file contents name IsSpecFile spec
+  pub spells : FileHolds contents name IsSpecFile spec
 
 -- the files tell of the board and of what it lists, which make an image, and the schedule's holds items for it
 pub record AreGoodToPlay (contents : Contents) (board schedule : List ℕ) : Type 0 where
@@ -75,7 +73,7 @@ pub record AreGoodToPlay (contents : Contents) (board schedule : List ℕ) : Typ
   pub image : Image
   pub is : IsImage contents board image
   pub items : List ℕ
-  pub spells : FileHolds asked_of_a_file contents schedule (IsScheduleFile image) items
+  pub spells : FileHolds contents schedule (IsScheduleFile image) items
 
 -- the files tell of the board and of what it lists, which make an image
 pub record AreGoodToRun (contents : Contents) (board : List ℕ) : Type 0 where
@@ -90,7 +88,7 @@ pub record AreGoodToAudit (contents : Contents) (board journal : List ℕ) : Typ
   pub image : Image
   pub is : IsImage contents board image
   pub entries : List Entry
-  pub spells : FileHolds asked_of_a_journal contents journal IsJournalFile entries
+  pub spells : FileHolds contents journal IsJournalFile entries
 
 -- the words have a command, and its files are good for it
 abbrev pub AreGood : Contents → Option Request → Type 0

@@ -68,6 +68,7 @@ fn cells<F: Files>(
 {
     let mut cells = Seq::new(alloc);
     for name in names {
+        // for the proof: what stops the call is handed up as it is, and `?` would make it anew by `From`
         match cell(alloc, files, name.as_str()) {
             Ok(cell) => cells.push(cell)?,
             Err(stop) => return Err(stop),

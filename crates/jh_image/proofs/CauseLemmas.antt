@@ -36,9 +36,9 @@ stops_of contents board stage file cause (by_board _ (has_bad_member bytes name 
 stops_of contents board stage file cause (by_system listing _ (is_no_system bytes fault has first)) =
     inr (record { name = listing.system; next = the_system listing; names = refl; follows = of_bytes bytes _ has (fault_tells listing fault _ first refl) })
 stops_of contents board stage file cause (by_system listing _ (has_findings system spells some)) =
-    inr (record { name = listing.system; next = the_system listing; names = refl; follows = of_bytes spells.bytes _ spells.has (system_tells listing system _ spells.typed spells.limits spells.spelled (unsound_next listing system some)) })
+    inr (record { name = listing.system; next = the_system listing; names = refl; follows = of_bytes spells.bytes _ spells.has (system_tells listing system _ spells.is (unsound_next listing system some)) })
 stops_of contents board stage file cause (by_pool listing system h) =
-    inr (record { name = listing.system; next = the_system listing; names = refl; follows = of_bytes h.spells.bytes _ h.spells.has (system_tells listing system _ h.spells.typed h.spells.limits h.spells.spelled (small_next listing system h.clean h.small)) })
+    inr (record { name = listing.system; next = the_system listing; names = refl; follows = of_bytes h.spells.bytes _ h.spells.has (system_tells listing system _ h.spells.is (small_next listing system h.clean h.small)) })
 stops_of contents board stage file cause (by_preload so_far h) =
     inr (record { name = h.file.file; next = a_preload so_far h.file h.next; names = refl; follows = of_bytes h.preload.bytes _ h.read.has (preload_tells so_far h.file h.preload _ h.next h.read.at refl (inr (h.faulty, refl))) })
 stops_of contents board stage file cause (by_program so_far entry fault h) =

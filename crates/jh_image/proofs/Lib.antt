@@ -1,4 +1,4 @@
-mod SeatLemmas
+mod DistinctLemmas
 mod StopLemmas
 mod LoadLemmas
 mod OrderLemmas

@@ -85,7 +85,7 @@ pub record ScriptsSoFar (contents : Contents) (board : List ℕ) (listing : List
   pub within : count ≤ length listing.programs
   pub read : ReadsTo contents board (with_system (so_far_of listing system preloads programs))
   pub sound : All IsSoundProgram programs
-  pub seats : map program_cpu programs ≡ map named_cpu_of (take count listing.programs)
+  pub cpus : map program_cpu programs ≡ map named_cpu_of (take count listing.programs)
 
 pub scripts_start : (contents : Contents) (board : List ℕ) (listing : Listing) (system : SystemConfig) (preloads : List Preload) → ReadsTo contents board (with_system (so_far_of listing system preloads []))
     → ScriptsSoFar contents board listing system preloads 0 []
@@ -94,11 +94,11 @@ scripts_start contents board listing system preloads read = record {
   within = omega arith;
   read = read;
   sound = λ k d lt. absurd (omega arith);
-  seats = refl;
+  cpus = refl;
 }
 
-same_seat : (contents : Contents) (file : ProgramFile) (program : Program) → IsProgramOf contents file program → program_cpu program ≡ named_cpu_of file
-same_seat contents file program of = λ i. record { cell = of.cell i; cpu = of.cpu i }
+program_cpu_is : (contents : Contents) (file : ProgramFile) (program : Program) → IsProgramOf contents file program → program_cpu program ≡ named_cpu_of file
+program_cpu_is contents file program of = λ i. record { cell = of.cell i; cpu = of.cpu i }
 
 pub scripts_next : (contents : Contents) (board : List ℕ) (listing : Listing) (system : SystemConfig) (preloads : List Preload) (i : ℕ) (file : ProgramFile) (programs : List Program) → length preloads ≡ length listing.preloads
     → i < length listing.programs → file ≡ get_or listing.programs i file → ScriptsSoFar contents board listing system preloads i programs → IsNextProgram (so_far_of listing system preloads programs) file
@@ -118,7 +118,7 @@ scripts_more contents board listing system preloads i file programs program all 
       within = omega arith;
       read = one_more_read (with_system before) (with_system (with_program before program)) so_far.read (reads_program before file program (scripts_next contents board listing system preloads i file programs all lt is so_far) of);
       sound = All-push IsSoundProgram programs program so_far.sound sound;
-      seats = map_push program_cpu programs program ∙ ap (λ ss. ss ++ program_cpu program ∷ []) so_far.seats ∙ ap (λ s. map named_cpu_of (take i files) ++ s ∷ []) (same_seat contents file program of)
+      cpus = map_push program_cpu programs program ∙ ap (λ ss. ss ++ program_cpu program ∷ []) so_far.cpus ∙ ap (λ s. map named_cpu_of (take i files) ++ s ∷ []) (program_cpu_is contents file program of)
           ∙ sym (map_push named_cpu_of (take i files) file) ∙ ap (map named_cpu_of) (front_more files i file lt is);
     }
 
@@ -142,43 +142,43 @@ pointwise_swap (x ∷ xs) [] h = absurd (false≢true h)
 pointwise_swap (x ∷ xs) (y ∷ ys) h =
     and_from (nat_eq y x) (pointwise nat_eq ys xs) (eq_swap x y ((and_parts (nat_eq x y) (pointwise nat_eq xs ys) h).0)) (pointwise_swap xs ys ((and_parts (nat_eq x y) (pointwise nat_eq xs ys) h).1))
 
--- a program of the CPU and cell of another has its seat
-program_seat_holds : (p q : Program) → IsTrue (is_program_of p.cell p.cpu q) → is_same_cpu (program_cpu p) (program_cpu q) ≡ true
-program_seat_holds p q h =
+-- a program of the CPU and cell of another is of the same CPU of the same cell
+program_cpus_agree : (p q : Program) → IsTrue (is_program_of p.cell p.cpu q) → is_same_cpu (program_cpu p) (program_cpu q) ≡ true
+program_cpus_agree p q h =
     and_from (pointwise nat_eq p.cell q.cell) (p.cpu == q.cpu)
     (pointwise_swap q.cell p.cell ((and_parts (pointwise nat_eq q.cell p.cell) (q.cpu == p.cpu) h).0))
     (eq_swap q.cpu p.cpu ((and_parts (pointwise nat_eq q.cell p.cell) (q.cpu == p.cpu) h).1))
 
--- no seat stands again behind itself
-seat_once : (seats : List NamedCpu) → are_distinct seats ≡ true → (i j : ℕ) (d : NamedCpu) → i < j → j < length seats → is_same_cpu (get_or seats i d) (get_or seats j d) ≡ true → ⊥
+-- no CPU of a cell stands again behind itself
+cpu_once : (cpus : List NamedCpu) → are_distinct cpus ≡ true → (i j : ℕ) (d : NamedCpu) → i < j → j < length cpus → is_same_cpu (get_or cpus i d) (get_or cpus j d) ≡ true → ⊥
 unfolding are_distinct
-seat_once [] h i j d lt within same = omega arith
-seat_once (seat ∷ seats) h zero zero d lt within same = omega arith
-seat_once (seat ∷ seats) h zero (suc j) d lt within same =
-    let found : list_any (is_same_cpu seat) seats ≡ true = list_any_at (is_same_cpu seat) seats j d (omega arith) same in
-    false≢true (sym (ap not found) ∙ (and_parts (not (list_any (is_same_cpu seat) seats)) (are_distinct seats) h).0)
-seat_once (seat ∷ seats) h (suc i) zero d lt within same = omega arith
-seat_once (seat ∷ seats) h (suc i) (suc j) d lt within same = seat_once seats ((and_parts (not (list_any (is_same_cpu seat) seats)) (are_distinct seats) h).1) i j d (omega arith) (omega arith) same
+cpu_once [] h i j d lt within same = omega arith
+cpu_once (cpu ∷ cpus) h zero zero d lt within same = omega arith
+cpu_once (cpu ∷ cpus) h zero (suc j) d lt within same =
+    let found : list_any (is_same_cpu cpu) cpus ≡ true = list_any_at (is_same_cpu cpu) cpus j d (omega arith) same in
+    false≢true (sym (ap not found) ∙ (and_parts (not (list_any (is_same_cpu cpu) cpus)) (are_distinct cpus) h).0)
+cpu_once (cpu ∷ cpus) h (suc i) zero d lt within same = omega arith
+cpu_once (cpu ∷ cpus) h (suc i) (suc j) d lt within same = cpu_once cpus ((and_parts (not (list_any (is_same_cpu cpu) cpus)) (are_distinct cpus) h).1) i j d (omega arith) (omega arith) same
 
-get_seat : (programs : List Program) (i : ℕ) (d : Program) → get_or (map program_cpu programs) i (program_cpu d) ≡ program_cpu (get_or programs i d)
-get_seat [] i d = refl
-get_seat (p ∷ ps) zero d = refl
-get_seat (p ∷ ps) (suc i) d = get_seat ps i d
+get_program_cpu : (programs : List Program) (i : ℕ) (d : Program) → get_or (map program_cpu programs) i (program_cpu d) ≡ program_cpu (get_or programs i d)
+get_program_cpu [] i d = refl
+get_program_cpu (p ∷ ps) zero d = refl
+get_program_cpu (p ∷ ps) (suc i) d = get_program_cpu ps i d
 
-length_seats : (programs : List Program) → length (map program_cpu programs) ≡ length programs
-length_seats [] = refl
-length_seats (p ∷ ps) = ap suc (length_seats ps)
+length_program_cpus : (programs : List Program) → length (map program_cpu programs) ≡ length programs
+length_program_cpus [] = refl
+length_program_cpus (p ∷ ps) = ap suc (length_program_cpus ps)
 
-pub seats_owned : (programs : List Program) → are_distinct (map program_cpu programs) ≡ true → AllPairs IsOtherProgram programs
-seats_owned programs h i j d lt within taken =
-    let same = program_seat_holds (get_or programs i d) (get_or programs j d) taken in
-    let first : is_same_cpu (get_or (map program_cpu programs) i (program_cpu d)) (program_cpu (get_or programs j d)) ≡ true = subst (λ s. is_same_cpu s (program_cpu (get_or programs j d)) ≡ true) (sym (get_seat programs i d)) same in
-    let both : is_same_cpu (get_or (map program_cpu programs) i (program_cpu d)) (get_or (map program_cpu programs) j (program_cpu d)) ≡ true = subst (λ s. is_same_cpu (get_or (map program_cpu programs) i (program_cpu d)) s ≡ true) (sym (get_seat programs j d)) first in
-    let inside : j < length (map program_cpu programs) = subst (λ n. j < n) (sym (length_seats programs)) within in
-    seat_once (map program_cpu programs) h i j (program_cpu d) lt inside both
+pub cpus_owned : (programs : List Program) → are_distinct (map program_cpu programs) ≡ true → AllPairs IsOtherProgram programs
+cpus_owned programs h i j d lt within taken =
+    let same = program_cpus_agree (get_or programs i d) (get_or programs j d) taken in
+    let first : is_same_cpu (get_or (map program_cpu programs) i (program_cpu d)) (program_cpu (get_or programs j d)) ≡ true = subst (λ s. is_same_cpu s (program_cpu (get_or programs j d)) ≡ true) (sym (get_program_cpu programs i d)) same in
+    let both : is_same_cpu (get_or (map program_cpu programs) i (program_cpu d)) (get_or (map program_cpu programs) j (program_cpu d)) ≡ true = subst (λ s. is_same_cpu (get_or (map program_cpu programs) i (program_cpu d)) s ≡ true) (sym (get_program_cpu programs j d)) first in
+    let inside : j < length (map program_cpu programs) = subst (λ n. j < n) (sym (length_program_cpus programs)) within in
+    cpu_once (map program_cpu programs) h i j (program_cpu d) lt inside both
 
 pub scripts_owned : (contents : Contents) (board : List ℕ) (listing : Listing) (system : SystemConfig) (preloads : List Preload) (i : ℕ) (programs : List Program) → length listing.programs ≤ i → are_distinct (map named_cpu_of listing.programs) ≡ true
     → ScriptsSoFar contents board listing system preloads i programs → AllPairs IsOtherProgram programs
 scripts_owned contents board listing system preloads i programs le h so_far =
-    let same : map program_cpu programs ≡ map named_cpu_of listing.programs = so_far.seats ∙ ap (map named_cpu_of) (take_all i listing.programs le) in
-    seats_owned programs (ap are_distinct same ∙ h)
+    let same : map program_cpu programs ≡ map named_cpu_of listing.programs = so_far.cpus ∙ ap (map named_cpu_of) (take_all i listing.programs le) in
+    cpus_owned programs (ap are_distinct same ∙ h)

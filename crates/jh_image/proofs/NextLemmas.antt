@@ -25,7 +25,7 @@ use Rattle.jh_image.specs.declared.fault.ImageCause.{ImageCause}
 use Rattle.jh_image.specs.declared.fault.ImageCause.TheVariants.{ReadFault, Oversize, Json, Member, System, Findings, PoolSmall, Preload as BadPreload, Program as BadProgram}
 use Rattle.jh_image.specs.Boards.{board_told, IsListingAnswer}
 use Rattle.jh_image.specs.Preloads.{IsFaultless}
-use Rattle.jh_image.specs.Files.{Contents, HasBytes, IsOversize}
+use Rattle.jh_image.specs.Files.{Contents, HasBytes, IsOversize, IsSystemSpelling}
 use Rattle.jh_image.specs.Images.{SoFar, Stage, nothing, with_listing, with_system, so_far_of, with_preload, with_program, IsNextPreload, HasAllPreloads, IsNextProgram, IsNextFile, the_board, the_system, a_preload, a_program, ReadsNext, reads_board, reads_system, reads_preload, reads_program}
 use Rattle.jh_image.specs.Laws.{AreKnown}
 use Rattle.jh_image.proofs.OneLemmas.{OneSpelling, bytes_one, text_one}
@@ -155,25 +155,24 @@ after_program so_far file (Err fault) = stops (BadProgram fault)
 pub data Tells (bytes : List ℕ) : Stage → Next → Type 0 where
   listing_tells : (answer : Result Listing JsonFault) (next : Next) → IsOfText answer → IsListingAnswer bytes answer → next ≡ after_board answer → Tells bytes nothing next
   fault_tells : (listing : Listing) (fault : ConfigFault) (next : Next) → system_fault bytes ≡ Some fault → next ≡ stops (System fault) → Tells bytes (with_listing listing) next
-  system_tells : (listing : Listing) (system : SystemConfig) (next : Next) → IsSystem system → IsSystemWithinLimits system → bytes ≡ system_spelling system
-      → next ≡ after_system listing system → Tells bytes (with_listing listing) next
+  system_tells : (listing : Listing) (system : SystemConfig) (next : Next) → IsSystemSpelling bytes system → next ≡ after_system listing system → Tells bytes (with_listing listing) next
   preload_tells : (so_far : SoFar) (file : PreloadFile) (preload : Preload) (next : Next) → IsNextPreload so_far file → preload.at ≡ file.at → preload.bytes ≡ bytes
       → AfterPreload so_far preload next → Tells bytes (with_system so_far) next
   program_tells : (so_far : SoFar) (file : ProgramFile) (next : Next) → IsNextProgram so_far file → next ≡ after_program so_far file (program_of bytes) → Tells bytes (with_system so_far) next
 
 module _ (spelling : OneSpelling) (faultless : SpellingsAreFaultless) (bytes : List ℕ) where
   -- what spells a system has no fault
-  fault_or_system : (system : SystemConfig) (fault : ConfigFault) → IsSystem system → IsSystemWithinLimits system → bytes ≡ system_spelling system → system_fault bytes ≡ Some fault → ⊥
-  fault_or_system system fault typed limits spelled first = none-some fault (sym (faultless system typed limits) ∙ ap system_fault (sym spelled) ∙ first)
+  fault_or_system : (system : SystemConfig) (fault : ConfigFault) → IsSystemSpelling bytes system → system_fault bytes ≡ Some fault → ⊥
+  fault_or_system system fault is first = none-some fault (sym (faultless system is.typed is.limits) ∙ ap system_fault (sym is.spelled) ∙ first)
 
   tells_one : (s r : Stage) (one other : Next) → Tells bytes s one → Tells bytes r other → s ≡ r → one ≡ other
   tells_one s r one other (listing_tells a _ is told n) (listing_tells b _ is_too told_too m) e = n ∙ ap after_board (answer_one bytes a b told told_too is is_too) ∙ sym m
   tells_one s r one other (fault_tells _ a _ first n) (fault_tells _ b _ first_too m) e = n ∙ ap (λ (f : ConfigFault). stops (System f)) (same_Some a b (sym first ∙ first_too)) ∙ sym m
-  tells_one s r one other (fault_tells _ a _ first n) (system_tells _ system _ typed limits spelled m) e = absurd (fault_or_system system a typed limits spelled first)
-  tells_one s r one other (system_tells _ system _ typed limits spelled n) (fault_tells _ b _ first m) e = absurd (fault_or_system system b typed limits spelled first)
-  tells_one s r one other (system_tells listing a _ typed limits spelled n) (system_tells more b _ typed_too limits_too spelled_too m) e =
+  tells_one s r one other (fault_tells _ a _ first n) (system_tells _ system _ is m) e = absurd (fault_or_system system a is first)
+  tells_one s r one other (system_tells _ system _ is n) (fault_tells _ b _ first m) e = absurd (fault_or_system system b is first)
+  tells_one s r one other (system_tells listing a _ is n) (system_tells more b _ is_too m) e =
       let same = one_listing listing more e in
-      let alike : a ≡ b = spelling a b typed typed_too limits limits_too (sym spelled ∙ spelled_too) in
+      let alike : a ≡ b = spelling a b is.typed is_too.typed is.limits is_too.limits (sym is.spelled ∙ is_too.spelled) in
       let both : after_system listing a ≡ after_system more b = λ i. after_system (same i) (alike i) in
       n ∙ both ∙ sym m
   tells_one s r one other (preload_tells a file x _ next at held n) (preload_tells b entry y _ next_too at_too held_too m) e =
@@ -235,7 +234,7 @@ pub goes_on_of : (contents : Contents) (board : List ℕ) (s t : Stage) → Read
 goes_on_of contents board s t (reads_board listing lists) =
     record { name = board; next = the_board; follows = of_bytes lists.bytes _ lists.has (listing_tells (Ok listing) _ (λ no. cc) lists.told refl) }
 goes_on_of contents board s t (reads_system listing system spells sound) =
-    record { name = listing.system; next = the_system listing; follows = of_bytes spells.bytes _ spells.has (system_tells listing system _ spells.typed spells.limits spells.spelled (sound_next listing system sound)) }
+    record { name = listing.system; next = the_system listing; follows = of_bytes spells.bytes _ spells.has (system_tells listing system _ spells.is (sound_next listing system sound)) }
 goes_on_of contents board s t (reads_preload so_far file preload next is fit) =
     record { name = file.file; next = a_preload so_far file next; follows = of_bytes preload.bytes _ is.has (preload_tells so_far file preload _ next is.at refl (inl (fit, refl))) }
 goes_on_of contents board s t (reads_program so_far file program next is) =

@@ -40,13 +40,17 @@ pub record Lists (contents : Contents) (board : List ℕ) (listing : Listing) : 
   pub has : HasBytes contents board bytes
   pub told : IsListingAnswer bytes (Ok listing)
 
+-- the bytes spell this system
+pub record IsSystemSpelling (bytes : List ℕ) (system : SystemConfig) : Type 0 where
+  pub typed : IsSystem system
+  pub limits : IsSystemWithinLimits system
+  pub spelled : bytes ≡ system_spelling system
+
 -- the file spells this system
 pub record SpellsSystem (contents : Contents) (name : List ℕ) (system : SystemConfig) : Type 0 where
   pub bytes : List ℕ
   pub has : HasBytes contents name bytes
-  pub typed : IsSystem system
-  pub limits : IsSystemWithinLimits system
-  pub spelled : bytes ≡ system_spelling system
+  pub is : IsSystemSpelling bytes system
 
 -- the preload is the file's bytes, at the place that the board gives them
 pub record IsPreloadOf (contents : Contents) (file : PreloadFile) (preload : Preload) : Type 0 where

@@ -1,3 +1,4 @@
+pub mod Items
 pub mod Boards
 pub mod Preloads
 pub mod Files

@@ -40,7 +40,7 @@ pub struct Listing {
 }
 
 /// The listing that an object tells, or the member that is at fault.
-#[tactic(auto, unfolding(crate::specs::Boards::listing_told))]
+#[tactic(auto, unfolding(crate::specs::Boards::listing_told, jh_spec::specs::Faults::told_and_then))]
 fn listing_told(alloc: Global, object: &Value) -> Result<Listing, JsonFault>
     ensures told { IsWantedReading (listing_told (view object.now)) result }
     ensures few { IfOk result (λ listing. length listing.preloads ≤ 64) }

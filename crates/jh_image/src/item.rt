@@ -2,7 +2,7 @@
 ghost use Rattle.std.specs.Prelude.{◌≡◌, IfOk, None, option_map};
 ghost use Rattle.serde_json.specs.View.{view};
 ghost use Rattle.jh_spec.specs.Json.{told_at, number_below};
-ghost use Rattle.jh_image.specs.Boards.{preload_told, program_told, is_cell_name, cell_name_told};
+ghost use Rattle.jh_image.specs.Items.{preload_told, program_told, is_cell_name, cell_name_told};
 
 use crate::board::{PreloadFile, ProgramFile};
 use crate::file_name::FileName;
@@ -13,7 +13,7 @@ use serde_json::Value;
 use std::alloc::Global;
 
 /// The preload that an item tells of; `None` where it isn't an object of a file's name and a place below 2^64.
-#[tactic(auto, unfolding(crate::specs::Boards::preload_told))]
+#[tactic(auto, unfolding(crate::specs::Items::preload_told))]
 pub(crate) fn preload(alloc: Global, item: &Value) -> Result<Option<PreloadFile>, NoMemory>
     ensures { IfOk result (λ told. told ≡ preload_told (view item.now)) }
 {
@@ -61,7 +61,7 @@ fn cpu_at(object: &Value, name: &str) -> Option<u8>
 
 /// The program that an item tells of; `None` where it isn't an object of a cell's name, a CPU below 16 and a file's
 /// name.
-#[tactic(auto, unfolding(crate::specs::Boards::program_told))]
+#[tactic(auto, unfolding(crate::specs::Items::program_told))]
 pub(crate) fn program(alloc: Global, item: &Value) -> Result<Option<ProgramFile>, NoMemory>
     ensures { IfOk result (λ told. told ≡ program_told (view item.now)) }
 {

@@ -5,7 +5,8 @@ ghost use Rattle.jh_image.specs.declared.board.ProgramFile.{ProgramFile as ThePr
 ghost use Rattle.serde_json.specs.Find.{get};
 ghost use Rattle.serde_json.specs.View.{view, items_view};
 ghost use Rattle.jh_spec.specs.Json.{items_told, short_list_told};
-ghost use Rattle.jh_image.specs.Boards.{preload_told, program_told, preloads_told, programs_told, are_distinct, named_cpu_of, is_same_cpu};
+ghost use Rattle.jh_image.specs.Items.{preload_told, program_told};
+ghost use Rattle.jh_image.specs.Boards.{preloads_told, programs_told, are_distinct, named_cpu_of, is_same_cpu};
 
 use crate::board::{PreloadFile, ProgramFile};
 use crate::item::{preload, program};

@@ -13,7 +13,7 @@ use Rattle.jh_spec.specs.declared.spec.Spec.{Spec}
 use Rattle.jh_spec.specs.declared.spec.Spec.TheVariants.{Cell as CellSpec, System as SystemSpec}
 use Rattle.jh_spec.specs.declared.spec.Kind.{Kind}
 use Rattle.jh_spec.specs.declared.spec.Kind.TheVariants.{Cell, System}
-use Rattle.jh_spec.specs.Faults.{◌>>=◌, member_told, no_name}
+use Rattle.jh_spec.specs.Faults.{told_and_then, ◌>>=◌, member_told, no_name}
 use Rattle.jh_spec.specs.Json.{first_unlisted}
 use Rattle.jh_spec.specs.Fields.{u8_at, u16_at, u32_at, u64_at}
 use Rattle.jh_spec.specs.Cells.{cell_name, cpu_set_size, cpu_set_in, regions_in, irqchips_in, devices_in, console_at, region_at, cell_names, system_names, identity_told, lists_told, settings_told, cell_told, root_of, root_in, root_told, platform_told, system_told}
@@ -90,7 +90,7 @@ IsBlamed (Err NoMemory) found = ⊥
 -- one member, and what is behind it
 one : {X Y : Type 0} (name : List ℕ) (o : Option X) (next : X → Result Y JsonFault) (ms : List (List ℕ × Bool)) → ((x : X) → o ≡ Some x → IsBlamed (next x) (blamed ms None))
     → IsBlamed (member_told name o >>= next) (blamed ((name, is_none o) ∷ ms) None)
-unfolding ◌>>=◌ IsBlamed
+unfolding told_and_then IsBlamed
 one name None next ms rest = refl
 one name (Some x) next ms rest = rest x refl
 
@@ -164,14 +164,14 @@ blamed_some (m ∷ ms) other found h = some_by m.1 m.0 found (blamed ms None) (b
 
 then_blamed : {X Y : Type 0} (r : Result X JsonFault) (next : X → Result Y JsonFault) (ms : List (List ℕ × Bool)) (other : Option (List ℕ)) → IsBlamed r (blamed ms None)
     → ((x : X) → IsBlamed (next x) other) → IsBlamed (r >>= next) (blamed ms other)
-unfolding ◌>>=◌ IsBlamed
+unfolding told_and_then IsBlamed
 then_blamed (Ok x) next ms other is rest = subst (IsBlamed (next x)) (sym (blamed_none ms other is)) (rest x)
 then_blamed (Err (Member m)) next ms other is rest = blamed_some ms other m is
 then_blamed (Err Json) next ms other is rest = absurd is
 then_blamed (Err NoMemory) next ms other is rest = absurd is
 
 listed_by : {Y : Type 0} (y : Y) (o : Option (List ℕ)) → IsBlamed (no_name o >>= λ _. Ok y) o
-unfolding ◌>>=◌ IsBlamed
+unfolding told_and_then IsBlamed
 listed_by y None = refl
 listed_by y (Some name) = refl
 
@@ -202,7 +202,7 @@ system_blamed d =
     then_blamed (root_told d) _ (root_member d ∷ []) (first_unlisted (codes "kind" ∷ system_names) d) (root_by (get (codes "root") d)) (λ root. listed_by _ (first_unlisted (codes "kind" ∷ system_names) d))))
 
 made : {X Y : Type 0} (r : Result X JsonFault) (f : X → Y) (found : Option (List ℕ)) → IsBlamed r found → IsBlamed (r >>= λ x. Ok (f x)) found
-unfolding ◌>>=◌ IsBlamed
+unfolding told_and_then IsBlamed
 made (Ok x) f found is = is
 made (Err (Member m)) f found is = is
 made (Err Json) f found is = absurd is

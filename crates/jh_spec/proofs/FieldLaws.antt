@@ -16,7 +16,7 @@ use Rattle.jh_spec.specs.declared.fault.JsonFault.{JsonFault}
 use Rattle.jh_spec.specs.declared.cell.Identity.{Identity}
 use Rattle.jh_spec.specs.declared.cell.Lists.{Lists}
 use Rattle.jh_spec.specs.declared.cell.Settings.{Settings}
-use Rattle.jh_spec.specs.Faults.{◌>>=◌, member_told, all_listed}
+use Rattle.jh_spec.specs.Faults.{told_and_then, ◌>>=◌, member_told, all_listed}
 use Rattle.jh_syscfg.specs.Layout.{system_of}
 use Rattle.jh_spec.specs.Json.{told_or, number_told, number_below, list_told, has_only}
 use Rattle.jh_spec.specs.Fields.{u8_at, u16_at, u32_at, u64_at, u32_told, words_at, words_told, region_names, irqchip_names, device_names, console_names, region_members, irqchip_members, device_members, console_members, region_told, irqchip_told, device_told, console_told}
@@ -169,7 +169,7 @@ console_fields d told h =
 
 -- the parts of a chain of steps that found no fault
 steps : {X Y : Type 0} (r : Result X JsonFault) (next : X → Result Y JsonFault) (y : Y) → (r >>= next) ≡ Ok y → (x : X) × (r ≡ Ok x) × (next x ≡ Ok y)
-unfolding ◌>>=◌
+unfolding told_and_then
 steps (Ok x) next y h = (x, refl, h)
 steps (Err fault) next y h = cc
 

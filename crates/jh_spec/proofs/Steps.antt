@@ -2,17 +2,17 @@
 use Rattle.std.proofs.Common.{◌≡◌, ℕ, List, Result, Ok, Err, refl, sym, ap, ◌∙◌}
 use Rattle.jh_spec.specs.declared.fault.JsonFault.{JsonFault}
 use Rattle.jh_spec.specs.declared.fault.JsonFault.TheVariants.{Json, Member, NoMemory}
-use Rattle.jh_spec.specs.Faults.{◌>>=◌, IsFaultOf}
+use Rattle.jh_spec.specs.Faults.{told_and_then, ◌>>=◌, IsFaultOf}
 use Rattle.jh_spec.specs.Private.Faults.{IsAsWanted}
 
 -- this step found no fault
 pub step : {X Y : Type 0} (w : Result X JsonFault) (x : X) (next : X → Result Y JsonFault) (r : Result Y JsonFault) → IsAsWanted w (Ok x) → IsAsWanted (next x) r → IsAsWanted (w >>= next) r
-unfolding ◌>>=◌
+unfolding told_and_then
 step w x next r is later = rw is.answer later
 
 -- this step found one
 pub stop : {X Y : Type 0} (w : Result X JsonFault) (next : X → Result Y JsonFault) (fault : JsonFault) → IsAsWanted w (Err fault) → IsAsWanted (w >>= next) (Err fault)
-unfolding ◌>>=◌
+unfolding told_and_then
 stop w next NoMemory is = record { answer = tt }
 stop w next Json is = record { answer = ap (λ v. v >>= next) is.answer }
 stop w next (Member name) is = record { answer = ap (λ v. v >>= next) is.answer }

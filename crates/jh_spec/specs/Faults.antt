@@ -6,11 +6,15 @@ use Rattle.jh_spec.specs.declared.fault.JsonFault.{JsonFault}
 use Rattle.jh_spec.specs.declared.fault.JsonFault.TheVariants.{Json, Member, NoMemory}
 use Rattle.jh_spec.specs.Json.{IsText, first_unlisted}
 
+-- what the next step tells, where this one finds no fault
+unfoldable pub told_and_then : {X Y : Type 0} → (X → Result Y JsonFault) → Result X JsonFault → Result Y JsonFault
+told_and_then next (Ok x) = next x
+told_and_then next (Err fault) = Err fault
+
 infixl 10 ◌>>=◌
--- the next step, where this one finds no fault
-unfoldable pub ◌>>=◌ : {X Y : Type 0} → Result X JsonFault → (X → Result Y JsonFault) → Result Y JsonFault
-Ok x >>= next = next x
-Err fault >>= next = Err fault
+-- the next step of a `do`
+abbrev pub ◌>>=◌ : {X Y : Type 0} → Result X JsonFault → (X → Result Y JsonFault) → Result Y JsonFault
+told >>= next = told_and_then next told
 
 -- what the member of this name tells; it is at fault where it tells nothing
 abbrev pub member_told : {X : Type 0} → List ℕ → Option X → Result X JsonFault

@@ -11,7 +11,7 @@ ghost use Rattle.jh_spec.specs.Private.Faults.{IsAsWanted};
 ghost use Rattle.jh_spec.specs.Json.{told_or, list_at};
 
 use crate::cpus::{cpu_set, cpu_set_size};
-use crate::fault::{JsonFault, fault_of, named};
+use crate::fault::{JsonFault, fault_of, member_told};
 use crate::from_json::{FromJson, member};
 use crate::json::first_unlisted;
 use crate::list::list_at;
@@ -45,7 +45,7 @@ pub const CELL_NAMES: [&str; 13] = [
 pub fn field<T: FromJson + Drop>(alloc: Global, object: &Value, name: &str) -> Result<T, JsonFault>
     ensures { IsAsWanted (member_told name.now (told_or T.tells T.missing (get name.now (view object.now)))) result }
 {
-    named(alloc, name, member(object, name))
+    member_told(alloc, name, member(object, name))
 }
 
 /// Whether all names of the object are among these; else the least that isn't, in order of bytes, is at fault.
@@ -83,11 +83,11 @@ fn identity_of(alloc: Global, object: &Value) -> Result<Identity, JsonFault>
     ensures told { IsAsWanted (identity_told (view object.now)) result }
     ensures limits { IfOk result IsIdentity }
 {
-    let name = named(alloc, "name", cell_name(object))?;
+    let name = member_told(alloc, "name", cell_name(object))?;
     let id = field(alloc, object, "id")?;
     let flags = field(alloc, object, "flags")?;
-    let bytes = named(alloc, "cpu_set_size", cpu_set_size(object))?;
-    let cpu_set = named(alloc, "cpus", cpu_set(alloc, object, bytes)?)?;
+    let bytes = member_told(alloc, "cpu_set_size", cpu_set_size(object))?;
+    let cpu_set = member_told(alloc, "cpus", cpu_set(alloc, object, bytes)?)?;
     Ok(Identity {
         name,
         id,
@@ -106,7 +106,7 @@ fn short_list<T: FromJson + Drop>(
     ensures told { IsAsWanted (member_told name.now (list_at T.tells most name.now (view object.now))) result }
     ensures most { IfOk result (λ items. length items ≤ most) }
 {
-    named(alloc, name, list_at(alloc, object, name, most as usize)?)
+    member_told(alloc, name, list_at(alloc, object, name, most as usize)?)
 }
 
 /// A cell's lists.

@@ -36,7 +36,7 @@ pub fn fault_of(alloc: Global, name: &str) -> JsonFault
 }
 
 /// What a member tells, or its fault.
-pub fn named<T: Drop>(alloc: Global, name: &str, told: Option<T>) -> Result<T, JsonFault>
+pub fn member_told<T: Drop>(alloc: Global, name: &str, told: Option<T>) -> Result<T, JsonFault>
     ensures answer { IsAsWanted (member_told name.now told) result }
     ensures ok { IfOk result (λ value. told ≡ Some value) }
 {

@@ -3,7 +3,7 @@ use Rattle.std.proofs.Common.{◌+◌, ◌&&◌, not, drop, map, sym, ap, ◌∙
 use Rattle.std.specs.List.{list_any}
 use Rattle.jh_image.specs.declared.board.ProgramFile.{ProgramFile}
 use Rattle.jh_image.specs.Boards.{are_distinct, named_cpu_of, is_same_cpu}
-use Rattle.jh_image.proofs.SeatLemmas.{distinct_at, distinct_end, later_is}
+use Rattle.jh_image.proofs.DistinctLemmas.{distinct_at, distinct_end, later_is}
 use Rattle.jh_image.proofs.list.are_distinct.Goals as goal
 
 pub returns-then-not-is_another : goal.returns-then-not-is_another

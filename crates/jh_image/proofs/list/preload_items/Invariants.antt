@@ -1,5 +1,5 @@
 -- What the items so far have told.
-use Rattle.jh_image.specs.Boards.{preload_told}
+use Rattle.jh_image.specs.Items.{preload_told}
 use Rattle.jh_spec.proofs.Public.{IsListPrefix}
 use Rattle.jh_image.proofs.list.preload_items.Given as goal
 

@@ -1,7 +1,7 @@
 -- What the items so far have told, and this one.
 use Rattle.std.proofs.Common.{◌+◌, sym, subst, ◌∙◌}
 use Rattle.jh_spec.proofs.Public.{IsListPrefix, one_told, told_none, all_told}
-use Rattle.jh_image.specs.Boards.{program_told}
+use Rattle.jh_image.specs.Items.{program_told}
 use Rattle.jh_image.proofs.list.program_items.Goals as goal
 
 pub returns-in-None : goal.returns-in-None

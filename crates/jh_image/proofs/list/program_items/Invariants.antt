@@ -1,5 +1,5 @@
 -- What the items so far have told.
-use Rattle.jh_image.specs.Boards.{program_told}
+use Rattle.jh_image.specs.Items.{program_told}
 use Rattle.jh_spec.proofs.Public.{IsListPrefix}
 use Rattle.jh_image.proofs.list.program_items.Given as goal
 
