@@ -78,9 +78,9 @@ flushed_others list tag other page ne =
     not_from_false (eqb x.tag tag) (ne_eqb x.tag tag (λ too. ne (sym same ∙ too)))))
 
 -- flushed lists are no longer than they were
-pub flushed_few : (rows : List (List Translation)) (tag : ℕ) → ((cpu : ℕ) → length (get_or rows cpu []) ≤ 64) → (cpu : ℕ) → length (get_or (map (flushed tag) rows) cpu []) ≤ 64
-flushed_few rows tag few cpu =
-    let same : get_or (map (flushed tag) rows) cpu [] ≡ flushed tag (get_or rows cpu []) = mapped_at (flushed tag) rows cpu refl in
-    let fewer : length (flushed tag (get_or rows cpu [])) ≤ length (get_or rows cpu []) = filter_few (λ x. not (eqb x.tag tag)) (get_or rows cpu []) in
-    let most : length (get_or rows cpu []) ≤ 64 = few cpu in
+pub flushed_few : (lists : List (List Translation)) (tag : ℕ) → ((cpu : ℕ) → length (get_or lists cpu []) ≤ 64) → (cpu : ℕ) → length (get_or (map (flushed tag) lists) cpu []) ≤ 64
+flushed_few lists tag few cpu =
+    let same : get_or (map (flushed tag) lists) cpu [] ≡ flushed tag (get_or lists cpu []) = mapped_at (flushed tag) lists cpu refl in
+    let fewer : length (flushed tag (get_or lists cpu [])) ≤ length (get_or lists cpu []) = filter_few (λ x. not (eqb x.tag tag)) (get_or lists cpu []) in
+    let most : length (get_or lists cpu []) ≤ 64 = few cpu in
     rw same (omega arith)

@@ -78,13 +78,13 @@ mapped_at f (x ∷ xs) zero e = refl
 mapped_at f (x ∷ xs) (suc k) e = mapped_at f xs k e
 
 -- one empty list more among empty lists
-pub empty_more : {X : Type 0} (xs : List (List X)) (row : List X) → row ≡ [] → ((k : ℕ) → get_or xs k [] ≡ []) → (k : ℕ) → get_or (xs ++ row ∷ []) k [] ≡ []
-empty_more [] row e all zero = e
-empty_more [] row e all (suc k) = refl
-empty_more (x ∷ xs) row e all zero = all 0
-empty_more (x ∷ xs) row e all (suc k) = empty_more xs row e (λ j. all (suc j)) k
+pub empty_more : {X : Type 0} (xs : List (List X)) (list : List X) → list ≡ [] → ((k : ℕ) → get_or xs k [] ≡ []) → (k : ℕ) → get_or (xs ++ list ∷ []) k [] ≡ []
+empty_more [] list e all zero = e
+empty_more [] list e all (suc k) = refl
+empty_more (x ∷ xs) list e all zero = all 0
+empty_more (x ∷ xs) list e all (suc k) = empty_more xs list e (λ j. all (suc j)) k
 
--- the first that is looked for, of two lists in a row
+-- the first that is looked for, of two lists, one behind the other
 before_by_cases : {X Y : Type 0} (f : X → Y) (b : Bool) (x : X) (o all : Option X) (y : Y) → (option_map f o ≡ Some y → option_map f all ≡ Some y) → option_map f (cond b (Some x) o) ≡ Some y → option_map f (cond b (Some x) all) ≡ Some y
 before_by_cases f true x o all y h e = e
 before_by_cases f false x o all y h e = h e

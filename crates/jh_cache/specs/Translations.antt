@@ -29,6 +29,6 @@ filled t list = newest 63 (without (is_for t.tag t.page) list) ++ t ∷ []
 abbrev pub flushed : ℕ → List Translation → List Translation
 flushed tag list = without (λ (t : Translation). t.tag == tag) list
 
--- the list of the CPU; past the last one there is nothing
-abbrev pub row_of : List (List Translation) → ℕ → List Translation
-row_of rows cpu = slice_index_or rows cpu []
+-- the translations of the CPU; past the last one there is nothing
+abbrev pub translations_of : List (List Translation) → ℕ → List Translation
+translations_of lists cpu = slice_index_or lists cpu []

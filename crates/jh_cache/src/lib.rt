@@ -3,8 +3,8 @@
 #![tactic(auto)]
 
 mod cache;
+mod cpu_cache;
 mod laws;
-mod row;
 mod translation;
 
 pub use cache::{Cache, at_most_64_are_held};

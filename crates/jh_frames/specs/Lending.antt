@@ -1,8 +1,8 @@
 -- A page of the hypervisor's memory, lent to be written.
-use Rattle.std.specs.Prelude.{ℕ, ◌-◌, ◌++◌, List, length, take, drop}
+use Rattle.std.specs.Prelude.{◌≡◌, ℕ, ◌-◌, ◌++◌, List, length, take, drop}
 use Rattle.std.specs.Borrow.{Lends, MutBor, Fml, Array, u8}
 use Rattle.jh_frames.specs.contracts.frames.Frames as frames
-use Rattle.jh_frames.specs.Memory.{OwnView, FramesView}
+use Rattle.jh_frames.specs.Memory.{OwnView, FramesView, AreOwnBytes}
 
 -- the list with the other in place of as many elements from the index on, as far as the list goes
 abbrev pub put_in : List ℕ → ℕ → List ℕ → List ℕ
@@ -15,6 +15,14 @@ with_own_page own at page = record { base = own.base; bytes = put_in own.bytes (
 -- memory with this page at the place of the hypervisor's
 abbrev pub with_page : FramesView → ℕ → List ℕ → FramesView
 with_page memory at page = record { own = with_own_page memory.own at page; guest = memory.guest }
+
+-- memory, and a page that takes the place of one of the hypervisor's, which was lent
+pub record PageGivenBack : Type 0 where
+  pub memory : FramesView
+  pub at : ℕ
+  pub page : List ℕ
+  pub own : AreOwnBytes memory.own at 4096
+  pub whole : length page ≡ 4096
 
 -- what is last written through r is the page at the place, of memory: it is one of the hypervisor's
 abbrev pub LendsPage : MutBor FramesView → ℕ → MutBor (List ℕ) → Fml

@@ -1,7 +1,8 @@
 -- What contracts see of memory: the hypervisor's range, and the pages of guests that are held.
-use Rattle.std.specs.Prelude.{ℕ, ◌+◌, ◌-◌, ◌*◌, ◌/◌, ◌≤◌, Bool, ◌&&◌, ◌||◌, not, nat_lt, nat_le, List, [], ◌∷◌, length, count_by, slice_index, slice_range, Option, Some, is_some, ◌==◌, if◌then◌else◌}
+use Rattle.std.specs.Prelude.{◌≡◌, ℕ, ◌+◌, ◌-◌, ◌*◌, ◌/◌, ◌≤◌, Bool, ◌&&◌, ◌||◌, not, nat_lt, nat_le, List, [], ◌∷◌, length, count_by, slice_index, slice_range, Option, Some, is_some, ◌==◌, if◌then◌else◌}
 use Rattle.std.specs.Int.{w64, from_le_bytes}
 use Rattle.std.specs.List.{range_with_len}
+use Rattle.jh_num.specs.Memory.{stored}
 use Rattle.jh_num.specs.Pages.{page_at, paged_byte}
 
 -- the hypervisor's memory: the place where it begins, and its bytes
@@ -63,3 +64,11 @@ missing frames at count = missing_from frames (at / 4096) (pages_in at count)
 abbrev pub word_in : (ℕ → ℕ) → ℕ → ℕ
 word_in byte at =
     from_le_bytes w64 (byte at ∷ byte (at + 1) ∷ byte (at + 2) ∷ byte (at + 3) ∷ byte (at + 4) ∷ byte (at + 5) ∷ byte (at + 6) ∷ byte (at + 7) ∷ [])
+
+-- each byte before and after these bytes are stored from the place on
+pub record BytesStored : Type 0 where
+  pub before : ℕ → ℕ
+  pub after : ℕ → ℕ
+  pub at : ℕ
+  pub bytes : List ℕ
+  pub are : (q : ℕ) → after q ≡ stored before at bytes q

@@ -1,10 +1,10 @@
 //! What holds of memory and of words. Each function does nothing; its contract is the law.
-ghost use Rattle.std.specs.Prelude.{◌≡◌, ℕ, ◌+◌, ◌/◌, ◌%◌, ◌<◌, ◌≤◌, List, length, map, is_some};
+ghost use Rattle.std.specs.Prelude.{◌≡◌, ℕ, ◌+◌, ◌/◌, ◌%◌, ◌<◌, ◌≤◌, length, map, is_some};
 ghost use Rattle.std.specs.List.{range_with_len};
 ghost use Rattle.jh_num.specs.Memory.{spelled, stored};
-ghost use Rattle.jh_frames.specs.Memory.{byte_at, holds, page_of, word_in, FramesView, AreOwnBytes};
+ghost use Rattle.jh_frames.specs.Memory.{byte_at, holds, page_of, word_in, BytesStored};
 ghost use Rattle.jh_num.specs.Pages.{byte_of_page};
-ghost use Rattle.jh_frames.specs.Lending.{with_page};
+ghost use Rattle.jh_frames.specs.Lending.{with_page, PageGivenBack};
 
 use crate::frames::Frames;
 
@@ -30,20 +30,19 @@ pub fn equal_bytes_make_equal_words()
 /// Once a page of the hypervisor's memory that was lent is given back, memory has its bytes there, and
 /// all else is as before.
 pub fn a_page_is_written_back()
-    ensures bytes { (memory : FramesView) (at : ℕ) (page : List ℕ) → AreOwnBytes memory.own at 4096 → length page ≡ 4096 → (q : ℕ)
-        → byte_at (with_page memory at page) q ≡ stored (byte_at memory) at page q }
-    ensures size { (memory : FramesView) (at : ℕ) (page : List ℕ) → AreOwnBytes memory.own at 4096 → length page ≡ 4096 → length (with_page memory at page).own.bytes ≡ length memory.own.bytes }
-    ensures held { (memory : FramesView) (at : ℕ) (page : List ℕ) → AreOwnBytes memory.own at 4096 → length page ≡ 4096 → (q : ℕ) → holds (with_page memory at page) q ≡ holds memory q }
+    ensures bytes { (given : PageGivenBack) (q : ℕ) → byte_at (with_page given.memory given.at given.page) q ≡ stored (byte_at given.memory) given.at given.page q }
+    ensures size { (given : PageGivenBack) → length (with_page given.memory given.at given.page).own.bytes ≡ length given.memory.own.bytes }
+    ensures held { (given : PageGivenBack) (q : ℕ) → holds (with_page given.memory given.at given.page) q ≡ holds given.memory q }
 {}
 
 /// Of memory that has bytes stored from a place on, as many bytes from there on spell their number: what is
 /// written is read.
 pub fn bytes_stored_are_read()
-    ensures { (before after : ℕ → ℕ) (at : ℕ) (bytes : List ℕ) → ((q : ℕ) → after q ≡ stored before at bytes q) → spelled (map after (range_with_len at (length bytes))) ≡ spelled bytes }
+    ensures { (write : BytesStored) → spelled (map write.after (range_with_len write.at (length write.bytes))) ≡ spelled write.bytes }
 {}
 
 /// Bytes stored from a place on change no word that lies wholly below or above them.
 pub fn writing_elsewhere_changes_no_word()
-    ensures below { (before after : ℕ → ℕ) (at word : ℕ) (bytes : List ℕ) → ((q : ℕ) → after q ≡ stored before at bytes q) → word + 8 ≤ at → word_in after word ≡ word_in before word }
-    ensures above { (before after : ℕ → ℕ) (at word : ℕ) (bytes : List ℕ) → ((q : ℕ) → after q ≡ stored before at bytes q) → at + length bytes ≤ word → word_in after word ≡ word_in before word }
+    ensures below { (write : BytesStored) (word : ℕ) → word + 8 ≤ write.at → word_in write.after word ≡ word_in write.before word }
+    ensures above { (write : BytesStored) (word : ℕ) → write.at + length write.bytes ≤ word → word_in write.after word ≡ word_in write.before word }
 {}

@@ -3,4 +3,4 @@ use Rattle.jh_frames.proofs.WordLemmas.{stored_spelled}
 use Rattle.jh_frames.proofs.laws.bytes_stored_are_read.Goals as goal
 
 pub returns : goal.returns
-returns c = λ before after at bytes is. stored_spelled before after at bytes is
+returns c = λ write. stored_spelled write.before write.after write.at write.bytes write.are

@@ -9,5 +9,5 @@ invariant_of-result c = λ cpu. rw (c.loop.invariant.empty cpu) (omega arith)
 pub loop-preserved : goal.loop-preserved
 loop-preserved c = record {
   count = search rules;
-  empty = rw c.in_ok-push.ensures.items (empty_more c.loop.rows.items c.in_ok-row.row c.in_ok-row.ensures c.loop.invariant.empty);
+  empty = rw c.in_ok-push.ensures.items (empty_more c.loop.caches.items c.in_ok-cache.cache c.in_ok-cache.ensures c.loop.invariant.empty);
 }

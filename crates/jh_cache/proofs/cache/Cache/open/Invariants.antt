@@ -4,6 +4,6 @@ use Rattle.jh_cache.proofs.cache.Cache.open.Given as goal
 
 abbrev pub invariant-loop : goal.invariant-loop
 invariant-loop l = record {
-  count : length l.rows.items ≡ l.counter;
-  empty : (k : ℕ) → get_or l.rows.items k [] ≡ [];
+  count : length l.caches.items ≡ l.counter;
+  empty : (k : ℕ) → get_or l.caches.items k [] ≡ [];
 }

@@ -2,7 +2,7 @@
 use Rattle.std.proofs.Common.{ap, sym, ◌∙◌}
 use Rattle.jh_cache.specs.Translations.{is_for, looked}
 use Rattle.jh_cache.proofs.ListLemmas.{found_before, found_behind}
-use Rattle.jh_cache.proofs.row.Row.look.Goals as goal
+use Rattle.jh_cache.proofs.cpu_cache.CpuCache.look.Goals as goal
 
 pub returns-in-Some : goal.returns-in-Some
 returns-in-Some c =

@@ -2,7 +2,7 @@
 use Rattle.std.specs.VecDeque.{deque_capacity, deque_len}
 use Rattle.std.proofs.Common.{◌≡◌, ◌<◌, ◌∷◌, ◌++◌, [], is_ok, length, ◌∙◌, rules, arith}
 use Rattle.std.proofs.lemmas.Bool.{cond-true}
-use Rattle.jh_cache.proofs.row.append.Goals as goal
+use Rattle.jh_cache.proofs.cpu_cache.append.Goals as goal
 
 pub returns-clause-items : goal.returns-clause-items
 returns-clause-items c =

@@ -1,7 +1,7 @@
 -- Out with the same page, out with the oldest, and in at the end.
 use Rattle.std.proofs.Common.{[], ◌∷◌, ◌++◌, ap, ◌∙◌}
 use Rattle.jh_cache.specs.Translations.{is_for, newest, without}
-use Rattle.jh_cache.proofs.row.Row.fill.Goals as goal
+use Rattle.jh_cache.proofs.cpu_cache.CpuCache.fill.Goals as goal
 
 pub returns-clause-value : goal.returns-clause-value
 returns-clause-value c =

@@ -1,7 +1,7 @@
 -- A list of 64 loses its first, a shorter one nothing.
 use Rattle.std.proofs.Common.{◌≡◌, ◌≤◌, length, rules, sym, ◌∙◌}
 use Rattle.jh_cache.proofs.ListLemmas.{newest_full, newest_few}
-use Rattle.jh_cache.proofs.row.drop_oldest.Goals as goal
+use Rattle.jh_cache.proofs.cpu_cache.drop_oldest.Goals as goal
 
 pub returns-then-len-eq-HELD-clause-items : goal.returns-then-len-eq-HELD-clause-items
 returns-then-len-eq-HELD-clause-items c =

@@ -15,20 +15,20 @@ const HELD: usize = 64;
 
 /// One CPU's translations, the oldest first. It has room for all of them.
 #[derive(Drop)]
-pub struct Row {
+pub struct CpuCache {
     translations: VecDeque<Translation>,
 }
 
-impl Model for Row {
+impl Model for CpuCache {
     ghost use Rattle.std.specs.Prelude.{List, ◌≤◌, length};
     ghost use Rattle.std.specs.VecDeque.{deque_capacity};
     ghost use Rattle.jh_cache.specs.declared.translation.Translation.{Translation};
 
     ghost Value = { List Translation };
 
-    ghost view = { λ r. r.translations.items };
+    ghost view = { λ c. c.translations.items };
 
-    ghost invariant = { λ r. (length r.translations.items ≤ 64) × (64 ≤ deque_capacity r.translations) };
+    ghost invariant = { λ c. (length c.translations.items ≤ 64) × (64 ≤ deque_capacity c.translations) };
 }
 
 /// Takes the translation of the page in the tables with the tag out, where there is one.
@@ -71,13 +71,13 @@ fn found(list: &[Translation], tag: u8, page: u64) -> Option<Hit>
     list.iter().find(|t| t.is_for(tag, page)).map(|t| t.hit)
 }
 
-impl Row {
+impl CpuCache {
     /// No translation, with room for 64.
     pub fn new(alloc: Global) -> Result<Self, NoMemory>
-        ensures { IfOk result (λ row. row ≡ []) }
+        ensures { IfOk result (λ list. list ≡ []) }
     {
         let translations = VecDeque::with_capacity(alloc, HELD)?;
-        Ok(Row { translations })
+        Ok(CpuCache { translations })
     }
 
     /// What is cached for the page that begins at the address `page`, in the tables with the tag; `None` where nothing

@@ -1,7 +1,7 @@
 -- What stays isn't of the page.
 use Rattle.std.proofs.Common.{rules}
 use Rattle.std.proofs.lemmas.Fn.{filter_same}
-use Rattle.jh_cache.proofs.row.take_out.Goals as goal
+use Rattle.jh_cache.proofs.cpu_cache.take_out.Goals as goal
 
 pub returns-clause-items : goal.returns-clause-items
 returns-clause-items c = filter_same _ _ _ (λ x b f' k. search rules) _ _ c.retain.ensures.filtered

@@ -2,7 +2,7 @@
 use Rattle.std.proofs.Common.{rules, ap, ◌∙◌}
 use Rattle.std.proofs.lemmas.Fn.{filter_same}
 use Rattle.jh_cache.specs.Translations.{flushed}
-use Rattle.jh_cache.proofs.row.Row.flush.Goals as goal
+use Rattle.jh_cache.proofs.cpu_cache.CpuCache.flush.Goals as goal
 
 pub returns-clause-value : goal.returns-clause-value
 returns-clause-value c =
