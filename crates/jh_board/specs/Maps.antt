@@ -1,6 +1,5 @@
 -- What a board tells of the cells that live: their maps, and what a map tells of grants.
-use Rattle.std.specs.Prelude.{◌≡◌, ℕ, ◌+◌, ◌-◌, Bool, ◌&&◌, nat_le, nat_lt, if◌then◌else◌, List, ◌∷◌, Option, Some, None, find, option_map, IsSome}
-use Rattle.jh_cellcfg.specs.declared.config.CellConfig.{CellConfig}
+use Rattle.std.specs.Prelude.{◌≡◌, ℕ, ◌+◌, ◌-◌, Bool, ◌&&◌, nat_le, nat_lt, if◌then◌else◌, List, Option, Some, None, find, option_map, IsSome}
 use Rattle.jh_cellcfg.specs.declared.live.Live.{Live}
 use Rattle.jh_map.specs.declared.run.Run.{Run}
 use Rattle.jh_map.specs.Maps.{IsMap}
@@ -15,11 +14,6 @@ use Rattle.jh_history.specs.Due.{IsLegal}
 use Rattle.jh_history.specs.Grants.{is_closed_to}
 use Rattle.jh_history.specs.History.{facts}
 use Rattle.jh_history.specs.Lives.{cell_in, regions_in}
-use Rattle.jh_shape.specs.Lives.{configs_of}
-
--- the configurations of the cells that live, where these live besides root: root first, and then by creation
-abbrev pub all_cells : Image → List Live → List CellConfig
-all_cells image lives = image.system.root ∷ configs_of lives
 
 -- the physical place is closed to the cell with the id
 abbrev pub is_closed_at : Image → List Live → ℕ → ℕ → Bool

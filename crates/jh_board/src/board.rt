@@ -9,7 +9,8 @@ ghost use Rattle.jh_shape.specs.Lives.{configs_of};
 ghost use Rattle.jh_shape.specs.Pages.{pages_of};
 ghost use Rattle.jh_history.specs.declared.place.Place.{Place as ThePlace};
 ghost use Rattle.jh_board.specs.Pages.{byte_of};
-ghost use Rattle.jh_board.specs.Maps.{all_cells, IsMapOrNone};
+ghost use Rattle.jh_shape.specs.Lives.{all_cells};
+ghost use Rattle.jh_board.specs.Maps.{IsMapOrNone};
 ghost use Rattle.jh_board.specs.Means.{Means};
 ghost use Rattle.jh_board.specs.Turns.{Turns, RefusesTurn, MakesDue};
 ghost use Rattle.jh_board.specs.Private.Advances.{Advances};
@@ -211,14 +212,14 @@ impl Board {
 
     /// How many cells live, root too.
     pub fn count(&self) -> u32
-        ensures { result ≡ length (all_cells self.now.image (facts self.now.image self.now.entries).cells) }
+        ensures { result ≡ length (all_cells self.now.image.system.root (facts self.now.image self.now.entries).cells) }
     {
         self.held.cells.count()
     }
 
     /// The configuration of the live cell of that number: root has 0, and the others follow in order of creation.
     pub fn cell(&self, number: u32) -> Option<&CellConfig>
-        ensures { option_copied result ≡ slice_get (all_cells self.now.image (facts self.now.image self.now.entries).cells) number }
+        ensures { option_copied result ≡ slice_get (all_cells self.now.image.system.root (facts self.now.image self.now.entries).cells) number }
     {
         cell_at(&self.image, &self.held.cells, number)
     }

@@ -8,7 +8,7 @@ ghost use Rattle.jh_mmio.specs.Dispatch.{takes_all, unless_closed};
 ghost use Rattle.jh_check.specs.Refusals.{is_known};
 ghost use Rattle.jh_shape.specs.Pages.{pages_of};
 ghost use Rattle.jh_mmio.specs.Index.{IsRegionAt};
-ghost use Rattle.jh_shape.specs.Lives.{configs_of, marked, new_live};
+ghost use Rattle.jh_shape.specs.Lives.{all_cells, configs_of, marked, new_live};
 ghost use Rattle.jh_history.specs.Commits.{is_other};
 ghost use Rattle.jh_history.specs.Lives.{live_in};
 ghost use Rattle.jh_board.specs.Private.Closed.{is_closed_by, live_regions, IsIndexOf};
@@ -193,7 +193,7 @@ impl LiveCells {
     /// A new cell, whose regions are these, lives, as the last, and isn't loadable. It takes no memory.
     pub fn add(&mut self, new: CellConfig, regions: CellRegions)
         requires few { length self.old.lives < 15 }
-        requires unknown { is_known (self.old.system.root ∷ configs_of self.old.lives) new ≡ false }
+        requires unknown { is_known (all_cells self.old.system.root self.old.lives) new ≡ false }
         requires within { AreInRange new.memory_regions }
         requires regions { regions ≡ new.memory_regions }
         requires spare_cells { 0 < self.old.spare_cells }

@@ -95,15 +95,11 @@ fn memory(image: &IndexedImage, cells: &LiveCells, cell: u32, wanted: &Wanted) -
     ensures { memory_or_nothing result ≡ reach_by (granted_in image.now cells.now.lives cell wanted.now.access) wanted.now.at wanted.now.width }
 {
     let granted = Granted { image, cells };
-    match jh_history::memory(&granted, cell, wanted) {
-        Some(places) => {
-            if closes_any(image, cells, cell, &places) {
-                None
-            } else {
-                Some(places)
-            }
-        }
-        None => None,
+    let places = jh_history::memory(&granted, cell, wanted)?;
+    if closes_any(image, cells, cell, &places) {
+        None
+    } else {
+        Some(places)
     }
 }
 
@@ -116,15 +112,11 @@ pub fn row_of_root(image: &IndexedImage, cells: &LiveCells, at: u64, count: u16)
     ensures small { IfSome result (λ first. number_of first < ADDRESS_END) }
 {
     let granted = Granted { image, cells };
-    match first_of_row(&granted, image.root(), Access::Read, at, count) {
-        Some(first) => {
-            if closes_places(cells, first, count) {
-                None
-            } else {
-                Some(first)
-            }
-        }
-        None => None,
+    let first = first_of_row(&granted, image.root(), Access::Read, at, count)?;
+    if closes_places(cells, first, count) {
+        None
+    } else {
+        Some(first)
     }
 }
 
@@ -151,16 +143,12 @@ fn open_whole(image: &IndexedImage, cells: &LiveCells, cell: u32, wanted: &Wante
     ensures within { IfSome result IsInRange }
     ensures first { IfSome result (λ (r : TheRegion). IsTrue (has_address r wanted.now.at)) }
 {
-    match whole(image, cells, cell, wanted) {
-        Some(region) => {
-            let places = places_in(cell, &region, wanted.at, wanted.width);
-            if closes_any(image, cells, cell, &places) {
-                None
-            } else {
-                Some(region)
-            }
-        }
-        None => None,
+    let region = whole(image, cells, cell, wanted)?;
+    let places = places_in(cell, &region, wanted.at, wanted.width);
+    if closes_any(image, cells, cell, &places) {
+        None
+    } else {
+        Some(region)
     }
 }
 

@@ -95,15 +95,11 @@ pub(crate) fn giving(region: Option<Region>, access: Access, at: u64) -> Option<
     ensures found { (regions : List Region) → IsRegionAt regions at region → result ≡ region_of regions access at }
     ensures within { IfSome region IsEmptyOrInRange → IfSome result IsInRange }
 {
-    match region {
-        Some(region) => {
-            if gives(&region, access, at) {
-                Some(region)
-            } else {
-                None
-            }
-        }
-        None => None,
+    let found = region?;
+    if gives(&found, access, at) {
+        Some(found)
+    } else {
+        None
     }
 }
 

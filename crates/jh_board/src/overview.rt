@@ -5,7 +5,8 @@ ghost use Rattle.jh_check.specs.Clean.{IsClean};
 ghost use Rattle.jh_map.specs.Maps.{IsMap};
 ghost use Rattle.jh_history.specs.Lives.{cell_in, regions_in};
 ghost use Rattle.jh_shape.specs.Lives.{configs_of};
-ghost use Rattle.jh_board.specs.Maps.{all_cells, is_closed_at, IsMapOrNone};
+ghost use Rattle.jh_shape.specs.Lives.{all_cells};
+ghost use Rattle.jh_board.specs.Maps.{is_closed_at, IsMapOrNone};
 
 use crate::cells::LiveCells;
 use crate::indexed::IndexedImage;
@@ -20,7 +21,7 @@ pub fn cell_at<'a>(
     cells: &'a LiveCells,
     number: u32,
 ) -> Option<&'a CellConfig>
-    ensures { option_copied result ≡ slice_get (all_cells image.now cells.now.lives) number }
+    ensures { option_copied result ≡ slice_get (all_cells image.now.system.root cells.now.lives) number }
 {
     if number == 0 {
         Some(image.config())

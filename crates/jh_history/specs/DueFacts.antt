@@ -1,5 +1,5 @@
 -- What the facts of a sound board say where an entry is due, or where a cell is about to come.
-use Rattle.std.specs.Prelude.{◌≡◌, ◌⊎◌, ℕ, ◌<◌, true, false, List, ◌∷◌, Some, All, AllPairs, Contains}
+use Rattle.std.specs.Prelude.{◌≡◌, ◌⊎◌, ℕ, ◌<◌, true, false, List, Some, All, AllPairs, Contains}
 use Rattle.jh_num.specs.declared.address.TheConstants.{PAGE_SIZE}
 use Rattle.jh_cellcfg.specs.declared.config.CellConfig.{CellConfig}
 use Rattle.jh_cellcfg.specs.declared.live.Live.{Live}
@@ -27,7 +27,7 @@ use Rattle.jh_history.specs.Configs.{read_at}
 use Rattle.jh_history.specs.Phases.{creation_of}
 use Rattle.jh_history.specs.Due.{due_at}
 use Rattle.jh_history.specs.Sound.{IsSound}
-use Rattle.jh_shape.specs.Lives.{configs_of}
+use Rattle.jh_shape.specs.Lives.{all_cells}
 
 -- the facts are sound, and the entry is due to its CPU
 pub record IsDueEntry (image : Image) (facts : Facts) (entry : Entry) : Type 0 where
@@ -52,7 +52,7 @@ EachNamesCpu cells = All (λ (live : Live). NamesCpu live.config) cells
 -- regions have an address in common, each that isn't empty ends within the addresses, and within the places where it has
 -- any; and its set has a byte that isn't 0, and none behind the second
 pub record MayLive (image : Image) (cells : List Live) (config : CellConfig) : Type 0 where
-  pub unknown : is_known (image.system.root ∷ configs_of cells) config ≡ false
+  pub unknown : is_known (all_cells image.system.root cells) config ≡ false
   pub apart : AllPairs SharesNoAddress config.memory_regions
   pub within : AreInRange config.memory_regions
   pub cpus : IsSoundBitmap config.cpu_set

@@ -120,7 +120,7 @@ fn regions_in<'a>(image: &'a Image, cells: &'a [CellConfig], id: u32) -> &'a [Re
 
 /// The devices of the live cell with the id, where cells of these configurations live besides root; none where no cell
 /// has the id.
-pub(crate) fn devices_in<'a>(image: &'a Image, cells: &'a [CellConfig], id: u32) -> &'a [PciDevice]
+pub(crate) fn list_in<'a>(image: &'a Image, cells: &'a [CellConfig], id: u32) -> &'a [PciDevice]
     ensures { (lives : List TheLive) → configs_of lives ≡ cells.now → result.now ≡ list_in image.now lives id }
 {
     match config_in(image, cells, u64::from(id)) {
@@ -232,15 +232,11 @@ pub(crate) fn memory_in(
     requires few { wanted.now.width ≤ 8 }
     ensures { memory_or_nothing result ≡ reach_by (granted_in image.now cells.now cell wanted.now.access) wanted.now.at wanted.now.width }
 {
-    match memory(&ImageGrants { image, cells }, cell, wanted) {
-        Some(places) => {
-            if are_closed(image, cells, cell, &places) {
-                None
-            } else {
-                Some(places)
-            }
-        }
-        None => None,
+    let places = memory(&ImageGrants { image, cells }, cell, wanted)?;
+    if are_closed(image, cells, cell, &places) {
+        None
+    } else {
+        Some(places)
     }
 }
 
@@ -293,7 +289,7 @@ fn behind_in(
 {
     if is_within(wanted) {
         let region = subpage_of(image, cells, cell, wanted);
-        let list = devices_in(image, cells.configs(), cell);
+        let list = list_in(image, cells.configs(), cell);
         let devices = Devices::new(cell, list, endpoints);
         answer_behind(&devices, region, ecam_of(&image.system), wanted)
     } else {

@@ -271,15 +271,11 @@ fn is_state_due<K: Known>(known: &K, cpu: u8, state: Cpu) -> bool
 fn call_of<K: Known>(known: &K, cpu: u8) -> Option<&OpenCall>
     ensures { (i : TheImage) (f : Facts) → K.Knows known.now i f → option_copied result ≡ call_of f cpu }
 {
-    match known.call() {
-        Some(begun) => {
-            if begun.caller == cpu {
-                Some(begun)
-            } else {
-                None
-            }
-        }
-        None => None,
+    let begun = known.call()?;
+    if begun.caller == cpu {
+        Some(begun)
+    } else {
+        None
     }
 }
 

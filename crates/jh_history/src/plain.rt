@@ -30,7 +30,7 @@ use crate::access::{Access, Reach, Wanted};
 use crate::boxed::BoxedCell;
 use crate::call::OpenCall;
 use crate::calling::call_after;
-use crate::cells::{devices_in, reach_in};
+use crate::cells::{list_in, reach_in};
 use crate::change::cpus_after;
 use crate::device_change::{DeviceChange, changing_cell};
 use crate::device_specs::endpoint_of;
@@ -207,7 +207,7 @@ impl<'a> Plain<'a> {
         ensures endpoints { OnOk result ((i : TheImage) (f : Facts) → Represents self.old i f → self.new.endpoints ≡ endpoints_put (devices_of i f cell) reach.now value) }
         ensures others { IsSameBut self.old self.new }
     {
-        let list = devices_in(self.image, self.cells.configs(), cell);
+        let list = list_in(self.image, self.cells.configs(), cell);
         let word = write_device(&mut self.endpoints, cell, list, reach, value);
         write_endpoint_word_if(&mut self.bytes, word)?;
         Ok(())

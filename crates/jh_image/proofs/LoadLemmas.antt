@@ -80,16 +80,16 @@ loaded_all contents board listing system i preloads le so_far =
 abbrev pub program_cpu : Program → NamedCpu
 program_cpu program = record { cell = program.cell; cpu = program.cpu }
 
-pub record ScriptsSoFar (contents : Contents) (board : List ℕ) (listing : Listing) (system : SystemConfig) (preloads : List Preload) (count : ℕ) (programs : List Program) : Type 0 where
+pub record ProgramsSoFar (contents : Contents) (board : List ℕ) (listing : Listing) (system : SystemConfig) (preloads : List Preload) (count : ℕ) (programs : List Program) : Type 0 where
   pub count_is : length programs ≡ count
   pub within : count ≤ length listing.programs
   pub read : ReadsTo contents board (with_system (so_far_of listing system preloads programs))
   pub sound : All IsSoundProgram programs
   pub cpus : map program_cpu programs ≡ map named_cpu_of (take count listing.programs)
 
-pub scripts_start : (contents : Contents) (board : List ℕ) (listing : Listing) (system : SystemConfig) (preloads : List Preload) → ReadsTo contents board (with_system (so_far_of listing system preloads []))
-    → ScriptsSoFar contents board listing system preloads 0 []
-scripts_start contents board listing system preloads read = record {
+pub programs_start : (contents : Contents) (board : List ℕ) (listing : Listing) (system : SystemConfig) (preloads : List Preload) → ReadsTo contents board (with_system (so_far_of listing system preloads []))
+    → ProgramsSoFar contents board listing system preloads 0 []
+programs_start contents board listing system preloads read = record {
   count_is = refl;
   within = omega arith;
   read = read;
@@ -100,31 +100,31 @@ scripts_start contents board listing system preloads read = record {
 program_cpu_is : (contents : Contents) (file : ProgramFile) (program : Program) → IsProgramOf contents file program → program_cpu program ≡ named_cpu_of file
 program_cpu_is contents file program of = λ i. record { cell = of.cell i; cpu = of.cpu i }
 
-pub scripts_next : (contents : Contents) (board : List ℕ) (listing : Listing) (system : SystemConfig) (preloads : List Preload) (i : ℕ) (file : ProgramFile) (programs : List Program) → length preloads ≡ length listing.preloads
-    → i < length listing.programs → file ≡ get_or listing.programs i file → ScriptsSoFar contents board listing system preloads i programs → IsNextProgram (so_far_of listing system preloads programs) file
-scripts_next contents board listing system preloads i file programs all lt is so_far = record {
+pub programs_next : (contents : Contents) (board : List ℕ) (listing : Listing) (system : SystemConfig) (preloads : List Preload) (i : ℕ) (file : ProgramFile) (programs : List Program) → length preloads ≡ length listing.preloads
+    → i < length listing.programs → file ≡ get_or listing.programs i file → ProgramsSoFar contents board listing system preloads i programs → IsNextProgram (so_far_of listing system preloads programs) file
+programs_next contents board listing system preloads i file programs all lt is so_far = record {
   preloads = all;
   next = file_next listing.programs i (length programs) file so_far.count_is lt is;
 }
 
-pub scripts_more : (contents : Contents) (board : List ℕ) (listing : Listing) (system : SystemConfig) (preloads : List Preload) (i : ℕ) (file : ProgramFile) (programs : List Program) (program : Program) → length preloads ≡ length listing.preloads
+pub programs_more : (contents : Contents) (board : List ℕ) (listing : Listing) (system : SystemConfig) (preloads : List Preload) (i : ℕ) (file : ProgramFile) (programs : List Program) (program : Program) → length preloads ≡ length listing.preloads
     → i < length listing.programs → file ≡ get_or listing.programs i file → IsProgramOf contents file program → IsSoundProgram program
-    → ScriptsSoFar contents board listing system preloads i programs → ScriptsSoFar contents board listing system preloads (i + 1) (programs ++ program ∷ [])
-scripts_more contents board listing system preloads i file programs program all lt is of sound so_far =
+    → ProgramsSoFar contents board listing system preloads i programs → ProgramsSoFar contents board listing system preloads (i + 1) (programs ++ program ∷ [])
+programs_more contents board listing system preloads i file programs program all lt is of sound so_far =
     let files = listing.programs in
     let before = so_far_of listing system preloads programs in
     record {
       count_is = length_more programs program i so_far.count_is;
       within = omega arith;
-      read = one_more_read (with_system before) (with_system (with_program before program)) so_far.read (reads_program before file program (scripts_next contents board listing system preloads i file programs all lt is so_far) of);
+      read = one_more_read (with_system before) (with_system (with_program before program)) so_far.read (reads_program before file program (programs_next contents board listing system preloads i file programs all lt is so_far) of);
       sound = All-push IsSoundProgram programs program so_far.sound sound;
       cpus = map_push program_cpu programs program ∙ ap (λ ss. ss ++ program_cpu program ∷ []) so_far.cpus ∙ ap (λ s. map named_cpu_of (take i files) ++ s ∷ []) (program_cpu_is contents file program of)
           ∙ sym (map_push named_cpu_of (take i files) file) ∙ ap (map named_cpu_of) (front_more files i file lt is);
     }
 
-pub scripts_all : (contents : Contents) (board : List ℕ) (listing : Listing) (system : SystemConfig) (preloads : List Preload) (i : ℕ) (programs : List Program) → length preloads ≡ length listing.preloads → length listing.programs ≤ i
-    → ScriptsSoFar contents board listing system preloads i programs → IsComplete (so_far_of listing system preloads programs)
-scripts_all contents board listing system preloads i programs all le so_far =
+pub programs_all : (contents : Contents) (board : List ℕ) (listing : Listing) (system : SystemConfig) (preloads : List Preload) (i : ℕ) (programs : List Program) → length preloads ≡ length listing.preloads → length listing.programs ≤ i
+    → ProgramsSoFar contents board listing system preloads i programs → IsComplete (so_far_of listing system preloads programs)
+programs_all contents board listing system preloads i programs all le so_far =
     let count : length programs ≡ i = so_far.count_is in
     let within : i ≤ length listing.programs = so_far.within in
     let programs_all : length programs ≡ length listing.programs = omega arith in
@@ -177,8 +177,8 @@ cpus_owned programs h i j d lt within taken =
     let inside : j < length (map program_cpu programs) = subst (λ n. j < n) (sym (length_program_cpus programs)) within in
     cpu_once (map program_cpu programs) h i j (program_cpu d) lt inside both
 
-pub scripts_owned : (contents : Contents) (board : List ℕ) (listing : Listing) (system : SystemConfig) (preloads : List Preload) (i : ℕ) (programs : List Program) → length listing.programs ≤ i → are_distinct (map named_cpu_of listing.programs) ≡ true
-    → ScriptsSoFar contents board listing system preloads i programs → AllPairs IsOtherProgram programs
-scripts_owned contents board listing system preloads i programs le h so_far =
+pub programs_owned : (contents : Contents) (board : List ℕ) (listing : Listing) (system : SystemConfig) (preloads : List Preload) (i : ℕ) (programs : List Program) → length listing.programs ≤ i → are_distinct (map named_cpu_of listing.programs) ≡ true
+    → ProgramsSoFar contents board listing system preloads i programs → AllPairs IsOtherProgram programs
+programs_owned contents board listing system preloads i programs le h so_far =
     let same : map program_cpu programs ≡ map named_cpu_of listing.programs = so_far.cpus ∙ ap (map named_cpu_of) (take_all i listing.programs le) in
     cpus_owned programs (ap are_distinct same ∙ h)

@@ -12,7 +12,7 @@ use Rattle.jh_check.specs.Lists.{capped, is_any}
 use Rattle.jh_check.specs.Findings.{findings}
 use Rattle.jh_script.specs.declared.op.Op.{Op}
 use Rattle.jh_script.specs.declared.image.Preload.{Preload}
-use Rattle.jh_script.specs.declared.fault.ScriptFault.{ScriptFault}
+use Rattle.jh_script.specs.declared.fault.ProgramFault.{ProgramFault}
 use Rattle.jh_script.specs.Programs.{program_of}
 use Rattle.jh_history.specs.Admitted.{root_pages, pool_pages, IsAdmittedSystem}
 use Rattle.jh_spec.specs.declared.fault.JsonFault.{JsonFault}
@@ -145,7 +145,7 @@ preload_next so_far preload one other (inr h) (inl k) = absurd (h.0 k.0)
 preload_next so_far preload one other (inr h) (inr k) = h.1 ∙ sym k.1
 
 -- what follows what a program's text tells
-abbrev pub after_program : SoFar → ProgramFile → Result (List Op) ScriptFault → Next
+abbrev pub after_program : SoFar → ProgramFile → Result (List Op) ProgramFault → Next
 after_program so_far file (Ok ops) = goes_on (with_system (with_program so_far (record { cell = file.cell; cpu = file.cpu; ops = ops })))
 after_program so_far file (Err fault) = stops (BadProgram fault)
 

@@ -7,7 +7,7 @@ use Rattle.jh_check.specs.Lists.{capped}
 use Rattle.jh_check.specs.Findings.{findings}
 use Rattle.jh_script.specs.declared.image.Preload.{Preload}
 use Rattle.jh_script.specs.declared.image.Image.{Image}
-use Rattle.jh_script.specs.declared.fault.ScriptFault.{ScriptFault}
+use Rattle.jh_script.specs.declared.fault.ProgramFault.{ProgramFault}
 use Rattle.jh_script.specs.Programs.{program_of}
 use Rattle.jh_history.specs.Admitted.{root_pages, pool_pages}
 use Rattle.jh_outside.specs.Count.{Rose}
@@ -56,7 +56,7 @@ pub record IsPreloadFault (contents : Contents) (so_far : SoFar) : Type 0 where
   pub faulty : ¬ IsFaultless so_far.system.hypervisor_memory so_far.preloads preload
 
 -- the program that is next is read, and its text has this fault
-pub record IsProgramFault (contents : Contents) (so_far : SoFar) (file : ProgramFile) (fault : ScriptFault) : Type 0 where
+pub record IsProgramFault (contents : Contents) (so_far : SoFar) (file : ProgramFile) (fault : ProgramFault) : Type 0 where
   pub next : IsNextProgram so_far file
   pub bytes : List ℕ
   pub has : HasBytes contents file.file bytes
@@ -73,7 +73,7 @@ pub data HasCause (contents : Contents) (board : List ℕ) : Stage → List ℕ 
   by_pool : (listing : Listing) (system : SystemConfig) → IsPoolFault contents listing.system system
       → HasCause contents board (with_listing listing) board (PoolSmall (root_pages system) (pool_pages system))
   by_preload : (so_far : SoFar) → IsPreloadFault contents so_far → HasCause contents board (with_system so_far) board (BadPreload (length so_far.preloads))
-  by_program : (so_far : SoFar) (file : ProgramFile) (fault : ScriptFault) → IsProgramFault contents so_far file fault
+  by_program : (so_far : SoFar) (file : ProgramFile) (fault : ProgramFault) → IsProgramFault contents so_far file fault
       → HasCause contents board (with_system so_far) file.file (BadProgram fault)
 
 -- the reading of the board stops, names this file, and has this cause

@@ -1,7 +1,7 @@
 -- The words for a cause.
 use Rattle.std.specs.Prelude.{ℕ, List, ◌++◌, length, codes, decimal}
 use Rattle.jh_cellcfg.specs.Texts.{config_fault_text}
-use Rattle.jh_script.specs.FaultText.{script_fault_text}
+use Rattle.jh_script.specs.FaultText.{program_fault_text}
 use Rattle.jh_image.specs.declared.fault.ImageCause.{ImageCause}
 use Rattle.jh_image.specs.declared.fault.ImageCause.TheVariants.{ReadFault, Oversize, Json, Member, System, Findings, PoolSmall, Preload, Program}
 
@@ -19,4 +19,4 @@ cause_text (System fault) = config_fault_text fault
 cause_text (Findings found) = codes "findings " ++ decimal (length found)
 cause_text (PoolSmall need have) = codes "pool " ++ (decimal need ++ (codes " " ++ decimal have))
 cause_text (Preload number) = codes "preload " ++ decimal number
-cause_text (Program fault) = script_fault_text fault
+cause_text (Program fault) = program_fault_text fault

@@ -5,7 +5,7 @@ ghost use Rattle.jh_image.specs.declared.fault.ImageFault.TheVariants.{NoMemory 
 use jh_cellcfg::ConfigFault;
 use jh_check::Finding;
 use jh_num::{NoMemory, Seq};
-use jh_script::ScriptFault;
+use jh_script::ProgramFault;
 
 /// What stopped the reading of a board's files, or want of memory.
 #[derive(Drop)]
@@ -37,7 +37,7 @@ pub enum ImageCause {
     /// earlier preload. The file that is named is the board.
     Preload { number: u32 },
     /// The text of the program's file has this fault.
-    Program(ScriptFault),
+    Program(ProgramFault),
 }
 
 impl From<NoMemory> for ImageFault {

@@ -16,7 +16,7 @@ use crate::refusal::{refused, refused_board};
 use jh_cellcfg::{ConfigFault, SystemConfig};
 use jh_num::{NoMemory, Seq};
 use jh_outside::{FileFault, Files};
-use jh_script::{Preload, Program, ScriptFault, read_program};
+use jh_script::{Preload, Program, ProgramFault, read_program};
 use jh_syscfg::read_system;
 use std::alloc::Global;
 
@@ -140,7 +140,7 @@ pub(crate) fn read_program_file<F: Files>(
             cpu: file.cpu,
             ops,
         }),
-        Err(ScriptFault::NoMemory) => Err(ImageFault::NoMemory),
+        Err(ProgramFault::NoMemory) => Err(ImageFault::NoMemory),
         Err(fault) => Err(refused(alloc, name, ImageCause::Program(fault))),
     }
 }

@@ -1,8 +1,8 @@
 -- The cells that live: which they are, their numbers, and which of them are loadable.
-use Rattle.std.specs.Prelude.{ℕ, Bool, false, ◌==◌, List, ◌∷◌, Option, map, position, slice_index_or}
+use Rattle.std.specs.Prelude.{ℕ, Bool, false, ◌==◌, List, Option, map, position, slice_index_or}
 use Rattle.jh_cellcfg.specs.declared.config.CellConfig.{CellConfig}
 use Rattle.jh_cellcfg.specs.declared.live.Live.{Live}
-use Rattle.jh_shape.specs.Lives.{configs_of}
+use Rattle.jh_shape.specs.Lives.{all_cells}
 use Rattle.jh_life.specs.CellsView.{CellsView}
 
 -- which of these live cells are loadable
@@ -11,7 +11,7 @@ marks_of lives = map (λ (live : Live). live.loadable) lives
 
 -- root and then the other live cells: a cell's number is its index here
 abbrev pub numbered_cells : CellsView → List CellConfig
-numbered_cells seen = seen.system.root ∷ configs_of seen.lives
+numbered_cells seen = all_cells seen.system.root seen.lives
 
 -- the cell of the configuration has the id
 abbrev pub has_config_id : ℕ → CellConfig → Bool

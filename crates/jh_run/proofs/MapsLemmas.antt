@@ -13,9 +13,9 @@ use Rattle.jh_map.specs.declared.run.Run.{Run}
 use Rattle.jh_map.specs.Maps.{IsMap}
 use Rattle.jh_script.specs.declared.image.Image.{Image}
 use Rattle.jh_history.specs.Lives.{live_in, cell_in, regions_in}
-use Rattle.jh_shape.specs.Lives.{configs_of}
 use Rattle.jh_text.specs.Maps.{map_text}
-use Rattle.jh_board.specs.Maps.{all_cells, is_closed_at, IsMapIn}
+use Rattle.jh_shape.specs.Lives.{all_cells, configs_of}
+use Rattle.jh_board.specs.Maps.{is_closed_at, IsMapIn}
 use Rattle.jh_run.specs.Maps.{AreMaps}
 
 -- ---- a live cell is found by its id
@@ -30,14 +30,14 @@ not_found lives cell held e =
     both_ways (eqb live.0.config.id cell.id) (find_None (has_id cell.id) lives live.0 (none_found (find (has_id cell.id) lives) e) live.1)
     (eq-eqb live.0.config.id cell.id (ap (λ (c : CellConfig). c.id) live.2))
 
-not_other : (image : Image) (lives : List Live) (cell : CellConfig) (b : Bool) → eqb cell.id image.system.root.id ≡ b → Contains (all_cells image lives) cell → cond b (Some image.system.root) (live_in lives cell.id) ≡ None → ⊥
+not_other : (image : Image) (lives : List Live) (cell : CellConfig) (b : Bool) → eqb cell.id image.system.root.id ≡ b → Contains (all_cells image.system.root lives) cell → cond b (Some image.system.root) (live_in lives cell.id) ≡ None → ⊥
 not_other image lives cell true is held e = none-some image.system.root (sym e)
 not_other image lives cell false is held e = ⊎_elim
     (λ (same : image.system.root ≡ cell). both_ways (eqb cell.id image.system.root.id) is (eq-eqb cell.id image.system.root.id (sym (ap (λ (c : CellConfig). c.id) same))))
     (λ (later : Contains (configs_of lives) cell). not_found lives cell later e)
     (Contains_cases image.system.root (configs_of lives) cell held)
 
-pub lives_on : (image : Image) (lives : List Live) (cell : CellConfig) → Contains (all_cells image lives) cell → cell_in image lives cell.id ≡ None → ⊥
+pub lives_on : (image : Image) (lives : List Live) (cell : CellConfig) → Contains (all_cells image.system.root lives) cell → cell_in image lives cell.id ≡ None → ⊥
 lives_on image lives cell held e = not_other image lives cell (eqb cell.id image.system.root.id) refl held e
 
 -- ---- one map more

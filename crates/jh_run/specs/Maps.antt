@@ -9,7 +9,8 @@ use Rattle.jh_history.specs.Due.{IsLegal}
 use Rattle.jh_history.specs.History.{facts}
 use Rattle.jh_history.specs.Items.{items}
 use Rattle.jh_text.specs.Maps.{map_text}
-use Rattle.jh_board.specs.Maps.{all_cells, IsMapIn}
+use Rattle.jh_shape.specs.Lives.{all_cells}
+use Rattle.jh_board.specs.Maps.{IsMapIn}
 use Rattle.jh_run.specs.Plays.{IsFullAtItem}
 
 -- the text is the maps of these cells, one behind another, where the cells of the first list live besides root
@@ -20,7 +21,7 @@ AreMaps image lives (cell ∷ cells) text =
 
 -- the text of the maps of all cells that live after the entries: of root, and then of the others by creation
 abbrev pub IsMapsText : Image → List Entry → List ℕ → Type 0
-IsMapsText image entries = AreMaps image (facts image entries).cells (all_cells image (facts image entries).cells)
+IsMapsText image entries = AreMaps image (facts image entries).cells (all_cells image.system.root (facts image entries).cells)
 
 -- what is told after the items of the schedule alone: the maps, or nothing where the limit stopped an item
 abbrev pub IsMapsAnswer : Image → ℕ → List ℕ → Option (List ℕ) → Type 0

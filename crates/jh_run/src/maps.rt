@@ -5,7 +5,8 @@ ghost use Rattle.jh_history.specs.Admitted.{IsAdmitted};
 ghost use Rattle.jh_history.specs.History.{facts};
 ghost use Rattle.jh_history.specs.Lives.{is_on_board};
 ghost use Rattle.jh_text.specs.Maps.{map_text};
-ghost use Rattle.jh_board.specs.Maps.{all_cells, IsMapIn};
+ghost use Rattle.jh_shape.specs.Lives.{all_cells};
+ghost use Rattle.jh_board.specs.Maps.{IsMapIn};
 ghost use Rattle.jh_run.specs.Maps.{IsMapsText, IsMapsAnswer};
 
 use crate::ended::Ended;
@@ -24,7 +25,7 @@ fn push_cell_map(
     cell: &CellConfig,
     text: &mut Vec<u8>,
 ) -> Result<(), NoMemory>
-    requires { Contains (all_cells board.now.image (facts board.now.image board.now.entries).cells) cell.now }
+    requires { Contains (all_cells board.now.image.system.root (facts board.now.image board.now.entries).cells) cell.now }
     ensures { OnOk result ((runs : List TheRun) × IsMapIn board.now.image (facts board.now.image board.now.entries).cells cell.now.id runs
         × (text.new.items ≡ text.old.items ++ map_text cell.now runs)) }
 {

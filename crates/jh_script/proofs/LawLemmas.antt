@@ -6,8 +6,8 @@ use Rattle.std.proofs.lemmas.List.{append-nil}
 use Rattle.jh_script.specs.declared.op.Op.{Op}
 use Rattle.jh_script.specs.declared.line.Line.{Line}
 use Rattle.jh_script.specs.declared.line.Line.TheVariants.{Blank, Operation, Syntax, Width}
-use Rattle.jh_script.specs.declared.fault.ScriptFault.{ScriptFault}
-use Rattle.jh_script.specs.declared.fault.ScriptFault.TheVariants as faults
+use Rattle.jh_script.specs.declared.fault.ProgramFault.{ProgramFault}
+use Rattle.jh_script.specs.declared.fault.ProgramFault.TheVariants as faults
 use Rattle.jh_script.specs.declared.fault.ScheduleFault.{ScheduleFault}
 use Rattle.jh_script.specs.declared.fault.ScheduleFault.TheVariants as refusals
 use Rattle.jh_script.specs.Laws.{IsGood, IsProgram, IsFirstBad, HasTooMany, HasOneMoreBlank, IsSchedule, IsFirstRefused, HasTooManyItems}
@@ -43,7 +43,7 @@ record LongAt (room : ℕ) (lines : List Line) : Type 0 where
   good : AllByRecursion IsGood before
   full : length (ops_of_lines before) ≡ room
 
-abbrev FaultOf : ℕ → ℕ → List Line → Option ScriptFault → Type 0
+abbrev FaultOf : ℕ → ℕ → List Line → Option ProgramFault → Type 0
 FaultOf n room lines None = AllByRecursion IsGood lines × (length (ops_of_lines lines) ≤ room)
 FaultOf n room lines (Some (faults.Syntax number)) = BadAt n room lines Syntax number
 FaultOf n room lines (Some faults.TooLong) = LongAt room lines
@@ -65,7 +65,7 @@ bad_later n room left k line bad more number g split h = record {
   number_is = h.number_is ∙ omega arith;
 }
 
-later : (n room left k : ℕ) (line : Line) (more : List Line) → Goes line k → room ≡ k + left → (f : Option ScriptFault) → FaultOf (line_number n) left more f → FaultOf n room (line ∷ more) f
+later : (n room left k : ℕ) (line : Line) (more : List Line) → Goes line k → room ≡ k + left → (f : Option ProgramFault) → FaultOf (line_number n) left more f → FaultOf n room (line ∷ more) f
 later n room left k line more g split None h = ((g.good, h.0), omega (arith, g.costs more, h.1))
 later n room left k line more g split (Some (faults.Syntax number)) h = bad_later n room left k line Syntax more number g split h
 later n room left k line more g split (Some faults.TooLong) h = record {
@@ -130,10 +130,10 @@ at_good before lines text e good few =
     let same : min (0 + length before) (2 ^ 32 - 1) ≡ min (length before) (2 ^ 32 - 1) = omega arith in
     ap (first_fault 0 most_ops) e ∙ behind_good before lines 0 most_ops good few (omega arith) ∙ ap (λ k. first_fault k (most_ops - length (ops_of_lines before)) lines) same
 
-told : (text : List ℕ) (f : Option ScriptFault) → first_fault 0 most_ops (lines_of text) ≡ f → FaultOf 0 most_ops (lines_of text) f
+told : (text : List ℕ) (f : Option ProgramFault) → first_fault 0 most_ops (lines_of text) ≡ f → FaultOf 0 most_ops (lines_of text) f
 told text f e = subst (FaultOf 0 most_ops (lines_of text)) e (fault_of (lines_of text) 0 most_ops)
 
-answers : (text : List ℕ) (f : Option ScriptFault) → first_fault 0 most_ops (lines_of text) ≡ f → program_of text ≡ unless f (ops_of_lines (lines_of text))
+answers : (text : List ℕ) (f : Option ProgramFault) → first_fault 0 most_ops (lines_of text) ≡ f → program_of text ≡ unless f (ops_of_lines (lines_of text))
 unfolding program_of
 answers text f e = ap (λ x. unless x (ops_of_lines (lines_of text))) e
 

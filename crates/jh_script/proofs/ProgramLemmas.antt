@@ -5,8 +5,8 @@ use Rattle.std.proofs.lemmas.List.{append-nil}
 use Rattle.jh_script.specs.declared.op.Op.{Op}
 use Rattle.jh_script.specs.declared.line.Line.{Line}
 use Rattle.jh_script.specs.declared.line.Line.TheVariants.{Blank, Operation, Syntax, Width}
-use Rattle.jh_script.specs.declared.fault.ScriptFault.{ScriptFault}
-use Rattle.jh_script.specs.declared.fault.ScriptFault.TheVariants as faults
+use Rattle.jh_script.specs.declared.fault.ProgramFault.{ProgramFault}
+use Rattle.jh_script.specs.declared.fault.ProgramFault.TheVariants as faults
 use Rattle.jh_script.specs.declared.fault.ScheduleFault.{ScheduleFault}
 use Rattle.jh_script.specs.declared.fault.ScheduleFault.TheVariants as refusals
 use Rattle.jh_script.specs.Programs.{lines_of, line_number, first_fault, ops_of_lines, unless, program_of}
@@ -15,10 +15,10 @@ use Rattle.jh_script.specs.Limits.{most_ops, most_items}
 
 -- ---- programs
 
-abbrev program_fault : List ℕ → Option ScriptFault
+abbrev program_fault : List ℕ → Option ProgramFault
 program_fault text = first_fault 0 most_ops (lines_of text)
 
-refused : (text : List ℕ) (fault : ScriptFault) → program_fault text ≡ Some fault → program_of text ≡ Err fault
+refused : (text : List ℕ) (fault : ProgramFault) → program_fault text ≡ Some fault → program_of text ≡ Err fault
 unfolding program_of
 refused text fault e = ap (λ x. unless x (ops_of_lines (lines_of text))) e
 

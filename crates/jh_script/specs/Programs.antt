@@ -4,8 +4,8 @@ use Rattle.std.specs.Str.Lines.{lines}
 use Rattle.jh_script.specs.declared.op.Op.{Op}
 use Rattle.jh_script.specs.declared.line.Line.{Line}
 use Rattle.jh_script.specs.declared.line.Line.TheVariants.{Blank, Operation, Syntax, Width}
-use Rattle.jh_script.specs.declared.fault.ScriptFault.{ScriptFault}
-use Rattle.jh_script.specs.declared.fault.ScriptFault.TheVariants as faults
+use Rattle.jh_script.specs.declared.fault.ProgramFault.{ProgramFault}
+use Rattle.jh_script.specs.declared.fault.ProgramFault.TheVariants as faults
 use Rattle.jh_script.specs.Operations.{line_of}
 use Rattle.jh_script.specs.Limits.{most_ops}
 
@@ -19,7 +19,7 @@ abbrev pub line_number : ℕ → ℕ
 line_number before = min (before + 1) (2 ^ 32 - 1)
 
 -- the first fault of lines that stand behind others, where so many operations more are allowed
-unfoldable pub first_fault : ℕ → ℕ → List Line → Option ScriptFault
+unfoldable pub first_fault : ℕ → ℕ → List Line → Option ProgramFault
 first_fault before room [] = None
 first_fault before room (Blank ∷ more) = first_fault (line_number before) room more
 first_fault before room (Operation op ∷ more) = if room == 0 then Some faults.TooLong else first_fault (line_number before) (room - 1) more
@@ -40,5 +40,5 @@ unless None x = Ok x
 unless (Some fault) x = Err fault
 
 -- the operations of the text, or its first fault
-unfoldable pub program_of : List ℕ → Result (List Op) ScriptFault
+unfoldable pub program_of : List ℕ → Result (List Op) ProgramFault
 program_of text = unless (first_fault 0 most_ops (lines_of text)) (ops_of_lines (lines_of text))

@@ -1,6 +1,6 @@
 //! Why a text is no program, or no schedule.
 ghost use Rattle.std.specs.Prelude.{◌≡◌};
-ghost use Rattle.jh_script.specs.declared.fault.ScriptFault.TheVariants.{NoMemory as NoMemoryForScript};
+ghost use Rattle.jh_script.specs.declared.fault.ProgramFault.TheVariants.{NoMemory as NoMemoryForProgram};
 ghost use Rattle.jh_script.specs.declared.fault.ScheduleFault.TheVariants.{NoMemory as NoMemoryForSchedule};
 
 use jh_num::NoMemory;
@@ -15,7 +15,7 @@ pub const MAX_ITEMS: usize = 262_144;
 /// The first fault of a program's text, or want of memory. Lines count from 1; from line 2^32 - 1 on the
 /// number stays.
 #[derive(Clone, Copy, PartialEq, Eq, Debug)]
-pub enum ScriptFault {
+pub enum ProgramFault {
     /// The line is no operation, no comment and not blank, or has a byte above 0x7f.
     Syntax { line: u32 },
     /// There is a line of an operation behind the last that a program may have.
@@ -36,11 +36,11 @@ pub enum ScheduleFault {
     NoMemory,
 }
 
-impl From<NoMemory> for ScriptFault {
-    ghost from_gives = { λ _ fault. fault ≡ NoMemoryForScript };
+impl From<NoMemory> for ProgramFault {
+    ghost from_gives = { λ _ fault. fault ≡ NoMemoryForProgram };
 
-    fn from(_: NoMemory) -> ScriptFault {
-        ScriptFault::NoMemory
+    fn from(_: NoMemory) -> ProgramFault {
+        ProgramFault::NoMemory
     }
 }
 
@@ -52,18 +52,18 @@ impl From<NoMemory> for ScheduleFault {
     }
 }
 
-impl fmt::Display for ScriptFault {
+impl fmt::Display for ProgramFault {
     ghost use Rattle.std.specs.Prelude.{Some};
-    ghost use Rattle.jh_script.specs.FaultText.{script_fault_text};
+    ghost use Rattle.jh_script.specs.FaultText.{program_fault_text};
 
-    ghost output = { λ fault. Some (script_fault_text fault) };
+    ghost output = { λ fault. Some (program_fault_text fault) };
 
     fn fmt<W: fmt::Write>(&self, f: &mut fmt::Formatter<W>) -> fmt::Result {
         match self {
-            ScriptFault::Syntax { line } => write!(f, "line {line}: syntax"),
-            ScriptFault::TooLong => f.write_str("program too long"),
-            ScriptFault::Width { line } => write!(f, "line {line}: width"),
-            ScriptFault::NoMemory => f.write_str("want of memory"),
+            ProgramFault::Syntax { line } => write!(f, "line {line}: syntax"),
+            ProgramFault::TooLong => f.write_str("program too long"),
+            ProgramFault::Width { line } => write!(f, "line {line}: width"),
+            ProgramFault::NoMemory => f.write_str("want of memory"),
         }
     }
 }

@@ -3,7 +3,7 @@
 ghost use Rattle.std.specs.Prelude.{◌≡◌, ◌↔◌, ℕ, true, List, Some, Ok, Err};
 ghost use Rattle.jh_script.specs.declared.op.Op.{Op as TheOp};
 ghost use Rattle.jh_script.specs.declared.line.Line.TheVariants as lines;
-ghost use Rattle.jh_script.specs.declared.fault.ScriptFault.TheVariants as faults;
+ghost use Rattle.jh_script.specs.declared.fault.ProgramFault.TheVariants as faults;
 ghost use Rattle.jh_script.specs.declared.fault.ScheduleFault.TheVariants as refusals;
 ghost use Rattle.jh_script.specs.Laws.{IsProgram, IsFirstBad, HasTooMany, HasOneMoreBlank, IsSchedule, IsFirstRefused, HasTooManyItems};
 ghost use Rattle.jh_script.specs.Grammar.{IsNumber, IsSkipped, IsIllFormed, Writes};

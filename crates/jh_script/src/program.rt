@@ -4,7 +4,7 @@ ghost use Rattle.jh_script.specs.Operations.{IsWellFormed};
 ghost use Rattle.jh_script.specs.Private.Lines.{IsWellFormedLine};
 ghost use Rattle.jh_script.specs.Programs.{lines_of, program_of};
 
-use crate::fault::{MAX_OPS, ScriptFault};
+use crate::fault::{MAX_OPS, ProgramFault};
 use crate::line::{Line, read_line};
 use crate::op::Op;
 use crate::words::next_line;
@@ -18,8 +18,8 @@ use std::alloc::Global;
 /// # Errors
 ///
 /// The first fault of the text, or want of memory.
-pub fn read_program(alloc: Global, text: &[u8]) -> Result<Seq<Op>, ScriptFault>
-    ensures exact { result ≢ Err ScriptFault.NoMemory → result ≡ program_of text.now }
+pub fn read_program(alloc: Global, text: &[u8]) -> Result<Seq<Op>, ProgramFault>
+    ensures exact { result ≢ Err ProgramFault.NoMemory → result ≡ program_of text.now }
     ensures few { IfOk result (λ ops. length ops ≤ 4096) }
     ensures well_formed { IfOk result (λ ops. All IsWellFormed ops) }
 {
@@ -32,12 +32,12 @@ pub fn read_program(alloc: Global, text: &[u8]) -> Result<Seq<Op>, ScriptFault>
             Line::Blank => {}
             Line::Operation(op) => {
                 if ops.len() == MAX_OPS {
-                    return Err(ScriptFault::TooLong);
+                    return Err(ProgramFault::TooLong);
                 }
                 ops.push(op)?;
             }
-            Line::Syntax => return Err(ScriptFault::Syntax { line: number }),
-            Line::Width => return Err(ScriptFault::Width { line: number }),
+            Line::Syntax => return Err(ProgramFault::Syntax { line: number }),
+            Line::Width => return Err(ProgramFault::Width { line: number }),
         }
         rest = after;
     }

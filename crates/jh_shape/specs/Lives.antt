@@ -8,6 +8,10 @@ use Rattle.jh_cellcfg.specs.Lives.{has_id}
 abbrev pub configs_of : List Live → List CellConfig
 configs_of lives = map (λ (live : Live). live.config) lives
 
+-- the configurations of all cells: root first, and then those that live besides it, by creation
+abbrev pub all_cells : CellConfig → List Live → List CellConfig
+all_cells root lives = root ∷ configs_of lives
+
 -- the configurations, each with its mark
 abbrev pub with_marks : List CellConfig → List Bool → List Live
 with_marks [] marks = []

@@ -26,7 +26,7 @@ use Rattle.jh_history.specs.Access.{endpoint_word_of_reach}
 use Rattle.jh_history.specs.Devices.{Devices, devices_in, specs_of}
 use Rattle.jh_history.specs.Endpoints.{endpoints_put, change_by, changing_by, MayChange}
 use Rattle.jh_history.specs.Places.{written}
-use Rattle.jh_shape.specs.Lives.{configs_of, marked, new_live}
+use Rattle.jh_shape.specs.Lives.{all_cells, marked, new_live}
 use Rattle.jh_history.specs.Calls.{call_by}
 use Rattle.jh_history.specs.Commits.{is_other}
 use Rattle.jh_history.specs.DueFacts.{NamesCpu}
@@ -150,7 +150,7 @@ joined_cells cells config = cells ++ new_live config ∷ []
 pub record MayJoinCells (live : LiveView) (found : Option (List Region)) (config : CellConfig) : Type 0 where
   pub cpus : IsSoundBitmap config.cpu_set
   pub few : NamesCpu config → length live.lives < 15
-  pub unknown : is_known (live.system.root ∷ configs_of live.lives) config ≡ false
+  pub unknown : is_known (all_cells live.system.root live.lives) config ≡ false
   pub within : AreInRange config.memory_regions
   pub regions : found ≡ Some config.memory_regions
   pub spare_cells : 0 < live.spare_cells

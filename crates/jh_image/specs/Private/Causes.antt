@@ -3,7 +3,7 @@ use Rattle.std.specs.Prelude.{◌≡◌, ◌≢◌, ℕ, ◌<◌, List, [], Err}
 use Rattle.jh_cellcfg.specs.declared.config.SystemConfig.{SystemConfig}
 use Rattle.jh_check.specs.Lists.{capped}
 use Rattle.jh_check.specs.Findings.{findings}
-use Rattle.jh_script.specs.declared.fault.ScriptFault.{ScriptFault}
+use Rattle.jh_script.specs.declared.fault.ProgramFault.{ProgramFault}
 use Rattle.jh_script.specs.Programs.{program_of}
 use Rattle.jh_history.specs.Admitted.{root_pages, pool_pages}
 use Rattle.jh_spec.specs.declared.fault.JsonFault.{JsonFault}
@@ -40,7 +40,7 @@ IsUnadmitted board name system file (PoolSmall need have) = (findings system [] 
 IsUnadmitted board name system file _ = ⊥
 
 -- the text of a program's file has this fault
-pub record IsNoProgram (contents : Contents) (name file : List ℕ) (fault : ScriptFault) : Type 0 where
+pub record IsNoProgram (contents : Contents) (name file : List ℕ) (fault : ProgramFault) : Type 0 where
   pub file_is : file ≡ name
   pub bytes : List ℕ
   pub has : HasBytes contents name bytes

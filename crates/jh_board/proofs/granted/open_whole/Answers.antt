@@ -13,9 +13,9 @@ pub returns-then-closes_any-clause-found : goal.returns-then-closes_any-clause-f
 returns-then-closes_any-clause-found c =
     let kept : Place → Bool = is_closed_to c.args.image.now c.args.cells.now.lives c.args.cell in
     let wanted = c.args.wanted.now in
-    let region = c.in-Some.region in
-    let low : region.virt_start ≤ wanted.at = has_address_first region wanted.at c.in-Some.ensures.first in
-    sym (c.whole.ensures.found (λ p. kept (Physical p)) ∙ ap (unless_closed (λ p. kept (Physical p)) wanted.at wanted.width) c.in-Some.is
+    let region = c.in_ok-region.region in
+    let low : region.virt_start ≤ wanted.at = has_address_first region wanted.at c.in_ok-region.ensures.first in
+    sym (c.whole.ensures.found (λ p. kept (Physical p)) ∙ ap (unless_closed (λ p. kept (Physical p)) wanted.at wanted.width) c.in_ok-region.was
     ∙ unless_kept c.args.image.now c.args.cells.now.lives c.args.cell wanted.at wanted.width region c.closes_any.result low (c.closes_any.ensures ∙ ap (list_any kept) c.places_in-places.ensures)
     ∙ ap (λ (b : Bool). cond b None (Some region)) c.if-closes_any.true)
 
@@ -23,14 +23,14 @@ pub returns-else-closes_any-clause-found : goal.returns-else-closes_any-clause-f
 returns-else-closes_any-clause-found c =
     let kept : Place → Bool = is_closed_to c.args.image.now c.args.cells.now.lives c.args.cell in
     let wanted = c.args.wanted.now in
-    let region = c.in-Some.region in
-    let low : region.virt_start ≤ wanted.at = has_address_first region wanted.at c.in-Some.ensures.first in
-    sym (c.whole.ensures.found (λ p. kept (Physical p)) ∙ ap (unless_closed (λ p. kept (Physical p)) wanted.at wanted.width) c.in-Some.is
+    let region = c.in_ok-region.region in
+    let low : region.virt_start ≤ wanted.at = has_address_first region wanted.at c.in_ok-region.ensures.first in
+    sym (c.whole.ensures.found (λ p. kept (Physical p)) ∙ ap (unless_closed (λ p. kept (Physical p)) wanted.at wanted.width) c.in_ok-region.was
     ∙ unless_kept c.args.image.now c.args.cells.now.lives c.args.cell wanted.at wanted.width region c.closes_any.result low (c.closes_any.ensures ∙ ap (list_any kept) c.places_in-places.ensures)
     ∙ ap (λ (b : Bool). cond b None (Some region)) c.if-closes_any.false)
 
-pub returns-in-None-clause-found : goal.returns-in-None-clause-found
-returns-in-None-clause-found c =
+pub returns-in_err-region-clause-found : goal.returns-in_err-region-clause-found
+returns-in_err-region-clause-found c =
     let kept : Place → Bool = is_closed_to c.args.image.now c.args.cells.now.lives c.args.cell in
     let wanted = c.args.wanted.now in
-    sym (c.whole.ensures.found (λ p. kept (Physical p)) ∙ ap (unless_closed (λ p. kept (Physical p)) wanted.at wanted.width) c.in-None.is)
+    c.from_residual.ensures ∙ sym (c.whole.ensures.found (λ p. kept (Physical p)) ∙ ap (unless_closed (λ p. kept (Physical p)) wanted.at wanted.width) c.in_err-region.was)

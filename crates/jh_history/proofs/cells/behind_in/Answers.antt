@@ -21,7 +21,7 @@ returns-then-is_within c =
     let within = c.is_within.ensures.0 c.if-is_within.true in
     let region = c.subpage_of-region.result in
     let ecam = c.ecam_of.result in
-    let listed : c.devices_in-list.result.now ≡ behind.devices.list = c.devices_in-list.ensures cells (sym c.configs.ensures) in
+    let listed : c.list_in-list.result.now ≡ behind.devices.list = c.list_in-list.ensures cells (sym c.configs.ensures) in
     let same : c.new-devices.result ≡ behind.devices = c.new-devices.ensures ∙ ap (λ (list : List PciDevice). record behind.devices { list = list }) listed in
     let asks : Devices → Asked = λ d. record { cell = d.cell; region = region; windows = record { start = ecam.start; end = ecam.end; device = window_of_access d wanted.at wanted.width } } in
     let from : ℕ → Asked = λ s. record { cell = cell; region = region; windows = record asked.windows { start = s; end = ecam.end } } in

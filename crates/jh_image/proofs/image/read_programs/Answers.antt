@@ -9,7 +9,7 @@ use Rattle.jh_image.proofs.StopLemmas.{on_refused, program_stops}
 use Rattle.jh_outside.specs.Trail.{Asks, no_ask, AsksAll, AsksUntil}
 use Rattle.jh_image.specs.Order.{last_ask, program_name}
 use Rattle.jh_outside.proofs.Public.{loop_more, loop_until}
-use Rattle.jh_image.proofs.LoadLemmas.{ScriptsSoFar, scripts_start, scripts_more, scripts_next, scripts_all, scripts_owned}
+use Rattle.jh_image.proofs.LoadLemmas.{ProgramsSoFar, programs_start, programs_more, programs_next, programs_all, programs_owned}
 use Rattle.jh_image.proofs.image.read_programs.Goals as goal
 
 pub loop-file-init : goal.loop-file-init
@@ -17,7 +17,7 @@ loop-file-init g c = record {
   kept = refl;
   rises = omega arith;
   asked = no_ask c.args.files.now;
-  so_far = rw c.new-programs.ensures (scripts_start (g.F.Files.contents c.args.files.now) c.args.board.now c.args.listing.now c.args.system.now c.args.preloads.now c.requires.read);
+  so_far = rw c.new-programs.ensures (programs_start (g.F.Files.contents c.args.files.now) c.args.board.now c.args.listing.now c.args.system.now c.args.preloads.now c.requires.read);
 }
 
 pub returns-in_err-program-clause-err : goal.returns-in_err-program-clause-err
@@ -32,7 +32,7 @@ returns-in_err-program-clause-err g c =
     let lt : i < length listing.programs = rw c.as_slice-items.ensures.value at c.loop-file-test.true in
     let is : file ≡ get_or listing.programs i file = rw c.as_slice-items.ensures.value at c.file-item.is in
     let so_far = c.loop-file.invariant.so_far in
-    let next = scripts_next contents board listing system preloads i file c.loop-file.programs c.requires.all lt is so_far in
+    let next = programs_next contents board listing system preloads i file c.loop-file.programs c.requires.all lt is so_far in
     let unread = rw c.loop-file.invariant.kept at c.in_err-program.ensures.err in
     passed_up c.from_residual.result c.in_err-program.field-0.0 (λ e. OnRefused (IsCauseOf contents board) e) c.from_residual.ensures.1
     (on_refused (IsProgramCause contents file.file) (IsCauseOf contents board) c.in_err-program.field-0.0 (program_stops contents board (so_far_of listing system preloads c.loop-file.programs) file so_far.read next) unread)
@@ -53,14 +53,14 @@ loop-file-preserved g c =
       kept = cc;
       rises = omega arith;
       asked = loop_more program_name g.F.Files c.args.files.now c.loop-file.files c.read_program_file.new.files listing.programs i file lt is c.loop-file.invariant.asked c.in_ok-program.ensures.asked;
-      so_far = subst (λ ps. ScriptsSoFar contents board listing system preloads (i + 1) ps) (sym c.in_ok-push.ensures.ok) (scripts_more contents board listing system preloads i file c.loop-file.programs c.in_ok-program.program c.requires.all lt is of c.in_ok-program.ensures.sound c.loop-file.invariant.so_far);
+      so_far = subst (λ ps. ProgramsSoFar contents board listing system preloads (i + 1) ps) (sym c.in_ok-push.ensures.ok) (programs_more contents board listing system preloads i file c.loop-file.programs c.in_ok-program.program c.requires.all lt is of c.in_ok-program.ensures.sound c.loop-file.invariant.so_far);
     }
 
 pub returns-clause-owned : goal.returns-clause-owned
 returns-clause-owned g c =
     let listing = c.args.listing.now in
     let le : length listing.programs ≤ c.loop-file.file-index = rw c.as_slice-items.ensures.value at c.loop-file-test.false in
-    scripts_owned (g.F.Files.contents c.args.files.now) c.args.board.now listing c.args.system.now c.args.preloads.now c.loop-file.file-index c.loop-file.programs le c.requires.distinct c.loop-file.invariant.so_far
+    programs_owned (g.F.Files.contents c.args.files.now) c.args.board.now listing c.args.system.now c.args.preloads.now c.loop-file.file-index c.loop-file.programs le c.requires.distinct c.loop-file.invariant.so_far
 
 pub returns-in_err-program-clause-asked_until : goal.returns-in_err-program-clause-asked_until
 returns-in_err-program-clause-asked_until g c =
@@ -86,4 +86,4 @@ pub returns-clause-complete : goal.returns-clause-complete
 returns-clause-complete g c =
     let listing = c.args.listing.now in
     let le : length listing.programs ≤ c.loop-file.file-index = rw c.as_slice-items.ensures.value at c.loop-file-test.false in
-    scripts_all (g.F.Files.contents c.args.files.now) c.args.board.now listing c.args.system.now c.args.preloads.now c.loop-file.file-index c.loop-file.programs c.requires.all le c.loop-file.invariant.so_far
+    programs_all (g.F.Files.contents c.args.files.now) c.args.board.now listing c.args.system.now c.args.preloads.now c.loop-file.file-index c.loop-file.programs c.requires.all le c.loop-file.invariant.so_far

@@ -5,7 +5,7 @@ use Rattle.std.proofs.lemmas.List.{take_more}
 use Rattle.std.proofs.lemmas.Option.{slice_get_within, get_or_from_slice_get}
 use Rattle.jh_cellcfg.specs.declared.config.CellConfig.{CellConfig}
 use Rattle.jh_history.specs.History.{facts}
-use Rattle.jh_board.specs.Maps.{all_cells}
+use Rattle.jh_shape.specs.Lives.{all_cells}
 use Rattle.jh_run.proofs.MapsLemmas.{one_more}
 use Rattle.jh_run.proofs.maps.print_maps.Goals as goal
 
@@ -13,7 +13,7 @@ pub loop-number-preserved : goal.loop-number-preserved
 loop-number-preserved c =
     let image = c.args.board.now.image in
     let lives = (facts image c.args.board.now.entries).cells in
-    let all = all_cells image lives in
+    let all = all_cells image.system.root lives in
     let number = c.loop-number.number in
     let cell = c.in-Some.cell.now in
     let at : slice_get all number ≡ Some cell = sym (rw c.in-Some.is at c.cell.ensures) in

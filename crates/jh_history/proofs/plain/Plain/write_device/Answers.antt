@@ -15,18 +15,18 @@ use Rattle.jh_history.proofs.plain.Plain.write_device.Goals as goal
 pub write_endpoint_word_if-requires : goal.write_endpoint_word_if-requires
 write_endpoint_word_if-requires c =
     let p = c.args.self.now in
-    let devices = devices_kept p.image c.self.inside.image.now p.cells c.self.inside.cells p.endpoints c.self.inside.endpoints.list c.args.cell c.devices_in-list.result.now
+    let devices = devices_kept p.image c.self.inside.image.now p.cells c.self.inside.cells p.endpoints c.self.inside.endpoints.list c.args.cell c.list_in-list.result.now
     (ap (λ (v : PlainView). v.image) c.self.view_is) (ap (λ (v : PlainView). v.cells) c.self.view_is) (ap (λ (v : PlainView). v.endpoints) c.self.view_is)
-    (c.devices_in-list.ensures c.self.inside.cells (sym c.configs.ensures)) in
+    (c.list_in-list.ensures c.self.inside.cells (sym c.configs.ensures)) in
     subst (λ (o : Option EndpointWord). IfSome o (λ (s : EndpointWord). s.place + 4 < 2 ^ 64))
     (sym (c.write_device-word.ensures.word ∙ ap (λ (d : Devices). endpoint_word_of_reach d c.args.reach.now c.args.value) devices))
     (c.requires c.args.cell c.args.value c.args.reach.now)
 
 pub returns-clause-bytes : goal.returns-clause-bytes
 returns-clause-bytes c = λ i f h q.
-    let devices = devices_kept i c.self.inside.image.now f.cells c.self.inside.cells f.endpoints c.self.inside.endpoints.list c.args.cell c.devices_in-list.result.now
+    let devices = devices_kept i c.self.inside.image.now f.cells c.self.inside.cells f.endpoints c.self.inside.endpoints.list c.args.cell c.list_in-list.result.now
     (ap (λ (v : PlainView). v.image) c.self.view_is ∙ sym h.same) (ap (λ (v : PlainView). v.cells) c.self.view_is ∙ sym h.cells) (ap (λ (v : PlainView). v.endpoints) c.self.view_is ∙ sym h.endpoints)
-    (c.devices_in-list.ensures c.self.inside.cells (sym c.configs.ensures)) in
+    (c.list_in-list.ensures c.self.inside.cells (sym c.configs.ensures)) in
     c.in_ok-write_endpoint_word_if.ensures i q
     ∙ ap (λ (o : Option EndpointWord). with_endpoint_word_if o (last_byte i c.self.inside.bytes.items) q) (c.write_device-word.ensures.word ∙ ap (λ (d : Devices). endpoint_word_of_reach d c.args.reach.now c.args.value) devices)
     ∙ ap (λ (byte : Place → ℕ). with_endpoint_word_if (endpoint_word_of_reach (devices_of i f c.args.cell) c.args.reach.now c.args.value) byte q)
@@ -34,7 +34,7 @@ returns-clause-bytes c = λ i f h q.
 
 pub returns-clause-endpoints : goal.returns-clause-endpoints
 returns-clause-endpoints c = λ i f h.
-    let devices = devices_kept i c.self.inside.image.now f.cells c.self.inside.cells f.endpoints c.self.inside.endpoints.list c.args.cell c.devices_in-list.result.now
+    let devices = devices_kept i c.self.inside.image.now f.cells c.self.inside.cells f.endpoints c.self.inside.endpoints.list c.args.cell c.list_in-list.result.now
     (ap (λ (v : PlainView). v.image) c.self.view_is ∙ sym h.same) (ap (λ (v : PlainView). v.cells) c.self.view_is ∙ sym h.cells) (ap (λ (v : PlainView). v.endpoints) c.self.view_is ∙ sym h.endpoints)
-    (c.devices_in-list.ensures c.self.inside.cells (sym c.configs.ensures)) in
+    (c.list_in-list.ensures c.self.inside.cells (sym c.configs.ensures)) in
     c.write_device-word.ensures.list ∙ ap (λ (d : Devices). endpoints_put d c.args.reach.now c.args.value) devices
