@@ -146,6 +146,25 @@ pub struct Console {
     pub clock_reg: u64,
 }
 
+impl Console {
+    ghost use Rattle.jh_cellcfg.specs.Empty.{no_console};
+
+    /// No console: each field is 0.
+    pub fn none() -> Self
+        ensures { result ≡ no_console }
+    {
+        Console {
+            address: 0,
+            size: 0,
+            kind: 0,
+            flags: 0,
+            divider: 0,
+            gate_nr: 0,
+            clock_reg: 0,
+        }
+    }
+}
+
 /// A PCI device of a cell. Kind 1 is a physical device and 2 a bridge, which are kept and read as
 /// absent functions; 3 is an ivshmem device.
 #[derive(Clone, Copy, PartialEq, Eq, Debug)]
@@ -212,15 +231,7 @@ impl SystemConfig {
         SystemConfig {
             flags: 0,
             hypervisor_memory,
-            debug_console: Console {
-                address: 0,
-                size: 0,
-                kind: 0,
-                flags: 0,
-                divider: 0,
-                gate_nr: 0,
-                clock_reg: 0,
-            },
+            debug_console: Console::none(),
             pci_mmconfig_base: 0,
             pci_mmconfig_end_bus: 0,
             pci_is_virtual: 0,

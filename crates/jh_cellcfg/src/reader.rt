@@ -26,9 +26,7 @@ impl<'a> Reader<'a> {
         ensures taken { self.old.rest.now ≡ u16_bytes result ++ self.new.rest.now }
         ensures fits { result < 2 ^ 16 }
     {
-        let (front, rest) = self.rest.split_at(2);
-        self.rest = rest;
-        u16::from_le_bytes([front[0], front[1]])
+        u16::from_le_bytes(self.array::<2>())
     }
 
     /// Takes four bytes at the front: their number, the lowest byte first.
@@ -37,9 +35,7 @@ impl<'a> Reader<'a> {
         ensures taken { self.old.rest.now ≡ u32_bytes result ++ self.new.rest.now }
         ensures fits { result < 2 ^ 32 }
     {
-        let (front, rest) = self.rest.split_at(4);
-        self.rest = rest;
-        u32::from_le_bytes([front[0], front[1], front[2], front[3]])
+        u32::from_le_bytes(self.array::<4>())
     }
 
     /// Takes eight bytes at the front: their number, the lowest byte first.

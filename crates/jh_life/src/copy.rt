@@ -18,13 +18,6 @@ fn copy_of_cell(alloc: Global, cell: &CellConfig) -> Result<CellConfig, NoMemory
     ensures { IfOk result (λ copy. copy ≡ cell.now) }
 {
     Ok(CellConfig {
-        name: cell.name,
-        id: cell.id,
-        flags: cell.flags,
-        vpci_irq_base: cell.vpci_irq_base,
-        cpu_reset_address: cell.cpu_reset_address,
-        msg_reply_timeout: cell.msg_reply_timeout,
-        console: cell.console,
         cpu_set: copy_of(alloc, &cell.cpu_set)?,
         memory_regions: copy_of(alloc, &cell.memory_regions)?,
         cache_regions: copy_of(alloc, &cell.cache_regions)?,
@@ -33,6 +26,7 @@ fn copy_of_cell(alloc: Global, cell: &CellConfig) -> Result<CellConfig, NoMemory
         pci_devices: copy_of(alloc, &cell.pci_devices)?,
         pci_caps: copy_of(alloc, &cell.pci_caps)?,
         stream_ids: copy_of(alloc, &cell.stream_ids)?,
+        ..*cell
     })
 }
 
@@ -41,14 +35,7 @@ pub(crate) fn copy_of_system(alloc: Global, system: &SystemConfig) -> Result<Sys
     ensures { IfOk result (λ copy. copy ≡ system.now) }
 {
     Ok(SystemConfig {
-        flags: system.flags,
-        hypervisor_memory: system.hypervisor_memory,
-        debug_console: system.debug_console,
-        pci_mmconfig_base: system.pci_mmconfig_base,
-        pci_mmconfig_end_bus: system.pci_mmconfig_end_bus,
-        pci_is_virtual: system.pci_is_virtual,
-        pci_domain: system.pci_domain,
-        root_head: system.root_head,
         root: copy_of_cell(alloc, &system.root)?,
+        ..*system
     })
 }

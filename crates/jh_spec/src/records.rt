@@ -165,14 +165,6 @@ impl FromJson for Console {
     }
 
     fn missing() -> Console {
-        Console {
-            address: 0,
-            size: 0,
-            kind: 0,
-            flags: 0,
-            divider: 0,
-            gate_nr: 0,
-            clock_reg: 0,
-        }
+        Console::none()
     }
 }
