@@ -13,24 +13,14 @@ abbrev pub place_text : Bool → List ℕ
 place_text true = codes "comm"
 place_text false = codes "phys"
 
--- `r` with the right to read, else `-`
-abbrev pub read_letter : Bool → List ℕ
-read_letter true = codes "r"
-read_letter false = codes "-"
+-- the letter of a right where one has it, else `-`
+abbrev pub letter_or_dash : Bool → List ℕ → List ℕ
+letter_or_dash true letter = letter
+letter_or_dash false letter = codes "-"
 
--- `w` with the right to write, else `-`
-abbrev pub write_letter : Bool → List ℕ
-write_letter true = codes "w"
-write_letter false = codes "-"
-
--- `x` with the right to execute, else `-`
-abbrev pub execute_letter : Bool → List ℕ
-execute_letter true = codes "x"
-execute_letter false = codes "-"
-
--- the letters of the three rights
+-- the letters of the three rights: `r` to read, `w` to write, `x` to execute
 abbrev pub rights_text : Rights → List ℕ
-rights_text rights = read_letter rights.read ++ write_letter rights.write ++ execute_letter rights.execute
+rights_text rights = letter_or_dash rights.read (codes "r") ++ letter_or_dash rights.write (codes "w") ++ letter_or_dash rights.execute (codes "x")
 
 -- `page` where the region is of whole pages, `sub` where it is a subpage region
 abbrev pub kind_text : Bool → List ℕ

@@ -1,7 +1,7 @@
 //! From the map of a cell to its text.
 ghost use Rattle.std.specs.Prelude.{◌≡◌, ◌++◌, OnOk, IfOk, string_bytes};
 ghost use Rattle.std.specs.List.{flat_map, join_with_byte};
-ghost use Rattle.jh_text.specs.Maps.{place_text, read_letter, write_letter, execute_letter, kind_text, rights_text, run_words, run_line, cell_words, map_text};
+ghost use Rattle.jh_text.specs.Maps.{place_text, letter_or_dash, kind_text, rights_text, run_words, run_line, cell_words, map_text};
 ghost use Rattle.jh_text.specs.Text.{words_line};
 
 use jh_cellcfg::CellConfig;
@@ -23,34 +23,20 @@ fn kind_word(page: bool) -> &'static str
     if page { "page" } else { "sub" }
 }
 
-/// `r` where one may read, else `-`.
-fn read_letter(may: bool) -> &'static str
-    ensures { result.now ≡ read_letter may }
+/// The letter of a right where one has it, else `-`.
+fn letter_or_dash(may: bool, letter: &'static str) -> &'static str
+    ensures { result.now ≡ letter_or_dash may letter.now }
 {
-    if may { "r" } else { "-" }
-}
-
-/// `w` where one may write, else `-`.
-fn write_letter(may: bool) -> &'static str
-    ensures { result.now ≡ write_letter may }
-{
-    if may { "w" } else { "-" }
-}
-
-/// `x` where one may execute, else `-`.
-fn execute_letter(may: bool) -> &'static str
-    ensures { result.now ≡ execute_letter may }
-{
-    if may { "x" } else { "-" }
+    if may { letter } else { "-" }
 }
 
 /// Puts the letters of the rights at the end, or `-` for each that is missing.
 fn push_rights(text: &mut String, rights: Rights) -> Result<(), NoMemory>
     ensures { OnOk result (string_bytes text.new ≡ string_bytes text.old ++ rights_text rights) }
 {
-    text.push_str(read_letter(rights.read))?;
-    text.push_str(write_letter(rights.write))?;
-    text.push_str(execute_letter(rights.execute))?;
+    text.push_str(letter_or_dash(rights.read, "r"))?;
+    text.push_str(letter_or_dash(rights.write, "w"))?;
+    text.push_str(letter_or_dash(rights.execute, "x"))?;
     Ok(())
 }
 
