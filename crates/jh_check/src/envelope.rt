@@ -148,23 +148,7 @@ fn of_pairs(alloc: Global, spans: &[Span]) -> Result<Vec<Envelope>, NoMemory>
     Ok(envelopes)
 }
 
-/// The envelopes of pairs of the cell's regions that may follow.
-fn of_own(
-    alloc: Global,
-    rule: Rule,
-    pass: bool,
-    b: u32,
-    cell: &CellConfig,
-) -> Result<Vec<Envelope>, NoMemory>
-    requires { is_within rule ≡ true }
-    ensures rising { IfOk result (λ envelopes. IsRising envelopes.items) }
-    ensures tells { IfOk result (λ envelopes. CoversOthers rule pass b cell.now envelopes.items) }
-{
-    let spans = sorted(alloc, rule, pass, b, cell.memory_regions.as_slice())?;
-    of_pairs(alloc, spans.as_slice())
-}
-
-/// The envelopes of the cell's regions that may follow.
+/// The envelopes of the cell's regions that may follow: of pairs of them, where the rule is about two of one cell.
 fn of_cell(
     alloc: Global,
     rule: Rule,
@@ -175,11 +159,13 @@ fn of_cell(
     ensures rising { IfOk result (λ envelopes. IsRising envelopes.items) }
     ensures tells { IfOk result (λ envelopes. CoversOthers rule pass b cell.now envelopes.items) }
 {
+    let sorted = sorted(alloc, rule, pass, b, cell.memory_regions.as_slice())?;
+    let spans = sorted.as_slice();
     if is_within(rule) {
-        return of_own(alloc, rule, pass, b, cell);
+        of_pairs(alloc, spans)
+    } else {
+        of_each(alloc, spans)
     }
-    let spans = sorted(alloc, rule, pass, b, cell.memory_regions.as_slice())?;
-    of_each(alloc, spans.as_slice())
 }
 
 /// Whether a region is shared, where the rule lets some meet those that are.
