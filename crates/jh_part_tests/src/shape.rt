@@ -1,5 +1,5 @@
 //! What no row shows: places and addresses past the end, a cell that doesn't hold, and descriptors of single slots.
-ghost use Rattle.std.specs.Prelude.{◌≡◌, ◌≤◌, [], false, length, IfOk};
+ghost use Rattle.std.specs.Prelude.{◌≡◌, ◌≤◌, length, IfOk};
 ghost use Rattle.jh_shape.specs.SoundClaims.{IsSlot};
 
 use crate::cellcfg::region;
@@ -25,27 +25,9 @@ fn cell(alloc: Global, regions: &[Region]) -> Result<CellConfig, AllocError>
     })
 }
 
-/// A cell besides root, beside which no other lives.
-fn lone_cell<'a>(regions: &'a [Region]) -> Target<'a>
-    ensures regions { result.regions.now ≡ regions.now }
-    ensures root { result.root ≡ false }
-    ensures alone { result.cells.now ≡ [] }
-    ensures comm { result.comm ≡ 0 }
-{
-    Target {
-        regions,
-        root: false,
-        cells: &[],
-        held: 0,
-        loadable: 0,
-        extra: None,
-        comm: 0,
-    }
-}
-
 /// The pages of the tables of a cell besides root.
 fn pages(regions: &[Region]) -> u64 {
-    lone_cell(regions).tables()
+    Target::of_lone_cell(regions).tables()
 }
 
 /// The pages of root's tables beside other cells, of which those of the mask hold.
@@ -86,7 +68,7 @@ fn small_want(level: u8, start: u64) -> Want
     requires { IsSlot level start }
 {
     let regions = [region(0x5000, BASE, 0x2000, 0x13)];
-    lone_cell(&regions).want(level, start)
+    Target::of_lone_cell(&regions).want(level, start)
 }
 
 #[test]

@@ -168,56 +168,34 @@ impl<'a> Target<'a> {
         self.add_met(words, level)
     }
 
-    /// How many slots of the level are tables, by a short list of marks, which costs less to make and has all slots of
-    /// the regions.
-    fn count_low(&self, cuts: &[u64], level: u8) -> u64
+    /// How many slots of the level are tables, by a list of `N` words of marks, which has all slots of the regions. The
+    /// shorter the list, the less it costs to make.
+    fn count_by<const N: usize>(&self, cuts: &[u64], level: u8) -> u64
         requires cells { length self.now.cells.now ≤ 15 }
         requires level { level < LAST_LEVEL }
-        requires low { list_any (λ region. is_beyond LOW_SLOTS level region) self.now.regions.now ≡ false }
+        requires few { N ≤ WORDS }
+        requires room { list_any (λ region. is_beyond (WORD_BITS * N) level region) self.now.regions.now ≡ false }
         requires cuts { AreCuts cuts.now level (claims_of self.now) }
         ensures value { result ≡ tables_at (claims_of self.now) level }
         ensures bound { result ≤ SLOTS }
     {
-        let mut words = [0; LOW_WORDS];
+        let mut words = [0; N];
         self.count_in(&mut words, cuts, level)
     }
 
-    /// How many slots of the level are tables, by a list of marks that has all slots of the level.
-    fn count_all(&self, cuts: &[u64], level: u8) -> u64
+    /// How many slots of the level are tables of root, whose leaves other cells cut, by lists of `N` words of marks,
+    /// which have all slots of the regions.
+    fn count_root_by<const N: usize>(&self, level: u8) -> u64
         requires cells { length self.now.cells.now ≤ 15 }
         requires level { level < LAST_LEVEL }
-        requires cuts { AreCuts cuts.now level (claims_of self.now) }
+        requires few { N ≤ WORDS }
+        requires room { list_any (λ region. is_beyond (WORD_BITS * N) level region) self.now.regions.now ≡ false }
         ensures value { result ≡ tables_at (claims_of self.now) level }
         ensures bound { result ≤ SLOTS }
     {
-        let mut words = [0; WORDS];
-        self.count_in(&mut words, cuts, level)
-    }
-
-    /// How many slots of the level are tables of root, whose leaves other cells cut, by short lists of marks.
-    fn count_root_low(&self, level: u8) -> u64
-        requires cells { length self.now.cells.now ≤ 15 }
-        requires level { level < LAST_LEVEL }
-        requires low { list_any (λ region. is_beyond LOW_SLOTS level region) self.now.regions.now ≡ false }
-        ensures value { result ≡ tables_at (claims_of self.now) level }
-        ensures bound { result ≤ SLOTS }
-    {
-        let mut cuts = [0; LOW_WORDS];
-        self.fill_cuts(&mut cuts, level, LOW_SLOTS);
-        self.count_low(&cuts, level)
-    }
-
-    /// How many slots of the level are tables of root, whose leaves other cells cut, by lists of marks that have all
-    /// slots of the level.
-    fn count_root_all(&self, level: u8) -> u64
-        requires cells { length self.now.cells.now ≤ 15 }
-        requires level { level < LAST_LEVEL }
-        ensures value { result ≡ tables_at (claims_of self.now) level }
-        ensures bound { result ≤ SLOTS }
-    {
-        let mut cuts = [0; WORDS];
-        self.fill_cuts(&mut cuts, level, SLOTS);
-        self.count_all(&cuts, level)
+        let mut cuts = [0; N];
+        self.fill_cuts(&mut cuts, level, WORD_BITS * N);
+        self.count_by::<N>(&cuts, level)
     }
 
     /// How many slots of the level are tables of root. What cuts are looked up for must lie low too: where the list
@@ -231,9 +209,9 @@ impl<'a> Target<'a> {
         if any_beyond(self.regions, level, LOW_SLOTS)
             || any_place_beyond(self.regions, level, LOW_SLOTS)
         {
-            return self.count_root_all(level);
+            return self.count_root_by::<WORDS>(level);
         }
-        self.count_root_low(level)
+        self.count_root_by::<LOW_WORDS>(level)
     }
 
     /// How many slots of the level are tables of a cell besides root, whose leaves no other cell cuts.
@@ -245,9 +223,9 @@ impl<'a> Target<'a> {
         ensures bound { result ≤ SLOTS }
     {
         if any_beyond(self.regions, level, LOW_SLOTS) {
-            self.count_all(&[], level)
+            self.count_by::<WORDS>(&[], level)
         } else {
-            self.count_low(&[], level)
+            self.count_by::<LOW_WORDS>(&[], level)
         }
     }
 

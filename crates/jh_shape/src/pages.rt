@@ -32,15 +32,7 @@ pub fn cell_pages(cell: &CellConfig) -> u64
     ensures value { result ≡ own_pages cell.now }
     ensures bound { result ≤ 2 ^ 20 + 1 }
 {
-    let target = Target {
-        regions: cell.memory_regions.as_slice(),
-        root: false,
-        cells: &[],
-        held: 0,
-        loadable: 0,
-        extra: None,
-        comm: 0,
-    };
+    let target = Target::of_lone_cell(cell.memory_regions.as_slice());
     target.tables() + 1
 }
 

@@ -1,5 +1,5 @@
 //! The tables that a cell is to have.
-ghost use Rattle.std.specs.Prelude.{◌≡◌, ◌+◌, ◌*◌, ◌^◌, ◌<◌, ◌≤◌, false, length};
+ghost use Rattle.std.specs.Prelude.{◌≡◌, ◌+◌, ◌*◌, ◌^◌, ◌<◌, ◌≤◌, false, length, [], None};
 
 use crate::region::{addresses, any_in_part, any_met, any_takes, fits_blocks, is_mapped, place_in};
 use crate::want::Want;
@@ -30,6 +30,27 @@ impl<'a> Target<'a> {
     ghost use Rattle.jh_shape.specs.Shapes.{are_cut, is_closed, may_be_block, is_leaf_by, leaf_region, is_met, leaf_of, want_of};
     ghost use Rattle.jh_shape.specs.Grants.{DescribesGrants};
     ghost use Rattle.jh_shape.specs.SoundClaims.{AreSoundClaims, IsSlot};
+
+    /// The target of a cell besides root, beside which no other lives. The place of its communication page is left 0.
+    pub fn of_lone_cell(regions: &'a [Region]) -> Self
+        ensures regions { result.regions.now ≡ regions.now }
+        ensures root { result.root ≡ false }
+        ensures cells { result.cells.now ≡ [] }
+        ensures held { result.held ≡ 0 }
+        ensures loadable { result.loadable ≡ 0 }
+        ensures extra { result.extra ≡ None }
+        ensures comm { result.comm ≡ 0 }
+    {
+        Target {
+            regions,
+            root: false,
+            cells: &[],
+            held: 0,
+            loadable: 0,
+            extra: None,
+            comm: 0,
+        }
+    }
 
     /// Whether an unshared region of a holder has some of those places but not all.
     pub(crate) fn are_cut(&self, place: u128, size: u128) -> bool

@@ -1,6 +1,6 @@
--- A short list is made only where no region has addresses beyond the low slots.
-use Rattle.std.proofs.Common.{sym, ◌∙◌}
+-- No region has slots beyond the full list.
+use Rattle.jh_shape.proofs.MarkLemmas.{none_beyond_all}
 use Rattle.jh_shape.proofs.target.Target.count_root.Goals as goal
 
-pub count_root_low-requires-clause-low : goal.count_root_low-requires-clause-low
-count_root_low-requires-clause-low c = sym c.any_beyond.ensures ∙ c.if-any_beyond.false
+pub count_root_by-requires-clause-room : goal.count_root_by-requires-clause-room
+count_root_by-requires-clause-room c = none_beyond_all c.args.level c.args.self.now.regions.now c.requires.level
