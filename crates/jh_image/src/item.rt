@@ -1,5 +1,6 @@
 //! The items of a board's lists.
-ghost use Rattle.std.specs.Prelude.{◌≡◌, IfOk, None, option_map};
+ghost use Rattle.std.specs.Prelude.{◌≡◌, IfOk, Option, option_map};
+ghost use Rattle.serde_json.specs.Data.{Data};
 ghost use Rattle.serde_json.specs.View.{view};
 ghost use Rattle.jh_spec.specs.Json.{told_at, number_below};
 ghost use Rattle.jh_image.specs.Items.{preload_told, program_told, is_cell_name, cell_name_told};
@@ -12,24 +13,35 @@ use jh_spec::json::{has_only, number_at, number_below, text_at};
 use serde_json::Value;
 use std::alloc::Global;
 
-/// The preload that an item tells of; `None` where it isn't an object of a file's name and a place below 2^64.
-#[tactic(auto, unfolding(crate::specs::Items::preload_told))]
-pub(crate) fn preload(alloc: Global, item: &Value) -> Result<Option<PreloadFile>, NoMemory>
-    ensures { IfOk result (λ told. told ≡ preload_told (view item.now)) }
-{
-    if !has_only(item, &["file", "at"]) {
-        return Ok(None);
+/// What an item of a board's list may tell of: it keeps copies of the item's texts, for which memory may be missing.
+pub(crate) trait FromItem: Drop {
+    ghost tells: { Data → Option Self };
+
+    /// What the item tells of; `None` where it tells of nothing of this kind.
+    fn from_item(alloc: Global, item: &Value) -> Result<Option<Self>, NoMemory>
+        ensures { IfOk result (λ told. told ≡ tells (view item.now)) };
+}
+
+/// An object of a file's name and a place below 2^64.
+impl FromItem for PreloadFile {
+    ghost tells = { preload_told };
+
+    #[tactic(auto, unfolding(crate::specs::Items::preload_told))]
+    fn from_item(alloc: Global, item: &Value) -> Result<Option<PreloadFile>, NoMemory> {
+        if !has_only(item, &["file", "at"]) {
+            return Ok(None);
+        }
+        let Some(file) = text_at(item, "file") else {
+            return Ok(None);
+        };
+        let Some(at) = number_at(item, "at") else {
+            return Ok(None);
+        };
+        Ok(Some(PreloadFile {
+            file: FileName::new(alloc, file)?,
+            at,
+        }))
     }
-    let Some(file) = text_at(item, "file") else {
-        return Ok(None);
-    };
-    let Some(at) = number_at(item, "at") else {
-        return Ok(None);
-    };
-    Ok(Some(PreloadFile {
-        file: FileName::new(alloc, file)?,
-        at,
-    }))
 }
 
 /// Whether the text is a cell's name: 1 to 31 characters from the space to the tilde.
@@ -59,27 +71,28 @@ fn cpu_at(object: &Value, name: &str) -> Option<u8>
     Some(number as u8)
 }
 
-/// The program that an item tells of; `None` where it isn't an object of a cell's name, a CPU below 16 and a file's
-/// name.
-#[tactic(auto, unfolding(crate::specs::Items::program_told))]
-pub(crate) fn program(alloc: Global, item: &Value) -> Result<Option<ProgramFile>, NoMemory>
-    ensures { IfOk result (λ told. told ≡ program_told (view item.now)) }
-{
-    if !has_only(item, &["cell", "cpu", "file"]) {
-        return Ok(None);
+/// An object of a cell's name, a CPU below 16 and a file's name.
+impl FromItem for ProgramFile {
+    ghost tells = { program_told };
+
+    #[tactic(auto, unfolding(crate::specs::Items::program_told))]
+    fn from_item(alloc: Global, item: &Value) -> Result<Option<ProgramFile>, NoMemory> {
+        if !has_only(item, &["cell", "cpu", "file"]) {
+            return Ok(None);
+        }
+        let Some(cell) = cell_name_at(item, "cell") else {
+            return Ok(None);
+        };
+        let Some(cpu) = cpu_at(item, "cpu") else {
+            return Ok(None);
+        };
+        let Some(file) = text_at(item, "file") else {
+            return Ok(None);
+        };
+        Ok(Some(ProgramFile {
+            cell: Seq::from_vec(Vec::from_slice(alloc, cell.as_bytes())?),
+            cpu,
+            file: FileName::new(alloc, file)?,
+        }))
     }
-    let Some(cell) = cell_name_at(item, "cell") else {
-        return Ok(None);
-    };
-    let Some(cpu) = cpu_at(item, "cpu") else {
-        return Ok(None);
-    };
-    let Some(file) = text_at(item, "file") else {
-        return Ok(None);
-    };
-    Ok(Some(ProgramFile {
-        cell: Seq::from_vec(Vec::from_slice(alloc, cell.as_bytes())?),
-        cpu,
-        file: FileName::new(alloc, file)?,
-    }))
 }

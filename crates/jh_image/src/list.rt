@@ -5,11 +5,10 @@ ghost use Rattle.jh_image.specs.declared.board.ProgramFile.{ProgramFile as ThePr
 ghost use Rattle.serde_json.specs.Find.{get};
 ghost use Rattle.serde_json.specs.View.{view, items_view};
 ghost use Rattle.jh_spec.specs.Json.{items_told, short_list_told};
-ghost use Rattle.jh_image.specs.Items.{preload_told, program_told};
 ghost use Rattle.jh_image.specs.Boards.{preloads_told, programs_told, are_distinct, named_cpu_of, is_same_cpu};
 
 use crate::board::{PreloadFile, ProgramFile};
-use crate::item::{preload, program};
+use crate::item::FromItem;
 use jh_num::{NoMemory, Seq};
 use serde_json::Value;
 use std::alloc::Global;
@@ -20,57 +19,35 @@ const MAX_PRELOADS: usize = 64;
 /// The most programs of a board.
 const MAX_PROGRAMS: usize = 256;
 
-/// The preloads that the items tell of, where each tells of one.
-fn preload_items(alloc: Global, items: &[Value]) -> Result<Option<Seq<PreloadFile>>, NoMemory>
-    ensures { IfOk result (λ told. told ≡ items_told preload_told (items_view items.now)) }
+/// What each of the items tells of; `None` where one tells of nothing.
+fn items<T: FromItem>(alloc: Global, items: &[Value]) -> Result<Option<Seq<T>>, NoMemory>
+    ensures { IfOk result (λ told. told ≡ items_told T.tells (items_view items.now)) }
 {
-    let mut files = Seq::new(alloc);
+    let mut all = Seq::new(alloc);
     for item in items {
-        match preload(alloc, item)? {
-            Some(file) => files.push(file)?,
+        match T::from_item(alloc, item)? {
+            Some(told) => all.push(told)?,
             None => return Ok(None),
         }
     }
-    Ok(Some(files))
+    Ok(Some(all))
 }
 
-/// The programs that the items tell of, where each tells of one.
-fn program_items(alloc: Global, items: &[Value]) -> Result<Option<Seq<ProgramFile>>, NoMemory>
-    ensures { IfOk result (λ told. told ≡ items_told program_told (items_view items.now)) }
+/// What each item of a list of at most `most` tells of; `None` where the value is no such list, or an item tells of
+/// nothing.
+fn short_list<T: FromItem>(
+    alloc: Global,
+    list: &Value,
+    most: usize,
+) -> Result<Option<Seq<T>>, NoMemory>
+    ensures told { IfOk result (λ told. told ≡ short_list_told T.tells most (view list.now)) }
+    ensures few { IfOk result (λ told. IfSome told (λ all. length all ≤ most)) }
 {
-    let mut files = Seq::new(alloc);
-    for item in items {
-        match program(alloc, item)? {
-            Some(file) => files.push(file)?,
-            None => return Ok(None),
-        }
-    }
-    Ok(Some(files))
-}
-
-/// The preloads in a list that isn't too long.
-fn preload_list(alloc: Global, list: &Value) -> Result<Option<Seq<PreloadFile>>, NoMemory>
-    ensures told { IfOk result (λ told. told ≡ short_list_told preload_told 64 (view list.now)) }
-    ensures few { IfOk result (λ told. IfSome told (λ files. length files ≤ 64)) }
-{
-    let Some(items) = list.as_array() else {
+    let Some(values) = list.as_array() else {
         return Ok(None);
     };
-    match preload_items(alloc, items.as_slice())? {
-        Some(files) if files.len() <= MAX_PRELOADS => Ok(Some(files)),
-        _ => Ok(None),
-    }
-}
-
-/// The programs in a list that isn't too long.
-fn program_list(alloc: Global, list: &Value) -> Result<Option<Seq<ProgramFile>>, NoMemory>
-    ensures { IfOk result (λ told. told ≡ short_list_told program_told 256 (view list.now)) }
-{
-    let Some(items) = list.as_array() else {
-        return Ok(None);
-    };
-    match program_items(alloc, items.as_slice())? {
-        Some(files) if files.len() <= MAX_PROGRAMS => Ok(Some(files)),
+    match items(alloc, values.as_slice())? {
+        Some(all) if all.len() <= most => Ok(Some(all)),
         _ => Ok(None),
     }
 }
@@ -82,7 +59,7 @@ pub(crate) fn preloads(alloc: Global, object: &Value) -> Result<Option<Seq<Prelo
     ensures few { IfOk result (λ told. IfSome told (λ files. length files ≤ 64)) }
 {
     match object.get("preloads") {
-        Some(list) => preload_list(alloc, list),
+        Some(list) => short_list(alloc, list, MAX_PRELOADS),
         None => Ok(Some(Seq::new(alloc))),
     }
 }
@@ -122,7 +99,7 @@ pub(crate) fn programs(alloc: Global, object: &Value) -> Result<Option<Seq<Progr
     let Some(list) = object.get("programs") else {
         return Ok(Some(Seq::new(alloc)));
     };
-    match program_list(alloc, list)? {
+    match short_list(alloc, list, MAX_PROGRAMS)? {
         Some(files) if are_distinct(files.as_slice()) => Ok(Some(files)),
         _ => Ok(None),
     }
