@@ -81,16 +81,22 @@ fn take_turns<R: Wait>(rt: &R, shared: &Shared<Calls>, ports: &mut [Port<Calls>]
     }
 }
 
-// The same, with each half of the ports in a thread of its own.
-fn in_two_threads<R: Threads + Wait + Sync>(
+// The same, with the ports halved so many times, and each part in a thread of its own.
+#[cycle(halving)]
+fn in_threads<R: Threads + Wait + Sync>(
     rt: &R,
     shared: &Shared<Calls>,
     ports: &mut [Port<Calls>],
     turns: u64,
+    halvings: u32,
 )
     requires { All (IsPortOf shared.now) ports.old }
     ensures { IsSameSet shared.now ports.old ports.new }
 {
+    if halvings == 0 {
+        return take_turns(rt, shared, ports, turns);
+    }
+    let fewer = halvings - 1;
     let half = ports.len() / 2;
     let (left, right) = ports.split_at_mut(half);
     join_mut(
@@ -98,77 +104,35 @@ fn in_two_threads<R: Threads + Wait + Sync>(
         &mut || -> ()
             requires { All (IsPortOf shared.now) left.now }
             ensures { IsSameSet shared.entry.now left.entry.now left.exit.now }
-        { take_turns(rt, shared, left, turns) },
+        { in_threads(rt, shared, left, turns, fewer) },
         &mut || -> ()
             requires { All (IsPortOf shared.now) right.now }
             ensures { IsSameSet shared.entry.now right.entry.now right.exit.now }
-        { take_turns(rt, shared, right, turns) },
+        { in_threads(rt, shared, right, turns, fewer) },
     );
 }
 
-// The same, with each quarter of the ports in a thread of its own.
-fn in_four_threads<R: Threads + Wait + Sync>(
-    rt: &R,
-    shared: &Shared<Calls>,
-    ports: &mut [Port<Calls>],
-    turns: u64,
-)
-    requires { All (IsPortOf shared.now) ports.old }
-    ensures { IsSameSet shared.now ports.old ports.new }
-{
-    let half = ports.len() / 2;
-    let (left, right) = ports.split_at_mut(half);
-    join_mut(
-        rt,
-        &mut || -> ()
-            requires { All (IsPortOf shared.now) left.now }
-            ensures { IsSameSet shared.entry.now left.entry.now left.exit.now }
-        { in_two_threads(rt, shared, left, turns) },
-        &mut || -> ()
-            requires { All (IsPortOf shared.now) right.now }
-            ensures { IsSameSet shared.entry.now right.entry.now right.exit.now }
-        { in_two_threads(rt, shared, right, turns) },
-    );
-}
-
-// Opens a list for these callers, lets each take so many turns, and closes it. Beside the list, the least that a port has seen.
+// Opens a list for these callers, lets each take so many turns, with their ports halved so many times over threads, and
+// closes it. Beside the list, the least that a port has seen.
 fn run<R: Threads + Wait + Sync>(
     rt: &R,
     alloc: Global,
     callers: &[u8],
     turns: u64,
-    threads: u8,
+    halvings: u32,
 ) -> Result<(Calls, u64), Calls>
     requires some { 0 < length callers.now }
     requires differ { AllPairs (λ a b. a ≢ b) callers.now }
 {
     let (shared, mut ports) = Shared::open(alloc, no_calls(alloc, 50_000), callers)?;
-    spread(rt, &shared, ports.as_mut_slice(), turns, threads);
+    in_threads(rt, &shared, ports.as_mut_slice(), turns, halvings);
     let seen = least_seen(ports.as_slice());
     Ok((shared.close(ports), seen))
 }
 
-// In one thread, in two or in four.
-fn spread<R: Threads + Wait + Sync>(
-    rt: &R,
-    shared: &Shared<Calls>,
-    ports: &mut [Port<Calls>],
-    turns: u64,
-    threads: u8,
-)
-    requires { All (IsPortOf shared.now) ports.old }
-    ensures { IsSameSet shared.now ports.old ports.new }
-{
-    match threads {
-        1 => take_turns(rt, shared, ports, turns),
-        2 => in_two_threads(rt, shared, ports, turns),
-        _ => in_four_threads(rt, shared, ports, turns),
-    }
-}
-
 #[test]
 fn two_ports_in_two_threads_make_one_list(rt: HostRuntime) -> Result<(), Fail> {
-    let Ok((list, seen)) = run(&rt, rt.alloc(), &[3, 9], 1_000, 2) else {
+    let Ok((list, seen)) = run(&rt, rt.alloc(), &[3, 9], 1_000, 1) else {
         panic!(rt; "no memory")
     };
     let callers = list.callers.as_slice();
@@ -183,7 +147,7 @@ fn two_ports_in_two_threads_make_one_list(rt: HostRuntime) -> Result<(), Fail> {
 #[test]
 fn sixteen_ports_in_four_threads_make_one_list(rt: HostRuntime) -> Result<(), Fail> {
     let all = [0, 1, 2, 3, 4, 5, 6, 7, 8, 9, 10, 11, 12, 13, 14, 15];
-    let Ok((list, seen)) = run(&rt, rt.alloc(), &all, 1_000, 4) else {
+    let Ok((list, seen)) = run(&rt, rt.alloc(), &all, 1_000, 2) else {
         panic!(rt; "no memory")
     };
     let callers = list.callers.as_slice();
