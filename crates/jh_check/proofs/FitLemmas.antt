@@ -86,18 +86,12 @@ ids_differ run ids x y cx cy apart =
       ]
     ]
 
-like_is : (cells : List CellConfig) (regions : List Region) (device : PciDevice) (x : Seat) (c : CellConfig) (d : PciDevice) → LikeAt cells regions device x → IsSeatOf cells x c d → is_like regions device c.memory_regions d x.id ≡ true
-like_is cells regions device x c d like at =
-    let P : CellConfig → Type 0 = λ cell. x.item < length cell.pci_devices → is_like regions device cell.memory_regions (get_or cell.pci_devices x.item d) x.id ≡ true in
-    let there : P c = subst P at.cell_is (λ h. like c d at.among h) in
-    subst (λ (e : PciDevice). is_like regions device c.memory_regions e x.id ≡ true) at.device_is (there at.within)
-
 pub fit_each : (cells : List CellConfig) (regions : List Region) (device : PciDevice) (run : List Seat) (n : ℕ) → length run ≤ n → AreLike cells regions device run n → FitEachOther cells run
 fit_each cells regions device run n all like = λ x y cx cy apart c d e f ax ay.
     let hx = cx.1 in
     let hy = cy.1 in
-    let t = like_is cells regions device x c d (subst (λ (s : Seat). LikeAt cells regions device s) cx.2 (like.each cx.0 x (omega arith))) ax in
-    let u = like_is cells regions device y e f (subst (λ (s : Seat). LikeAt cells regions device s) cy.2 (like.each cy.0 y (omega arith))) ay in
+    let t = subst (λ (s : Seat). LikeAt cells regions device s) cx.2 (like.each cx.0 x (omega arith)) c d ax in
+    let u = subst (λ (s : Seat). LikeAt cells regions device s) cy.2 (like.each cy.0 y (omega arith)) e f ay in
     let ne = ids_differ run (λ j k s l h. like.ids j k s l (omega arith)) x y cx cy apart in
     both_like regions device c.memory_regions d e.memory_regions f x.id y.id ne t u
 
@@ -156,12 +150,8 @@ seated cells seats number n cell none among is has within =
 -- a device at a bdf that is told fits those of cells with lower numbers
 pub agrees_sure : (cells : List CellConfig) (number : ℕ) (cell : CellConfig) (device : PciDevice) (seats : List Seat) (sure : List Bool) → number ≤ length cells → HasSeats cells seats → AreSure cells seats sure → get_or sure device.bdf false ≡ true → IsSeated cells seats number cell device → agrees_with_all (take number cells) cell.memory_regions device ≡ true
 agrees_sure cells number cell device seats sure bound has known told own =
-    agrees_linked cells number cell.memory_regions device seats bound has (λ x cx ex c d low within.
-    let there = get_or cells x.cell c in
-    let other = get_or there.pci_devices x.item d in
-    let among : x.cell < length cells = omega arith in
-    let stands : IsSeatOf cells x there other = record { among = among; cell_is = get_or_default cells x.cell there c among; within = within; device_is = get_or_default there.pci_devices x.item other d within } in
+    agrees_linked cells number cell.memory_regions device seats bound has (λ x cx ex c d low sits.
     let owner = own.owner in
     let apart : own.seat.cell ≢ x.cell = λ e. omega arith in
-    let t = known device.bdf told own.seat x own.is cx own.bdf ex apart cell device there other own.sits stands in
-    or_right (not (are_linked device other)) (fits cell.memory_regions device there.memory_regions other) t)
+    let t = known device.bdf told own.seat x own.is cx own.bdf ex apart cell device c d own.sits sits in
+    or_right (not (are_linked device d)) (fits cell.memory_regions device c.memory_regions d) t)

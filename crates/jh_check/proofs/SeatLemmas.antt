@@ -37,12 +37,21 @@ seat_within seats bdf begin m n low high bound after before x cx is =
 
 -- ---- the device of a seat
 
--- what holds of the seat's device and its cell holds of what stands at the seat
-pub holds_at : (cells : List CellConfig) (seat : Seat) (cell : CellConfig) (device : PciDevice) → IsSeatOf cells seat cell device → (P : CellConfig → PciDevice → Type 0) → P cell device → (c : CellConfig) (d : PciDevice) → P (get_or cells seat.cell c) (get_or (get_or cells seat.cell c).pci_devices seat.item d)
-holds_at cells seat cell device at P p c d =
-    let e : get_or cells seat.cell c ≡ cell = get_or_default cells seat.cell c cell at.among ∙ at.cell_is in
-    let f : get_or cell.pci_devices seat.item d ≡ device = get_or_default cell.pci_devices seat.item d device at.within ∙ at.device_is in
-    subst (λ (x : CellConfig). P x (get_or x.pci_devices seat.item d)) (sym e) (subst (λ (y : PciDevice). P cell y) (sym f) p)
+-- a seat is of one device of one cell: what holds of the one holds of the other
+pub holds_at : (cells : List CellConfig) (seat : Seat) (cell : CellConfig) (device : PciDevice) → IsSeatOf cells seat cell device → (P : CellConfig → PciDevice → Type 0) → P cell device → (c : CellConfig) (d : PciDevice) → IsSeatOf cells seat c d → P c d
+holds_at cells seat cell device at P p c d there =
+    let e : cell ≡ c = sym at.cell_is ∙ get_or_default cells seat.cell cell c at.among ∙ there.cell_is in
+    let f : device ≡ d =
+    sym at.device_is ∙ get_or_default cell.pci_devices seat.item device d at.within
+    ∙ ap (λ (x : CellConfig). get_or x.pci_devices seat.item d) e ∙ there.device_is in
+    subst (λ (x : CellConfig). P x d) e (subst (λ (y : PciDevice). P cell y) f p)
+
+-- a seat past the devices of its cell is of none
+pub no_seat : (cells : List CellConfig) (seat : Seat) (cell : CellConfig) (device : PciDevice) → IsSeatOf cells seat cell device → length (get_or cells seat.cell cell).pci_devices ≤ seat.item → ⊥
+no_seat cells seat cell device at past =
+    let within = at.within in
+    let none : length cell.pci_devices ≤ seat.item = subst (λ (x : CellConfig). length x.pci_devices ≤ seat.item) at.cell_is past in
+    omega arith
 
 -- ---- linked devices
 
@@ -57,8 +66,8 @@ agrees_seated cells number regions device seats has agree k cell other low withi
           let both = (and_parts (is_shmem device) (is_shmem other && (device.bdf == other.bdf)) t).1 in
           let e = eqb-true device.bdf other.bdf ((and_parts (is_shmem other) (device.bdf == other.bdf) both).1) in
           let seated : Contains seats (seat_of k n other) = subst (λ (d : PciDevice). Contains seats (seat_of k n d)) co.2 (has k cell within n other co.1) in
-          let fits = agree (seat_of k n other) seated (sym e) cell other low co.1 in
-          subst (λ (d : PciDevice). agrees_with regions device there.memory_regions d ≡ true) co.2 fits
+          let sits : IsSeatOf cells (seat_of k n other) there other = record { among = within; cell_is = get_or_default cells k there cell within; within = co.1; device_is = co.2 } in
+          agree (seat_of k n other) seated (sym e) there other low sits
       | inr f ↦ or_left (not (are_linked device other)) rest (not_from_false (are_linked device other) f)
     ]
 

@@ -1,5 +1,5 @@
 -- Which findings name a new cell.
-use Rattle.std.proofs.Common.{◌≡◌, ℕ, ◌+◌, ◌<◌, ◌≤◌, suc, Bool, true, false, ◌||◌, not, ◌==◌, nat_lt, List, [], ◌∷◌, ◌++◌, length, take, drop, get_or, refl, sym, ap, subst, ◌∙◌, append_assoc, length-append, arith}
+use Rattle.std.proofs.Common.{◌≡◌, ℕ, ◌+◌, ◌<◌, ◌≤◌, suc, ◌⊎◌, inl, inr, Bool, true, false, ◌||◌, not, ◌==◌, nat_lt, List, [], ◌∷◌, ◌++◌, length, take, drop, get_or, refl, sym, ap, subst, ◌∙◌, append_assoc, length-append, arith}
 use Rattle.std.specs.List.{list_any}
 use Rattle.std.proofs.lemmas.Bool.{ltb-true, eqb-true, ne_eqb, and_parts, and_from, and_left, and_right, or_from, or_right}
 use Rattle.std.proofs.lemmas.List.Folds.{list_any-append}
@@ -354,19 +354,15 @@ pub verdict_invalid : (system : SystemConfig) (live : List CellConfig) (new : Ce
 verdict_invalid system live new n e i = verdict_from system live new n true (list_any (makes_busy n) (in_pairs CellsOverlap ((system.root ∷ live) ++ new ∷ []))) e i refl
 
 -- what is found of the new cell by each rule, by its number
-pub own_virt : (rule : Rule) (h : Region) (xs : List CellConfig) (new : CellConfig) (n : ℕ) → n ≡ length xs → rule ≡ VirtOverlap → is_any (between rule n new n new) ≡ list_any (makes_invalid n) (found_by rule h (xs ++ new ∷ []))
+pub own_within : (rule : Rule) (h : Region) (xs : List CellConfig) (new : CellConfig) (n : ℕ) → n ≡ length xs → (rule ≡ VirtOverlap) ⊎ (rule ≡ PhysOverlap) → is_any (between rule n new n new) ≡ list_any (makes_invalid n) (found_by rule h (xs ++ new ∷ []))
 unfolding found_by
-own_virt rule h xs new n e r =
+own_within rule h xs new n e is =
     let P : ℕ → Rule → Type 0 = λ m rule. is_any (between rule m new m new) ≡ list_any (makes_invalid m) (found_by rule h (xs ++ new ∷ [])) in
-    let base : P (length xs) VirtOverlap = sym (invalid_within VirtOverlap xs new refl refl) in
-    subst (λ m. P m rule) (sym e) (subst (P (length xs)) (sym r) base)
-
-pub own_phys : (rule : Rule) (h : Region) (xs : List CellConfig) (new : CellConfig) (n : ℕ) → n ≡ length xs → rule ≡ PhysOverlap → is_any (between rule n new n new) ≡ list_any (makes_invalid n) (found_by rule h (xs ++ new ∷ []))
-unfolding found_by
-own_phys rule h xs new n e r =
-    let P : ℕ → Rule → Type 0 = λ m rule. is_any (between rule m new m new) ≡ list_any (makes_invalid m) (found_by rule h (xs ++ new ∷ [])) in
-    let base : P (length xs) PhysOverlap = sym (invalid_within PhysOverlap xs new refl refl) in
-    subst (λ m. P m rule) (sym e) (subst (P (length xs)) (sym r) base)
+    let base : P (length xs) rule = elim is [
+      | inl r ↦ subst (P (length xs)) (sym r) (sym (invalid_within VirtOverlap xs new refl refl))
+      | inr r ↦ subst (P (length xs)) (sym r) (sym (invalid_within PhysOverlap xs new refl refl))
+    ] in
+    subst (λ m. P m rule) (sym e) base
 
 pub own_taken : (rule : Rule) (h : Region) (root : CellConfig) (live : List CellConfig) (new : CellConfig) (n : ℕ) → n ≡ length (root ∷ live) → rule ≡ SubpageTaken → is_any (between rule n new 0 root) ≡ list_any (makes_invalid n) (found_by rule h ((root ∷ live) ++ new ∷ []))
 unfolding found_by

@@ -66,6 +66,7 @@ fn widened(extents: Extents, rule: Rule, item: usize, region: &Region) -> Extent
 }
 
 /// The extents of the regions of a block, which begins with the number `first`.
+// compiled by itself: the loop over a block's regions stays apart from the loop over blocks
 #[inline(never)]
 fn block_from(rule: Rule, regions: &[Region], first: usize) -> Extents
     ensures { AreExtentsOf rule regions.now first (first + BLOCK) result }

@@ -102,6 +102,7 @@ fn is_gap_near(envelopes: &[Envelope], gap: Gap, span: Span) -> bool {
 
 /// Whether the span, which lies neither in the gap nor in the next one, may be met; where this says no, it isn't. The gap
 /// becomes one near the span: mostly it stays the same, or becomes the next.
+// apart from `may_be_met`, which is always inlined and leaves to it the spans past the next gap
 #[inline(never)]
 fn may_be_met_far(envelopes: &[Envelope], span: Span, gap: &mut Gap, next: Gap) -> bool
     requires rising { IsRising envelopes.now }

@@ -279,6 +279,7 @@ fn look_behind(
 
 /// Each region of a cell with those behind it, where the regions begin in the order of their numbers, and those that
 /// meet are in the stretch.
+// compiled by itself: the loop over the regions stays apart from its caller
 #[inline(never)]
 fn along(
     found: &mut Seq<Finding>,

@@ -86,7 +86,7 @@ pub(crate) fn region_breaks(
 
 /// Whether the region breaks a rule that is for root's regions alone, or the one that is for other cells' alone.
 fn breaks_in_cell(cell: u32, earlier: &[Region], region: &Region) -> bool
-    ensures { result ≡ breaks_in_cell cell earlier.now region.now }
+    ensures { result ≡ breaks_in_cell region.now cell earlier.now region.now }
 {
     if cell == 0 {
         region.phys_start != region.virt_start || region.is_comm()

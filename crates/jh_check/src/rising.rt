@@ -56,6 +56,7 @@ fn extended(scan: Scan, rule: Rule, item: usize, region: &Region) -> Option<Scan
 
 /// From the first region to the last that may meet another of the cell; none, where those that take part
 /// don't begin in the order of their numbers.
+// compiled by itself: the loop over the regions stays apart from its caller
 #[inline(never)]
 pub(crate) fn stretch_of(rule: Rule, regions: &[Region]) -> Option<ItemRange>
     ensures { IfSome result (λ stretch. IsStretch rule regions.now stretch) }

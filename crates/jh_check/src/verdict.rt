@@ -190,8 +190,7 @@ fn breaks(
     ensures { IfOk result (λ breaks. breaks ≡ list_any (makes_invalid number) (found_by rule setup.now.hypervisor.now (cells_of setup.now ++ new.now ∷ []))) }
 {
     match rule {
-        Rule::VirtOverlap => any_within(alloc, rule, number, new),
-        Rule::PhysOverlap => any_within(alloc, rule, number, new),
+        Rule::VirtOverlap | Rule::PhysOverlap => any_within(alloc, rule, number, new),
         Rule::SubpageTaken => Ok(any_between(rule, number, new, 0, setup.root)),
         Rule::CellsOverlap => Ok(false),
         Rule::Shmem => Ok(any_device(setup, number, new)),

@@ -1,5 +1,5 @@
 -- The bdfs at which all devices of different cells are known to fit each other.
-use Rattle.std.specs.Prelude.{◌≡◌, ◌≢◌, ℕ, ◌<◌, Bool, true, false, ◌&&◌, ◌==◌, List, length, slice_index_or, Contains}
+use Rattle.std.specs.Prelude.{◌≡◌, ◌≢◌, ℕ, ◌<◌, Bool, true, false, ◌&&◌, ◌==◌, List, slice_index_or, Contains}
 use Rattle.jh_cellcfg.specs.declared.region.Region.{Region}
 use Rattle.jh_cellcfg.specs.declared.config.PciDevice.{PciDevice}
 use Rattle.jh_cellcfg.specs.declared.config.CellConfig.{CellConfig}
@@ -23,8 +23,7 @@ is_like regions device other_regions other id =
 -- the device of the seat, if there is one, has the seat's number, and as many peers and the same memory as the one
 abbrev pub LikeAt : List CellConfig → List Region → PciDevice → Seat → Type 0
 LikeAt cells regions device seat =
-    (c : CellConfig) (d : PciDevice) → seat.cell < length cells → seat.item < length (slice_index_or cells seat.cell c).pci_devices
-    → is_like regions device (slice_index_or cells seat.cell c).memory_regions (slice_index_or (slice_index_or cells seat.cell c).pci_devices seat.item d) seat.id ≡ true
+    (c : CellConfig) (d : PciDevice) → IsSeatOf cells seat c d → is_like regions device c.memory_regions d seat.id ≡ true
 
 -- the devices of the first seats have the seats' numbers, no two the same, and as many peers and the same memory as the
 -- one

@@ -35,5 +35,4 @@ pub record IsSeatOf (cells : List CellConfig) (seat : Seat) (cell : CellConfig) 
 -- the device of the seat, if it is of one of so many cells, agrees with the one
 abbrev pub AgreesAt : List CellConfig → ℕ → List Region → PciDevice → Seat → Type 0
 AgreesAt cells number regions device seat =
-    (c : CellConfig) (d : PciDevice) → seat.cell < number → seat.item < length (slice_index_or cells seat.cell c).pci_devices
-    → agrees_with regions device (slice_index_or cells seat.cell c).memory_regions (slice_index_or (slice_index_or cells seat.cell c).pci_devices seat.item d) ≡ true
+    (c : CellConfig) (d : PciDevice) → seat.cell < number → IsSeatOf cells seat c d → agrees_with regions device c.memory_regions d ≡ true

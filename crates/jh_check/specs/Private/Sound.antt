@@ -1,17 +1,18 @@
 -- Cells of which no region breaks a rule about one region.
-use Rattle.std.specs.Prelude.{◌≡◌, ℕ, ◌<◌, Bool, true, false, ◌&&◌, ◌||◌, not, ◌==◌, if◌then◌else◌, List, [], length, slice_index_or}
+use Rattle.std.specs.Prelude.{◌≡◌, ℕ, ◌<◌, Bool, true, false, ◌&&◌, ◌||◌, List, [], length, slice_index_or}
 use Rattle.jh_cellcfg.specs.declared.region.Region.{Region}
 use Rattle.jh_cellcfg.specs.declared.config.CellConfig.{CellConfig}
-use Rattle.jh_cellcfg.specs.Regions.{is_comm, has_size}
+use Rattle.jh_cellcfg.specs.Regions.{has_size}
 use Rattle.jh_check.specs.declared.rule.Rule.{Rule}
-use Rattle.jh_check.specs.declared.rule.Rule.TheVariants.{Hypervisor, OutOfRange, ExecuteWithoutRead, PhysAlign}
-use Rattle.jh_check.specs.Regions.{is_misshapen, breaks_alone}
+use Rattle.jh_check.specs.declared.rule.Rule.TheVariants.{Hypervisor, OutOfRange, RootNotIdentity, CommInRoot, CommShape, ExecuteWithoutRead, PhysAlign}
+use Rattle.jh_check.specs.Regions.{breaks_alone}
 use Rattle.jh_check.specs.Findings.{in_cell}
 
 -- the region breaks a rule that is for root's regions alone, or the one that is for other cells' alone
-abbrev pub breaks_in_cell : ℕ → List Region → Region → Bool
-breaks_in_cell cell earlier region =
-    if cell == 0 then not (region.phys_start == region.virt_start) || is_comm region else is_comm region && is_misshapen earlier region
+abbrev pub breaks_in_cell : Region → ℕ → List Region → Region → Bool
+breaks_in_cell memory cell earlier region =
+    breaks_alone RootNotIdentity memory cell earlier region
+    || (breaks_alone CommInRoot memory cell earlier region || breaks_alone CommShape memory cell earlier region)
 
 -- the region, its size aside, breaks one of the rules about one region
 abbrev pub breaks_one : Region → ℕ → List Region → Region → Bool
@@ -19,7 +20,7 @@ breaks_one memory cell earlier region =
     breaks_alone Hypervisor memory cell earlier region
     || (breaks_alone OutOfRange memory cell earlier region
     || (breaks_alone ExecuteWithoutRead memory cell earlier region
-    || (breaks_alone PhysAlign memory cell earlier region || breaks_in_cell cell earlier region)))
+    || (breaks_alone PhysAlign memory cell earlier region || breaks_in_cell memory cell earlier region)))
 
 -- the region has a size, and breaks one of the rules about one region
 abbrev pub breaks_any : Region → ℕ → List Region → Region → Bool

@@ -5,18 +5,13 @@ use Rattle.jh_check.specs.Private.Cells.{cells_of}
 use Rattle.jh_check.specs.Devices.{cpus_break}
 use Rattle.jh_check.specs.Lists.{is_any}
 use Rattle.jh_check.specs.Findings.{in_cell}
-use Rattle.jh_check.proofs.VerdictLemmas.{own_virt, own_phys, own_taken, own_crossing, own_devices, own_cpus, own_region}
+use Rattle.jh_check.proofs.VerdictLemmas.{own_within, own_taken, own_crossing, own_devices, own_cpus, own_region}
 use Rattle.jh_check.proofs.verdict.breaks.Goals as goal
 
 pub returns-in-VirtOverlap : goal.returns-in-VirtOverlap
 returns-in-VirtOverlap c =
     subst (λ (found : Bool). IfOk c.any_within.result (λ breaks. breaks ≡ found))
-    (own_virt c.args.rule c.args.setup.now.hypervisor.now (cells_of c.args.setup.now) c.args.new.now c.args.number c.requires.number c.in-VirtOverlap.is) c.any_within.ensures
-
-pub returns-in-PhysOverlap : goal.returns-in-PhysOverlap
-returns-in-PhysOverlap c =
-    subst (λ (found : Bool). IfOk c.any_within-in-PhysOverlap.result (λ breaks. breaks ≡ found))
-    (own_phys c.args.rule c.args.setup.now.hypervisor.now (cells_of c.args.setup.now) c.args.new.now c.args.number c.requires.number c.in-PhysOverlap.is) c.any_within-in-PhysOverlap.ensures
+    (own_within c.args.rule c.args.setup.now.hypervisor.now (cells_of c.args.setup.now) c.args.new.now c.args.number c.requires.number c.in-VirtOverlap.is) c.any_within.ensures
 
 pub returns-in-SubpageTaken : goal.returns-in-SubpageTaken
 returns-in-SubpageTaken c =
