@@ -9,7 +9,7 @@ use Rattle.jh_cellcfg.specs.declared.config.PciDevice.{PciDevice}
 use Rattle.jh_cellcfg.specs.declared.config.CellConfig.{CellConfig}
 use Rattle.jh_check.specs.declared.seats.Seat.{Seat}
 use Rattle.jh_check.specs.Devices.{are_linked, is_same_memory, are_same_memory, sections_of, fits, agrees_with_all}
-use Rattle.jh_check.specs.Private.Seats.{HasSeats, IsSeatOf, seat_of}
+use Rattle.jh_check.specs.Private.Seats.{HasSeats, seat_of}
 use Rattle.jh_check.specs.Private.Fits.{IsSeated, is_like, LikeAt, AreLike, FitEachOther, AreSure}
 use Rattle.jh_check.proofs.SeatLemmas.{agrees_linked}
 
