@@ -21,7 +21,7 @@ use Rattle.jh_history.specs.DueFacts.{NamesCpu}
 use Rattle.jh_board.specs.declared.held.Held.{Held}
 use Rattle.jh_board.specs.declared.indexed.ProgramIndex.{ProgramIndex}
 use Rattle.jh_board.specs.Indexed.{AreProgramIndices}
-use Rattle.jh_board.specs.Pages.{byte_of, HoldsComm}
+use Rattle.jh_board.specs.Pages.{byte_of, IsHeld}
 use Rattle.jh_board.specs.Means.{Means, HoldsCommOf, HoldsWordsOf, IsReadyToGoOn}
 use Rattle.jh_board.specs.Private.Steps.{IsPrepared}
 use Rattle.jh_board.proofs.KeptLemmas.{KeepsPages, comms_kept, words_kept, all_words_kept}
@@ -76,9 +76,9 @@ Means_made image old mid new f entry coming prepared written called =
       cells = living;
       endpoints = ap (λ (es : EndpointsView). es.list) called.endpoints ∙ written.endpoints;
       call = after_call;
-      pages = all_made (λ (config : CellConfig). HoldsComm new.memory.comms config.id) f.call f.cells act
+      pages = all_made (λ (config : CellConfig). IsHeld new.memory.comms config.id) f.call f.cells act
           (All-weaker (HoldsCommOf old) (HoldsCommOf new) (λ live. comms_kept old.memory new.memory live.config.id pages) f.cells means.pages)
-          (if_some (created_by f.call act) (λ (config : CellConfig). HoldsComm new.memory.comms config.id) (λ config made.
+          (if_some (created_by f.call act) (λ (config : CellConfig). IsHeld new.memory.comms config.id) (λ config made.
           let coming = created_is f.call act config made in
           comms_kept old.memory new.memory config.id pages (ready_coming old f.call coming.begun config means.ready coming.is coming.phase).page));
       words = all_made (λ (config : CellConfig). HoldsWordsOf new config) f.call f.cells act (all_words_kept old new f.cells pages means.words)

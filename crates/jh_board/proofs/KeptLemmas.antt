@@ -21,7 +21,7 @@ use Rattle.jh_history.specs.Facts.{Facts}
 use Rattle.jh_board.specs.declared.held.Held.{Held}
 use Rattle.jh_board.specs.declared.indexed.ProgramIndex.{ProgramIndex}
 use Rattle.jh_board.specs.Indexed.{AreProgramIndices}
-use Rattle.jh_board.specs.Pages.{byte_of, HoldsComm, HoldsPlace, HoldsWordOf, MemoryView}
+use Rattle.jh_board.specs.Pages.{byte_of, IsHeld, HoldsPlace, HoldsWordOf, MemoryView}
 use Rattle.jh_board.specs.Means.{Means, HoldsCommOf, HoldsWordsOf, IsReadyFor, IsReadyIn, IsReadyToGoOn}
 
 -- the pages that are held stay so
@@ -29,7 +29,7 @@ abbrev pub KeepsPages : MemoryView → MemoryView → Type 0
 KeepsPages old new = (q : Place) → HoldsPlace old q → HoldsPlace new q
 
 -- a communication page that is held stays so
-pub comms_kept : (old new : MemoryView) (cell : ℕ) → KeepsPages old new → HoldsComm old.comms cell → HoldsComm new.comms cell
+pub comms_kept : (old new : MemoryView) (cell : ℕ) → KeepsPages old new → IsHeld old.comms cell → IsHeld new.comms cell
 comms_kept old new cell pages h = let first : 0 < 4096 = omega arith in (pages (Page cell 0) (h, first)).0
 
 -- the pages of the words of devices that are held stay so

@@ -13,7 +13,7 @@ use Rattle.jh_history.specs.declared.place.Place.{Place}
 use Rattle.jh_history.specs.declared.place.Place.TheVariants.{Physical, Page}
 use Rattle.jh_board.specs.declared.held.Held.{Held}
 use Rattle.jh_board.specs.Indexed.{AreProgramIndices}
-use Rattle.jh_board.specs.Pages.{byte_of, comm_byte, MemoryView}
+use Rattle.jh_board.specs.Pages.{byte_of, byte_in, MemoryView}
 use Rattle.jh_num.specs.Pages.{paged_byte}
 use Rattle.jh_board.specs.Means.{Means, HoldsCommOf, HoldsWordsOf}
 use Rattle.jh_board.proofs.ListLemmas.{slice_get_replicate}
@@ -37,7 +37,7 @@ Means_opened image held cpu bytes cpus same system alone programs joined words c
 })
 
 -- memory as the preloads put it
-pub loaded_bytes : (image : Image) (memory : MemoryView) → ((a : ℕ) → paged_byte memory.physical a ≡ fold preloaded (λ _. 0) image.preloads a) → ((cell k : ℕ) → comm_byte memory.comms cell k ≡ 0)
+pub loaded_bytes : (image : Image) (memory : MemoryView) → ((a : ℕ) → paged_byte memory.physical a ≡ fold preloaded (λ _. 0) image.preloads a) → ((cell k : ℕ) → byte_in memory.comms cell k ≡ 0)
     → (q : Place) → byte_of memory q ≡ loaded_byte image q
 loaded_bytes image memory same none (Physical a) = same a
 loaded_bytes image memory same none (Page cell offset) = none cell offset

@@ -9,7 +9,7 @@ use Rattle.jh_history.specs.declared.place.Place.{Place}
 use Rattle.jh_history.specs.declared.place.Place.TheVariants.{Physical, Page}
 use Rattle.jh_history.specs.Places.{places_in_row, with_byte, written}
 use Rattle.jh_history.proofs.Public.{row_length}
-use Rattle.jh_board.specs.Pages.{byte_of, comm_byte, MemoryView}
+use Rattle.jh_board.specs.Pages.{byte_of, byte_in, MemoryView}
 use Rattle.jh_board.specs.Private.Pages.{bytes_from}
 use Rattle.jh_num.specs.Pages.{page_at, byte_of_page, paged_byte}
 use Rattle.jh_num.proofs.Public.{stored_before, stored_behind, stored_in}
@@ -91,7 +91,7 @@ pub written_piece : (old new : MemoryView) (a n v : ℕ) (bytes : List ℕ) → 
 written_piece old new a n v bytes few is put same (Physical q) =
     put q ∙ ap (λ (bs : List ℕ). stored (paged_byte old.physical) a bs q) is ∙ sym (written_low_first (byte_of old) a n 0 8 v q few)
     ∙ ap (λ (x : ℕ). written (byte_of old) (places_in_row (Physical a) n) x (Physical q)) (div-one v)
-written_piece old new a n v bytes few is put same (Page cell offset) = ap (λ (pages : Pages). comm_byte pages cell offset) same ∙ sym (written_elsewhere (byte_of old) a n v cell offset)
+written_piece old new a n v bytes few is put same (Page cell offset) = ap (λ (pages : Pages). byte_in pages cell offset) same ∙ sym (written_elsewhere (byte_of old) a n v cell offset)
 
 -- a number of so many bytes as a row has places
 pub fits_in_row : (v n : ℕ) (p : Place) (places : List Place) → places ≡ places_in_row p n → v < 256 ^ n → v < 256 ^ length places

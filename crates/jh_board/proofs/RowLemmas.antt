@@ -3,7 +3,7 @@ use Rattle.std.proofs.Common.{◌≡◌, ℕ, zero, suc, ◌+◌, List, [], ◌�
 use Rattle.std.proofs.lemmas.List.{append-nil, append_assoc}
 use Rattle.jh_history.specs.declared.place.Place.TheVariants.{Page}
 use Rattle.jh_history.specs.Places.{places_in_row}
-use Rattle.jh_board.specs.Pages.{byte_of, comm_byte, MemoryView}
+use Rattle.jh_board.specs.Pages.{byte_of, byte_in, MemoryView}
 use Rattle.jh_board.specs.Private.Pages.{bytes_from}
 
 -- a row behind another
@@ -28,6 +28,6 @@ pub row_none : (old : List ℕ) (byte : ℕ → ℕ) (at : ℕ) → old ≡ old 
 row_none old byte at = sym (append-nil old)
 
 -- the bytes at places of a communication page in a row
-pub row_of_comm : (memory : MemoryView) (cell offset n : ℕ) → map (byte_of memory) (places_in_row (Page cell offset) n) ≡ bytes_from (comm_byte memory.comms cell) offset n
+pub row_of_comm : (memory : MemoryView) (cell offset n : ℕ) → map (byte_of memory) (places_in_row (Page cell offset) n) ≡ bytes_from (byte_in memory.comms cell) offset n
 row_of_comm memory cell offset zero = refl
-row_of_comm memory cell offset (suc n) = ap (λ (bs : List ℕ). comm_byte memory.comms cell offset ∷ bs) (row_of_comm memory cell (offset + 1) n)
+row_of_comm memory cell offset (suc n) = ap (λ (bs : List ℕ). byte_in memory.comms cell offset ∷ bs) (row_of_comm memory cell (offset + 1) n)

@@ -12,12 +12,12 @@ use Rattle.jh_history.specs.DueFacts.{EachNamesCpu}
 use Rattle.jh_history.specs.Devices.{specs_of}
 use Rattle.jh_history.specs.Facts.{Facts}
 use Rattle.jh_board.specs.Indexed.{AreProgramIndices}
-use Rattle.jh_board.specs.Pages.{byte_of, HoldsComm, HoldsWordOf}
+use Rattle.jh_board.specs.Pages.{byte_of, IsHeld, HoldsWordOf}
 use Rattle.jh_board.specs.declared.held.Held.{Held}
 
 -- the communication page of the cell is held
 abbrev pub HoldsCommOf : Held → Live → Type 0
-HoldsCommOf held live = HoldsComm held.memory.comms live.config.id
+HoldsCommOf held live = IsHeld held.memory.comms live.config.id
 
 -- the pages of the words of the cell's devices in their state tables are held
 abbrev pub HoldsWordsOf : Held → CellConfig → Type 0
@@ -29,7 +29,7 @@ pub record IsReadyFor (held : Held) (config : CellConfig) : Type 0 where
   pub regions : held.coming_regions ≡ Some config.memory_regions
   pub spare_cells : 0 < held.cells.spare_cells
   pub spare_regions : length config.memory_regions ≤ held.cells.spare_regions
-  pub page : HoldsComm held.memory.comms config.id
+  pub page : IsHeld held.memory.comms config.id
   pub endpoints : length (specs_of config) ≤ held.endpoints.spare
   pub words : HoldsWordsOf held config
 

@@ -5,12 +5,11 @@ ghost use Rattle.jh_history.specs.declared.place.Place.{Place as ThePlace};
 ghost use Rattle.jh_history.specs.Access.{with_endpoint_word};
 ghost use Rattle.jh_history.specs.Pages.{with_page};
 ghost use Rattle.jh_history.specs.Places.{number_of, places_in_row, places_of_row, IsRow, with_byte, written, overlaid};
-ghost use Rattle.jh_board.specs.Pages.{byte_of, HoldsComm, HoldsPlace, HoldsEndpointWord};
+ghost use Rattle.jh_board.specs.Pages.{byte_of, IsHeld, HoldsPlace, HoldsEndpointWord};
 ghost use Rattle.jh_board.specs.Private.Pages.{MayHold};
 ghost use Rattle.jh_num.specs.Pages.{paged_byte};
 
-use crate::comm_pages::{CommPages, PagePiece};
-use crate::physical::{Physical, Piece};
+use crate::page_map::PageMap;
 use jh_history::{Bytes, PageWrite, Place, Places, Row, endpoint_word_places, value_of};
 use jh_ivshmem::EndpointWord;
 use jh_num::{NoMemory, PAGE_SIZE};
@@ -20,8 +19,8 @@ use std::marker::Model;
 /// The memory of a board: physical memory, and the communication pages of cells.
 #[derive(Drop)]
 pub struct Memory {
-    physical: Physical,
-    comms: CommPages,
+    physical: PageMap,
+    comms: PageMap,
 }
 
 impl Model for Memory {
@@ -30,6 +29,21 @@ impl Model for Memory {
     ghost Value = { MemoryView };
 
     ghost view = { λ m. record { physical = m.physical; comms = m.comms } };
+}
+
+/// So many bytes from the address on, all of one page.
+#[derive(Clone, Copy)]
+struct Piece {
+    at: u64,
+    count: usize,
+}
+
+/// So many bytes of the communication page of the cell with the id, from the offset on.
+#[derive(Clone, Copy)]
+struct PagePiece {
+    cell: u32,
+    offset: usize,
+    count: usize,
 }
 
 /// The piece of physical memory that the places are, if they are one.
@@ -82,8 +96,8 @@ impl Memory {
         ensures { (q : ThePlace) → byte_of result q ≡ 0 }
     {
         Memory {
-            physical: Physical::new(alloc),
-            comms: CommPages::new(alloc),
+            physical: PageMap::new(alloc),
+            comms: PageMap::new(alloc),
         }
     }
 
@@ -93,10 +107,15 @@ impl Memory {
         ensures fits { result < 256 ^ length places.now }
     {
         if let Some(piece) = piece_of(places) {
-            return self.physical.value(piece);
+            let offset = (piece.at % PAGE_SIZE) as usize;
+            return self
+                .physical
+                .value(piece.at / PAGE_SIZE, offset, piece.count);
         }
         match piece_of_page(places) {
-            Some(piece) => self.comms.value(piece),
+            Some(piece) => self
+                .comms
+                .value(u64::from(piece.cell), piece.offset, piece.count),
             None => value_of(self, places),
         }
     }
@@ -109,7 +128,9 @@ impl Memory {
         let count = usize::from(count);
         match first {
             Place::Physical(at) => self.physical.append(bytes, at, count),
-            Place::Page { cell, offset } => self.comms.append(bytes, cell, offset, count),
+            Place::Page { cell, offset } => self
+                .comms
+                .append_page(bytes, u64::from(cell), offset, count),
         }
     }
 
@@ -121,7 +142,7 @@ impl Memory {
         ensures others { (q : ThePlace) → HoldsPlace self.old q → HoldsPlace self.new q }
     {
         match place {
-            Place::Physical(address) => self.physical.hold(address),
+            Place::Physical(address) => self.physical.hold(address / PAGE_SIZE),
             Place::Page { .. } => Ok(()),
         }
     }
@@ -163,8 +184,10 @@ impl Memory {
         ensures held { (q : ThePlace) → HoldsPlace self.old q → HoldsPlace self.new q }
     {
         match place {
-            Place::Physical(address) => self.physical.write(address, byte),
-            Place::Page { cell, offset } => self.comms.write(cell, offset, byte),
+            Place::Physical(address) => self
+                .physical
+                .set(address / PAGE_SIZE, address % PAGE_SIZE, byte),
+            Place::Page { cell, offset } => self.comms.set(u64::from(cell), offset, byte),
         }
     }
 
@@ -249,19 +272,19 @@ impl Memory {
     /// Holds the communication page of the cell. No byte changes.
     pub fn hold_comm(&mut self, cell: u32) -> Result<(), NoMemory>
         ensures bytes { (q : ThePlace) → byte_of self.new q ≡ byte_of self.old q }
-        ensures held { OnOk result (HoldsComm self.new.comms cell) }
+        ensures held { OnOk result (IsHeld self.new.comms cell) }
         ensures others { (q : ThePlace) → HoldsPlace self.old q → HoldsPlace self.new q }
     {
-        self.comms.hold(cell)
+        self.comms.hold(u64::from(cell))
     }
 
     /// Makes the change to a communication page that is held.
     pub fn change_page(&mut self, write: &PageWrite)
-        requires { HoldsComm self.old.comms write.now.cell }
+        requires { IsHeld self.old.comms write.now.cell }
         ensures bytes { (q : ThePlace) → byte_of self.new q ≡ with_page write.now (byte_of self.old) q }
         ensures held { (q : ThePlace) → HoldsPlace self.old q → HoldsPlace self.new q }
     {
-        self.comms.change(write)
+        self.comms.change(u64::from(write.cell), &write.change)
     }
 }
 
@@ -272,8 +295,10 @@ impl Bytes for Memory {
 
     fn byte(&self, place: Place) -> u8 {
         match place {
-            Place::Physical(address) => self.physical.read(address),
-            Place::Page { cell, offset } => self.comms.read(cell, offset),
+            Place::Physical(address) => self
+                .physical
+                .byte(address / PAGE_SIZE, address % PAGE_SIZE),
+            Place::Page { cell, offset } => self.comms.byte(u64::from(cell), offset),
         }
     }
 }

@@ -18,7 +18,7 @@ ghost use Rattle.jh_history.specs.History.{after};
 ghost use Rattle.jh_history.specs.Pages.{with_page_write};
 ghost use Rattle.jh_history.specs.Due.{due_at};
 ghost use Rattle.jh_history.specs.Wants.{IsReachOfEntry};
-ghost use Rattle.jh_board.specs.Pages.{byte_of, HoldsComm, HoldsPlace};
+ghost use Rattle.jh_board.specs.Pages.{byte_of, IsHeld, HoldsPlace};
 ghost use Rattle.jh_board.specs.Indexed.{AreProgramIndices};
 ghost use Rattle.jh_board.specs.Private.JudgedCreate.{IsJudgedCreate};
 ghost use Rattle.jh_board.specs.Means.{Means, IsReadyToGoOn, IsReadyFor};
@@ -297,7 +297,7 @@ fn make_cells(
 
 /// Writes into a communication page what the hypervisor writes by the entry.
 fn make_page(memory: &mut Memory, write: Option<PageWrite>)
-    requires { IfSome write (λ write. HoldsComm memory.old.comms write.cell) }
+    requires { IfSome write (λ write. IsHeld memory.old.comms write.cell) }
     ensures bytes { (q : ThePlace) → byte_of memory.new q ≡ with_page_write write (byte_of memory.old) q }
     ensures held { (q : ThePlace) → HoldsPlace memory.old q → HoldsPlace memory.new q }
 {

@@ -3,7 +3,7 @@ use Rattle.std.specs.Prelude.{ℕ, ◌<◌, List, map}
 use Rattle.std.specs.List.{range_with_len}
 use Rattle.jh_history.specs.declared.place.Place.{Place}
 use Rattle.jh_history.specs.declared.place.Place.TheVariants.{Physical, Page}
-use Rattle.jh_board.specs.Pages.{HoldsComm, MemoryView}
+use Rattle.jh_board.specs.Pages.{IsHeld, MemoryView}
 
 -- the bytes from the offset on, so many of them
 abbrev pub bytes_from : (ℕ → ℕ) → ℕ → ℕ → List ℕ
@@ -12,4 +12,4 @@ bytes_from byte offset count = map byte (range_with_len offset count)
 -- the place is one of physical memory, or of a communication page that is held
 abbrev pub MayHold : MemoryView → Place → Type 0
 MayHold memory (Physical address) = Unit {0}
-MayHold memory (Page cell offset) = HoldsComm memory.comms cell × (offset < 4096)
+MayHold memory (Page cell offset) = IsHeld memory.comms cell × (offset < 4096)

@@ -19,7 +19,7 @@ use Rattle.jh_board.specs.declared.indexed.ProgramIndex.{ProgramIndex}
 use Rattle.jh_board.specs.Indexed.{AreProgramIndices}
 use Rattle.jh_board.specs.LiveView.{LiveView}
 use Rattle.jh_board.specs.Means.{Means}
-use Rattle.jh_board.specs.Pages.{byte_of, HoldsComm}
+use Rattle.jh_board.specs.Pages.{byte_of, IsHeld}
 use Rattle.jh_board.specs.Private.Steps.{MayJoinCells, devices_held, endpoints_acted_by}
 use Rattle.jh_board.proofs.ActedLemmas.{entry_bytes, entry_devices}
 use Rattle.jh_board.proofs.AfterLemmas.{Means_made}
@@ -94,7 +94,7 @@ make_page-requires c =
     let write : c.page_write-write.result ≡ page_write_by image f entry entry.act =
     c.page_write-write.ensures f (sym (c.list.ensures.value ∙ ap configs_of cells)) (sym (c.as_ref-2.ensures.value ∙ call)) (λ i lt. cpus i lt ∙ ap (λ (im : Image). Some (cpu_after im f entry i)) (sym c.image-2.ensures.image))
     ∙ ap (λ (im : Image). page_write_by im f entry entry.act) c.image-2.ensures.image in
-    if_some c.page_write-write.result (λ (w : PageWrite). HoldsComm c.make_commit.new.held.memory.comms w.cell) (λ w is.
+    if_some c.page_write-write.result (λ (w : PageWrite). IsHeld c.make_commit.new.held.memory.comms w.cell) (λ w is.
     comms_kept held.memory c.make_commit.new.held.memory w.cell (λ q there. changed.pages q (acted.pages q (c.make_bytes.ensures.held q there)))
     (page_held image held f entry.act w.cell means
     (c.pages_written_are_of_cells.ensures image f entry w (record { sound = c.requires.next.sound; due = c.requires.next.due }) (sym write ∙ is))))

@@ -3,7 +3,7 @@ use Rattle.std.proofs.Common.{◌≡◌, ℕ, ◌++◌, List, map, ap, subst, sy
 use Rattle.std.specs.Prelude.{OnOk}
 use Rattle.jh_history.specs.declared.place.Place.{Place}
 use Rattle.jh_history.specs.Places.{places_in_row}
-use Rattle.jh_board.specs.Pages.{byte_of, comm_byte, MemoryView}
+use Rattle.jh_board.specs.Pages.{byte_of, byte_in, MemoryView}
 use Rattle.jh_board.specs.Private.Pages.{bytes_from}
 use Rattle.jh_num.specs.Pages.{paged_byte}
 use Rattle.jh_board.proofs.PieceLemmas.{row_of_memory}
@@ -24,10 +24,11 @@ returns-in-Physical c =
 pub returns-in-Page : goal.returns-in-Page
 returns-in-Page c =
     let memory : MemoryView = c.args.self.now in
-    let P : List ℕ → Type 0 = λ row. OnOk c.append-in-Page.result (c.append-in-Page.new.bytes.items ≡ c.args.bytes.now.items ++ row) in
+    let P : List ℕ → Type 0 = λ row. OnOk c.append_page.result (c.append_page.new.bytes.items ≡ c.args.bytes.now.items ++ row) in
     subst P
-    (ap (λ (m : MemoryView). bytes_from (comm_byte m.comms c.in-Page.cell) c.in-Page.offset c.from-count.result) c.self.view_is
+    (ap (λ (id : ℕ). bytes_from (byte_in c.self.inside.comms id) c.in-Page.offset c.from-count.result) c.from.ensures
+    ∙ ap (λ (m : MemoryView). bytes_from (byte_in m.comms c.in-Page.cell) c.in-Page.offset c.from-count.result) c.self.view_is
     ∙ sym (row_of_comm memory c.in-Page.cell c.in-Page.offset c.from-count.result)
     ∙ ap (λ (n : ℕ). map (byte_of memory) (places_in_row (Place.Page c.in-Page.cell c.in-Page.offset) n)) c.from-count.ensures
     ∙ ap (λ (p : Place). map (byte_of memory) (places_in_row p c.args.count)) (sym c.in-Page.is))
-    c.append-in-Page.ensures
+    c.append_page.ensures

@@ -2,7 +2,7 @@
 use Rattle.std.proofs.Common.{◌≡◌, ℕ, ◌≤◌, ◌-◌, length, take}
 use Rattle.jh_num.specs.Pages.{paged_byte}
 use Rattle.jh_num.specs.Memory.{stored}
-use Rattle.jh_board.proofs.physical.Physical.store.Given as goal
+use Rattle.jh_board.proofs.page_map.PageMap.store.Given as goal
 
 abbrev pub decreases-loop-done : goal.decreases-loop-done
 decreases-loop-done l = length l.bytes - l.done

@@ -2,7 +2,7 @@
 use Rattle.std.proofs.Common.{◌≡◌, ◌++◌, ◌≤◌, ◌-◌}
 use Rattle.jh_board.specs.Private.Pages.{bytes_from}
 use Rattle.jh_num.specs.Pages.{paged_byte}
-use Rattle.jh_board.proofs.physical.Physical.append.Given as goal
+use Rattle.jh_board.proofs.page_map.PageMap.append.Given as goal
 
 abbrev pub decreases-loop-done : goal.decreases-loop-done
 decreases-loop-done l = l.count - l.done

@@ -2,7 +2,7 @@
 use Rattle.std.proofs.Common.{◌≤◌, length, ◌∙◌, arith}
 use Rattle.jh_num.specs.Pages.{paged_byte}
 use Rattle.jh_num.proofs.Public.{stored_more}
-use Rattle.jh_board.proofs.physical.Physical.store.Goals as goal
+use Rattle.jh_board.proofs.page_map.PageMap.store.Goals as goal
 
 pub loop-done-preserved : goal.loop-done-preserved
 loop-done-preserved c =

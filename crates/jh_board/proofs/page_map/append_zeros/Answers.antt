@@ -1,7 +1,7 @@
 -- One zero more.
 use Rattle.std.proofs.Common.{◌∙◌}
 use Rattle.jh_board.proofs.RowLemmas.{row_last, row_none}
-use Rattle.jh_board.proofs.physical.append_zeros.Goals as goal
+use Rattle.jh_board.proofs.page_map.append_zeros.Goals as goal
 
 pub loop-k-init : goal.loop-k-init
 loop-k-init c = λ offset. row_none c.args.bytes.now.items (λ k. 0) offset
