@@ -1,7 +1,10 @@
 //! Checking a system and its cells.
 ghost use Rattle.std.specs.Prelude.{◌≡◌, ◌≤◌, length, map, string_bytes, IfOk, IfErr, OnOk, ◌∷◌, []};
+ghost use Rattle.jh_cellcfg.specs.Texts.{config_fault_text};
+ghost use Rattle.jh_cellcfg.specs.declared.fault.ConfigFault.TheVariants.{NoMemory as for_memory};
 ghost use Rattle.jh_outside.specs.Trail.{AsksAll};
 ghost use Rattle.jh_cli.specs.Order.{AsksUntilEnd, AsksIn};
+ghost use Rattle.jh_cli.specs.Lines.{refusal_line};
 ghost use Rattle.jh_cli.specs.Reading.{Spells, EndsAtFile, IsCountedFault};
 ghost use Rattle.jh_cli.specs.Check.{IsCellFile, CellRefusal, IsSystemFile, SystemRefusal, SpellCells, EndsAmong, ChecksCells, Checks, checked, findings_text};
 ghost use Rattle.jh_cli.specs.Private.Endings.{reply_of, OnEnded, OnEnding};
@@ -16,6 +19,17 @@ use jh_outside::Files;
 use jh_syscfg::read_system;
 use std::alloc::Global;
 
+/// The call ends since no configuration was read from the file of this name.
+fn unread(alloc: Global, name: &str, fault: &ConfigFault) -> CallFault
+    ensures told { OnEnded result (λ reply. reply ≡ record { status = Status.Refused; text = refusal_line name.now (config_fault_text fault.now) }) }
+    ensures memory { fault.now ≡ for_memory → result ≡ CallFault.NoMemory }
+{
+    match fault {
+        ConfigFault::NoMemory => CallFault::NoMemory,
+        _ => refused_for(alloc, name, fault),
+    }
+}
+
 /// The cell in the file of this name.
 fn cell<F: Files>(alloc: Global, files: &mut F, name: &str) -> Result<CellConfig, CallFault>
     ensures ok { IfOk result (Spells (F.contents files.old) name.now IsCellFile) }
@@ -29,8 +43,7 @@ fn cell<F: Files>(alloc: Global, files: &mut F, name: &str) -> Result<CellConfig
     let bytes = read_below(alloc, files, name, MAX_READ)?;
     match read_cell(alloc, bytes.as_slice()) {
         Ok(cell) => Ok(cell),
-        Err(ConfigFault::NoMemory) => Err(CallFault::NoMemory),
-        Err(fault) => Err(refused_for(alloc, name, &fault)),
+        Err(fault) => Err(unread(alloc, name, &fault)),
     }
 }
 
@@ -47,8 +60,7 @@ fn system<F: Files>(alloc: Global, files: &mut F, name: &str) -> Result<SystemCo
     let bytes = read_below(alloc, files, name, MAX_READ)?;
     match read_system(alloc, bytes.as_slice()) {
         Ok(system) => Ok(system),
-        Err(ConfigFault::NoMemory) => Err(CallFault::NoMemory),
-        Err(fault) => Err(refused_for(alloc, name, &fault)),
+        Err(fault) => Err(unread(alloc, name, &fault)),
     }
 }
 

@@ -6,4 +6,4 @@ use Rattle.jh_cli.proofs.check.system.Goals as goal
 
 pub returns-clause-asked_until : goal.returns-clause-asked_until
 returns-clause-asked_until g c =
-    refuses_one g.F.Files c.args.name.now (refusal_line c.args.name.now (config_fault_text c.in-Err.fault)) c.args.files.now c.read_below.new.files c.refused_for.result c.in_ok-bytes.ensures.asked c.refused_for.ensures
+    refuses_one g.F.Files c.args.name.now (refusal_line c.args.name.now (config_fault_text c.in-Err.fault)) c.args.files.now c.read_below.new.files c.unread.result c.in_ok-bytes.ensures.asked c.unread.ensures.told
