@@ -49,14 +49,12 @@ fn found_by(
     ensures { OnOk result (capped found.new ≡ capped (found.old ++ found_by rule setup.now.hypervisor.now (cells_of setup.now))) }
 {
     match rule {
-        Rule::VirtOverlap => in_pairs(alloc, found, rule, setup),
-        Rule::PhysOverlap => in_pairs(alloc, found, rule, setup),
-        Rule::SubpageTaken => in_pairs(alloc, found, rule, setup),
-        Rule::CellsOverlap => in_pairs(alloc, found, rule, setup),
+        Rule::VirtOverlap | Rule::PhysOverlap | Rule::SubpageTaken | Rule::CellsOverlap => {
+            in_pairs(alloc, found, rule, setup)
+        }
         Rule::Shmem => in_devices(alloc, found, setup),
         Rule::NoCpu => in_cpus(found, setup),
-        Rule::OutOfRange => also_in_hypervisor(found, rule, setup, sound),
-        Rule::PhysAlign => also_in_hypervisor(found, rule, setup, sound),
+        Rule::OutOfRange | Rule::PhysAlign => also_in_hypervisor(found, rule, setup, sound),
         _ => in_regions(found, rule, setup, sound),
     }
 }

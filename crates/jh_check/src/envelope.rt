@@ -41,11 +41,7 @@ pub(crate) struct Envelopes {
 pub(crate) fn is_within(rule: Rule) -> bool
     ensures { result ≡ is_within rule }
 {
-    match rule {
-        Rule::VirtOverlap => true,
-        Rule::PhysOverlap => true,
-        _ => false,
-    }
+    matches!(rule, Rule::VirtOverlap | Rule::PhysOverlap)
 }
 
 /// Whether the rule lets the region meet those that are shared.

@@ -107,10 +107,9 @@ impl fmt::Display for Items<'_> {
             item: finding.other_item,
         };
         match self.rule {
-            Rule::VirtOverlap => write!(f, "{one} {other}"),
-            Rule::PhysOverlap => write!(f, "{one} {other}"),
-            Rule::SubpageTaken => write!(f, "{one} {other}"),
-            Rule::CellsOverlap => write!(f, "{one} {other}"),
+            Rule::VirtOverlap | Rule::PhysOverlap | Rule::SubpageTaken | Rule::CellsOverlap => {
+                write!(f, "{one} {other}")
+            }
             Rule::Shmem => write!(f, "{}.d{}", finding.cell, finding.item),
             Rule::NoCpu => write!(f, "{}", finding.cell),
             _ => write!(f, "{one}"),

@@ -33,8 +33,7 @@ fn joins(rule: Rule, a: u32, b: u32) -> bool
     ensures { result ≡ joins rule a b }
 {
     match rule {
-        Rule::VirtOverlap => a == b,
-        Rule::PhysOverlap => a == b,
+        Rule::VirtOverlap | Rule::PhysOverlap => a == b,
         Rule::SubpageTaken => a != 0 && b == 0,
         Rule::CellsOverlap => 0 < a && a < b,
         _ => false,
