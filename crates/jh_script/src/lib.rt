@@ -12,7 +12,7 @@ mod program;
 mod schedule;
 mod words;
 
-pub use fault::{MAX_ITEMS, MAX_OPS, ScheduleFault, ProgramFault};
+pub use fault::{MAX_ITEMS, MAX_OPS, ProgramFault, ScheduleFault};
 pub use image::{Image, Preload, Program};
 pub use laws::{
     blank_lines_change_nothing, first_fault_of_a_program_decides,
