@@ -44,11 +44,7 @@ impl<'a> Reader<'a> {
         ensures taken { self.old.rest.now ≡ u64_bytes result ++ self.new.rest.now }
         ensures fits { result < 2 ^ 64 }
     {
-        let (front, rest) = self.rest.split_at(8);
-        self.rest = rest;
-        u64::from_le_bytes([
-            front[0], front[1], front[2], front[3], front[4], front[5], front[6], front[7],
-        ])
+        u64::from_le_bytes(self.array::<8>())
     }
 
     /// Takes `N` bytes at the front, and copies them as they are.
