@@ -6,7 +6,6 @@ use Rattle.std.proofs.lemmas.Bool.{cases_Bool, cases_eq, eq-eqb, ne_eqb, both_wa
 use Rattle.std.specs.Option.{option_map_or}
 use Rattle.std.proofs.lemmas.Bool.Decides.{nat_tests}
 use Rattle.std.proofs.lemmas.List.Folds.{list_any-append}
-use Rattle.jh_num.specs.declared.address.TheConstants.{ADDRESS_END}
 use Rattle.jh_num.proofs.Public.{within_both}
 use Rattle.jh_cellcfg.specs.declared.config.CellConfig.{CellConfig}
 use Rattle.jh_cellcfg.specs.declared.live.Live.{Live}
@@ -14,13 +13,10 @@ use Rattle.jh_script.specs.declared.image.Image.{Image}
 use Rattle.jh_history.specs.declared.place.Place.{Place}
 use Rattle.jh_history.specs.declared.place.Place.TheVariants.{Physical, Page}
 use Rattle.jh_history.specs.declared.access.Access.{Access}
-use Rattle.jh_history.specs.declared.access.Reach.{Reach}
-use Rattle.jh_history.specs.declared.access.Reach.TheVariants.{Memory, Nothing}
 use Rattle.jh_history.specs.Places.{places_in_row}
-use Rattle.jh_history.specs.Access.{places_from, place_of, memory_or_nothing, reach_by}
+use Rattle.jh_history.specs.Access.{places_from, place_of}
 use Rattle.jh_history.specs.Grants.{is_closed_to, unless, granted_in}
 use Rattle.jh_history.specs.Lives.{live_in, regions_in}
-use Rattle.jh_history.proofs.Public.{unless_kept}
 use Rattle.jh_board.specs.Private.Closed.{is_closed_by, live_regions}
 
 -- ---- which places root is kept from
@@ -146,41 +142,6 @@ row_granted image lives id access at n row b is kept free =
 
 pub row_lacking : (image : Image) (lives : List Live) (id : ℕ) (access : Access) (at n : ℕ) → None ≡ places_from (place_of id (regions_in image lives id) access) at n → None ≡ places_from (granted_in image lives id access) at n
 row_lacking image lives id access at n is = row_open_all image lives id access at n None is
-
-reached : (kept : Place → Bool) (found : Option (List Place)) → memory_or_nothing (option_and_then (open_all kept) found) ≡ unless_kept kept (memory_or_nothing found)
-reached kept None = refl
-reached kept (Some ps) = elim (list_any kept ps) as (λ b. memory_or_nothing (cond b None (Some ps)) ≡ cond b Nothing (Memory ps)) [ true ↦ refl | false ↦ refl ]
-
-reach_by_open : (kept : Place → Bool) (place : ℕ → Option Place) (at width : ℕ) → reach_by (open_place kept place) at width ≡ unless_kept kept (reach_by place at width)
-unfolding reach_by
-reach_by_open kept place at width = elim (nat_le (at + width) ADDRESS_END) as (λ b. cond b (memory_or_nothing (places_from (open_place kept place) at width)) Nothing ≡ unless_kept kept (cond b (memory_or_nothing (places_from place at width)) Nothing)) [
-  | true ↦ ap memory_or_nothing (places_open kept place at width) ∙ reached kept (places_from place at width)
-  | false ↦ refl
-]
-
-pub reach_granted : (image : Image) (lives : List Live) (id : ℕ) (access : Access) (at width : ℕ)
-    → reach_by (granted_in image lives id access) at width ≡ unless_kept (is_closed_to image lives id) (reach_by (place_of id (regions_in image lives id) access) at width)
-reach_granted image lives id access at width = reach_by_open (is_closed_to image lives id) (place_of id (regions_in image lives id) access) at width
-
-abbrev pub reach_of : Image → List Live → ℕ → Access → ℕ → ℕ → Reach
-reach_of image lives id access at width = reach_by (place_of id (regions_in image lives id) access) at width
-
-pub reach_shut : (image : Image) (lives : List Live) (id : ℕ) (access : Access) (at width : ℕ) (found : Reach) (places : List Place) (b : Bool) → found ≡ reach_of image lives id access at width → found ≡ Memory places
-    → b ≡ list_any (is_closed_to image lives id) places → b ≡ true → Nothing ≡ reach_by (granted_in image lives id access) at width
-reach_shut image lives id access at width found places b same is kept shut =
-    let e : list_any (is_closed_to image lives id) places ≡ true = sym kept ∙ shut in
-    let all : unless_kept (is_closed_to image lives id) (Memory places) ≡ Nothing = rw e refl in
-    sym (reach_granted image lives id access at width ∙ ap (unless_kept (is_closed_to image lives id)) (sym same ∙ is) ∙ all)
-
-pub reach_free : (image : Image) (lives : List Live) (id : ℕ) (access : Access) (at width : ℕ) (found : Reach) (places : List Place) (b : Bool) → found ≡ reach_of image lives id access at width → found ≡ Memory places
-    → b ≡ list_any (is_closed_to image lives id) places → b ≡ false → Memory places ≡ reach_by (granted_in image lives id access) at width
-reach_free image lives id access at width found places b same is kept free =
-    let e : list_any (is_closed_to image lives id) places ≡ false = sym kept ∙ free in
-    let all : unless_kept (is_closed_to image lives id) (Memory places) ≡ Memory places = rw e refl in
-    sym (reach_granted image lives id access at width ∙ ap (unless_kept (is_closed_to image lives id)) (sym same ∙ is) ∙ all)
-
-pub reach_nothing : (image : Image) (lives : List Live) (id : ℕ) (access : Access) (at width : ℕ) (found : Reach) → found ≡ reach_of image lives id access at width → found ≡ Nothing → Nothing ≡ reach_by (granted_in image lives id access) at width
-reach_nothing image lives id access at width found same is = sym (reach_granted image lives id access at width ∙ ap (unless_kept (is_closed_to image lives id)) (sym same ∙ is))
 
 -- the regions of root, and of a cell that lives besides it
 pub regions_root : (image : Image) (lives : List Live) (id : ℕ) → id ≡ image.system.root.id → regions_in image lives id ≡ image.system.root.memory_regions

@@ -9,24 +9,24 @@ ghost use Rattle.jh_mmio.specs.Dispatch.{takes_all, unless_closed};
 ghost use Rattle.jh_history.specs.declared.place.Place.{Place as ThePlace};
 ghost use Rattle.jh_history.specs.declared.place.Place.TheVariants.{Physical};
 ghost use Rattle.jh_history.specs.declared.access.Access.TheVariants.{Read};
-ghost use Rattle.jh_history.specs.Access.{memory_or_nothing, places_from, reach_by};
-ghost use Rattle.jh_history.specs.Grants.{granted_in, is_closed_to, behind_in, reach_in};
+ghost use Rattle.jh_history.specs.Access.{places_from};
+ghost use Rattle.jh_history.specs.Grants.{granted_in, is_closed_to, reach_in};
 ghost use Rattle.jh_history.specs.Devices.{list_in};
 ghost use Rattle.jh_history.specs.Lives.{regions_in};
 ghost use Rattle.jh_history.specs.Places.{number_of, places_in_row, places_of_row, IsRow};
 
 use crate::cells::LiveCells;
 use crate::indexed::{IndexedImage, giving};
-use jh_cellcfg::{PciDevice, Region};
+use jh_cellcfg::{PciDevice, Region, SystemConfig};
 use jh_history::{
-    Access, Devices, Grants, Place, Places, Reach, Row, Wanted, answer_behind, ecam_of,
-    first_of_row, is_within, places_in,
+    Access, Grants, LiveGrants, Place, Places, Reach, Row, Wanted, first_of_row, places_in,
+    reach_in,
 };
 use jh_ivshmem::Endpoints;
 use jh_num::Range;
 use std::marker::Model;
 
-/// An image and the cells that live besides its root, as what tells the region that gives an address.
+/// An image and the cells that live besides its root, as what tells what these are granted, by indexes.
 #[derive(Drop)]
 struct Granted<'a> {
     image: &'a IndexedImage,
@@ -86,21 +86,6 @@ fn closes_any(image: &IndexedImage, cells: &LiveCells, cell: u32, places: &Place
     }
     let (low, high) = places.rows();
     closes_row(cells, low) || closes_row(cells, high)
-}
-
-/// The places of memory that the cell's access reaches, where these cells live besides root; `None` where some byte
-/// isn't granted.
-fn memory(image: &IndexedImage, cells: &LiveCells, cell: u32, wanted: &Wanted) -> Option<Places>
-    requires { wanted.now.width ≤ 8 }
-    ensures { memory_or_nothing result ≡ reach_by (granted_in image.now cells.now.lives cell wanted.now.access) wanted.now.at wanted.now.width }
-{
-    let granted = Granted { image, cells };
-    let places = jh_history::memory(&granted, cell, wanted)?;
-    if closes_any(image, cells, cell, &places) {
-        None
-    } else {
-        Some(places)
-    }
 }
 
 /// The place of the first of so many bytes of one page that root reads, where these cells live besides it, and where it
@@ -165,24 +150,29 @@ pub fn list_in<'a>(image: &'a IndexedImage, cells: &'a LiveCells, cell: u32) -> 
     }
 }
 
-/// What answers the cell's access where no memory does, where these cells live besides root, and all have these
-/// endpoints.
-fn behind_in(
-    image: &IndexedImage,
-    cells: &LiveCells,
-    endpoints: &Endpoints,
-    cell: u32,
-    wanted: &Wanted,
-) -> Reach
-    requires { wanted.now.width ≤ 8 }
-    ensures { result ≡ behind_in image.now cells.now.lives endpoints.now.list cell wanted.now.access wanted.now.at wanted.now.width }
-{
-    if is_within(wanted) {
-        let region = open_whole(image, cells, cell, wanted);
-        let devices = Devices::new(cell, list_in(image, cells, cell), endpoints);
-        answer_behind(&devices, region, ecam_of(&image.image().system), wanted)
-    } else {
-        Reach::Nothing
+impl<'a> LiveGrants for Granted<'a> {
+    ghost use Rattle.std.specs.Prelude.{refl};
+
+    ghost image = { λ g. g.image };
+
+    ghost lives = { λ g. g.lives };
+
+    ghost regions_of_lives = { λ g cell. refl };
+
+    fn system(&self) -> &SystemConfig {
+        &self.image.image().system
+    }
+
+    fn closes(&self, cell: u32, places: &Places) -> bool {
+        closes_any(self.image, self.cells, cell, places)
+    }
+
+    fn subpage(&self, cell: u32, wanted: &Wanted) -> Option<Region> {
+        open_whole(self.image, self.cells, cell, wanted)
+    }
+
+    fn devices(&self, cell: u32) -> &[PciDevice] {
+        list_in(self.image, self.cells, cell)
     }
 }
 
@@ -197,8 +187,5 @@ pub fn reach(
     requires { wanted.now.width ≤ 8 }
     ensures { result ≡ reach_in image.now cells.now.lives endpoints.now.list cell wanted.now.access wanted.now.at wanted.now.width }
 {
-    match memory(image, cells, cell, wanted) {
-        Some(places) => Reach::Memory(places),
-        None => behind_in(image, cells, endpoints, cell, wanted),
-    }
+    reach_in(&Granted { image, cells }, endpoints, cell, wanted)
 }

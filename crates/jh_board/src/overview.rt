@@ -4,8 +4,7 @@ ghost use Rattle.jh_cellcfg.specs.Regions.{SharesNoAddress, AreInRange};
 ghost use Rattle.jh_check.specs.Clean.{IsClean};
 ghost use Rattle.jh_map.specs.Maps.{IsMap};
 ghost use Rattle.jh_history.specs.Lives.{cell_in, regions_in};
-ghost use Rattle.jh_shape.specs.Lives.{configs_of};
-ghost use Rattle.jh_shape.specs.Lives.{all_cells};
+ghost use Rattle.jh_shape.specs.Lives.{configs_of, all_cells};
 ghost use Rattle.jh_board.specs.Maps.{is_closed_at, IsMapOrNone};
 
 use crate::cells::LiveCells;

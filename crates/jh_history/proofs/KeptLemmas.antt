@@ -16,6 +16,7 @@ use Rattle.jh_cellcfg.specs.declared.live.Live.{Live}
 use Rattle.jh_ivshmem.specs.declared.endpoint.Endpoint.{Endpoint}
 use Rattle.jh_history.specs.Access.{with_endpoint_word_if, endpoint_word_of_reach, write_of}
 use Rattle.jh_history.specs.Grants.{devices_of, reach_in}
+use Rattle.jh_history.specs.LiveView.{GrantsView}
 use Rattle.jh_history.specs.Devices.{Devices, list_in, devices_in}
 use Rattle.jh_history.specs.Facts.{Facts}
 use Rattle.jh_history.specs.Bytes.{loaded_byte, byte_after}
@@ -81,11 +82,11 @@ reach_kept i image f cells endpoints cell wanted found same lives ends is =
     ∙ ap (λ (es : List Endpoint). reach_in i f.cells es cell wanted.access wanted.at wanted.width) ends
 
 -- what was found by what is kept is what the access reaches
-pub reach_seen : {held : PlainView} (old : PlainView) (i : Image) (f : Facts) (cell : ℕ) (wanted : Wanted) (found : Reach) → held ≡ old → Represents old i f
-    → found ≡ reach_in held.image held.cells held.endpoints cell wanted.access wanted.at wanted.width → found ≡ reach_of i f cell wanted
-reach_seen {held} old i f cell wanted found same h is =
-    reach_kept i held.image f held.cells held.endpoints cell wanted found
-    (ap (λ (p : PlainView). p.image) same ∙ sym h.same) (ap (λ (p : PlainView). p.cells) same ∙ sym h.cells) (ap (λ (p : PlainView). p.endpoints) same ∙ sym h.endpoints) is
+pub reach_seen : {held : PlainView} (old : PlainView) (grants : GrantsView) (i : Image) (f : Facts) (cell : ℕ) (wanted : Wanted) (found : Reach) → held ≡ old → grants ≡ record { image = old.image; lives = old.cells } → Represents old i f
+    → found ≡ reach_in grants.image grants.lives held.endpoints cell wanted.access wanted.at wanted.width → found ≡ reach_of i f cell wanted
+reach_seen {held} old grants i f cell wanted found same given h is =
+    reach_kept i grants.image f grants.lives held.endpoints cell wanted found
+    (ap (λ (g : GrantsView). g.image) given ∙ sym h.same) (ap (λ (g : GrantsView). g.lives) given ∙ sym h.cells) (ap (λ (p : PlainView). p.endpoints) same ∙ sym h.endpoints) is
 
 -- a write where it reaches memory leaves the endpoints, and so does one that reaches nothing
 pub others_put : (i : Image) (f : Facts) (cell : ℕ) (wanted : Wanted) (found : Reach) (value : ℕ) → found ≡ reach_of i f cell wanted → is_device found ≡ false

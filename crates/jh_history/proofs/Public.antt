@@ -1,7 +1,7 @@
 -- The lemmas that this crate hands up: what a proof of another crate may cite, and all that it can.
 pub use Rattle.jh_history.proofs.PlaceLemmas.{further_next, further_none, row_next, written_over}
 pub use Rattle.jh_history.proofs.AccessLemmas.{places_from_row, reach_by_beyond, reach_by_within}
-pub use Rattle.jh_history.proofs.BehindLemmas.{answer_beyond, answer_no_bytes, answer_within, kept_row, takes_all_subpage}
+pub use Rattle.jh_history.proofs.BehindLemmas.{answer_beyond, answer_within, kept_row, takes_all_subpage}
 pub use Rattle.jh_history.proofs.GrantLemmas.{gives_from, gives_has, place_in_cell_further}
 pub use Rattle.jh_history.proofs.FactsLemmas.{IsLegal_nil, facts_nil, facts_push, same_function}
 pub use Rattle.jh_history.proofs.DueLemmas.{IsLegal_made, by_cpu, due_at_absent, due_at_beyond, due_at_present, is_some_entry}
@@ -27,7 +27,6 @@ unfoldable pub use Rattle.jh_history.proofs.DuePhaseLemmas.{IsActIn, IsLater}
 pub use Rattle.jh_history.proofs.DueCreateLemmas.{call_open}
 pub use Rattle.jh_history.proofs.DueDevicesLemmas.{interrupt_next}
 pub use Rattle.jh_history.proofs.GrantedLemmas.{numbered_cell}
-unfoldable pub use Rattle.jh_history.proofs.GrantedLemmas.{unless_kept}
 pub use Rattle.jh_history.proofs.PlainStepLemmas.{after_call, after_cells, uncommitted_cells}
 pub use Rattle.jh_history.proofs.FewLemmas.{two_ids}
 pub use Rattle.jh_history.proofs.ReadLemmas.{granted_beyond, nothing_memory, read_beyond, read_by_is, read_one}

@@ -22,7 +22,7 @@ use jh_num::Range;
 const BUS_SIZE: u64 = 0x10_0000;
 
 /// The ECAM window of the system; an empty range where it has none.
-pub fn ecam_of(system: &SystemConfig) -> Range
+pub(crate) fn ecam_of(system: &SystemConfig) -> Range
     ensures start { result.start ≡ ecam_start system.now }
     ensures end { result.end ≡ ecam_end system.now }
 {
@@ -38,7 +38,7 @@ pub fn ecam_of(system: &SystemConfig) -> Range
 }
 
 /// Whether the access has bytes, and these end within the addresses.
-pub fn is_within(wanted: &Wanted) -> bool
+pub(crate) fn is_within(wanted: &Wanted) -> bool
     ensures { IsTrue result ↔ ((0 < wanted.now.width) × (wanted.now.at + wanted.now.width ≤ ADDRESS_END)) }
 {
     wanted.width > 0 && ends_within(wanted.at, u64::from(wanted.width))
@@ -150,7 +150,7 @@ fn region_or_window(
 
 /// What answers the access of the cell with these devices where no memory does; `region` is the subpage region that has
 /// it, where one does, and none of its bytes is closed to the cell.
-pub fn answer_behind(
+pub(crate) fn answer_behind(
     devices: &Devices,
     region: Option<Region>,
     ecam: Range,

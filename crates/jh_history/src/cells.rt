@@ -8,8 +8,8 @@ ghost use Rattle.jh_cellcfg.specs.Regions.{has_address, IsInRange, IsEmptyOrInRa
 ghost use Rattle.jh_mmio.specs.Dispatch.{takes_all};
 ghost use Rattle.jh_history.specs.declared.place.Place.TheVariants.{Physical};
 ghost use Rattle.jh_script.specs.Operations.{IsWellFormed};
-ghost use Rattle.jh_history.specs.Access.{right_of, gives, region_of, memory_or_nothing, reach_by};
-ghost use Rattle.jh_history.specs.Grants.{granted_in, is_closed_to, behind_in, reach_in};
+ghost use Rattle.jh_history.specs.Access.{right_of, gives, region_of};
+ghost use Rattle.jh_history.specs.Grants.{is_closed_to};
 ghost use Rattle.jh_history.specs.Devices.{list_in};
 ghost use Rattle.jh_shape.specs.Lives.{configs_of};
 ghost use Rattle.jh_history.specs.Places.{places_of_row, IsRow};
@@ -17,16 +17,15 @@ ghost use Rattle.jh_history.specs.Admitted.{IsAdmitted};
 ghost use Rattle.jh_history.specs.Facts.{Facts};
 ghost use Rattle.jh_history.specs.Lives.{is_on_board, is_program_of, program_ops, cell_in, regions_in, ops_in, op_at};
 
-use crate::access::{Access, Reach, Wanted};
-use crate::behind::{answer_behind, ecam_of, is_within, places_in};
-use crate::devices::Devices;
-use crate::grants::{Grants, memory};
+use crate::access::{Access, Wanted};
+use crate::behind::places_in;
+use crate::grants::Grants;
 use crate::pages::live_in;
 use crate::place::{Place, Places, Row};
 use crate::plain_cells::PlainCells;
-use jh_cellcfg::{CellConfig, PciDevice, Region, RegionFlags};
+use crate::reach::LiveGrants;
+use jh_cellcfg::{CellConfig, PciDevice, Region, RegionFlags, SystemConfig};
 use jh_cpu::Cpu;
-use jh_ivshmem::Endpoints;
 use jh_mmio::has_whole;
 use jh_script::{Image, Op, Program};
 use std::marker::Model;
@@ -152,12 +151,12 @@ pub(crate) fn op_at(image: &Image, cells: &[CellConfig], state: Cpu, cpu: u8) ->
         .copied()
 }
 
-/// An image and the cells that live besides its root, as what tells the region that gives an address, by the
-/// regions of the configurations in turn.
+/// An image and the cells that live besides its root, as what tells what these are granted, by the lists of their
+/// configurations in turn.
 #[derive(Drop)]
-struct ImageGrants<'a> {
-    image: &'a Image,
-    cells: &'a PlainCells,
+pub(crate) struct ImageGrants<'a> {
+    pub(crate) image: &'a Image,
+    pub(crate) cells: &'a PlainCells,
 }
 
 impl<'a> Model for ImageGrants<'a> {
@@ -220,26 +219,6 @@ fn are_closed(image: &Image, cells: &PlainCells, cell: u32, places: &Places) -> 
     is_row_closed(image, cells, cell, high)
 }
 
-/// The places of memory that the cell's access reaches, where these cells live besides root; `None` where some byte
-/// isn't granted.
-pub(crate) fn memory_in(
-    image: &Image,
-    cells: &PlainCells,
-    cell: u32,
-    wanted: &Wanted,
-) -> Option<Places>
-    requires clean { IsClean image.now.system (configs_of cells.now) }
-    requires few { wanted.now.width ≤ 8 }
-    ensures { memory_or_nothing result ≡ reach_by (granted_in image.now cells.now cell wanted.now.access) wanted.now.at wanted.now.width }
-{
-    let places = memory(&ImageGrants { image, cells }, cell, wanted)?;
-    if are_closed(image, cells, cell, &places) {
-        None
-    } else {
-        Some(places)
-    }
-}
-
 /// Whether the region is a subpage region that has the cell's whole access, and none of its bytes is
 /// closed to the cell.
 fn takes_all(image: &Image, cells: &PlainCells, cell: u32, region: &Region, wanted: &Wanted) -> bool
@@ -275,43 +254,28 @@ fn subpage_of(image: &Image, cells: &PlainCells, cell: u32, wanted: &Wanted) -> 
     None
 }
 
-/// What answers the cell's access where no memory does.
-fn behind_in(
-    image: &Image,
-    cells: &PlainCells,
-    endpoints: &Endpoints,
-    cell: u32,
-    wanted: &Wanted,
-) -> Reach
-    requires clean { IsClean image.now.system (configs_of cells.now) }
-    requires few { wanted.now.width ≤ 8 }
-    ensures { result ≡ behind_in image.now cells.now endpoints.now.list cell wanted.now.access wanted.now.at wanted.now.width }
-{
-    if is_within(wanted) {
-        let region = subpage_of(image, cells, cell, wanted);
-        let list = list_in(image, cells.configs(), cell);
-        let devices = Devices::new(cell, list, endpoints);
-        answer_behind(&devices, region, ecam_of(&image.system), wanted)
-    } else {
-        Reach::Nothing
-    }
-}
+impl<'a> LiveGrants for ImageGrants<'a> {
+    ghost use Rattle.std.specs.Prelude.{refl};
 
-/// What the cell's access reaches, where these cells live besides root, and all have these endpoints.
-#[tactic(auto, using(crate::proofs::ReachLemmas::reaches_memory, crate::proofs::ReachLemmas::reaches_behind))]
-pub(crate) fn reach_in(
-    image: &Image,
-    cells: &PlainCells,
-    endpoints: &Endpoints,
-    cell: u32,
-    wanted: &Wanted,
-) -> Reach
-    requires clean { IsClean image.now.system (configs_of cells.now) }
-    requires few { wanted.now.width ≤ 8 }
-    ensures { result ≡ reach_in image.now cells.now endpoints.now.list cell wanted.now.access wanted.now.at wanted.now.width }
-{
-    match memory_in(image, cells, cell, wanted) {
-        Some(places) => Reach::Memory(places),
-        None => behind_in(image, cells, endpoints, cell, wanted),
+    ghost image = { λ g. g.image };
+
+    ghost lives = { λ g. g.lives };
+
+    ghost regions_of_lives = { λ g cell. refl };
+
+    fn system(&self) -> &SystemConfig {
+        &self.image.system
+    }
+
+    fn closes(&self, cell: u32, places: &Places) -> bool {
+        are_closed(self.image, self.cells, cell, places)
+    }
+
+    fn subpage(&self, cell: u32, wanted: &Wanted) -> Option<Region> {
+        subpage_of(self.image, self.cells, cell, wanted)
+    }
+
+    fn devices(&self, cell: u32) -> &[PciDevice] {
+        list_in(self.image, self.cells.configs(), cell)
     }
 }

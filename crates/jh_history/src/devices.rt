@@ -16,7 +16,7 @@ use std::marker::Model;
 
 /// The devices of the configuration of a cell, and the endpoints of all cells.
 #[derive(Drop)]
-pub struct Devices<'a> {
+pub(crate) struct Devices<'a> {
     cell: u32,
     list: &'a [PciDevice],
     endpoints: &'a Endpoints,
@@ -97,7 +97,7 @@ fn first_window(space: &ConfigSpace, device: u32, wanted: &Wanted) -> Option<Win
 
 impl<'a> Devices<'a> {
     /// The devices of the configuration of the cell with that id, and the endpoints of all cells.
-    pub fn new(cell: u32, list: &'a [PciDevice], endpoints: &'a Endpoints) -> Self
+    pub(crate) fn new(cell: u32, list: &'a [PciDevice], endpoints: &'a Endpoints) -> Self
         ensures { result ≡ record { cell = cell; list = list.now; endpoints = endpoints.now.list } }
     {
         Devices {

@@ -109,7 +109,7 @@ fn places_of<G: Grants>(grants: &G, cell: u32, wanted: &Wanted) -> Option<Places
 }
 
 /// The memory that the cell's access reaches by these regions.
-pub fn memory<G: Grants>(grants: &G, cell: u32, wanted: &Wanted) -> Option<Places>
+pub(crate) fn memory<G: Grants>(grants: &G, cell: u32, wanted: &Wanted) -> Option<Places>
     requires { wanted.now.width ≤ 8 }
     ensures { memory_or_nothing result ≡ reach_by (place_of cell (G.regions grants.now cell) wanted.now.access) wanted.now.at wanted.now.width }
 {

@@ -33,6 +33,7 @@ mod place;
 mod plain;
 mod plain_cells;
 mod plain_known;
+mod reach;
 mod reading;
 mod sound;
 mod within;
@@ -40,7 +41,7 @@ mod written;
 
 pub use access::{Access, ConfigBytes, Reach, Register, Wanted};
 pub use admission::{admit, is_other_preload, is_sound_preload, pool_pages, root_pages};
-pub use behind::{answer_behind, ecam_of, is_within, places_in};
+pub use behind::places_in;
 pub use boxed::BoxedCell;
 pub use bytes::{Bytes, value_of};
 pub use call::{Creation, OpenCall, Phase};
@@ -52,13 +53,12 @@ pub use creation::unless_refused;
 pub use device_change::{DeviceChange, changing_cell};
 pub use device_specs::{endpoint_of, is_endpoint};
 pub use device_write::{endpoint_word_places, write_device};
-pub use devices::Devices;
 pub use due_facts::{
     a_cell_that_comes_may_live, decides_are_of_the_open_call, devices_may_change, few_cells_live,
     pages_written_are_of_cells, places_reached_are_of_cells, sound_cells_name_a_cpu,
 };
 pub use entry::{Act, Entry, Heard, Settled};
-pub use grants::{Grants, first_of_row, memory};
+pub use grants::{Grants, first_of_row};
 pub use jh_cellcfg::{CellConfig, Console, Irqchip, PciDevice, Region, SystemConfig};
 pub use jh_cpu::{Cpu, Mode};
 pub use jh_script::{Image, Op, Preload, Program};
@@ -70,5 +70,6 @@ pub use next::{any_due, is_due, next_of};
 pub use pages::page_write;
 pub use place::{Place, Places, Row};
 pub use plain::{due, quiet};
+pub use reach::{LiveGrants, reach_in};
 pub use reading::{ReadCell, RootBytes, read_config};
 pub use sound::legal_journals_are_sound;

@@ -30,7 +30,7 @@ use crate::access::{Access, Reach, Wanted};
 use crate::boxed::BoxedCell;
 use crate::call::OpenCall;
 use crate::calling::call_after;
-use crate::cells::{list_in, reach_in};
+use crate::cells::{ImageGrants, list_in};
 use crate::change::cpus_after;
 use crate::device_change::{DeviceChange, changing_cell};
 use crate::device_specs::endpoint_of;
@@ -42,6 +42,7 @@ use crate::laws::admitted_roots_are_sound;
 use crate::next::{any_due, next_of};
 use crate::pages::page_write;
 use crate::plain_cells::PlainCells;
+use crate::reach::reach_in;
 use crate::reading::{ReadCell, read_config};
 use crate::sound::legal_journals_are_sound;
 use crate::written::{
@@ -200,6 +201,16 @@ impl<'a> Plain<'a> {
         })
     }
 
+    /// What the live cells are granted.
+    pub(crate) fn grants(&self) -> ImageGrants<'_>
+        ensures { result ≡ record { image = self.now.image; lives = self.now.cells } }
+    {
+        ImageGrants {
+            image: self.image,
+            cells: &self.cells,
+        }
+    }
+
     /// Writes the value where the cell's access reaches, which is a device.
     fn write_device(&mut self, cell: u32, reach: &Reach, value: u64) -> Result<(), NoMemory>
         requires { HasWords self.old }
@@ -221,7 +232,7 @@ impl<'a> Plain<'a> {
         ensures endpoints { OnOk result ((i : TheImage) (f : Facts) → Represents self.old i f → self.new.endpoints ≡ endpoints_put (devices_of i f cell) (reach_of i f cell wanted.now) value) }
         ensures others { IsSameBut self.old self.new }
     {
-        let reach = reach_in(self.image, &self.cells, &self.endpoints, cell, wanted);
+        let reach = reach_in(&self.grants(), &self.endpoints, cell, wanted);
         match &reach {
             Reach::Memory(places) | Reach::Subpage(places) => {
                 write_places(&mut self.bytes, places, value)?;

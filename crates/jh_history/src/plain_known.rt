@@ -10,7 +10,7 @@ use crate::access::{Access, Reach, Wanted};
 use crate::admission::pool_pages;
 use crate::bytes::{Bytes, value_of};
 use crate::call::{Creation, OpenCall};
-use crate::cells::{config_in, is_on_board, memory_in, op_at, reach_in};
+use crate::cells::{config_in, is_on_board, op_at};
 use crate::counting::sum_of_pages;
 use crate::creation::creation_by;
 use crate::known::Known;
@@ -19,6 +19,7 @@ use crate::locked::{is_any_locked, is_any_other_locked};
 use crate::pages::live_in;
 use crate::place::{Place, Places};
 use crate::plain::Plain;
+use crate::reach::{memory_in, reach_in};
 use crate::reading::{RootBytes, read_config};
 use crate::written::loaded_byte;
 use jh_cellcfg::CellConfig;
@@ -74,7 +75,7 @@ impl<'a> Plain<'a> {
             width: 1,
         };
         let root = self.image.system.root.id;
-        match memory_in(self.image, &self.cells, root, &wanted) {
+        match memory_in(&self.grants(), root, &wanted) {
             Some(places) => Some(value_of(self, &places) as u8),
             None => None,
         }
@@ -163,7 +164,7 @@ impl<'a> Known for Plain<'a> {
     }
 
     fn reach(&self, cell: u32, wanted: &Wanted) -> Reach {
-        reach_in(self.image, &self.cells, &self.endpoints, cell, wanted)
+        reach_in(&self.grants(), &self.endpoints, cell, wanted)
     }
 
     fn value(&self, places: &Places) -> u64 {

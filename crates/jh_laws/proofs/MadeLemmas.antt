@@ -2,7 +2,7 @@
 -- operation that its CPU is at.
 use Rattle.std.proofs.Common.{◌≡◌, ◌≢◌, ℕ, zero, suc, ◌+◌, ◌-◌, ◌<◌, ◌≤◌, ◌^◌, List, [], ◌∷◌, ◌++◌, length, Bool, true, false, cond, eqb, Option, Some, None, refl, sym, ap, subst, ◌∙◌, arith}
 use Rattle.std.specs.Prelude.{IsTrue, option_map, option_and_then, slice_get, min, nat_lt}
-use Rattle.std.specs.List.{fold}
+use Rattle.std.specs.List.{fold, AllByRecursion}
 use Rattle.std.specs.Option.{option_map_or}
 use Rattle.std.proofs.lemmas.Bool.{cond_both, eq-eqb, ne_eqb, eqb-true, and_right}
 use Rattle.std.proofs.lemmas.Option.{none-some, same_Some, slice_get_within}
@@ -44,7 +44,6 @@ use Rattle.jh_history.specs.Due.{due_at, act_of, await_of, irq_of, got_by, entry
 use Rattle.jh_history.specs.Admitted.{IsAdmitted, IsNoHypercall, HasNoHypercall}
 use Rattle.jh_history.specs.Calls.{is_of_call}
 use Rattle.jh_history.proofs.Public.{due_at_absent, due_at_present, acted_own, alone_start, alone_after, due_split, IsLegal_begin, program_ops_all, few_operations}
-use Rattle.std.specs.List.{AllByRecursion}
 use Rattle.std.proofs.lemmas.List.Elements.{recursion_from_All}
 use Rattle.jh_laws.specs.RootAlone.{HasNoShmemDevice}
 use Rattle.jh_laws.specs.Moves.{stepped, ended}

@@ -13,7 +13,7 @@ use Rattle.jh_history.proofs.plain.Plain.write_at.Goals as goal
 pub returns-in_ok-write_places-in-Memory-clause-bytes : goal.returns-in_ok-write_places-in-Memory-clause-bytes
 returns-in_ok-write_places-in-Memory-clause-bytes c = λ i f h q.
     let wanted = c.args.wanted.now in
-    let found = reach_seen c.args.self.now i f c.args.cell wanted c.reach_in-reach.result c.self.view_is h c.reach_in-reach.ensures in
+    let found = reach_seen c.args.self.now c.grants.result i f c.args.cell wanted c.reach_in-reach.result c.self.view_is c.grants.ensures h c.reach_in-reach.ensures in
     c.in_ok-write_places-in-Memory.ensures i q
     ∙ ap (λ (p : PlainView). overlaid c.in-Memory.places c.args.value q (last_byte i p.bytes q)) c.self.view_is
     ∙ ⊎_elim
@@ -24,7 +24,7 @@ returns-in_ok-write_places-in-Memory-clause-bytes c = λ i f h q.
 pub returns-in_ok-write_places-in-Memory-clause-endpoints : goal.returns-in_ok-write_places-in-Memory-clause-endpoints
 returns-in_ok-write_places-in-Memory-clause-endpoints c = λ i f h.
     let wanted = c.args.wanted.now in
-    let found = reach_seen c.args.self.now i f c.args.cell wanted c.reach_in-reach.result c.self.view_is h c.reach_in-reach.ensures in
+    let found = reach_seen c.args.self.now c.grants.result i f c.args.cell wanted c.reach_in-reach.result c.self.view_is c.grants.ensures h c.reach_in-reach.ensures in
     let other : is_device c.reach_in-reach.result ≡ false = ⊎_elim
     (λ (is : c.reach_in-reach.result ≡ Memory c.in-Memory.places). ap is_device is)
     (λ (is : c.reach_in-reach.result ≡ Subpage c.in-Memory.places). ap is_device is)
@@ -34,7 +34,7 @@ returns-in_ok-write_places-in-Memory-clause-endpoints c = λ i f h.
 pub returns-in_ok-write_device-in-Config-clause-bytes : goal.returns-in_ok-write_device-in-Config-clause-bytes
 returns-in_ok-write_device-in-Config-clause-bytes c = λ i f h q.
     let wanted = c.args.wanted.now in
-    let found = reach_seen c.args.self.now i f c.args.cell wanted c.reach_in-reach.result c.self.view_is h c.reach_in-reach.ensures in
+    let found = reach_seen c.args.self.now c.grants.result i f c.args.cell wanted c.reach_in-reach.result c.self.view_is c.grants.ensures h c.reach_in-reach.ensures in
     let device : is_device c.reach_in-reach.result ≡ true = elim c.in-Config.is [
       | inl is ↦ ap is_device is.1
       | inr is ↦ ap is_device is.1
@@ -46,17 +46,17 @@ returns-in_ok-write_device-in-Config-clause-bytes c = λ i f h q.
 pub returns-in_ok-write_device-in-Config-clause-endpoints : goal.returns-in_ok-write_device-in-Config-clause-endpoints
 returns-in_ok-write_device-in-Config-clause-endpoints c = λ i f h.
     let wanted = c.args.wanted.now in
-    let found = reach_seen c.args.self.now i f c.args.cell wanted c.reach_in-reach.result c.self.view_is h c.reach_in-reach.ensures in
+    let found = reach_seen c.args.self.now c.grants.result i f c.args.cell wanted c.reach_in-reach.result c.self.view_is c.grants.ensures h c.reach_in-reach.ensures in
     c.in_ok-write_device-in-Config.ensures.endpoints i f h ∙ ap (λ (r : Reach). endpoints_put (devices_of i f c.args.cell) r c.args.value) found
 
 pub returns-in-Nothing-clause-bytes : goal.returns-in-Nothing-clause-bytes
 returns-in-Nothing-clause-bytes c = λ i f h q.
     let wanted = c.args.wanted.now in
-    let found = reach_seen c.args.self.now i f c.args.cell wanted c.reach_in-reach.result c.self.view_is h c.reach_in-reach.ensures in
+    let found = reach_seen c.args.self.now c.grants.result i f c.args.cell wanted c.reach_in-reach.result c.self.view_is c.grants.ensures h c.reach_in-reach.ensures in
     sym (h.bytes q) ∙ ap (λ (r : Reach). write_of f.byte (devices_of i f c.args.cell) r c.args.value q) (sym c.in-Nothing.is ∙ found)
 
 pub returns-in-Nothing-clause-endpoints : goal.returns-in-Nothing-clause-endpoints
 returns-in-Nothing-clause-endpoints c = λ i f h.
     let wanted = c.args.wanted.now in
-    let found = reach_seen c.args.self.now i f c.args.cell wanted c.reach_in-reach.result c.self.view_is h c.reach_in-reach.ensures in
+    let found = reach_seen c.args.self.now c.grants.result i f c.args.cell wanted c.reach_in-reach.result c.self.view_is c.grants.ensures h c.reach_in-reach.ensures in
     sym h.endpoints ∙ others_put i f c.args.cell wanted c.reach_in-reach.result c.args.value found (ap is_device c.in-Nothing.is)
