@@ -29,55 +29,30 @@ abbrev pub check_command : List (List ℕ) → Option Request
 check_command [] = None
 check_command (system ∷ cells) = if nat_le (length cells) 15 then Some (CheckOf system cells) else None
 
--- `pack` has a SPEC
-abbrev pub pack_command : List (List ℕ) → Option Request
-pack_command [] = None
-pack_command (spec ∷ []) = Some (PackOf spec)
-pack_command (spec ∷ other ∷ more) = None
+-- a command that has one operand
+abbrev pub of_one : (List ℕ → Request) → List (List ℕ) → Option Request
+of_one request [] = None
+of_one request (operand ∷ []) = Some (request operand)
+of_one request (operand ∷ other ∷ more) = None
 
--- `play` has a board and a schedule
-abbrev pub play_command : List (List ℕ) → Option Request
-play_command [] = None
-play_command (board ∷ []) = None
-play_command (board ∷ schedule ∷ []) = Some (PlayOf board schedule)
-play_command (board ∷ schedule ∷ other ∷ more) = None
+-- a command that has two operands
+abbrev pub of_two : (List ℕ → List ℕ → Request) → List (List ℕ) → Option Request
+of_two request [] = None
+of_two request (first ∷ []) = None
+of_two request (first ∷ second ∷ []) = Some (request first second)
+of_two request (first ∷ second ∷ other ∷ more) = None
 
--- `run` has a board
-abbrev pub run_command : List (List ℕ) → Option Request
-run_command [] = None
-run_command (board ∷ []) = Some (RunOf board)
-run_command (board ∷ other ∷ more) = None
-
--- `map` has a board and a schedule
-abbrev pub map_command : List (List ℕ) → Option Request
-map_command [] = None
-map_command (board ∷ []) = None
-map_command (board ∷ schedule ∷ []) = Some (MapOf board schedule)
-map_command (board ∷ schedule ∷ other ∷ more) = None
-
--- `audit` has a board and a journal
-abbrev pub audit_command : List (List ℕ) → Option Request
-audit_command [] = None
-audit_command (board ∷ []) = None
-audit_command (board ∷ journal ∷ []) = Some (AuditOf board journal)
-audit_command (board ∷ journal ∷ other ∷ more) = None
-
--- `soak` has a number of rounds
-abbrev pub soak_command : List (List ℕ) → Option Request
-soak_command [] = None
-soak_command (rounds ∷ []) = Some (SoakOf rounds)
-soak_command (rounds ∷ other ∷ more) = None
-
--- the command of this word with these operands; `tables` is none
+-- the command of this word with these operands: `pack` has a SPEC; `play` a board and a schedule; `run` a board; `map`
+-- a board and a schedule; `audit` a board and a journal; `soak` a number of rounds; `tables` is none
 abbrev pub command_for : List ℕ → List (List ℕ) → Option Request
 command_for word operands =
     if is_word word (codes "check") then check_command operands
-    else (if is_word word (codes "pack") then pack_command operands
-    else (if is_word word (codes "play") then play_command operands
-    else (if is_word word (codes "run") then run_command operands
-    else (if is_word word (codes "map") then map_command operands
-    else (if is_word word (codes "audit") then audit_command operands
-    else (if is_word word (codes "soak") then soak_command operands
+    else (if is_word word (codes "pack") then of_one PackOf operands
+    else (if is_word word (codes "play") then of_two PlayOf operands
+    else (if is_word word (codes "run") then of_one RunOf operands
+    else (if is_word word (codes "map") then of_two MapOf operands
+    else (if is_word word (codes "audit") then of_two AuditOf operands
+    else (if is_word word (codes "soak") then of_one SoakOf operands
     else None))))))
 
 -- the command of the words: the program's name, the command's word letter for letter, and its operands

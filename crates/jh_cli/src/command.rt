@@ -1,8 +1,9 @@
 //! The words of the command line.
-ghost use Rattle.std.specs.Prelude.{◌≡◌, IfSome, map, string_bytes};
+ghost use Rattle.std.specs.Prelude.{◌≡◌, ℕ, List, IfSome, map, string_bytes};
+ghost use Rattle.std.specs.Borrow.{Bor};
 ghost use Rattle.std.specs.List.{list_all};
 ghost use Rattle.std.specs.Option.{option_map};
-ghost use Rattle.jh_cli.specs.Words.{is_operand, check_command, pack_command, play_command, run_command, map_command, audit_command, soak_command, command_for, command_of, request_by, HasFewCells};
+ghost use Rattle.jh_cli.specs.Words.{Request, is_operand, check_command, of_one, of_two, command_for, command_of, request_by, HasFewCells};
 
 use jh_check::MAX_CELLS;
 
@@ -74,88 +75,27 @@ fn check_command(operands: &[String]) -> Option<Command<'_>>
     }
 }
 
-/// The command `pack`: its one operand is a SPEC.
-fn pack_command(operands: &[String]) -> Option<Command<'_>>
-    ensures command { option_map request_by result ≡ pack_command (map string_bytes operands.now) }
-    ensures few { IfSome result HasFewCells }
+/// The one operand; `None` where there are none or more.
+fn one_operand(operands: &[String]) -> Option<&str>
+    ensures { (request : List ℕ → Request) → option_map (λ (operand : Bor (List ℕ)). request operand.now) result ≡ of_one request (map string_bytes operands.now) }
 {
     match operands {
-        [spec] => Some(Command::Pack {
-            spec: spec.as_str(),
-        }),
+        [operand] => Some(operand.as_str()),
         _ => None,
     }
 }
 
-/// The command `play`: its operands are a board and a schedule.
-fn play_command(operands: &[String]) -> Option<Command<'_>>
-    ensures command { option_map request_by result ≡ play_command (map string_bytes operands.now) }
-    ensures few { IfSome result HasFewCells }
+/// The two operands; `None` where there are fewer or more.
+fn two_operands(operands: &[String]) -> Option<(&str, &str)>
+    ensures { (request : List ℕ → List ℕ → Request) → option_map (λ (two : Bor (List ℕ) × Bor (List ℕ)). request two.0.now two.1.now) result ≡ of_two request (map string_bytes operands.now) }
 {
     match operands {
-        [board, schedule] => Some(Command::Play {
-            board: board.as_str(),
-            schedule: schedule.as_str(),
-        }),
+        [first, second] => Some((first.as_str(), second.as_str())),
         _ => None,
     }
 }
 
-/// The command `run`: its one operand is a board.
-fn run_command(operands: &[String]) -> Option<Command<'_>>
-    ensures command { option_map request_by result ≡ run_command (map string_bytes operands.now) }
-    ensures few { IfSome result HasFewCells }
-{
-    match operands {
-        [board] => Some(Command::Run {
-            board: board.as_str(),
-        }),
-        _ => None,
-    }
-}
-
-/// The command `map`: its operands are a board and a schedule.
-fn map_command(operands: &[String]) -> Option<Command<'_>>
-    ensures command { option_map request_by result ≡ map_command (map string_bytes operands.now) }
-    ensures few { IfSome result HasFewCells }
-{
-    match operands {
-        [board, schedule] => Some(Command::Map {
-            board: board.as_str(),
-            schedule: schedule.as_str(),
-        }),
-        _ => None,
-    }
-}
-
-/// The command `audit`: its operands are a board and a journal.
-fn audit_command(operands: &[String]) -> Option<Command<'_>>
-    ensures command { option_map request_by result ≡ audit_command (map string_bytes operands.now) }
-    ensures few { IfSome result HasFewCells }
-{
-    match operands {
-        [board, journal] => Some(Command::Audit {
-            board: board.as_str(),
-            journal: journal.as_str(),
-        }),
-        _ => None,
-    }
-}
-
-/// The command `soak`: its one operand is a word for a number of rounds, which isn't read here.
-fn soak_command(operands: &[String]) -> Option<Command<'_>>
-    ensures command { option_map request_by result ≡ soak_command (map string_bytes operands.now) }
-    ensures few { IfSome result HasFewCells }
-{
-    match operands {
-        [rounds] => Some(Command::Soak {
-            rounds: rounds.as_str(),
-        }),
-        _ => None,
-    }
-}
-
-/// The command of this word with these operands.
+/// The command of this word with these operands. The number of rounds of a soak isn't read here.
 fn command_for<'a>(word: &str, operands: &'a [String]) -> Option<Command<'a>>
     ensures command { option_map request_by result ≡ command_for word.now (map string_bytes operands.now) }
     ensures few { IfSome result HasFewCells }
@@ -163,17 +103,23 @@ fn command_for<'a>(word: &str, operands: &'a [String]) -> Option<Command<'a>>
     if word == "check" {
         check_command(operands)
     } else if word == "pack" {
-        pack_command(operands)
+        let spec = one_operand(operands)?;
+        Some(Command::Pack { spec })
     } else if word == "play" {
-        play_command(operands)
+        let (board, schedule) = two_operands(operands)?;
+        Some(Command::Play { board, schedule })
     } else if word == "run" {
-        run_command(operands)
+        let board = one_operand(operands)?;
+        Some(Command::Run { board })
     } else if word == "map" {
-        map_command(operands)
+        let (board, schedule) = two_operands(operands)?;
+        Some(Command::Map { board, schedule })
     } else if word == "audit" {
-        audit_command(operands)
+        let (board, journal) = two_operands(operands)?;
+        Some(Command::Audit { board, journal })
     } else if word == "soak" {
-        soak_command(operands)
+        let rounds = one_operand(operands)?;
+        Some(Command::Soak { rounds })
     } else {
         None
     }
