@@ -2,6 +2,7 @@
 use Rattle.std.specs.Prelude.{ℕ, [], replicate}
 use Rattle.jh_cellcfg.specs.declared.config.CellConfig.{CellConfig}
 use Rattle.jh_cellcfg.specs.declared.config.Console.{Console}
+use Rattle.jh_cellcfg.specs.declared.config.Platform.{Platform}
 use Rattle.jh_cellcfg.specs.declared.config.SystemConfig.{SystemConfig}
 use Rattle.jh_cellcfg.specs.declared.region.Region.{Region}
 
@@ -29,9 +30,9 @@ empty_cell id = record {
 abbrev pub no_console : Console
 no_console = record { address = 0; size = 0; kind = 0; flags = 0; divider = 0; gate_nr = 0; clock_reg = 0 }
 
--- the system that has this memory of the hypervisor and this root, and 0 in all else
-abbrev pub bare_system : Region → CellConfig → SystemConfig
-bare_system memory root = record {
+-- the platform that has this memory of the hypervisor, and 0 in all else
+abbrev pub bare_platform : Region → Platform
+bare_platform memory = record {
   flags = 0;
   hypervisor_memory = memory;
   debug_console = no_console;
@@ -40,5 +41,8 @@ bare_system memory root = record {
   pci_is_virtual = 0;
   pci_domain = 0;
   root_head = replicate 8 0;
-  root = root;
 }
+
+-- the system that has this memory of the hypervisor and this root, and 0 in all else
+abbrev pub bare_system : Region → CellConfig → SystemConfig
+bare_system memory root = record { platform = bare_platform memory; root = root }

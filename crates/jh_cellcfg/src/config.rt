@@ -203,9 +203,9 @@ impl PciDevice {
     }
 }
 
-/// The system's configuration: the hypervisor's own memory, the virtual PCI host, and root.
-#[derive(Drop)]
-pub struct SystemConfig {
+/// What a system's configuration has beside root: the hypervisor's own memory, and the virtual PCI host.
+#[derive(Clone, Copy, PartialEq, Eq, Debug)]
+pub struct Platform {
     pub flags: u32,
     /// The hypervisor's memory, of which only `phys_start` and `size` are used.
     pub hypervisor_memory: Region,
@@ -218,6 +218,12 @@ pub struct SystemConfig {
     pub pci_domain: u16,
     /// The first eight bytes of root's own header, kept unchecked.
     pub root_head: [u8; 8],
+}
+
+/// The system's configuration.
+#[derive(Drop)]
+pub struct SystemConfig {
+    pub platform: Platform,
     pub root: CellConfig,
 }
 
@@ -228,7 +234,7 @@ impl SystemConfig {
     pub fn bare(hypervisor_memory: Region, root: CellConfig) -> Self
         ensures { result ≡ bare_system hypervisor_memory root }
     {
-        SystemConfig {
+        let platform = Platform {
             flags: 0,
             hypervisor_memory,
             debug_console: Console::none(),
@@ -237,7 +243,7 @@ impl SystemConfig {
             pci_is_virtual: 0,
             pci_domain: 0,
             root_head: [0; 8],
-            root,
-        }
+        };
+        SystemConfig { platform, root }
     }
 }

@@ -17,7 +17,7 @@ mod region;
 mod write;
 mod writer;
 
-pub use config::{CellConfig, Console, Irqchip, MAX_CPUS, PciDevice, SystemConfig};
+pub use config::{CellConfig, Console, Irqchip, MAX_CPUS, PciDevice, Platform, SystemConfig};
 pub use fault::{ConfigFault, Part};
 pub use flags::{CellFlags, RegionFlags};
 pub use header::{Counts, HEADER_SIZE, Header, REVISION, START_SIZE};

@@ -187,15 +187,15 @@ places_to system cells h a b one other r s x y na nb ir is t =
 
 -- ---- the hypervisor's memory
 
-pub hypervisor_from : (system : SystemConfig) (cells : List CellConfig) → RegionsHold Hypervisor system.hypervisor_memory (system.root ∷ cells) → HypervisorIsAlone system cells
+pub hypervisor_from : (system : SystemConfig) (cells : List CellConfig) → RegionsHold Hypervisor system.platform.hypervisor_memory (system.root ∷ cells) → HypervisorIsAlone system cells
 unfolding region_breaks
 hypervisor_from system cells k a cell n r x i comm place hx hh =
-    let h = system.hypervisor_memory in
+    let h = system.platform.hypervisor_memory in
     k a cell r x n i (and_from (has_size x) (not (is_comm x) && phys_meet x h) (place_size x place hx) (and_from (not (is_comm x)) (phys_meet x h) (not_from_false (is_comm x) comm) (phys_common x h place hx hh)))
 
-pub hypervisor_to : (system : SystemConfig) (cells : List CellConfig) → HypervisorIsAlone system cells → RegionsHold Hypervisor system.hypervisor_memory (system.root ∷ cells)
+pub hypervisor_to : (system : SystemConfig) (cells : List CellConfig) → HypervisorIsAlone system cells → RegionsHold Hypervisor system.platform.hypervisor_memory (system.root ∷ cells)
 hypervisor_to system cells k a cell r x n i t =
-    let h = system.hypervisor_memory in
+    let h = system.platform.hypervisor_memory in
     let p = parts Hypervisor h a (take r cell.memory_regions) x t in
     let q = and_parts (not (is_comm x)) (phys_meet x h) p.1 in
     let m = common_phys x h q.1 in
@@ -250,9 +250,9 @@ memory_align h m t =
 
 -- ---- one region
 
-pub within_from : (system : SystemConfig) (cells : List CellConfig) → RegionsHold OutOfRange system.hypervisor_memory (system.root ∷ cells) → EachRegion system cells IsInRange
+pub within_from : (system : SystemConfig) (cells : List CellConfig) → RegionsHold OutOfRange system.platform.hypervisor_memory (system.root ∷ cells) → EachRegion system cells IsInRange
 within_from system cells k a cell n r x i some =
-    let f = alone OutOfRange system.hypervisor_memory (system.root ∷ cells) k a cell r x n i some in
+    let f = alone OutOfRange system.platform.hypervisor_memory (system.root ∷ cells) k a cell r x n i some in
     let far = nat_lt ADDRESS_END (phys_end x) in
     let p = or_parts (nat_lt ADDRESS_END (virt_end x)) (not (is_comm x) && far) f in
     record {
@@ -260,9 +260,9 @@ within_from system cells k a cell n r x i some =
       phys = λ c. ltb-false ADDRESS_END (phys_end x) (and_rest (not (is_comm x)) far (λ t. both_ways (not (is_comm x) && far) p.1 t) (not_from_false (is_comm x) c));
     }
 
-pub within_to : (system : SystemConfig) (cells : List CellConfig) → EachRegion system cells IsInRange → RegionsHold OutOfRange system.hypervisor_memory (system.root ∷ cells)
+pub within_to : (system : SystemConfig) (cells : List CellConfig) → EachRegion system cells IsInRange → RegionsHold OutOfRange system.platform.hypervisor_memory (system.root ∷ cells)
 within_to system cells k a cell r x n i t =
-    let p = parts OutOfRange system.hypervisor_memory a (take r cell.memory_regions) x t in
+    let p = parts OutOfRange system.platform.hypervisor_memory a (take r cell.memory_regions) x t in
     let w = k a cell n r x i p.0 in
     let near = nat_lt ADDRESS_END (virt_end x) in
     let far = nat_lt ADDRESS_END (phys_end x) in
@@ -273,29 +273,29 @@ within_to system cells k a cell r x n i t =
           both_ways far (le-ltb ADDRESS_END (phys_end x) (w.phys (not-true (is_comm x) q.0))) q.1
     ]
 
-pub readable_from : (system : SystemConfig) (cells : List CellConfig) → RegionsHold ExecuteWithoutRead system.hypervisor_memory (system.root ∷ cells) → EachRegion system cells IsReadIfExecuted
+pub readable_from : (system : SystemConfig) (cells : List CellConfig) → RegionsHold ExecuteWithoutRead system.platform.hypervisor_memory (system.root ∷ cells) → EachRegion system cells IsReadIfExecuted
 readable_from system cells k a cell n r x i some e =
-    let f = alone ExecuteWithoutRead system.hypervisor_memory (system.root ∷ cells) k a cell r x n i some in
+    let f = alone ExecuteWithoutRead system.platform.hypervisor_memory (system.root ∷ cells) k a cell r x n i some in
     not-false (has_flags 0x1 x) (and_rest (has_flags 0x4 x) (not (has_flags 0x1 x)) (λ t. both_ways (has_flags 0x4 x && not (has_flags 0x1 x)) f t) e)
 
-pub readable_to : (system : SystemConfig) (cells : List CellConfig) → EachRegion system cells IsReadIfExecuted → RegionsHold ExecuteWithoutRead system.hypervisor_memory (system.root ∷ cells)
+pub readable_to : (system : SystemConfig) (cells : List CellConfig) → EachRegion system cells IsReadIfExecuted → RegionsHold ExecuteWithoutRead system.platform.hypervisor_memory (system.root ∷ cells)
 readable_to system cells k a cell r x n i t =
-    let p = parts ExecuteWithoutRead system.hypervisor_memory a (take r cell.memory_regions) x t in
+    let p = parts ExecuteWithoutRead system.platform.hypervisor_memory a (take r cell.memory_regions) x t in
     let q = and_parts (has_flags 0x4 x) (not (has_flags 0x1 x)) p.1 in
     both_ways (has_flags 0x1 x) (not-true (has_flags 0x1 x) q.1) (k a cell n r x i p.0 q.0)
 
-pub aligned_from : (system : SystemConfig) (cells : List CellConfig) → RegionsHold PhysAlign system.hypervisor_memory (system.root ∷ cells) → EachRegion system cells IsAligned
+pub aligned_from : (system : SystemConfig) (cells : List CellConfig) → RegionsHold PhysAlign system.platform.hypervisor_memory (system.root ∷ cells) → EachRegion system cells IsAligned
 aligned_from system cells k a cell n r x i some mapped comm =
-    let f = alone PhysAlign system.hypervisor_memory (system.root ∷ cells) k a cell r x n i some in
+    let f = alone PhysAlign system.platform.hypervisor_memory (system.root ∷ cells) k a cell r x n i some in
     let even = x.phys_start % PAGE_SIZE == 0 in
     let rest = not (is_comm x) && not even in
     let g = and_rest (is_page_mapped x) rest (λ t. both_ways (is_page_mapped x && rest) f t) mapped in
     let l = and_rest (not (is_comm x)) (not even) (λ t. both_ways rest g t) (not_from_false (is_comm x) comm) in
     eqb-true (x.phys_start % PAGE_SIZE) 0 (not-false even l)
 
-pub aligned_to : (system : SystemConfig) (cells : List CellConfig) → EachRegion system cells IsAligned → RegionsHold PhysAlign system.hypervisor_memory (system.root ∷ cells)
+pub aligned_to : (system : SystemConfig) (cells : List CellConfig) → EachRegion system cells IsAligned → RegionsHold PhysAlign system.platform.hypervisor_memory (system.root ∷ cells)
 aligned_to system cells k a cell r x n i t =
-    let p = parts PhysAlign system.hypervisor_memory a (take r cell.memory_regions) x t in
+    let p = parts PhysAlign system.platform.hypervisor_memory a (take r cell.memory_regions) x t in
     let even = x.phys_start % PAGE_SIZE == 0 in
     let q = and_parts (is_page_mapped x) (not (is_comm x) && not even) p.1 in
     let u = and_parts (not (is_comm x)) (not even) q.1 in
@@ -307,25 +307,25 @@ aligned_to system cells k a cell r x n i t =
 root_of : (system : SystemConfig) (cells : List CellConfig) (a : ℕ) (cell : CellConfig) → a ≡ 0 → slice_get (system.root ∷ cells) a ≡ Some cell → system.root ≡ cell
 root_of system cells a cell e n = same_item (system.root ∷ cells) 0 a system.root cell (sym e) refl n
 
-pub identity_from : (system : SystemConfig) (cells : List CellConfig) → RegionsHold RootNotIdentity system.hypervisor_memory (system.root ∷ cells) → RootIsIdentity system
+pub identity_from : (system : SystemConfig) (cells : List CellConfig) → RegionsHold RootNotIdentity system.platform.hypervisor_memory (system.root ∷ cells) → RootIsIdentity system
 identity_from system cells k r x i some =
-    let f = alone RootNotIdentity system.hypervisor_memory (system.root ∷ cells) k 0 system.root r x refl i some in
+    let f = alone RootNotIdentity system.platform.hypervisor_memory (system.root ∷ cells) k 0 system.root r x refl i some in
     eqb-true x.phys_start x.virt_start (not-false (x.phys_start == x.virt_start) f)
 
-pub identity_to : (system : SystemConfig) (cells : List CellConfig) → RootIsIdentity system → RegionsHold RootNotIdentity system.hypervisor_memory (system.root ∷ cells)
+pub identity_to : (system : SystemConfig) (cells : List CellConfig) → RootIsIdentity system → RegionsHold RootNotIdentity system.platform.hypervisor_memory (system.root ∷ cells)
 identity_to system cells k a cell r x n i t =
-    let p = parts RootNotIdentity system.hypervisor_memory a (take r cell.memory_regions) x t in
+    let p = parts RootNotIdentity system.platform.hypervisor_memory a (take r cell.memory_regions) x t in
     let q = and_parts (a == 0) (not (x.phys_start == x.virt_start)) p.1 in
     let e = root_of system cells a cell (eqb-true a 0 q.0) n in
     let i' : IsItem system.root r x = subst (λ (c : CellConfig). IsItem c r x) (sym e) i in
     both_ways (x.phys_start == x.virt_start) (not-true (x.phys_start == x.virt_start) q.1) (eq-eqb x.phys_start x.virt_start (k r x i' p.0))
 
-pub no_comm_from : (system : SystemConfig) (cells : List CellConfig) → RegionsHold CommInRoot system.hypervisor_memory (system.root ∷ cells) → RootHasNoComm system
-no_comm_from system cells k r x i some = alone CommInRoot system.hypervisor_memory (system.root ∷ cells) k 0 system.root r x refl i some
+pub no_comm_from : (system : SystemConfig) (cells : List CellConfig) → RegionsHold CommInRoot system.platform.hypervisor_memory (system.root ∷ cells) → RootHasNoComm system
+no_comm_from system cells k r x i some = alone CommInRoot system.platform.hypervisor_memory (system.root ∷ cells) k 0 system.root r x refl i some
 
-pub no_comm_to : (system : SystemConfig) (cells : List CellConfig) → RootHasNoComm system → RegionsHold CommInRoot system.hypervisor_memory (system.root ∷ cells)
+pub no_comm_to : (system : SystemConfig) (cells : List CellConfig) → RootHasNoComm system → RegionsHold CommInRoot system.platform.hypervisor_memory (system.root ∷ cells)
 no_comm_to system cells k a cell r x n i t =
-    let p = parts CommInRoot system.hypervisor_memory a (take r cell.memory_regions) x t in
+    let p = parts CommInRoot system.platform.hypervisor_memory a (take r cell.memory_regions) x t in
     let q = and_parts (a == 0) (is_comm x) p.1 in
     let e = root_of system cells a cell (eqb-true a 0 q.0) n in
     let i' : IsItem system.root r x = subst (λ (c : CellConfig). IsItem c r x) (sym e) i in
@@ -334,9 +334,9 @@ no_comm_to system cells k a cell r x n i t =
 -- ---- communication regions
 
 -- a communication region of another cell has its shape
-shaped : (system : SystemConfig) (cells : List CellConfig) → RegionsHold CommShape system.hypervisor_memory (system.root ∷ cells) → (a : ℕ) (cell : CellConfig) → 0 < a → IsNumbered system cells a cell → (r : ℕ) (x : Region) → IsItem cell r x → 0 < x.size → is_comm x ≡ true → is_misshapen (take r cell.memory_regions) x ≡ false
+shaped : (system : SystemConfig) (cells : List CellConfig) → RegionsHold CommShape system.platform.hypervisor_memory (system.root ∷ cells) → (a : ℕ) (cell : CellConfig) → 0 < a → IsNumbered system cells a cell → (r : ℕ) (x : Region) → IsItem cell r x → 0 < x.size → is_comm x ≡ true → is_misshapen (take r cell.memory_regions) x ≡ false
 shaped system cells k a cell above n r x i some comm =
-    let f = alone CommShape system.hypervisor_memory (system.root ∷ cells) k a cell r x n i some in
+    let f = alone CommShape system.platform.hypervisor_memory (system.root ∷ cells) k a cell r x n i some in
     let bad = is_misshapen (take r cell.memory_regions) x in
     let g = and_rest (not (a == 0)) (is_comm x && bad) (λ t. both_ways (not (a == 0) && (is_comm x && bad)) f t) (not_zero a above) in
     and_rest (is_comm x) bad (λ t. both_ways (is_comm x && bad) g t) comm
@@ -354,7 +354,7 @@ earlier_comm : (cell : CellConfig) (r s : ℕ) (y : Region) → s < r → IsItem
 earlier_comm cell r s y l i some comm =
     any_at is_counted_comm (take r cell.memory_regions) s y (take_get r cell.memory_regions s y l i) (and_from (has_size y) (is_comm y) (lt-ltb 0 y.size some) comm)
 
-pub comms_from : (system : SystemConfig) (cells : List CellConfig) → RegionsHold CommShape system.hypervisor_memory (system.root ∷ cells) → CommsArePages system cells
+pub comms_from : (system : SystemConfig) (cells : List CellConfig) → RegionsHold CommShape system.platform.hypervisor_memory (system.root ∷ cells) → CommsArePages system cells
 comms_from system cells k a cell above n r x i some comm =
     let p = misshapen_parts (take r cell.memory_regions) x (shaped system cells k a cell above n r x i some comm) in
     record {
@@ -369,10 +369,10 @@ comms_from system cells k a cell above n r x i some comm =
       ];
     }
 
-pub comms_to : (system : SystemConfig) (cells : List CellConfig) → CommsArePages system cells → RegionsHold CommShape system.hypervisor_memory (system.root ∷ cells)
+pub comms_to : (system : SystemConfig) (cells : List CellConfig) → CommsArePages system cells → RegionsHold CommShape system.platform.hypervisor_memory (system.root ∷ cells)
 comms_to system cells k a cell r x n i t =
     let earlier = take r cell.memory_regions in
-    let p = parts CommShape system.hypervisor_memory a earlier x t in
+    let p = parts CommShape system.platform.hypervisor_memory a earlier x t in
     let q = and_parts (not (a == 0)) (is_comm x && is_misshapen earlier x) p.1 in
     let u = and_parts (is_comm x) (is_misshapen earlier x) q.1 in
     let page = k a cell (positive a q.0) n r x i p.0 u.0 in

@@ -240,7 +240,7 @@ place PhysAlign = (12, refl)
 pub tested_from_listed : (system : SystemConfig) (cells : List CellConfig) (f : Finding) → Contains (findings system cells) f → IsTested system cells f
 unfolding findings
 tested_from_listed system cells f c =
-    let h = system.hypervisor_memory in
+    let h = system.platform.hypervisor_memory in
     let all = system.root ∷ cells in
     let p = found_at0 (found_at h all) rules_in_order f c in
     record { rule = p.1; by = found_of p.1 h all f p.3 }
@@ -248,7 +248,7 @@ tested_from_listed system cells f c =
 pub listed_from_tested : (system : SystemConfig) (cells : List CellConfig) (f : Finding) → IsTested system cells f → Contains (findings system cells) f
 unfolding findings
 listed_from_tested system cells f b =
-    let h = system.hypervisor_memory in
+    let h = system.platform.hypervisor_memory in
     let all = system.root ∷ cells in
     let p = place b.rule in
     at_found0 (found_at h all) rules_in_order f p.0 b.rule p.1 (of_found b.rule h all f b.by)

@@ -25,7 +25,7 @@ use Rattle.jh_check.proofs.DeviceLemmas.{section_exists}
 pub item_at : (xs : List Region) (k : ℕ) (d : Region) → k < length xs → slice_get xs k ≡ Some (get_or xs k d)
 item_at xs k d l = slice_get-get_or xs k d l
 
-sound_region : (system : SystemConfig) (cells : List CellConfig) → IsClean system cells → (k : ℕ) (x : Region) → IsItem system.root k x → 0 < x.size → IsSoundRegion system.hypervisor_memory x
+sound_region : (system : SystemConfig) (cells : List CellConfig) → IsClean system cells → (k : ℕ) (x : Region) → IsItem system.root k x → 0 < x.size → IsSoundRegion system.platform.hypervisor_memory x
 sound_region system cells c k x i some =
     let range = c.within 0 system.root refl k x i some in
     let comm = c.no_comm k x i some in

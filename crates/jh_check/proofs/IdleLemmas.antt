@@ -57,7 +57,7 @@ any_found : (system : SystemConfig) (live : List CellConfig) (new : CellConfig) 
 unfolding findings found_by
 any_found system live new breaks =
     let rules : List Rule = VirtOverlap ∷ PhysOverlap ∷ Hypervisor ∷ OutOfRange ∷ RootNotIdentity ∷ CommInRoot ∷ CommShape ∷ ExecuteWithoutRead ∷ SubpageTaken ∷ CellsOverlap ∷ Shmem ∷ [] in
-    found_here (found_at system.hypervisor_memory (system.root ∷ (live ++ new ∷ []))) (makes_invalid (length live + 1)) 0 rules NoCpu (PhysAlign ∷ [])
+    found_here (found_at system.platform.hypervisor_memory (system.root ∷ (live ++ new ∷ []))) (makes_invalid (length live + 1)) 0 rules NoCpu (PhysAlign ∷ [])
     (cpus_found system live new breaks)
 
 idle_invalid : (system : SystemConfig) (live : List CellConfig) (new : CellConfig) → cpus_break new.cpu_set ≡ true → verdict_of system live new ≡ Invalid

@@ -52,7 +52,7 @@ cpus_hold all none a one na t = none (finding_of NoCpu a 0 0 0) (record { a = a;
 
 clean_from : (system : SystemConfig) (cells : List CellConfig) → ((f : Finding) → IsTested system cells f → ⊥) → IsClean system cells
 clean_from system cells none =
-    let h = system.hypervisor_memory in
+    let h = system.platform.hypervisor_memory in
     let all = system.root ∷ cells in
     let devices = devices_hold all (λ f p. none f (record { rule = Shmem; by = p })) in
     record {
@@ -74,22 +74,22 @@ clean_from system cells none =
       aligned = aligned_from system cells (regions_hold PhysAlign h all (λ f p. none f (record { rule = PhysAlign; by = inl p })));
     }
 
-unbroken : (system : SystemConfig) (cells : List CellConfig) → IsClean system cells → (rule : Rule) (f : Finding) → OfRule rule system.hypervisor_memory (system.root ∷ cells) f → ⊥
+unbroken : (system : SystemConfig) (cells : List CellConfig) → IsClean system cells → (rule : Rule) (f : Finding) → OfRule rule system.platform.hypervisor_memory (system.root ∷ cells) f → ⊥
 unbroken system cells c VirtOverlap f p = hold_pairs VirtOverlap (system.root ∷ cells) (addresses_to system cells c.addresses) f p
 unbroken system cells c PhysOverlap f p = hold_pairs PhysOverlap (system.root ∷ cells) (places_to system cells c.places) f p
-unbroken system cells c Hypervisor f p = hold_regions Hypervisor system.hypervisor_memory (system.root ∷ cells) (hypervisor_to system cells c.hypervisor) f p
-unbroken system cells c OutOfRange f (inl p) = hold_regions OutOfRange system.hypervisor_memory (system.root ∷ cells) (within_to system cells c.within) f p
-unbroken system cells c OutOfRange f (inr p) = memory_range system.hypervisor_memory c.memory p.breaks
-unbroken system cells c RootNotIdentity f p = hold_regions RootNotIdentity system.hypervisor_memory (system.root ∷ cells) (identity_to system cells c.identity) f p
-unbroken system cells c CommInRoot f p = hold_regions CommInRoot system.hypervisor_memory (system.root ∷ cells) (no_comm_to system cells c.no_comm) f p
-unbroken system cells c CommShape f p = hold_regions CommShape system.hypervisor_memory (system.root ∷ cells) (comms_to system cells c.comms) f p
-unbroken system cells c ExecuteWithoutRead f p = hold_regions ExecuteWithoutRead system.hypervisor_memory (system.root ∷ cells) (readable_to system cells c.readable) f p
+unbroken system cells c Hypervisor f p = hold_regions Hypervisor system.platform.hypervisor_memory (system.root ∷ cells) (hypervisor_to system cells c.hypervisor) f p
+unbroken system cells c OutOfRange f (inl p) = hold_regions OutOfRange system.platform.hypervisor_memory (system.root ∷ cells) (within_to system cells c.within) f p
+unbroken system cells c OutOfRange f (inr p) = memory_range system.platform.hypervisor_memory c.memory p.breaks
+unbroken system cells c RootNotIdentity f p = hold_regions RootNotIdentity system.platform.hypervisor_memory (system.root ∷ cells) (identity_to system cells c.identity) f p
+unbroken system cells c CommInRoot f p = hold_regions CommInRoot system.platform.hypervisor_memory (system.root ∷ cells) (no_comm_to system cells c.no_comm) f p
+unbroken system cells c CommShape f p = hold_regions CommShape system.platform.hypervisor_memory (system.root ∷ cells) (comms_to system cells c.comms) f p
+unbroken system cells c ExecuteWithoutRead f p = hold_regions ExecuteWithoutRead system.platform.hypervisor_memory (system.root ∷ cells) (readable_to system cells c.readable) f p
 unbroken system cells c SubpageTaken f p = hold_pairs SubpageTaken (system.root ∷ cells) (pages_to system cells c.pages) f p
 unbroken system cells c CellsOverlap f p = hold_pairs CellsOverlap (system.root ∷ cells) (together_to system cells c.together) f p
 unbroken system cells c Shmem f p = devices_to system cells c.devices c.single c.links p.a p.one p.n p.device p.is_one p.is_device p.breaks
 unbroken system cells c NoCpu f p = cpus_to system cells c.cpus p.a p.one p.is_one p.breaks
-unbroken system cells c PhysAlign f (inl p) = hold_regions PhysAlign system.hypervisor_memory (system.root ∷ cells) (aligned_to system cells c.aligned) f p
-unbroken system cells c PhysAlign f (inr p) = memory_align system.hypervisor_memory c.memory p.breaks
+unbroken system cells c PhysAlign f (inl p) = hold_regions PhysAlign system.platform.hypervisor_memory (system.root ∷ cells) (aligned_to system cells c.aligned) f p
+unbroken system cells c PhysAlign f (inr p) = memory_align system.platform.hypervisor_memory c.memory p.breaks
 
 pub clean_from_nothing : (system : SystemConfig) (cells : List CellConfig) → findings system cells ≡ [] → IsClean system cells
 clean_from_nothing system cells e =
@@ -218,7 +218,7 @@ joins_clean system live new c v =
     let p = clean_parts (list_any (makes_invalid n) all) (list_any (makes_busy n) all) v in
     let e : length (system.root ∷ live) ≡ n = omega arith in
     clean_from system (live ++ new ∷ []) (λ f b.
-    elim (old b.rule system.hypervisor_memory (system.root ∷ live) new f b.by) [
+    elim (old b.rule system.platform.hypervisor_memory (system.root ∷ live) new f b.by) [
       | inl named ↦ unnamed all n p.0 p.1 f (listed_from_tested system (live ++ new ∷ []) f b) (subst (λ m. names m f ≡ true) e named)
       | inr q ↦ unbroken system live c b.rule f q
     ])

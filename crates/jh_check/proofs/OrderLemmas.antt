@@ -293,7 +293,7 @@ rule_at i rule h =
 pub findings_ordered : (system : SystemConfig) (cells : List CellConfig) → IsCountable (system.root ∷ cells) → AllPairs Precedes (findings system cells)
 unfolding findings
 findings_ordered system cells count =
-    let h = system.hypervisor_memory in
+    let h = system.platform.hypervisor_memory in
     let all = system.root ∷ cells in
     pairs_ordered (findings system cells) (
     ordered_from0 (found_at h all) rules_in_order (λ i rule e. ordered_by rule h all count) (λ i j one other f g l e k c d.

@@ -405,8 +405,8 @@ told PhysAlign h all f t = tell_both PhysAlign h all f t
 pub broken_from_listed : (system : SystemConfig) (cells : List CellConfig) (f : Finding) → Contains (findings system cells) f → IsBroken system cells f
 broken_from_listed system cells f c =
     let b = tested_from_listed system cells f c in
-    record { rule = b.rule; by = tells b.rule system.hypervisor_memory (system.root ∷ cells) f b.by }
+    record { rule = b.rule; by = tells b.rule system.platform.hypervisor_memory (system.root ∷ cells) f b.by }
 
 pub listed_from_broken : (system : SystemConfig) (cells : List CellConfig) (f : Finding) → IsBroken system cells f → Contains (findings system cells) f
 listed_from_broken system cells f b =
-    listed_from_tested system cells f (record { rule = b.rule; by = told b.rule system.hypervisor_memory (system.root ∷ cells) f b.by })
+    listed_from_tested system cells f (record { rule = b.rule; by = told b.rule system.platform.hypervisor_memory (system.root ∷ cells) f b.by })

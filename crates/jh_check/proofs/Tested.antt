@@ -83,4 +83,4 @@ OfRule PhysAlign h all f = OfRegion PhysAlign h all f ⊎ OfMemory PhysAlign h f
 -- a rule is broken, and the finding tells it
 pub record IsTested (system : SystemConfig) (cells : List CellConfig) (finding : Finding) : Type 0 where
   pub rule : Rule
-  pub by : OfRule rule system.hypervisor_memory (system.root ∷ cells) finding
+  pub by : OfRule rule system.platform.hypervisor_memory (system.root ∷ cells) finding

@@ -340,17 +340,17 @@ busy_end xs new n a goal e f g =
     list_done (makes_busy n) found all (a + 1) goal (omega arith) (list_step (makes_busy n) found all a new goal (omega arith) last g)
 
 -- what is told of the new cell
-pub verdict_from : (system : SystemConfig) (live : List CellConfig) (new : CellConfig) (n : ℕ) (invalid busy : Bool) → n ≡ length live + 1 → invalid ≡ list_any (makes_invalid n) (found_from (found_at system.hypervisor_memory ((system.root ∷ live) ++ new ∷ [])) 0 rules_in_order) → busy ≡ list_any (makes_busy n) (in_pairs CellsOverlap ((system.root ∷ live) ++ new ∷ [])) → verdict_by invalid busy ≡ verdict_of system live new
+pub verdict_from : (system : SystemConfig) (live : List CellConfig) (new : CellConfig) (n : ℕ) (invalid busy : Bool) → n ≡ length live + 1 → invalid ≡ list_any (makes_invalid n) (found_from (found_at system.platform.hypervisor_memory ((system.root ∷ live) ++ new ∷ [])) 0 rules_in_order) → busy ≡ list_any (makes_busy n) (in_pairs CellsOverlap ((system.root ∷ live) ++ new ∷ [])) → verdict_by invalid busy ≡ verdict_of system live new
 unfolding verdict_of findings
 verdict_from system live new n invalid busy e i b =
-    let h = system.hypervisor_memory in
+    let h = system.platform.hypervisor_memory in
     let all = (system.root ∷ live) ++ new ∷ [] in
     let found = found_from (found_at h all) 0 rules_in_order in
     let i' : invalid ≡ list_any (makes_invalid (length live + 1)) found = subst (λ m. invalid ≡ list_any (makes_invalid m) found) e i in
     let b' : busy ≡ list_any (makes_busy (length live + 1)) found = subst (λ m. busy ≡ list_any (makes_busy m) found) e (b ∙ sym (busy_rules n h all)) in
     ap (λ t. verdict_by t busy) i' ∙ ap (λ t. verdict_by (list_any (makes_invalid (length live + 1)) found) t) b'
 
-pub verdict_invalid : (system : SystemConfig) (live : List CellConfig) (new : CellConfig) (n : ℕ) → n ≡ length live + 1 → true ≡ list_any (makes_invalid n) (found_from (found_at system.hypervisor_memory ((system.root ∷ live) ++ new ∷ [])) 0 rules_in_order) → Invalid ≡ verdict_of system live new
+pub verdict_invalid : (system : SystemConfig) (live : List CellConfig) (new : CellConfig) (n : ℕ) → n ≡ length live + 1 → true ≡ list_any (makes_invalid n) (found_from (found_at system.platform.hypervisor_memory ((system.root ∷ live) ++ new ∷ [])) 0 rules_in_order) → Invalid ≡ verdict_of system live new
 verdict_invalid system live new n e i = verdict_from system live new n true (list_any (makes_busy n) (in_pairs CellsOverlap ((system.root ∷ live) ++ new ∷ []))) e i refl
 
 -- what is found of the new cell by each rule, by its number

@@ -141,4 +141,4 @@ IsFindingOf PhysAlign memory all finding = IsRegionFinding PhysAlign memory all 
 -- a rule is broken, and the finding tells it
 pub record IsBroken (system : SystemConfig) (cells : List CellConfig) (finding : Finding) : Type 0 where
   pub rule : Rule
-  pub by : IsFindingOf rule system.hypervisor_memory (system.root ∷ cells) finding
+  pub by : IsFindingOf rule system.platform.hypervisor_memory (system.root ∷ cells) finding

@@ -192,7 +192,7 @@ pub record IsClean (system : SystemConfig) (cells : List CellConfig) : Type 0 wh
   pub addresses : AddressesAreSingle system cells
   pub places : PlacesAreSingle system cells
   pub hypervisor : HypervisorIsAlone system cells
-  pub memory : IsSoundMemory system.hypervisor_memory
+  pub memory : IsSoundMemory system.platform.hypervisor_memory
   pub within : EachRegion system cells IsInRange
   pub identity : RootIsIdentity system
   pub no_comm : RootHasNoComm system
@@ -222,8 +222,8 @@ pub record IsSoundRegion (hypervisor region : Region) : Type 0 where
 -- root is sound: the hypervisor's memory and each region of root that isn't empty are, and no two regions of root have
 -- an address or a place together
 pub record IsSoundRoot (system : SystemConfig) : Type 0 where
-  pub memory : IsSoundMemory system.hypervisor_memory
-  pub regions : All (λ (r : Region). 0 < r.size → IsSoundRegion system.hypervisor_memory r) system.root.memory_regions
+  pub memory : IsSoundMemory system.platform.hypervisor_memory
+  pub regions : All (λ (r : Region). 0 < r.size → IsSoundRegion system.platform.hypervisor_memory r) system.root.memory_regions
   pub addresses : AllPairs SharesNoAddress system.root.memory_regions
   pub places : AllPairs SharesNoPlace system.root.memory_regions
 

@@ -135,4 +135,4 @@ found_at memory all n rule = found_by rule memory all
 
 -- all findings of the system and its cells, rule by rule
 unfoldable pub findings : SystemConfig → List CellConfig → List Finding
-findings system cells = found_from (found_at system.hypervisor_memory (system.root ∷ cells)) 0 rules_in_order
+findings system cells = found_from (found_at system.platform.hypervisor_memory (system.root ∷ cells)) 0 rules_in_order

@@ -60,7 +60,7 @@ AddressesAreSingle system cells =
 -- no region of any cell, root too, has a place of the hypervisor's memory
 abbrev pub HypervisorIsAlone : SystemConfig → List CellConfig → Type 0
 HypervisorIsAlone system cells =
-    EachCell system cells (λ cell. EachItem cell (λ r x. is_comm x ≡ false → SharesNoPlace x system.hypervisor_memory))
+    EachCell system cells (λ cell. EachItem cell (λ r x. is_comm x ≡ false → SharesNoPlace x system.platform.hypervisor_memory))
 
 -- no place is held unshared by two cells besides root, but in the sections at the same offset of two linked devices:
 -- that memory is theirs together

@@ -83,7 +83,7 @@ pub fn check(
     ensures { IfOk result (λ found. found ≡ capped (findings system.now cells.now)) }
 {
     let setup = Setup {
-        hypervisor: &system.hypervisor_memory,
+        hypervisor: &system.platform.hypervisor_memory,
         root: &system.root,
         cells,
     };

@@ -257,7 +257,7 @@ pub fn verdict_of(
     ensures { IfOk result (λ verdict. verdict ≡ verdict_of system.now live.now new.now) }
 {
     let setup = Setup {
-        hypervisor: &system.hypervisor_memory,
+        hypervisor: &system.platform.hypervisor_memory,
         root: &system.root,
         cells: live,
     };

@@ -23,7 +23,7 @@ root_pages system = pages_of system.root.memory_regions []
 
 -- the pages that the hypervisor has to give: its memory is the pool
 abbrev pub pool_pages : SystemConfig → ℕ
-pool_pages system = system.hypervisor_memory.size / PAGE_SIZE
+pool_pages system = system.platform.hypervisor_memory.size / PAGE_SIZE
 
 -- a system is admitted where the check finds nothing in it alone, and the pool has root's pages
 pub record IsAdmittedSystem (system : SystemConfig) : Type 0 where
@@ -55,7 +55,7 @@ IsOtherPreload p q = (place : ℕ) → IsTrue (has_byte_at p place) → IsTrue (
 -- the image may be opened
 pub record IsAdmitted (image : Image) : Type 0 where
   pub system : IsAdmittedSystem image.system
-  pub preloads : All (IsSoundPreload image.system.hypervisor_memory) image.preloads
+  pub preloads : All (IsSoundPreload image.system.platform.hypervisor_memory) image.preloads
   pub apart : AllPairs IsOtherPreload image.preloads
   pub programs : All IsSoundProgram image.programs
   pub owned : AllPairs IsOtherProgram image.programs

@@ -22,14 +22,14 @@ use Rattle.jh_history.specs.Devices.{Devices, windows_of}
 
 -- where the ECAM window of the system begins, which every cell has: at the base
 abbrev pub ecam_start : SystemConfig → ℕ
-ecam_start system = system.pci_mmconfig_base
+ecam_start system = system.platform.pci_mmconfig_base
 
 -- where the ECAM window ends: 1 MiB behind the base for each bus, cut at the last number of 64 bits; a base of 0 says
 -- that there is none
 abbrev pub ecam_end : SystemConfig → ℕ
 ecam_end system =
-    if system.pci_mmconfig_base == 0 then 0
-    else min (system.pci_mmconfig_base + (system.pci_mmconfig_end_bus + 1) * 0x100000) 0xffffffffffffffff
+    if system.platform.pci_mmconfig_base == 0 then 0
+    else min (system.platform.pci_mmconfig_base + (system.platform.pci_mmconfig_end_bus + 1) * 0x100000) 0xffffffffffffffff
 
 -- ---- what is asked
 

@@ -89,7 +89,7 @@ page_write_by image facts entry (Fetch at got) = unless_good (is_some got) (fail
 page_write_by image facts entry (Await width at value ok) = unless_good ok (failing image facts entry)
 page_write_by image facts entry (Decide None) = option_and_then (λ (o : OpenCall). asking facts.cells o.call) facts.call
 page_write_by image facts entry (Settle Timeout) = option_and_then (λ (o : OpenCall). option_map (on_page (State STATE_FAILED)) (named_cell facts.cells o.call)) facts.call
-page_write_by image facts entry Commit = option_and_then (λ (o : OpenCall). committing image.system.pci_mmconfig_base facts.cells o.call o.phase) facts.call
+page_write_by image facts entry Commit = option_and_then (λ (o : OpenCall). committing image.system.platform.pci_mmconfig_base facts.cells o.call o.phase) facts.call
 page_write_by image facts entry (Note id) = Some (record { cell = id; change = Message MESSAGE_RECONFIG_COMPLETED })
 page_write_by image facts entry (Noted id Unheard) = Some (record { cell = id; change = State STATE_FAILED })
 page_write_by image facts entry act = None

@@ -57,7 +57,7 @@ pub fn root_pages(system: &SystemConfig) -> u64
 pub fn pool_pages(system: &SystemConfig) -> u64
     ensures { result ≡ pool_pages system.now }
 {
-    system.hypervisor_memory.size / PAGE_SIZE
+    system.platform.hypervisor_memory.size / PAGE_SIZE
 }
 
 /// Whether the check finds nothing in the system alone.
@@ -130,10 +130,12 @@ fn are_sound_preloads(hypervisor: &Region, preloads: &[Preload]) -> bool
 
 /// Whether the preloads may be put into memory together.
 fn are_fit_preloads(image: &Image) -> bool
-    ensures { IsTrue result ↔ (All (IsSoundPreload image.now.system.hypervisor_memory) image.now.preloads × AllPairs IsOtherPreload image.now.preloads) }
+    ensures { IsTrue result ↔ (All (IsSoundPreload image.now.system.platform.hypervisor_memory) image.now.preloads × AllPairs IsOtherPreload image.now.preloads) }
 {
-    are_sound_preloads(&image.system.hypervisor_memory, image.preloads.as_slice())
-        && are_apart(image.preloads.as_slice())
+    are_sound_preloads(
+        &image.system.platform.hypervisor_memory,
+        image.preloads.as_slice(),
+    ) && are_apart(image.preloads.as_slice())
 }
 
 /// Whether the programs may be run.

@@ -26,11 +26,11 @@ pub(crate) fn ecam_of(system: &SystemConfig) -> Range
     ensures start { result.start ≡ ecam_start system.now }
     ensures end { result.end ≡ ecam_end system.now }
 {
-    let start = system.pci_mmconfig_base;
+    let start = system.platform.pci_mmconfig_base;
     if start == 0 {
         return Range { start: 0, end: 0 };
     }
-    let buses = u64::from(system.pci_mmconfig_end_bus) + 1;
+    let buses = u64::from(system.platform.pci_mmconfig_end_bus) + 1;
     Range {
         start,
         end: start.saturating_add(buses * BUS_SIZE),

@@ -220,7 +220,7 @@ pub fn page_write(
         Act::Settle {
             how: Settled::Timeout,
         } => at_timeout(cells, call),
-        Act::Commit => at_commit(image.system.pci_mmconfig_base, cells, call),
+        Act::Commit => at_commit(image.system.platform.pci_mmconfig_base, cells, call),
         _ => None,
     }
 }

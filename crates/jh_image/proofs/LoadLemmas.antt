@@ -33,7 +33,7 @@ pub record LoadedSoFar (contents : Contents) (board : List ℕ) (listing : Listi
   pub count_is : length preloads ≡ count
   pub within : count ≤ length listing.preloads
   pub read : ReadsTo contents board (with_system (so_far_of listing system preloads []))
-  pub sound : All (IsSoundPreload system.hypervisor_memory) preloads
+  pub sound : All (IsSoundPreload system.platform.hypervisor_memory) preloads
   pub apart : AllPairs IsOtherPreload preloads
 
 pub loaded_start : (contents : Contents) (board : List ℕ) (listing : Listing) (system : SystemConfig) → ReadsTo contents board (with_system (so_far_of listing system [] [])) → LoadedSoFar contents board listing system 0 []
@@ -58,14 +58,14 @@ pub loaded_next : (contents : Contents) (board : List ℕ) (listing : Listing) (
 loaded_next contents board listing system i file preloads lt is so_far = file_next listing.preloads i (length preloads) file so_far.count_is lt is
 
 pub loaded_more : (contents : Contents) (board : List ℕ) (listing : Listing) (system : SystemConfig) (i : ℕ) (file : PreloadFile) (preloads : List Preload) (preload : Preload) → i < length listing.preloads → file ≡ get_or listing.preloads i file
-    → IsPreloadOf contents file preload → IsFaultless system.hypervisor_memory preloads preload → LoadedSoFar contents board listing system i preloads → LoadedSoFar contents board listing system (i + 1) (preloads ++ preload ∷ [])
+    → IsPreloadOf contents file preload → IsFaultless system.platform.hypervisor_memory preloads preload → LoadedSoFar contents board listing system i preloads → LoadedSoFar contents board listing system (i + 1) (preloads ++ preload ∷ [])
 loaded_more contents board listing system i file preloads preload lt is of fit so_far =
     let before = so_far_of listing system preloads [] in
     record {
       count_is = length_more preloads preload i so_far.count_is;
       within = omega arith;
       read = one_more_read (with_system before) (with_system (with_preload before preload)) so_far.read (reads_preload before file preload (loaded_next contents board listing system i file preloads lt is so_far) of fit);
-      sound = All-push (IsSoundPreload system.hypervisor_memory) preloads preload so_far.sound fit.sound;
+      sound = All-push (IsSoundPreload system.platform.hypervisor_memory) preloads preload so_far.sound fit.sound;
       apart = all_pairs_push IsOtherPreload preloads preload so_far.apart (λ k d within. fit.apart k d within);
     }
 

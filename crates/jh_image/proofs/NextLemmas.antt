@@ -135,8 +135,8 @@ sound_next listing system sound =
 -- what follows a preload, by whether it has a fault
 abbrev pub AfterPreload : SoFar → Preload → Next → Type 0
 AfterPreload so_far preload next =
-    (IsFaultless so_far.system.hypervisor_memory so_far.preloads preload × (next ≡ goes_on (with_system (with_preload so_far preload))))
-    ⊎ ((¬ IsFaultless so_far.system.hypervisor_memory so_far.preloads preload) × (next ≡ stops (BadPreload (length so_far.preloads))))
+    (IsFaultless so_far.system.platform.hypervisor_memory so_far.preloads preload × (next ≡ goes_on (with_system (with_preload so_far preload))))
+    ⊎ ((¬ IsFaultless so_far.system.platform.hypervisor_memory so_far.preloads preload) × (next ≡ stops (BadPreload (length so_far.preloads))))
 
 preload_next : (so_far : SoFar) (preload : Preload) (one other : Next) → AfterPreload so_far preload one → AfterPreload so_far preload other → one ≡ other
 preload_next so_far preload one other (inl h) (inl k) = h.1 ∙ sym k.1

@@ -90,7 +90,7 @@ unsound_stops contents board listing system read spells file _ h = absurd h
 
 -- the next preload has a fault
 pub preload_stops : (contents : Contents) (board : List ℕ) (so_far : SoFar) (entry : PreloadFile) (preload : Preload) (number : ℕ) → ReadsTo contents board (with_system so_far) → IsNextPreload so_far entry
-    → IsPreloadOf contents entry preload → ¬ IsFaultless so_far.system.hypervisor_memory so_far.preloads preload → number ≡ length so_far.preloads → IsCauseOf contents board board (BadPreload number)
+    → IsPreloadOf contents entry preload → ¬ IsFaultless so_far.system.platform.hypervisor_memory so_far.preloads preload → number ≡ length so_far.preloads → IsCauseOf contents board board (BadPreload number)
 preload_stops contents board so_far entry preload number read next is unfit number_is =
     subst (λ n. IsCauseOf contents board board (BadPreload n)) (sym number_is)
     (record { stage = with_system so_far; read = read; stops = by_preload so_far (record { file = entry; next = next; preload = preload; read = is; faulty = unfit }) })

@@ -53,7 +53,7 @@ pub record IsPreloadFault (contents : Contents) (so_far : SoFar) : Type 0 where
   pub next : IsNextPreload so_far file
   pub preload : Preload
   pub read : IsPreloadOf contents file preload
-  pub faulty : ¬ IsFaultless so_far.system.hypervisor_memory so_far.preloads preload
+  pub faulty : ¬ IsFaultless so_far.system.platform.hypervisor_memory so_far.preloads preload
 
 -- the program that is next is read, and its text has this fault
 pub record IsProgramFault (contents : Contents) (so_far : SoFar) (file : ProgramFile) (fault : ProgramFault) : Type 0 where

@@ -72,7 +72,7 @@ pub data ReadsNext (contents : Contents) (board : List ℕ) : Stage → Stage �
   reads_system : (listing : Listing) (system : SystemConfig) → SpellsSystem contents listing.system system → IsAdmittedSystem system
       → ReadsNext contents board (with_listing listing) (with_system (so_far_of listing system [] []))
   reads_preload : (so_far : SoFar) (file : PreloadFile) (preload : Preload) → IsNextPreload so_far file → IsPreloadOf contents file preload
-      → IsFaultless so_far.system.hypervisor_memory so_far.preloads preload → ReadsNext contents board (with_system so_far) (with_system (with_preload so_far preload))
+      → IsFaultless so_far.system.platform.hypervisor_memory so_far.preloads preload → ReadsNext contents board (with_system so_far) (with_system (with_preload so_far preload))
   reads_program : (so_far : SoFar) (file : ProgramFile) (program : Program) → IsNextProgram so_far file → IsProgramOf contents file program
       → ReadsNext contents board (with_system so_far) (with_system (with_program so_far program))
 

@@ -58,7 +58,7 @@ fn next_preload<F: Files>(
         × IsNextPreload (so_far_of listing system.now preloads.now []) file.now }
     requires few { length preloads.now < 64 }
     ensures ok { IfOk result (IsPreloadOf (F.contents files.old) file.now) }
-    ensures faultless { IfOk result (IsFaultless system.now.hypervisor_memory preloads.now) }
+    ensures faultless { IfOk result (IsFaultless system.now.platform.hypervisor_memory preloads.now) }
     ensures err { IfErr result (OnRefused (IsCauseOf (F.contents files.old) board.now)) }
     ensures counted { IfErr result (IsCounted (F.faults files.old) (F.faults files.new) (F.failed files.new)) }
     ensures never_falls { F.faults files.old ≤ F.faults files.new }
@@ -68,7 +68,7 @@ fn next_preload<F: Files>(
 {
     let preload = read_preload(alloc, files, file)?;
     let number = preloads.len() as u32;
-    if !is_faultless(&system.hypervisor_memory, preloads, &preload) {
+    if !is_faultless(&system.platform.hypervisor_memory, preloads, &preload) {
         return Err(refused(alloc, board, ImageCause::Preload { number }));
     }
     Ok(preload)
@@ -86,7 +86,7 @@ fn read_preloads<F: Files>(
     requires few { length listing.now.preloads ≤ 64 }
     ensures ok { IfOk result (λ preloads. ReadsTo (F.contents files.old) board.now (with_system (so_far_of listing.now system.now preloads []))) }
     ensures all { IfOk result (λ preloads. length preloads ≡ length listing.now.preloads) }
-    ensures sound { IfOk result (All (IsSoundPreload system.now.hypervisor_memory)) }
+    ensures sound { IfOk result (All (IsSoundPreload system.now.platform.hypervisor_memory)) }
     ensures apart { IfOk result (AllPairs IsOtherPreload) }
     ensures err { IfErr result (OnRefused (IsCauseOf (F.contents files.old) board.now)) }
     ensures counted { IfErr result (IsCounted (F.faults files.old) (F.faults files.new) (F.failed files.new)) }

@@ -96,7 +96,7 @@ got_on image f id access at width sound some (OnRegion r answers is) =
     })
 got_on image f id access at width sound some (OnWindow window is) =
     let P : Reach → Type 0 = λ r. IsGotBy image f id access at width (read_of f.byte (devices_of image f id) r) in
-    let offset : ℕ = at - image.system.pci_mmconfig_base in
+    let offset : ℕ = at - image.system.platform.pci_mmconfig_base in
     let told : ℕ = config_value (devices_of image f id) (record { at = offset; width = width }) in
     subst P (sym is) (record {
       answered = (λ _. inr (inr (inl window)), λ _. refl);

@@ -268,7 +268,7 @@ page_write_small image f entry (Fetch at got) typed h = failing_small image f en
 page_write_small image f entry (Await width at value ok) typed h = failing_small image f entry ok
 page_write_small image f entry (Decide None) typed h = asking_small f.cells f.call
 page_write_small image f entry (Settle Timeout) typed h = timeout_small f.cells f.call
-page_write_small image f entry Commit typed h = commit_small image.system.pci_mmconfig_base f.cells f.call typed h
+page_write_small image f entry Commit typed h = commit_small image.system.platform.pci_mmconfig_base f.cells f.call typed h
 page_write_small image f entry (Noted id Unheard) typed h = tt
 page_write_small image f entry _ typed h = tt
 

@@ -557,7 +557,7 @@ reached_now image f entry id n e w sound small there acted (OnRegion r answers i
 reached_now image f entry id n e w sound small there acted (OnNothing none is) =
     plain_now image f entry id n e w there (acted ∙ ap (λ (q : Reach). endpoints_put (devices_of image f entry.cell) q w.value) is) (λ m bar offset o by. none (inr (inr (inr (m, bar, offset, o, by)))))
 reached_now image f entry id n e w sound small there acted (OnWindow window is) =
-    let at : ℕ = w.at - image.system.pci_mmconfig_base in
+    let at : ℕ = w.at - image.system.platform.pci_mmconfig_base in
     now_by image f entry id n e (endpoints_acted image f entry.cell entry.act) (config_put (devices_of image f entry.cell) (record { at = at; width = w.width }) w.value)
     (acted ∙ ap (λ (q : Reach). endpoints_put (devices_of image f entry.cell) q w.value) is)
     (config_now image f entry id n e at w.width w.value (write_quiet image f entry e w (λ m bar offset o by. by.outside window.within)) (no_drop f entry e (write_commits entry.act w) (write_irq entry.act w)) there)

@@ -227,11 +227,11 @@ window_parts base end_bus at width false is some lies =
     (λ zero. both_ways (eqb base 0) is (eq-eqb base 0 zero), parts.0, omega arith)
 
 in_window : (system : SystemConfig) (at width : ℕ) → at + width ≤ ADDRESS_END → IsInEcam system at width → lies_between (ecam_start system) (ecam_end system) at width ≡ true
-in_window system at width below h = window_from system.pci_mmconfig_base system.pci_mmconfig_end_bus at width (eqb system.pci_mmconfig_base 0) refl below h.some h.first h.last
+in_window system at width below h = window_from system.platform.pci_mmconfig_base system.platform.pci_mmconfig_end_bus at width (eqb system.platform.pci_mmconfig_base 0) refl below h.some h.first h.last
 
 window_in : (system : SystemConfig) (at width : ℕ) → 0 < width → lies_between (ecam_start system) (ecam_end system) at width ≡ true → IsInEcam system at width
 window_in system at width some lies =
-    let parts = window_parts system.pci_mmconfig_base system.pci_mmconfig_end_bus at width (eqb system.pci_mmconfig_base 0) refl some lies in
+    let parts = window_parts system.platform.pci_mmconfig_base system.platform.pci_mmconfig_end_bus at width (eqb system.platform.pci_mmconfig_base 0) refl some lies in
     record { some = parts.0; first = parts.1; last = parts.2 }
 
 abbrev IsWide : ℕ → Type 0
@@ -268,7 +268,7 @@ wanted_at access at width = record { access = access; at = at; width = width }
 pub data Way (image : Image) (f : Facts) (id : ℕ) (access : Access) (at width : ℕ) : Type 0 where
   OnMemory : (ps : List Place) → AreGrantedTo image f.cells id access at width → reach image f id access at width ≡ Memory ps → Way image f id access at width
   OnRegion : (r : Region) → IsAnsweredBy image f.cells id access at width r → reach image f id access at width ≡ Subpage (places_in_row (place_in_cell id r at) width) → Way image f id access at width
-  OnWindow : IsAnsweredByConfig image f.cells id access at width → reach image f id access at width ≡ Config (record { at = at - image.system.pci_mmconfig_base; width = width }) → Way image f id access at width
+  OnWindow : IsAnsweredByConfig image f.cells id access at width → reach image f id access at width ≡ Config (record { at = at - image.system.platform.pci_mmconfig_base; width = width }) → Way image f id access at width
   OnRegister : (n bar offset : ℕ) (e : Endpoint) → IsAnsweredByRegister image f id access at width n bar offset e → reach image f id access at width ≡ Window (record { device = n; bar = bar; at = offset }) → Way image f id access at width
   OnNothing : (IsAnswered image f id access at width → ⊥) → reach image f id access at width ≡ Nothing → Way image f id access at width
 
@@ -310,15 +310,15 @@ NoRegion image f id at width = (r : Region) → HasAccess image f.cells id at wi
 
 -- the access lies in the window of configuration space
 config_way : (image : Image) (f : Facts) (id : ℕ) (access : Access) (at width : ℕ) (window : Option TheWindow) (b : Bool) → Behind image f id access at width → NoRegion image f id at width → IsInEcam image.system at width
-    → (is_wide width && eqb ((at - image.system.pci_mmconfig_base) % width) 0) ≡ b → reach image f id access at width ≡ by_device (windows_with image window) (wanted_at access at width) (cond b Ecam HitsNothing) → Way image f id access at width
+    → (is_wide width && eqb ((at - image.system.platform.pci_mmconfig_base) % width) 0) ≡ b → reach image f id access at width ≡ by_device (windows_with image window) (wanted_at access at width) (cond b Ecam HitsNothing) → Way image f id access at width
 config_way image f id access at width window true behind none within is e =
-    let parts = and_parts (is_wide width) (eqb ((at - image.system.pci_mmconfig_base) % width) 0) is in
-    OnWindow (record { behind = behind; none = none; within = within; wide = true_wide width parts.0; aligned = eqb-true ((at - image.system.pci_mmconfig_base) % width) 0 parts.1 }) e
+    let parts = and_parts (is_wide width) (eqb ((at - image.system.platform.pci_mmconfig_base) % width) 0) is in
+    OnWindow (record { behind = behind; none = none; within = within; wide = true_wide width parts.0; aligned = eqb-true ((at - image.system.platform.pci_mmconfig_base) % width) 0 parts.1 }) e
 config_way image f id access at width window false behind none within is e =
     OnNothing
     (unanswered image f id access at width behind.lacks (λ r by. none r by.has)
-    (λ by. both_ways (is_wide width && eqb ((at - image.system.pci_mmconfig_base) % width) 0) is
-    (and_from (is_wide width) (eqb ((at - image.system.pci_mmconfig_base) % width) 0) (wide_true width by.wide) (eq-eqb ((at - image.system.pci_mmconfig_base) % width) 0 by.aligned)))
+    (λ by. both_ways (is_wide width && eqb ((at - image.system.platform.pci_mmconfig_base) % width) 0) is
+    (and_from (is_wide width) (eqb ((at - image.system.platform.pci_mmconfig_base) % width) 0) (wide_true width by.wide) (eq-eqb ((at - image.system.platform.pci_mmconfig_base) % width) 0 by.aligned)))
     (λ n bar offset o by. by.outside within))
     e
 
@@ -369,10 +369,10 @@ bar_way image f id access at width (Some w) sound some behind none outside found
 window_way : (image : Image) (f : Facts) (id : ℕ) (access : Access) (at width : ℕ) (o : Option TheWindow) (b : Bool) → IsSound image f → 0 < width → Behind image f id access at width → NoRegion image f id at width
     → window_of_access (devices_of image f id) at width ≡ o → lies_between (ecam_start image.system) (ecam_end image.system) at width ≡ b
     → reach image f id access at width
-    ≡ by_device (windows_with image o) (wanted_at access at width) (cond b (by_ecam image.system.pci_mmconfig_base at width) (option_map_or (by_window at width) (position (window_has at width) (asked_windows o)) HitsNothing))
+    ≡ by_device (windows_with image o) (wanted_at access at width) (cond b (by_ecam image.system.platform.pci_mmconfig_base at width) (option_map_or (by_window at width) (position (window_has at width) (asked_windows o)) HitsNothing))
     → Way image f id access at width
 window_way image f id access at width o true sound some behind none found is e =
-    config_way image f id access at width o (is_wide width && eqb ((at - image.system.pci_mmconfig_base) % width) 0) behind none (window_in image.system at width some is) refl e
+    config_way image f id access at width o (is_wide width && eqb ((at - image.system.platform.pci_mmconfig_base) % width) 0) behind none (window_in image.system at width some is) refl e
 window_way image f id access at width o false sound some behind none found is e =
     bar_way image f id access at width o sound some behind none
     (λ within. both_ways (lies_between (ecam_start image.system) (ecam_end image.system) at width) is (in_window image.system at width behind.below within))

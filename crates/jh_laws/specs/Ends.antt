@@ -57,9 +57,9 @@ pub record IsAnsweredBy (image : Image) (cells : List Live) (id : ℕ) (access :
 
 -- the access lies in the ECAM window of the system, which has 1 MiB for each bus
 pub record IsInEcam (system : SystemConfig) (at width : ℕ) : Type 0 where
-  pub some : system.pci_mmconfig_base ≢ 0
-  pub first : system.pci_mmconfig_base ≤ at
-  pub last : at + width ≤ system.pci_mmconfig_base + (system.pci_mmconfig_end_bus + 1) * 2 ^ 20
+  pub some : system.platform.pci_mmconfig_base ≢ 0
+  pub first : system.platform.pci_mmconfig_base ≤ at
+  pub last : at + width ≤ system.platform.pci_mmconfig_base + (system.platform.pci_mmconfig_end_bus + 1) * 2 ^ 20
 
 -- configuration space answers the access: no subpage region has it, and its width is 1, 2 or 4 and divides the offset
 -- from the window's start
@@ -68,7 +68,7 @@ pub record IsAnsweredByConfig (image : Image) (cells : List Live) (id : ℕ) (ac
   pub none : (region : Region) → HasAccess image cells id at width region → ⊥
   pub within : IsInEcam image.system at width
   pub wide : (width ≡ 1) ⊎ (width ≡ 2) ⊎ (width ≡ 4)
-  pub aligned : (at - image.system.pci_mmconfig_base) % width ≡ 0
+  pub aligned : (at - image.system.platform.pci_mmconfig_base) % width ≡ 0
 
 -- ---- devices
 
@@ -138,7 +138,7 @@ AreItsPlaces image cells id access at width place =
 
 -- the offset of the address in the ECAM window
 abbrev pub offset_in : SystemConfig → ℕ → ℕ
-offset_in system at = at - system.pci_mmconfig_base
+offset_in system at = at - system.platform.pci_mmconfig_base
 
 -- the value is what the access reads: the number of the bytes at its places, the lowest first; in configuration space the
 -- bytes of the function that is there, or the number whose bits are all set where none is; or the register of the device

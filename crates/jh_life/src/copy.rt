@@ -35,7 +35,7 @@ pub(crate) fn copy_of_system(alloc: Global, system: &SystemConfig) -> Result<Sys
     ensures { IfOk result (λ copy. copy ≡ system.now) }
 {
     Ok(SystemConfig {
+        platform: system.platform,
         root: copy_of_cell(alloc, &system.root)?,
-        ..*system
     })
 }

@@ -20,22 +20,22 @@ size_b = refl
 apart : (low top other place : ℕ) → top ≤ other → IsTrue (nat_le low place && nat_lt place top) → (end : ℕ) → IsTrue (nat_le other place && nat_lt place end) → ⊥
 apart low top other place h one end more = grind (arith, nat_tests)
 
-a_sound : IsSoundPreload soak_system.hypervisor_memory (preload 0x48000000 cell_a)
+a_sound : IsSoundPreload soak_system.platform.hypervisor_memory (preload 0x48000000 cell_a)
 unfolding soak_system
 a_sound = record {
   within = rw size_a (omega arith);
   clear = λ place hyper mine. apart 0x48000000 (0x48000000 + length (spelling cell_a)) 0x7fc00000 place (rw size_a (omega arith)) mine 0x80000000 hyper;
 }
 
-b_sound : IsSoundPreload soak_system.hypervisor_memory (preload 0x48010000 cell_b)
+b_sound : IsSoundPreload soak_system.platform.hypervisor_memory (preload 0x48010000 cell_b)
 unfolding soak_system
 b_sound = record {
   within = rw size_b (omega arith);
   clear = λ place hyper mine. apart 0x48010000 (0x48010000 + length (spelling cell_b)) 0x7fc00000 place (rw size_b (omega arith)) mine 0x80000000 hyper;
 }
 
-pub preloads_sound : All (IsSoundPreload soak_system.hypervisor_memory) (preload 0x48000000 cell_a ∷ preload 0x48010000 cell_b ∷ [])
-preloads_sound = All-from_recursion (IsSoundPreload soak_system.hypervisor_memory) (preload 0x48000000 cell_a ∷ preload 0x48010000 cell_b ∷ []) (a_sound, (b_sound, tt))
+pub preloads_sound : All (IsSoundPreload soak_system.platform.hypervisor_memory) (preload 0x48000000 cell_a ∷ preload 0x48010000 cell_b ∷ [])
+preloads_sound = All-from_recursion (IsSoundPreload soak_system.platform.hypervisor_memory) (preload 0x48000000 cell_a ∷ preload 0x48010000 cell_b ∷ []) (a_sound, (b_sound, tt))
 
 no_pairs : AllPairs IsOtherPreload []
 no_pairs i j d lt within = absurd (omega arith)

@@ -11,17 +11,16 @@ use Rattle.jh_cellcfg.specs.declared.config.PciDevice.{PciDevice}
 use Rattle.jh_cellcfg.specs.declared.config.Console.{Console}
 use Rattle.jh_cellcfg.specs.declared.region.Region.{Region}
 use Rattle.jh_cellcfg.specs.Spelling.{console_bytes}
-use Rattle.jh_syscfg.specs.declared.platform.Platform.{Platform}
+use Rattle.jh_cellcfg.specs.declared.config.Platform.{Platform}
 use Rattle.jh_spec.specs.declared.fault.JsonFault.{JsonFault}
 use Rattle.jh_spec.specs.declared.cell.Identity.{Identity}
 use Rattle.jh_spec.specs.declared.cell.Lists.{Lists}
 use Rattle.jh_spec.specs.declared.cell.Settings.{Settings}
 use Rattle.jh_spec.specs.Faults.{told_and_then, ◌>>=◌, member_told, all_listed}
-use Rattle.jh_syscfg.specs.Layout.{system_of}
 use Rattle.jh_spec.specs.Json.{told_or, number_told, number_below, list_told, has_only}
 use Rattle.jh_spec.specs.Fields.{u8_at, u16_at, u32_at, u64_at, u32_told, words_at, words_told, region_names, irqchip_names, device_names, console_names, region_members, irqchip_members, device_members, console_members, region_told, irqchip_told, device_told, console_told}
 use Rattle.jh_spec.specs.Cells.{cell_name, cpu_set_size, cpu_set_in, regions_in, irqchips_in, devices_in, console_at, region_at, cell_names, system_names, identity_told, lists_told, settings_told, cell_made_of, cell_told, root_of, root_in, root_told, platform_told, system_told}
-use Rattle.jh_spec.specs.Laws.{IsNumberOf, AreWordsOf, IsRegionOf, IsIrqchipOf, IsDeviceOf, IsConsoleOf, IsCellOf, IsSystemOf}
+use Rattle.jh_spec.specs.Laws.{IsNumberOf, AreWordsOf, IsRegionOf, IsIrqchipOf, IsDeviceOf, IsConsoleOf, IsCellOf, IsPlatformOf, IsSystemOf}
 
 -- ---- one number
 
@@ -269,17 +268,7 @@ cell_fields names d x h =
       stream_ids = refl;
     })
 
-record PlatformOf (d : Data) (x : Platform) : Type 0 where
-  flags : IsNumberOf 32 (codes "flags") d x.flags
-  hypervisor_memory : region_at (codes "hypervisor") d ≡ Some x.hypervisor_memory
-  debug_console : console_at (codes "debug_console") d ≡ Some x.debug_console
-  pci_mmconfig_base : IsNumberOf 64 (codes "mmconfig_base") d x.pci_mmconfig_base
-  pci_mmconfig_end_bus : IsNumberOf 8 (codes "end_bus") d x.pci_mmconfig_end_bus
-  pci_is_virtual : IsNumberOf 8 (codes "is_virtual") d x.pci_is_virtual
-  pci_domain : IsNumberOf 16 (codes "domain") d x.pci_domain
-  root_head : x.root_head ≡ replicate 8 0
-
-platform_fields : (d : Data) (x : Platform) → platform_told d ≡ Ok x → PlatformOf d x
+platform_fields : (d : Data) (x : Platform) → platform_told d ≡ Ok x → IsPlatformOf d x
 unfolding platform_told
 platform_fields d x h =
     let s1 = steps (member_told (codes "flags") (u32_at (codes "flags") d)) _ x h in
@@ -289,7 +278,7 @@ platform_fields d x h =
     let s5 = steps (member_told (codes "end_bus") (u8_at (codes "end_bus") d)) _ x s4.2 in
     let s6 = steps (member_told (codes "is_virtual") (u8_at (codes "is_virtual") d)) _ x s5.2 in
     let s7 = steps (member_told (codes "domain") (u16_at (codes "domain") d)) _ x s6.2 in
-    subst (PlatformOf d) (same_Ok _ x s7.2) (record {
+    subst (IsPlatformOf d) (same_Ok _ x s7.2) (record {
       flags = number_is 32 (codes "flags") d s1.0 (told_member (codes "flags") (u32_at (codes "flags") d) s1.0 s1.1);
       hypervisor_memory = told_member (codes "hypervisor") (region_at (codes "hypervisor") d) s2.0 s2.1;
       debug_console = told_member (codes "debug_console") (console_at (codes "debug_console") d) s3.0 s3.1;
@@ -314,15 +303,7 @@ system_fields d x h =
     let s1 = steps (platform_told d) _ x h in
     let s2 = steps (root_told d) _ x s1.2 in
     let s3 = steps (all_listed (codes "kind" ∷ system_names) d) _ x s2.2 in
-    let platform = platform_fields d s1.0 s1.1 in
-    subst (IsSystemOf d) (same_Ok (system_of s1.0 s2.0) x s3.2) (record {
-      flags = platform.flags;
-      hypervisor_memory = platform.hypervisor_memory;
-      debug_console = platform.debug_console;
-      pci_mmconfig_base = platform.pci_mmconfig_base;
-      pci_mmconfig_end_bus = platform.pci_mmconfig_end_bus;
-      pci_is_virtual = platform.pci_is_virtual;
-      pci_domain = platform.pci_domain;
-      root_head = platform.root_head;
+    subst (IsSystemOf d) (same_Ok _ x s3.2) (record {
+      platform = platform_fields d s1.0 s1.1;
       root = root_by d (get (codes "root") d) refl s2.0 s2.1;
     })

@@ -4,6 +4,7 @@ use Rattle.std.specs.List.{list_any}
 use Rattle.serde_json.specs.Data.{Data}
 use Rattle.serde_json.specs.Find.{get, as_str}
 use Rattle.jh_cellcfg.specs.declared.config.CellConfig.{CellConfig}
+use Rattle.jh_cellcfg.specs.declared.config.Platform.{Platform}
 use Rattle.jh_cellcfg.specs.declared.config.SystemConfig.{SystemConfig}
 use Rattle.jh_cellcfg.specs.declared.config.Irqchip.{Irqchip}
 use Rattle.jh_cellcfg.specs.declared.config.PciDevice.{PciDevice}
@@ -12,8 +13,6 @@ use Rattle.jh_cellcfg.specs.declared.region.Region.{Region}
 use Rattle.jh_cellcfg.specs.Empty.{no_console}
 use Rattle.jh_cellcfg.specs.Limits.{is_name, is_zero}
 use Rattle.jh_cellcfg.specs.Spelling.{console_bytes}
-use Rattle.jh_syscfg.specs.declared.platform.Platform.{Platform}
-use Rattle.jh_syscfg.specs.Layout.{system_of}
 use Rattle.jh_spec.specs.declared.fault.JsonFault.{JsonFault}
 use Rattle.jh_spec.specs.declared.fault.JsonFault.TheVariants.{Member}
 use Rattle.jh_spec.specs.declared.cell.Identity.{Identity}
@@ -213,4 +212,4 @@ system_told d = do
   platform ← platform_told d
   root ← root_told d
   _ ← all_listed (codes "kind" ∷ system_names) d
-  Ok (system_of platform root)
+  Ok (record { platform = platform; root = root })

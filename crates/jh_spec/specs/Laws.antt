@@ -5,6 +5,7 @@ use Rattle.std.specs.Option.{option_map_or, option_or}
 use Rattle.serde_json.specs.Data.{Data}
 use Rattle.serde_json.specs.Find.{get}
 use Rattle.jh_cellcfg.specs.declared.config.CellConfig.{CellConfig}
+use Rattle.jh_cellcfg.specs.declared.config.Platform.{Platform}
 use Rattle.jh_cellcfg.specs.declared.config.SystemConfig.{SystemConfig}
 use Rattle.jh_cellcfg.specs.declared.config.Irqchip.{Irqchip}
 use Rattle.jh_cellcfg.specs.declared.config.PciDevice.{PciDevice}
@@ -94,16 +95,20 @@ pub record IsCellOf (d : Data) (cell : CellConfig) : Type 0 where
   pub pci_caps : cell.pci_caps ≡ []
   pub stream_ids : cell.stream_ids ≡ []
 
--- the fields of the system are those that the object's members tell; the head of root is zeros
+-- the fields of the platform are those that the object's members tell; the head of root is zeros
+pub record IsPlatformOf (d : Data) (platform : Platform) : Type 0 where
+  pub flags : IsNumberOf 32 (codes "flags") d platform.flags
+  pub hypervisor_memory : region_at (codes "hypervisor") d ≡ Some platform.hypervisor_memory
+  pub debug_console : console_at (codes "debug_console") d ≡ Some platform.debug_console
+  pub pci_mmconfig_base : IsNumberOf 64 (codes "mmconfig_base") d platform.pci_mmconfig_base
+  pub pci_mmconfig_end_bus : IsNumberOf 8 (codes "end_bus") d platform.pci_mmconfig_end_bus
+  pub pci_is_virtual : IsNumberOf 8 (codes "is_virtual") d platform.pci_is_virtual
+  pub pci_domain : IsNumberOf 16 (codes "domain") d platform.pci_domain
+  pub root_head : platform.root_head ≡ replicate 8 0
+
+-- the platform of the system is what the object's members tell, and root what its member `root` tells
 pub record IsSystemOf (d : Data) (system : SystemConfig) : Type 0 where
-  pub flags : IsNumberOf 32 (codes "flags") d system.flags
-  pub hypervisor_memory : region_at (codes "hypervisor") d ≡ Some system.hypervisor_memory
-  pub debug_console : console_at (codes "debug_console") d ≡ Some system.debug_console
-  pub pci_mmconfig_base : IsNumberOf 64 (codes "mmconfig_base") d system.pci_mmconfig_base
-  pub pci_mmconfig_end_bus : IsNumberOf 8 (codes "end_bus") d system.pci_mmconfig_end_bus
-  pub pci_is_virtual : IsNumberOf 8 (codes "is_virtual") d system.pci_is_virtual
-  pub pci_domain : IsNumberOf 16 (codes "domain") d system.pci_domain
-  pub root_head : system.root_head ≡ replicate 8 0
+  pub platform : IsPlatformOf d system.platform
   pub root : (root : Data) × (get (codes "root") d ≡ Some root) × IsCellOf root system.root
 
 -- ---- the CPU bitmap

@@ -9,8 +9,7 @@ ghost use Rattle.jh_spec.specs.Private.Faults.{IsAsWanted};
 
 use crate::cell::{CELL_NAMES, all_listed, cell, field};
 use crate::fault::{JsonFault, fault_of};
-use jh_cellcfg::{CellConfig, SystemConfig};
-use jh_syscfg::Platform;
+use jh_cellcfg::{CellConfig, Platform, SystemConfig};
 use serde_json::Value;
 use std::alloc::Global;
 
@@ -82,5 +81,5 @@ pub fn system(alloc: Global, object: &Value) -> Result<SystemConfig, JsonFault>
     let platform = platform_of(alloc, object)?;
     let root = root(alloc, object)?;
     all_listed(alloc, object, &SYSTEM_NAMES)?;
-    Ok(platform.with(root))
+    Ok(SystemConfig { platform, root })
 }

@@ -27,17 +27,7 @@ system_found bytes each none =
     let rest_is : drop 96 bytes ≡ t.rest = sym (drop-drop 88 8 bytes) ∙ ap (drop 88) t.is ∙ behind_platform p t.rest t.fits in
     let len : length (drop 8 bytes) ≡ 88 + length t.rest = ap length t.is ∙ length-append (platform_bytes p) t.rest ∙ ap (λ (k : ℕ). k + length t.rest) (platform_field.len p t.fits) in
     let found = body_found 96 t.rest t.more (omega (arith, length-drop 8 bytes)) (ap (body_fault 96) (sym rest_is) ∙ head_of body [] (rest_of (start_fault (codes "JHSYST") bytes) (body ∷ []) later)) in
-    let s : SystemConfig = record {
-      flags = p.flags;
-      hypervisor_memory = p.hypervisor_memory;
-      debug_console = p.debug_console;
-      pci_mmconfig_base = p.pci_mmconfig_base;
-      pci_mmconfig_end_bus = p.pci_mmconfig_end_bus;
-      pci_is_virtual = p.pci_is_virtual;
-      pci_domain = p.pci_domain;
-      root_head = p.root_head;
-      root = found.0;
-    } in (
+    let s : SystemConfig = record { platform = p; root = found.0 } in (
       s,
       record { platform = t.fits; root = found.1 },
       record { root = found.2 },

@@ -3,15 +3,15 @@ use Rattle.std.proofs.Common.{◌≡◌, ℕ, ◌≤◌, List, [], ◌∷◌, �
 use Rattle.std.specs.Prelude.{codes, IfOk}
 use Rattle.std.proofs.lemmas.Bool.{le-ltb}
 use Rattle.std.proofs.lemmas.List.{drop_at}
+use Rattle.jh_cellcfg.specs.declared.config.Platform.{Platform}
 use Rattle.jh_cellcfg.specs.declared.config.SystemConfig.{SystemConfig}
 use Rattle.jh_cellcfg.specs.declared.fault.ConfigFault.{ConfigFault}
 use Rattle.jh_cellcfg.specs.declared.fault.ConfigFault.TheVariants.{Short}
 use Rattle.jh_cellcfg.specs.Faults.{fault_if, first_of, body_fault, refusal}
 use Rattle.jh_cellcfg.specs.Spelling.{body_bytes}
 use Rattle.jh_cellcfg.proofs.Public.{length_body_bytes, body_unfaulted, one_body, started}
-use Rattle.jh_syscfg.specs.Layout.{platform_bytes, platform_of, system_spelling, IsPlatform, IsSystem, IsSystemWithinLimits}
+use Rattle.jh_syscfg.specs.Layout.{platform_bytes, system_spelling, IsPlatform, IsSystem, IsSystemWithinLimits}
 use Rattle.jh_syscfg.specs.SystemFaults.{system_fault, GivesSystem}
-use Rattle.jh_syscfg.specs.declared.platform.Platform.{Platform}
 use Rattle.jh_syscfg.proofs.Platforms.{platform_splits, platform_field}
 
 -- what stands behind 88 bytes of a platform
@@ -21,20 +21,9 @@ behind_platform p rest fits = drop_at (platform_bytes p) rest 88 (platform_field
 -- two systems with one spelling are one
 pub one_system_spelling : (a b : SystemConfig) → IsSystem a → IsSystem b → IsSystemWithinLimits a → IsSystemWithinLimits b → system_spelling a ≡ system_spelling b → a ≡ b
 one_system_spelling a b fa fb la lb e =
-    let split = platform_splits (platform_of a) (platform_of b) (body_bytes a.root) (body_bytes b.root) fa.platform fb.platform (ap (drop 8) e) in
-    let p = split.record_is in
+    let split = platform_splits a.platform b.platform (body_bytes a.root) (body_bytes b.root) fa.platform fb.platform (ap (drop 8) e) in
     let root : a.root ≡ b.root = one_body a.root b.root fa.root fb.root la.root lb.root split.rest_is in
-    λ i. record {
-      flags = (p i).flags;
-      hypervisor_memory = (p i).hypervisor_memory;
-      debug_console = (p i).debug_console;
-      pci_mmconfig_base = (p i).pci_mmconfig_base;
-      pci_mmconfig_end_bus = (p i).pci_mmconfig_end_bus;
-      pci_is_virtual = (p i).pci_is_virtual;
-      pci_domain = (p i).pci_domain;
-      root_head = (p i).root_head;
-      root = root i;
-    }
+    λ i. record { platform = split.record_is i; root = root i }
 
 -- ---- a spelling has no fault
 
@@ -43,7 +32,7 @@ unfaulted_whole short start body a b c = λ i. first_of (a i ∷ b i ∷ c i ∷
 
 pub system_unfaulted : (s : SystemConfig) → IsSystem s → IsSystemWithinLimits s → system_fault (system_spelling s) ≡ None
 system_unfaulted s fits limits =
-    let p = platform_of s in
+    let p = s.platform in
     let platform = platform_field.len p fits.platform in
     let body = length_body_bytes s.root fits.root limits.root in
     let long : 220 ≤ length (system_spelling s) = omega (arith, length-append (platform_bytes p) (body_bytes s.root), platform, body) in

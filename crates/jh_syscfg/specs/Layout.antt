@@ -1,11 +1,10 @@
 -- The bytes of a system's configuration, from its fields. Numbers have their lowest byte first.
 use Rattle.std.specs.Prelude.{◌≡◌, ℕ, ◌<◌, ◌^◌, List, ◌++◌, length, codes}
-use Rattle.jh_cellcfg.specs.declared.config.CellConfig.{CellConfig}
+use Rattle.jh_cellcfg.specs.declared.config.Platform.{Platform}
 use Rattle.jh_cellcfg.specs.declared.config.SystemConfig.{SystemConfig}
 use Rattle.jh_cellcfg.specs.Spelling.{u8_bytes, u16_bytes, u32_bytes, u64_bytes, region_bytes, console_bytes, body_bytes}
 use Rattle.jh_cellcfg.specs.Typed.{IsRegion, IsConsole, IsCell}
 use Rattle.jh_cellcfg.specs.Limits.{IsWithinLimits}
-use Rattle.jh_syscfg.specs.declared.platform.Platform.{Platform}
 
 -- the 88 bytes between the revision and root's name
 abbrev pub platform_bytes : Platform → List ℕ
@@ -13,38 +12,11 @@ platform_bytes p =
     u32_bytes p.flags ++ (region_bytes p.hypervisor_memory ++ (console_bytes p.debug_console ++ (u64_bytes p.pci_mmconfig_base
     ++ (u8_bytes p.pci_mmconfig_end_bus ++ (u8_bytes p.pci_is_virtual ++ (u16_bytes p.pci_domain ++ p.root_head))))))
 
--- the fields of a system but root
-abbrev pub platform_of : SystemConfig → Platform
-platform_of s = record {
-  flags = s.flags;
-  hypervisor_memory = s.hypervisor_memory;
-  debug_console = s.debug_console;
-  pci_mmconfig_base = s.pci_mmconfig_base;
-  pci_mmconfig_end_bus = s.pci_mmconfig_end_bus;
-  pci_is_virtual = s.pci_is_virtual;
-  pci_domain = s.pci_domain;
-  root_head = s.root_head;
-}
-
--- the system of these fields and this root
-abbrev pub system_of : Platform → CellConfig → SystemConfig
-system_of platform root = record {
-  flags = platform.flags;
-  hypervisor_memory = platform.hypervisor_memory;
-  debug_console = platform.debug_console;
-  pci_mmconfig_base = platform.pci_mmconfig_base;
-  pci_mmconfig_end_bus = platform.pci_mmconfig_end_bus;
-  pci_is_virtual = platform.pci_is_virtual;
-  pci_domain = platform.pci_domain;
-  root_head = platform.root_head;
-  root = root;
-}
-
 -- the one spelling of a system's configuration
 abbrev pub system_spelling : SystemConfig → List ℕ
-system_spelling s = codes "JHSYST" ++ (u16_bytes 13 ++ (platform_bytes (platform_of s) ++ body_bytes s.root))
+system_spelling s = codes "JHSYST" ++ (u16_bytes 13 ++ (platform_bytes s.platform ++ body_bytes s.root))
 
--- the fields of a system but root have the values of their types; those of the bytes of root's head are left open
+-- the fields of a platform have the values of their types; those of the bytes of root's head are left open
 pub record IsPlatform (p : Platform) : Type 0 where
   pub flags : p.flags < 2 ^ 32
   pub hypervisor_memory : IsRegion p.hypervisor_memory
@@ -57,7 +29,7 @@ pub record IsPlatform (p : Platform) : Type 0 where
 
 -- the fields of the system's configuration have the values of their types
 pub record IsSystem (s : SystemConfig) : Type 0 where
-  pub platform : IsPlatform (platform_of s)
+  pub platform : IsPlatform s.platform
   pub root : IsCell s.root
 
 -- what a system may have is what root may have; the size is counted from root's head on

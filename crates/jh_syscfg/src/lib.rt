@@ -10,6 +10,5 @@ mod write;
 
 pub use laws::{no_fault_is_a_system, one_system_spelling, system_has_no_fault};
 pub use limits::system_is_within_limits;
-pub use platform::Platform;
 pub use read::read_system;
 pub use write::write_system;

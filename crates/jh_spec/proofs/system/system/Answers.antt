@@ -25,4 +25,4 @@ returns-in_err-all_listed-clause-told c =
 pub returns-clause-told : goal.returns-clause-told
 unfolding system_told
 returns-clause-told c =
-    step _ _ _ _ c.in_ok-platform.ensures (step _ _ _ _ c.in_ok-root.ensures.told (rw c.with.ensures (step _ _ _ _ c.in_ok-all_listed.ensures (ended _))))
+    step _ _ _ _ c.in_ok-platform.ensures (step _ _ _ _ c.in_ok-root.ensures.told (step _ _ _ _ c.in_ok-all_listed.ensures (ended _)))
