@@ -4,4 +4,3 @@ pub use Rattle.jh_check.proofs.RuleLemmas.{broken_from_listed, listed_from_broke
 pub use Rattle.jh_check.proofs.GivenLemmas.{item_at, may_join, numbers_differ, sound_root_holds, sound_set, zero_names}
 pub use Rattle.jh_check.proofs.RefusalLemmas.{accepted_from, accepted_to, below_at, below_more, below_none, below_of, beyond_named, named_beyond}
 pub use Rattle.jh_check.proofs.CappedLemmas.{capped_nil, capped_none}
-pub use Rattle.jh_check.proofs.MaskLemmas.{high_bit, no_bit, so_far}

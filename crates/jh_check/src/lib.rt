@@ -34,7 +34,7 @@ pub use laws::{
     nothing_is_refused_that_is_accepted, pages_are_whole, places_are_single,
     sound_bitmaps_name_few_cpus,
 };
-pub use mask::{mask_of, with_bit};
+pub use mask::{mask_of, with_bit, without_bit};
 pub use refusal::{refusal_of, refusal_without_cpus};
 pub use rule::Rule;
 pub use setup::MAX_CELLS;

@@ -1,5 +1,5 @@
 //! Sets of CPUs, and other marks, as bits.
-ghost use Rattle.std.specs.Prelude.{◌≡◌, ◌≢◌, ◌≤◌, ◌<◌, ◌||◌, ℕ, false, length, slice_index_or};
+ghost use Rattle.std.specs.Prelude.{◌≡◌, ◌≢◌, ◌≤◌, ◌<◌, ◌||◌, ◌&&◌, ◌==◌, ℕ, false, not, length, slice_index_or};
 ghost use Rattle.jh_num.specs.Bits.{has_bit};
 
 /// The mask, with the bit of that number set too where `on`.
@@ -12,6 +12,17 @@ pub fn with_bit(mask: u16, index: usize, on: bool) -> u16
         return mask | 1 << index;
     }
     mask
+}
+
+/// The mask without the bit of that number.
+pub fn without_bit(mask: u16, index: usize) -> u16
+    ensures { (k : ℕ) → has_bit result k ≡ (has_bit mask k && not (k == index)) }
+{
+    if index < 16 {
+        mask & !(1 << index)
+    } else {
+        mask
+    }
 }
 
 /// The marks as a mask, the first as its lowest bit; at most 16 of them.

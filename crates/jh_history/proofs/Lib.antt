@@ -2,6 +2,7 @@ mod PlaceLemmas
 mod AccessLemmas
 mod BehindLemmas
 mod DeviceFindLemmas
+mod GivenLemmas
 mod GrantLemmas
 mod FactsLemmas
 mod DueLemmas

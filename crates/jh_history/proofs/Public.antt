@@ -2,6 +2,7 @@
 pub use Rattle.jh_history.proofs.PlaceLemmas.{further_next, further_none, row_next, written_over}
 pub use Rattle.jh_history.proofs.AccessLemmas.{places_from_row, reach_by_beyond, reach_by_within}
 pub use Rattle.jh_history.proofs.BehindLemmas.{answer_beyond, answer_within, kept_row, takes_all_subpage}
+pub use Rattle.jh_history.proofs.GivenLemmas.{given_of_root}
 pub use Rattle.jh_history.proofs.GrantLemmas.{gives_from, gives_has, place_in_cell_further}
 pub use Rattle.jh_history.proofs.FactsLemmas.{IsLegal_nil, facts_nil, facts_push, same_function}
 pub use Rattle.jh_history.proofs.DueLemmas.{IsLegal_made, by_cpu, due_at_absent, due_at_beyond, due_at_present, is_some_entry}

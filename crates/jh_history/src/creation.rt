@@ -1,13 +1,14 @@
 //! What comes of a create.
-ghost use Rattle.std.specs.Prelude.{◌≡◌, ℕ, ◌≤◌, length, IfOk, IfSome, IfNone};
+ghost use Rattle.std.specs.Prelude.{◌≡◌, ℕ, ◌≤◌, ◌==◌, ◌&&◌, length, IfOk, IfSome, IfNone};
 ghost use Rattle.jh_num.specs.Bits.{has_bit};
 ghost use Rattle.jh_check.specs.Refusals.{refusal_of};
 ghost use Rattle.jh_history.specs.Admitted.{pool_pages, IsAdmitted};
 ghost use Rattle.jh_history.specs.Cpus.{ListsCpus};
 ghost use Rattle.jh_history.specs.Facts.{Facts};
+ghost use Rattle.jh_history.specs.Lives.{is_on_board};
 ghost use Rattle.jh_history.specs.Phases.{may_give, unless_refused, creation_by};
 ghost use Rattle.jh_shape.specs.Lives.{configs_of};
-ghost use Rattle.jh_history.specs.ReadView.{gives_by, refusal_by};
+ghost use Rattle.jh_history.specs.ReadView.{refusal_by};
 
 use crate::admission::pool_pages;
 use crate::boxed::BoxedCell;
@@ -17,18 +18,32 @@ use crate::counting::sum_of_pages;
 use crate::laws::admitted_roots_are_sound;
 use crate::reading::ReadCell;
 use jh_cellcfg::{CellConfig, MAX_CPUS};
-use jh_check::{MAX_CELLS, refusal_of, refusal_without_cpus, with_bit};
+use jh_check::{MAX_CELLS, refusal_of, refusal_without_cpus, with_bit, without_bit};
 use jh_cpu::Cpu;
 use jh_num::NoMemory;
 use jh_script::Image;
 use jh_shape::pages_of;
 use std::alloc::Global;
 
-/// Whether the caller may give the CPU to a new cell: it is on the board, root's, and not the caller.
-fn may_give(image: &Image, state: Cpu, caller: u8, cpu: u8) -> bool
-    ensures { result ≡ gives_by image.now caller cpu state }
+/// Whether the CPU is on the board and root's.
+fn is_of_root(image: &Image, state: Cpu, cpu: u8) -> bool
+    ensures { result ≡ (is_on_board image.now cpu && (state.owner == image.now.system.root.id)) }
 {
-    is_on_board(image, cpu) && cpu != caller && state.owner == image.system.root.id
+    is_on_board(image, cpu) && state.owner == image.system.root.id
+}
+
+/// The CPUs on the board that are root's.
+pub fn cpus_of_root(image: &Image, cpus: &[Cpu; MAX_CPUS]) -> u16
+    requires { IsAdmitted image.now }
+    ensures { (f : Facts) → ListsCpus cpus.now f.cpu → (cpu : ℕ) → has_bit result cpu ≡ (is_on_board image.now cpu && ((f.cpu cpu).owner == image.now.system.root.id)) }
+{
+    admitted_roots_are_sound(image);
+    let mut owned = 0;
+    for cpu in 0..MAX_CPUS as u8 {
+        let index = usize::from(cpu);
+        owned = with_bit(owned, index, is_of_root(image, cpus[index], cpu));
+    }
+    owned
 }
 
 /// The CPUs that the caller may give to a new cell: those on the board that are root's, without the caller.
@@ -36,13 +51,7 @@ fn given(image: &Image, cpus: &[Cpu; MAX_CPUS], caller: u8) -> u16
     requires { IsAdmitted image.now }
     ensures { (f : Facts) → ListsCpus cpus.now f.cpu → (cpu : ℕ) → has_bit result cpu ≡ may_give image.now f caller cpu }
 {
-    admitted_roots_are_sound(image);
-    let mut may = 0;
-    for cpu in 0..MAX_CPUS as u8 {
-        let index = usize::from(cpu);
-        may = with_bit(may, index, may_give(image, cpus[index], caller, cpu));
-    }
-    may
+    without_bit(cpus_of_root(image, cpus), usize::from(caller))
 }
 
 /// What the configuration is refused for by such pages, beside 15 cells at most. Beside 15 none of the CPUs may be

@@ -49,7 +49,7 @@ pub use calling::{Called, call_after, count_entry, is_of_call};
 pub use cells::{gives, is_on_board, is_program_of, program_ops};
 pub use change::{Change, cpus_after};
 pub use comm::{PageChange, PageWrite};
-pub use creation::unless_refused;
+pub use creation::{cpus_of_root, unless_refused};
 pub use device_change::{DeviceChange, changing_cell};
 pub use device_specs::{endpoint_of, is_endpoint};
 pub use device_write::{endpoint_word_places, write_device};

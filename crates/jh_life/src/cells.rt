@@ -10,9 +10,8 @@ ghost use Rattle.jh_life.specs.Verdict.{verdict_of_create};
 
 use crate::copy::copy_of_system;
 use crate::counting::refusal_by_pages;
-use crate::cpus::free_cpus;
 use jh_cellcfg::{CellConfig, SystemConfig};
-use jh_check::{MAX_CELLS, mask_of, refusal_of, refusal_without_cpus};
+use jh_check::{MAX_CELLS, mask_of, refusal_of, refusal_without_cpus, without_bit};
 use jh_num::error::EPERM;
 use jh_num::{NoMemory, make_room};
 use jh_shape::{cell_pages, pages_of};
@@ -132,7 +131,7 @@ impl Cells {
         if live.len() == MAX_CELLS {
             return Ok(refusal_without_cpus(&self.system, live, new));
         }
-        let free = free_cpus(owned, caller);
+        let free = without_bit(owned, usize::from(caller));
         // Here 0 pages are wanted of 0, which refuses nothing: pages are counted last, where nothing else speaks against
         // the cell.
         let refusal = refusal_of(alloc, &self.system, live, new, free, 0, 0)?;

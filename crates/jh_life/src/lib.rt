@@ -5,7 +5,6 @@
 mod cells;
 mod copy;
 mod counting;
-mod cpus;
 mod laws;
 
 pub use cells::{Cells, live_cells_differ};

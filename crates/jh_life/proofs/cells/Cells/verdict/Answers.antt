@@ -1,5 +1,5 @@
 -- Beside 15 cells no CPU is free; beside fewer, what nothing else refuses is left to the pages.
-use Rattle.std.proofs.Common.{◌≡◌, ℕ, ◌<◌, Bool, false, List, length, Some, None, nat_lt, refl, sym, ap, ◌∙◌, arith}
+use Rattle.std.proofs.Common.{◌≡◌, ℕ, ◌<◌, ◌&&◌, ◌==◌, not, Bool, false, List, length, Some, None, nat_lt, refl, sym, ap, ◌∙◌, arith}
 use Rattle.std.specs.Prelude.{if◌then◌else◌}
 use Rattle.jh_num.specs.Bits.{has_bit}
 use Rattle.jh_num.specs.declared.error.TheConstants.{ENOMEM}
@@ -51,14 +51,14 @@ returns-in-Some-clause-value c =
     let now = c.args.self.now in
     let new = c.args.new.now in
     let live = c.as_slice-live.result.now in
-    let free : ℕ → Bool = has_bit c.free_cpus-free.result in
+    let free : ℕ → Bool = has_bit c.without_bit-free.result in
     let system : c.self.inside.system ≡ now.system = ap (λ (s : CellsView). s.system) c.self.view_is in
     let cells : live ≡ configs_of now.lives = c.as_slice-live.ensures.value ∙ sym (configs_joined c.self.inside.configs.items c.self.inside.marks.items c.self.invariant.even) ∙ ap (λ (s : CellsView). configs_of s.lives) c.self.view_is in
     let kept : refusal_of c.self.inside.system live new free 0 0 ≡ refusal_of c.self.inside.system live new free (pages_with now new) c.args.pool =
     refused_kept c.self.inside.system live new free (pages_with now new) c.args.pool (sym c.in_ok-refusal.ensures ∙ c.in-Some.is) in
     rw c.if-locked.false
     (c.in_ok-refusal.ensures ∙ kept
-    ∙ same_cells c.self.inside.system now.system live (configs_of now.lives) new free (may_have c.args.owned c.args.caller) (pages_with now new) c.args.pool system cells c.free_cpus-free.ensures)
+    ∙ same_cells c.self.inside.system now.system live (configs_of now.lives) new free (may_have c.args.owned c.args.caller) (pages_with now new) c.args.pool system cells (λ k. c.without_bit-free.ensures k ∙ ap (λ (n : ℕ). has_bit c.args.owned k && not (k == n)) c.from.ensures))
 
 -- what is left to them
 pub returns-in-None-clause-value : goal.returns-in-None-clause-value
@@ -66,7 +66,7 @@ returns-in-None-clause-value c =
     let now = c.args.self.now in
     let new = c.args.new.now in
     let live = c.as_slice-live.result.now in
-    let free : ℕ → Bool = has_bit c.free_cpus-free.result in
+    let free : ℕ → Bool = has_bit c.without_bit-free.result in
     let system : c.self.inside.system ≡ now.system = ap (λ (s : CellsView). s.system) c.self.view_is in
     let cells : live ≡ configs_of now.lives = c.as_slice-live.ensures.value ∙ sym (configs_joined c.self.inside.configs.items c.self.inside.marks.items c.self.invariant.even) ∙ ap (λ (s : CellsView). configs_of s.lives) c.self.view_is in
     let before : refusal_of c.self.inside.system live new free 0 0 ≡ None = sym c.in_ok-refusal.ensures ∙ c.in-None.is in
@@ -75,18 +75,18 @@ returns-in-None-clause-value c =
     (c.refusal_by_pages.ensures
     ∙ ap (λ n. if nat_lt c.args.pool n then Some ENOMEM else None) c.pages.ensures
     ∙ sym whole
-    ∙ same_cells c.self.inside.system now.system live (configs_of now.lives) new free (may_have c.args.owned c.args.caller) (pages_with now new) c.args.pool system cells c.free_cpus-free.ensures)
+    ∙ same_cells c.self.inside.system now.system live (configs_of now.lives) new free (may_have c.args.owned c.args.caller) (pages_with now new) c.args.pool system cells (λ k. c.without_bit-free.ensures k ∙ ap (λ (n : ℕ). has_bit c.args.owned k && not (k == n)) c.from.ensures))
 
 pub returns-in-None-clause-unknown : goal.returns-in-None-clause-unknown
 returns-in-None-clause-unknown c =
     let now = c.args.self.now in
     let new = c.args.new.now in
     let live = c.as_slice-live.result.now in
-    let free : ℕ → Bool = has_bit c.free_cpus-free.result in
+    let free : ℕ → Bool = has_bit c.without_bit-free.result in
     let system : c.self.inside.system ≡ now.system = ap (λ (s : CellsView). s.system) c.self.view_is in
     let cells : live ≡ configs_of now.lives = c.as_slice-live.ensures.value ∙ sym (configs_joined c.self.inside.configs.items c.self.inside.marks.items c.self.invariant.even) ∙ ap (λ (s : CellsView). configs_of s.lives) c.self.view_is in
     let before : refusal_of now.system (configs_of now.lives) new (may_have c.args.owned c.args.caller) 0 0 ≡ None =
-    sym (same_cells c.self.inside.system now.system live (configs_of now.lives) new free (may_have c.args.owned c.args.caller) 0 0 system cells c.free_cpus-free.ensures)
+    sym (same_cells c.self.inside.system now.system live (configs_of now.lives) new free (may_have c.args.owned c.args.caller) 0 0 system cells (λ k. c.without_bit-free.ensures k ∙ ap (λ (n : ℕ). has_bit c.args.owned k && not (k == n)) c.from.ensures))
     ∙ sym c.in_ok-refusal.ensures ∙ c.in-None.is in
     if_none_from c.refusal_by_pages.result (is_known (numbered_cells now) new ≡ false)
     (accepted_none now.system (configs_of now.lives) new (may_have c.args.owned c.args.caller) 0 0 before)

@@ -8,7 +8,7 @@ use Rattle.jh_cpu.specs.Changes.{opened}
 use Rattle.jh_num.specs.Bits.{has_bit}
 use Rattle.jh_history.specs.Facts.{Facts}
 use Rattle.jh_history.specs.Lives.{is_on_board}
-use Rattle.jh_board.proofs.creation.cpus_of_root.Goals as goal
+use Rattle.jh_history.proofs.creation.cpus_of_root.Goals as goal
 
 pub loop-cpu-init : goal.loop-cpu-init
 loop-cpu-init c = record {
@@ -47,7 +47,7 @@ returns c = λ f h k. elim (cases_lt k 16) [
   | inr le ↦ (
       let image = c.args.image.now in
       let off : is_on_board image k ≡ false = elim (cases_Bool (is_on_board image k)) [
-        | inl on ↦ absurd (let lt = c.no_cpu_is_above_15.ensures.cpus k on in omega arith)
+        | inl on ↦ absurd (let lt = c.admitted_roots_are_sound.ensures.cpus c.requires k on in omega arith)
         | inr off ↦ off
       ] in
       c.loop-cpu.invariant.rest k (omega arith) ∙ rw off refl)

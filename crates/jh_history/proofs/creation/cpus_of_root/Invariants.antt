@@ -4,7 +4,7 @@ use Rattle.jh_num.specs.Bits.{has_bit}
 use Rattle.jh_history.specs.Cpus.{ListsCpus}
 use Rattle.jh_history.specs.Facts.{Facts}
 use Rattle.jh_history.specs.Lives.{is_on_board}
-use Rattle.jh_board.proofs.creation.cpus_of_root.Given as goal
+use Rattle.jh_history.proofs.creation.cpus_of_root.Given as goal
 
 abbrev pub invariant-loop-cpu : goal.invariant-loop-cpu
 invariant-loop-cpu l = record {
