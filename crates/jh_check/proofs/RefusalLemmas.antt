@@ -14,42 +14,11 @@ use Rattle.jh_check.specs.declared.verdict.NewCell.{NewCell}
 use Rattle.jh_check.specs.declared.verdict.NewCell.TheVariants.{Clean, Invalid, Busy}
 use Rattle.jh_cellcfg.specs.Limits.{is_zero}
 use Rattle.jh_check.specs.Verdicts.{verdict_of}
-use Rattle.jh_check.specs.Refusals.{is_known, any_below, is_beyond, names_beyond, by_check, refusal_of, IsAccepted}
+use Rattle.jh_num.specs.Below.{any_below}
+use Rattle.jh_check.specs.Refusals.{is_known, is_beyond, names_beyond, by_check, refusal_of, IsAccepted}
 use Rattle.jh_check.proofs.DeviceLemmas.{some_byte, each_zero}
 use Rattle.jh_check.proofs.GivenLemmas.{byte_names, zero_names}
 use Rattle.jh_check.proofs.MaskLemmas.{high_bit}
-
--- ---- numbers below a number
-
-pub below_at : (p : ℕ → Bool) (n k : ℕ) → k < n → p k ≡ true → any_below p n ≡ true
-unfolding any_below
-below_at p zero k l t = absurd (omega arith)
-below_at p (suc n) k l t =
-    elim (cases_lt k n) [
-      | inl m ↦ or_left (any_below p n) (p n) (below_at p n k m t)
-      | inr m ↦ let e : k ≡ n = omega arith in or_right (any_below p n) (p n) (subst (λ i. p i ≡ true) e t)
-    ]
-
-pub below_of : (p : ℕ → Bool) (n : ℕ) → any_below p n ≡ true → (k : ℕ) × (k < n) × (p k ≡ true)
-unfolding any_below
-below_of p zero t = absurd (false≢true t)
-below_of p (suc n) t =
-    elim (or_cases (any_below p n) (p n) t) [
-      | inl u ↦ let r = below_of p n u in (r.0, omega (arith, r.1), r.2)
-      | inr u ↦ (n, omega arith, u)
-    ]
-
-pub below_none : (p : ℕ → Bool) (k : ℕ) → k ≡ 0 → any_below p k ≡ false
-unfolding any_below
-below_none p zero e = refl
-below_none p (suc k) e = absurd (omega arith)
-
-pub below_more : (p : ℕ → Bool) (k m : ℕ) → m ≡ suc k → any_below p k ≡ false → p k ≡ false → any_below p m ≡ false
-unfolding any_below
-below_more p k zero e f g = absurd (omega arith)
-below_more p k (suc m) e f g =
-    let same : k ≡ m = omega arith in
-    subst (λ i. (any_below p i || p i) ≡ false) same (or_from (any_below p k) (p k) f g)
 
 -- ---- CPUs
 

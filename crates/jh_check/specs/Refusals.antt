@@ -22,11 +22,6 @@ AreTwo earlier later = is_namesake later earlier ≡ false
 abbrev pub is_known : List CellConfig → CellConfig → Bool
 is_known cells new = list_any (is_namesake new) cells
 
--- a number below the given one passes the test
-unfoldable pub any_below : (ℕ → Bool) → ℕ → Bool
-any_below test zero = false
-any_below test (suc n) = any_below test n || test n
-
 -- the set names the CPU, which may not be given away
 abbrev pub is_beyond : (ℕ → Bool) → List ℕ → ℕ → Bool
 is_beyond may set cpu = is_cpu_set set cpu && not (may cpu)

@@ -2,7 +2,8 @@
 ghost use Rattle.std.specs.Prelude.{◌≡◌, ℕ, ◌≤◌, ◌<◌, ◌∷◌, IsSome, length, IfOk};
 ghost use Rattle.std.specs.List.{list_any};
 ghost use Rattle.jh_num.specs.Bits.{has_bit};
-ghost use Rattle.jh_check.specs.Refusals.{is_namesake, is_known, any_below, is_beyond, names_beyond, nobody, refusal_of};
+ghost use Rattle.jh_num.specs.Below.{any_below};
+ghost use Rattle.jh_check.specs.Refusals.{is_namesake, is_known, is_beyond, names_beyond, nobody, refusal_of};
 
 use crate::devices::names_high;
 use crate::laws::{beyond_is_a_cpu, sound_bitmaps_name_few_cpus};

@@ -4,15 +4,16 @@ use Rattle.std.specs.Prelude.{Contains, find, option_map}
 use Rattle.std.specs.List.{list_any}
 use Rattle.std.proofs.lemmas.Bool.{both_ways, and_parts, cond_both, eqb-true, eq-eqb, ne_eqb, cases_lt, not-true, false_from_ne_true}
 use Rattle.std.proofs.lemmas.Option.{none-some}
-use Rattle.jh_num.proofs.Public.{IsFound_from_find, Contains_map}
+use Rattle.jh_num.proofs.Public.{IsFound_from_find, Contains_map, below_at}
 use Rattle.jh_num.specs.declared.error.TheConstants.{EPERM, ENOENT, EINVAL}
 use Rattle.jh_cellcfg.specs.declared.config.CellConfig.{CellConfig}
 use Rattle.jh_cellcfg.specs.declared.live.Live.{Live}
 use Rattle.jh_cellcfg.specs.Lives.{has_id}
 use Rattle.jh_cellcfg.specs.Cells.{is_cpu_set}
 use Rattle.jh_check.specs.Clean.{IsClean}
-use Rattle.jh_check.specs.Refusals.{any_below, refusal_of, IsAccepted}
-use Rattle.jh_check.proofs.Public.{zero_names, joins_clean, below_at, accepted_from}
+use Rattle.jh_num.specs.Below.{any_below}
+use Rattle.jh_check.specs.Refusals.{refusal_of, IsAccepted}
+use Rattle.jh_check.proofs.Public.{zero_names, joins_clean, accepted_from}
 use Rattle.jh_shape.specs.Pages.{pages_of}
 use Rattle.jh_cpu.specs.declared.cpu.Cpu.{Cpu}
 use Rattle.jh_cpu.specs.Changes.{asked_of}

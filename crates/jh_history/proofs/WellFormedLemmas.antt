@@ -22,7 +22,7 @@ use Rattle.jh_history.specs.declared.call.Phase.TheVariants.{ToDecide, ToSettle,
 use Rattle.jh_call.specs.declared.call.Call.{Call}
 use Rattle.jh_call.specs.Calls.{decoded, is_management}
 use Rattle.jh_call.specs.Answers.{answer_of}
-use Rattle.jh_check.specs.Refusals.{any_below}
+use Rattle.jh_num.specs.Below.{any_below}
 use Rattle.jh_history.specs.Hypercalls.{seen_of}
 use Rattle.jh_history.specs.Phases.{keeps_decide, keeps_commit, decision, settled_of, heard_of, phase_act}
 use Rattle.jh_cpu.specs.declared.cpu.Cpu.{Cpu}

@@ -5,7 +5,7 @@ use Rattle.jh_comm.specs.declared.words.TheConstants.{STATE_RUNNING, STATE_SHUT_
 use Rattle.jh_cellcfg.specs.declared.config.CellConfig.{CellConfig}
 use Rattle.jh_cellcfg.specs.declared.live.Live.{Live}
 use Rattle.jh_cellcfg.specs.Cells.{is_passive}
-use Rattle.jh_check.specs.Refusals.{any_below}
+use Rattle.jh_num.specs.Below.{any_below}
 use Rattle.jh_cpu.specs.declared.cpu.Cpu.{Cpu}
 use Rattle.jh_cpu.specs.Changes.{is_failed}
 use Rattle.jh_call.specs.declared.call.Call.{Call}

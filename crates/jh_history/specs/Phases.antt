@@ -5,7 +5,7 @@ use Rattle.jh_num.specs.declared.error.TheConstants.{EPERM, ENOENT, EINVAL}
 use Rattle.jh_cellcfg.specs.declared.config.CellConfig.{CellConfig}
 use Rattle.jh_cellcfg.specs.declared.live.Live.{Live}
 use Rattle.jh_cellcfg.specs.Cells.{is_passive}
-use Rattle.jh_check.specs.Refusals.{any_below}
+use Rattle.jh_num.specs.Below.{any_below}
 use Rattle.jh_shape.specs.Lives.{configs_of}
 use Rattle.jh_cpu.specs.declared.cpu.Cpu.{Cpu}
 use Rattle.jh_comm.specs.Page.{reply_in}

@@ -7,7 +7,7 @@ ghost use Rattle.jh_history.specs.Commits.{created};
 ghost use Rattle.jh_cpu.specs.declared.cpu.Cpu.{Cpu as TheCpu};
 ghost use Rattle.jh_cellcfg.specs.declared.config.CellConfig.{CellConfig as TheConfig};
 ghost use Rattle.jh_cellcfg.specs.declared.live.Live.{Live as TheLive};
-ghost use Rattle.jh_check.specs.Refusals.{any_below};
+ghost use Rattle.jh_num.specs.Below.{any_below};
 ghost use Rattle.jh_history.specs.Facts.{Facts};
 ghost use Rattle.jh_history.specs.Lives.{is_on_board, live_in};
 ghost use Rattle.jh_history.specs.Cpus.{cpu_after, ListsCpus};

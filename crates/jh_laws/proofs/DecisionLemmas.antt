@@ -12,7 +12,8 @@ use Rattle.jh_cellcfg.specs.declared.fault.ConfigFault.{ConfigFault}
 use Rattle.jh_cellcfg.specs.Lives.{id_of, has_id}
 use Rattle.jh_cellcfg.specs.Faults.{header_fault, size_by_header}
 use Rattle.jh_cellcfg.specs.Reading.{config_of}
-use Rattle.jh_check.specs.Refusals.{any_below, refusal_of}
+use Rattle.jh_num.specs.Below.{any_below}
+use Rattle.jh_check.specs.Refusals.{refusal_of}
 use Rattle.jh_check.proofs.Public.{accepted_to}
 use Rattle.jh_shape.specs.Pages.{pages_of}
 use Rattle.jh_comm.specs.declared.words.TheConstants.{STATE_RUNNING_LOCKED}

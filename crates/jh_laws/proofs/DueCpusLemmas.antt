@@ -8,8 +8,8 @@ use Rattle.jh_cellcfg.specs.declared.config.CellConfig.{CellConfig}
 use Rattle.jh_cellcfg.specs.declared.live.Live.{Live}
 use Rattle.jh_cellcfg.specs.Lives.{has_id}
 use Rattle.jh_cellcfg.specs.Cells.{is_passive}
-use Rattle.jh_check.specs.Refusals.{any_below}
-use Rattle.jh_check.proofs.Public.{below_at, below_of}
+use Rattle.jh_num.specs.Below.{any_below}
+use Rattle.jh_num.proofs.Public.{below_at, below_of}
 use Rattle.jh_comm.specs.declared.words.TheConstants.{REPLY_REQUEST_APPROVED, REPLY_RECEIVED}
 use Rattle.jh_cpu.specs.declared.cpu.Cpu.{Cpu}
 use Rattle.jh_cpu.specs.declared.cpu.Mode.TheVariants.{Running}

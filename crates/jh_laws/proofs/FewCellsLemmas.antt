@@ -16,7 +16,8 @@ use Rattle.jh_cellcfg.specs.Cells.{is_passive}
 use Rattle.jh_cellcfg.specs.Lives.{has_id}
 use Rattle.jh_cellcfg.specs.Faults.{header_fault, size_by_header}
 use Rattle.jh_cellcfg.specs.Reading.{config_of}
-use Rattle.jh_check.specs.Refusals.{any_below, AreTwo}
+use Rattle.jh_num.specs.Below.{any_below}
+use Rattle.jh_check.specs.Refusals.{AreTwo}
 use Rattle.jh_check.proofs.Public.{sound_set}
 use Rattle.jh_comm.specs.declared.words.TheConstants.{STATE_RUNNING, STATE_SHUT_DOWN, STATE_FAILED, MESSAGE_SHUTDOWN_REQUEST}
 use Rattle.jh_cpu.specs.declared.cpu.Cpu.{Cpu}

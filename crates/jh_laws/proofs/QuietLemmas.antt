@@ -3,13 +3,12 @@ use Rattle.std.proofs.Common.{◌≡◌, ◌≢◌, ℕ, List, Bool, true, false
 use Rattle.std.specs.Prelude.{Contains, option_map, option_and_then, nat_le}
 use Rattle.std.proofs.lemmas.Bool.{both_ways, and_parts, eq-eqb, eqb-true, ne_eqb, not-true, false_from_ne_true, or_right}
 use Rattle.std.proofs.lemmas.Option.{none-some}
-use Rattle.jh_num.proofs.Public.{same_number, find_some, Contains_from_map}
+use Rattle.jh_num.proofs.Public.{same_number, find_some, Contains_from_map, below_of}
 use Rattle.jh_cellcfg.specs.declared.config.CellConfig.{CellConfig}
 use Rattle.jh_cellcfg.specs.declared.live.Live.{Live}
 use Rattle.jh_cellcfg.specs.Lives.{has_id}
 use Rattle.jh_cellcfg.specs.Cells.{is_passive}
-use Rattle.jh_check.specs.Refusals.{any_below}
-use Rattle.jh_check.proofs.Public.{below_of}
+use Rattle.jh_num.specs.Below.{any_below}
 use Rattle.jh_comm.specs.declared.words.TheConstants.{REPLY_REQUEST_APPROVED, REPLY_RECEIVED}
 use Rattle.jh_call.specs.declared.call.Call.{Call}
 use Rattle.jh_call.specs.declared.call.Call.TheVariants.{Start, Loadable, Destroy}

@@ -10,6 +10,7 @@ mod MemoryLemmas
 mod SpelledLemmas
 mod StoredLemmas
 mod RowLemmas
+mod BelowLemmas
 mod Booleans
 mod Lists
 mod Results

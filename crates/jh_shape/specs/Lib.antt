@@ -7,3 +7,4 @@ pub mod Pages
 pub mod Private
 pub mod Shapes
 pub mod SoundClaims
+pub mod Wanted

@@ -11,7 +11,9 @@ use Rattle.jh_desc.specs.Levels.{index_of}
 use Rattle.jh_num.specs.declared.level.TheConstants.{LAST_LEVEL}
 use Rattle.jh_num.specs.Levels.{slot_size}
 use Rattle.jh_walk.specs.Walks.{walk_of, walk_on, descriptor_at}
-use Rattle.jh_walk.specs.Pages.{sum_below, by_next, count, page_weight, times, Grows, IsKept}
+use Rattle.jh_num.specs.Below.{sum_below}
+use Rattle.jh_num.proofs.Public.{sum_le}
+use Rattle.jh_walk.specs.Pages.{by_next, count, page_weight, times, Grows, IsKept}
 use Rattle.jh_walk.proofs.WalkLemmas.{below_end, past_end}
 use Rattle.jh_walk.proofs.LiftLemmas.{slot_counts, count_more, count_none}
 
@@ -37,13 +39,6 @@ grown_walk w w' (suc n) t at hit grows e =
     let small : index_of (LAST_LEVEL - n) at < 512 = index_small (at / slot_size (LAST_LEVEL - n)) in
     grow_by w w' n (LAST_LEVEL - n) (descriptor_at (LAST_LEVEL - n) t at) at hit (read_of (w (descriptor_at (LAST_LEVEL - n) t at)) (LAST_LEVEL - n)) refl (grows (index_of (LAST_LEVEL - n) at) small)
     (λ next more found. grown_walk w w' n next at hit more found) e
-
-sum_le : (n : ℕ) (f g : ℕ → ℕ) → ((i : ℕ) → i < n → f i ≤ g i) → sum_below n f ≤ sum_below n g
-unfolding sum_below
-sum_le zero f g h = omega arith
-sum_le (suc n) f g h =
-    let rest : sum_below n f ≤ sum_below n g = sum_le n f g (λ i lt. h i (omega arith)) in
-    let last : f n ≤ g n = h n (omega arith) in omega arith
 
 slot_by : (w w' : ℕ → ℕ) (n q level slot : ℕ) (d : Descriptor) → read_of (w slot) level ≡ d → IsKept (Grows w w' n) d (w' slot ≡ w slot) → ((next : ℕ) → Grows w w' n next → times w n next q ≤ times w' n next q) → by_next (count (page_weight q) w n) d ≤ by_next (count (page_weight q) w' n) (read_of (w' slot) level)
 slot_by w w' n q level slot Invalid is kept rest = omega arith

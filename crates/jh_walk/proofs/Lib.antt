@@ -1,4 +1,3 @@
-mod SumLemmas
 mod LiftLemmas
 mod WalkLemmas
 mod PathLemmas

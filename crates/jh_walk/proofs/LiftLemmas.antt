@@ -2,10 +2,11 @@
 use Rattle.std.proofs.Common.{◌≡◌, ◌≢◌, ℕ, ◌+◌, ◌-◌, ◌*◌, ◌%◌, ◌<◌, ◌≤◌, inl, inr, zero, suc, ap, ◌∙◌, sym, subst, arith, refl}
 use Rattle.jh_desc.specs.Descriptors.{read_of}
 use Rattle.jh_num.specs.declared.level.TheConstants.{LAST_LEVEL}
-use Rattle.jh_walk.specs.Pages.{sum_below, by_next, count, page_weight, times, Weight, AreAlikeBut, AreAligned, IsReached}
+use Rattle.jh_num.specs.Below.{sum_below}
+use Rattle.jh_walk.specs.Pages.{by_next, count, page_weight, times, Weight, AreAlikeBut, AreAligned, IsReached}
 use Rattle.jh_desc.specs.declared.descriptor.Descriptor.{Descriptor}
 use Rattle.jh_desc.specs.declared.descriptor.Descriptor.TheVariants.{Invalid, Table, Leaf}
-use Rattle.jh_walk.proofs.SumLemmas.{sum_same, sum_falls, term_le, others_none}
+use Rattle.jh_num.proofs.Public.{sum_same, sum_falls, term_le, others_none}
 
 -- how much of a sum over all pages the slot of that number leads to
 abbrev pub slot_counts : Weight → (ℕ → ℕ) → ℕ → ℕ → ℕ → ℕ

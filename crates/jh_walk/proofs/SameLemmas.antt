@@ -10,8 +10,9 @@ use Rattle.jh_desc.specs.Levels.{index_of}
 use Rattle.jh_num.specs.declared.level.TheConstants.{LAST_LEVEL}
 use Rattle.jh_num.specs.Levels.{slot_size}
 use Rattle.jh_walk.specs.Walks.{walk_of, walk_on, probes_of, probes_on, descriptor_at}
-use Rattle.jh_walk.specs.Pages.{sum_below, by_next, count, page_weight, times, HaveSameTables}
-use Rattle.jh_walk.proofs.SumLemmas.{sum_same}
+use Rattle.jh_num.specs.Below.{sum_below}
+use Rattle.jh_walk.specs.Pages.{by_next, count, page_weight, times, HaveSameTables}
+use Rattle.jh_num.proofs.Public.{sum_same}
 use Rattle.jh_walk.proofs.LiftLemmas.{slot_counts, count_more, count_none, next_same, self_times, slot_is, slot_le}
 use Rattle.jh_walk.proofs.GrowLemmas.{index_small}
 

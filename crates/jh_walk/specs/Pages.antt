@@ -4,11 +4,7 @@ use Rattle.jh_desc.specs.declared.descriptor.Descriptor.{Descriptor}
 use Rattle.jh_desc.specs.declared.descriptor.Descriptor.TheVariants.{Invalid, Table, Leaf}
 use Rattle.jh_desc.specs.Descriptors.{read_of}
 use Rattle.jh_num.specs.declared.level.TheConstants.{LAST_LEVEL}
-
--- the sum of the function's values at the numbers below n
-unfoldable pub sum_below : ℕ → (ℕ → ℕ) → ℕ
-sum_below zero f = 0
-sum_below (suc n) f = sum_below n f + f n
+use Rattle.jh_num.specs.Below.{sum_below}
 
 -- what the next table gives, where the descriptor names one
 abbrev pub by_next : (ℕ → ℕ) → Descriptor → ℕ

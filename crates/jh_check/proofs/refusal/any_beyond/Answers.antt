@@ -2,7 +2,7 @@
 use Rattle.std.proofs.Common.{◌+◌, ◌∙◌, sym, refl, arith}
 use Rattle.jh_num.specs.Bits.{has_bit}
 use Rattle.jh_check.specs.Refusals.{is_beyond}
-use Rattle.jh_check.proofs.RefusalLemmas.{below_at, below_none, below_more}
+use Rattle.jh_num.proofs.Public.{below_at, below_none, below_more}
 use Rattle.jh_check.proofs.refusal.any_beyond.Goals as goal
 
 pub returns-then-is_beyond : goal.returns-then-is_beyond

@@ -1,7 +1,7 @@
 -- Root and a cell with a CPU left are spared.
 use Rattle.std.proofs.Common.{◌≡◌, ◌&&◌, ◌||◌, true, false, eqb, eq-eqb, sym, refl, ◌∙◌}
 use Rattle.std.proofs.lemmas.Bool.{ne_eqb, or_left, or_right}
-use Rattle.jh_check.specs.Refusals.{any_below}
+use Rattle.jh_num.specs.Below.{any_below}
 use Rattle.jh_history.specs.Lives.{is_on_board}
 use Rattle.jh_history.specs.Cpus.{cpu_after}
 use Rattle.jh_history.specs.Pages.{is_unfailed_of}

@@ -3,8 +3,8 @@ use Rattle.std.proofs.Common.{◌≡◌, ℕ, ◌+◌, ◌&&◌, Bool, true, fal
 use Rattle.std.specs.Prelude.{slice_get}
 use Rattle.std.proofs.lemmas.Option.{get_or_from_slice_get}
 use Rattle.jh_cpu.specs.declared.cpu.Cpu.{Cpu}
-use Rattle.jh_check.specs.Refusals.{any_below}
-use Rattle.jh_check.proofs.Public.{below_at, below_none, below_more}
+use Rattle.jh_num.specs.Below.{any_below}
+use Rattle.jh_num.proofs.Public.{below_at, below_none, below_more}
 use Rattle.jh_history.specs.Lives.{is_on_board}
 use Rattle.jh_history.specs.Pages.{is_unfailed_of}
 use Rattle.jh_history.proofs.pages.is_any_unfailed.Goals as goal

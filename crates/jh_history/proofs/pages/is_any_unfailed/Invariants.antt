@@ -1,6 +1,6 @@
 -- None of the CPUs so far.
 use Rattle.std.proofs.Common.{◌≡◌, ℕ, ◌&&◌, false}
-use Rattle.jh_check.specs.Refusals.{any_below}
+use Rattle.jh_num.specs.Below.{any_below}
 use Rattle.jh_cpu.specs.declared.cpu.Cpu.{Cpu}
 use Rattle.jh_history.specs.Cpus.{ListsCpus}
 use Rattle.jh_history.specs.Lives.{is_on_board}

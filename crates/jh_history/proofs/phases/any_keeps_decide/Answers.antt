@@ -1,6 +1,6 @@
 -- One CPU more.
 use Rattle.std.proofs.Common.{◌+◌, ◌∙◌, sym, refl, arith}
-use Rattle.jh_check.proofs.Public.{below_at, below_none, below_more}
+use Rattle.jh_num.proofs.Public.{below_at, below_none, below_more}
 use Rattle.jh_history.specs.Phases.{keeps_decide}
 use Rattle.jh_history.proofs.phases.any_keeps_decide.Goals as goal
 

@@ -1,6 +1,6 @@
 -- None of the CPUs so far.
 use Rattle.std.proofs.Common.{◌≡◌, false}
-use Rattle.jh_check.specs.Refusals.{any_below}
+use Rattle.jh_num.specs.Below.{any_below}
 use Rattle.jh_script.specs.declared.image.Image.{Image}
 use Rattle.jh_history.specs.Facts.{Facts}
 use Rattle.jh_history.specs.Phases.{keeps_decide}
