@@ -4,7 +4,7 @@ use Rattle.std.specs.Prelude.{if◌then◌else◌, Option, ℤ}
 use Rattle.std.specs.List.{list_all}
 use Rattle.std.proofs.lemmas.Bool.{false≢true, ltb-false, le-ltb, cases_lt, cases_Bool, and_parts, and_from, or_cases, or_from, or_left, or_right, not-true, not_from_false, true_from_ne_false}
 use Rattle.std.proofs.lemmas.List.{get_or-drop}
-use Rattle.jh_num.proofs.Public.{same_test}
+use Rattle.jh_num.proofs.Public.{below_at, below_of, same_test}
 use Rattle.jh_num.specs.Bits.{has_bit}
 use Rattle.jh_num.specs.declared.error.TheConstants.{EBUSY, EEXIST, ENOMEM}
 use Rattle.jh_cellcfg.specs.declared.config.CellConfig.{CellConfig}
