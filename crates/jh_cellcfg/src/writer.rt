@@ -3,6 +3,7 @@ ghost use Rattle.std.specs.Prelude.{◌≡◌, [], ◌++◌, IfOk};
 ghost use Rattle.std.specs.List.{flat_map};
 ghost use Rattle.jh_cellcfg.specs.Spelling.{u8_bytes, u16_bytes, u32_bytes, u64_bytes};
 
+use byteorder::{ByteOrder, LittleEndian};
 use jh_num::NoMemory;
 use std::alloc::Global;
 
@@ -34,21 +35,27 @@ impl Writer {
     pub fn u16(self, n: u16) -> Result<Writer, NoMemory>
         ensures { IfOk result (λ more. more.written.items ≡ self.written.items ++ u16_bytes n) }
     {
-        self.bytes(&n.to_le_bytes())
+        let mut bytes = [0; 2];
+        LittleEndian::write_u16(&mut bytes, n);
+        self.bytes(&bytes)
     }
 
     /// Puts the number at the end in four bytes, the lowest first.
     pub fn u32(self, n: u32) -> Result<Writer, NoMemory>
         ensures { IfOk result (λ more. more.written.items ≡ self.written.items ++ u32_bytes n) }
     {
-        self.bytes(&n.to_le_bytes())
+        let mut bytes = [0; 4];
+        LittleEndian::write_u32(&mut bytes, n);
+        self.bytes(&bytes)
     }
 
     /// Puts the number at the end in eight bytes, the lowest first.
     pub fn u64(self, n: u64) -> Result<Writer, NoMemory>
         ensures { IfOk result (λ more. more.written.items ≡ self.written.items ++ u64_bytes n) }
     {
-        self.bytes(&n.to_le_bytes())
+        let mut bytes = [0; 8];
+        LittleEndian::write_u64(&mut bytes, n);
+        self.bytes(&bytes)
     }
 
     /// Puts the numbers at the end one after the other, each in four bytes, the lowest first.

@@ -3,6 +3,8 @@ ghost use Rattle.std.specs.Prelude.{◌≡◌, ℕ, ◌+◌, ◌<◌, ◌≤◌,
 ghost use Rattle.jh_num.specs.Memory.{stored};
 ghost use Rattle.jh_comm.specs.Page.{word_in, state_in, message_in, reply_in, with_state, sent, fresh_page};
 
+use byteorder::{ByteOrder, LittleEndian};
+
 /// The first bytes of a page.
 const SIGNATURE: &[u8; 6] = b"JHCOMM";
 
@@ -51,10 +53,10 @@ pub fn fresh(page: &mut [u8], state: u32, console: &[u8; 32], mmconfig: u64)
 {
     page.fill(0);
     put(page, 0, SIGNATURE);
-    put(page, REVISION_AT, &REVISION.to_le_bytes());
+    LittleEndian::write_u16(&mut page[REVISION_AT..REVISION_AT + 2], REVISION);
     set_state(page, state);
     put(page, CONSOLE_AT, console);
-    put(page, MMCONFIG_AT, &mmconfig.to_le_bytes());
+    LittleEndian::write_u64(&mut page[MMCONFIG_AT..MMCONFIG_AT + 8], mmconfig);
 }
 
 /// Sends the cell a message, and clears its reply: there is none to this one yet.
@@ -63,7 +65,7 @@ pub fn send(page: &mut [u8], message: u32)
     ensures { (k : ℕ) → k < 4096 → slice_index page.new k ≡ sent (λ j. slice_index page.old j) message k }
 {
     put(page, REPLY_AT, &[0; 4]);
-    put(page, MESSAGE_AT, &message.to_le_bytes());
+    LittleEndian::write_u32(&mut page[MESSAGE_AT..MESSAGE_AT + 4], message);
 }
 
 /// Puts the cell into the state: writes the four bytes from offset 8 on.
@@ -71,7 +73,7 @@ pub fn set_state(page: &mut [u8], state: u32)
     requires { length page.old ≡ 4096 }
     ensures { (k : ℕ) → k < 4096 → slice_index page.new k ≡ with_state (λ j. slice_index page.old j) state k }
 {
-    put(page, STATE_AT, &state.to_le_bytes());
+    LittleEndian::write_u32(&mut page[STATE_AT..STATE_AT + 4], state);
 }
 
 /// The cell's state, the number of 32 bits at offset 8.
