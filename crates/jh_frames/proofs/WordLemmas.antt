@@ -1,10 +1,13 @@
 -- A word is eight bytes.
-use Rattle.std.proofs.Common.{◌≡◌, ℕ, ◌+◌, ◌-◌, ◌<◌, ◌≤◌, arith, List, ◌∷◌, [], length, get_or, slice_index, ap, subst, map, refl, sym, ◌∙◌}
-use Rattle.std.proofs.lemmas.List.{take_all}
-use Rattle.std.specs.Int.{w64, from_le_bytes}
+use Rattle.std.proofs.Common.{◌≡◌, ℕ, ◌+◌, ◌-◌, ◌<◌, ◌≤◌, ◌^◌, arith, true, List, ◌∷◌, [], ◌++◌, length, length-take, take, get_or, slice_index, ap, subst, map, refl, sym, ◌∙◌}
+use Rattle.std.proofs.lemmas.List.{get_or-append_right, get_or_append_left, take_all}
+use Rattle.std.proofs.lemmas.Nat.{from_le_bytes-to_le_bytes_8}
+use borrow.Rule.Slice.PartMut.{put_mid, post_of}
+use Rattle.std.specs.Int.{w64, from_le_bytes, to_le_bytes}
 use Rattle.std.specs.List.{range_with_len}
 use Rattle.jh_num.specs.Memory.{spelled, stored}
-use Rattle.jh_frames.specs.Memory.{word_in}
+use Rattle.jh_frames.specs.Memory.{OwnView, AreOwnBytes, is_own, own_byte, word_in}
+use Rattle.jh_frames.proofs.MemoryLemmas.{own_there, own_read}
 use Rattle.jh_frames.proofs.RangeLemmas.{alike_over}
 use Rattle.jh_num.proofs.Public.{read_over, stored_before, stored_behind, stored_in}
 
@@ -47,3 +50,33 @@ stored_spelled before after at bytes is =
     let same : x - at ≡ y = omega arith in
     is x ∙ stored_in before at bytes x (omega arith) (omega arith) ∙ ap (λ n. get_or bytes n 0) same)
     ∙ sym (read_over bytes 0 (length bytes) (omega arith)) ∙ take_all (length bytes) bytes (omega arith))
+
+-- a byte of a list that is put into another
+put_there : (xs bytes : List ℕ) (k n j : ℕ) → k + length bytes ≤ length xs → j < length bytes → get_or (put_mid k n xs bytes) (k + j) 0 ≡ get_or bytes j 0
+put_there xs bytes k n j within less =
+    let front : length (take k xs) ≡ k = length-take k xs ∙ omega arith in
+    let same : k + j - length (take k xs) ≡ j = omega arith in
+    get_or-append_right (take k xs) (bytes ++ post_of k n xs) (length (take k xs)) (k + j) 0 refl (omega arith)
+    ∙ ap (λ (i : ℕ). get_or (bytes ++ post_of k n xs) i 0) same
+    ∙ get_or_append_left bytes (post_of k n xs) 0 j less
+
+-- the number whose bytes are put into the hypervisor's memory is the word there
+pub word_put : (own : OwnView) (at word : ℕ) (bytes : List ℕ) → AreOwnBytes own at 8 → word < 2 ^ 64 → bytes ≡ to_le_bytes w64 word → (n : ℕ)
+    → length (put_mid (at - own.base) n own.bytes bytes) ≡ length own.bytes
+    → word_in (own_byte (record { base = own.base; bytes = put_mid (at - own.base) n own.bytes bytes })) at ≡ word
+word_put own at word bytes is small same n long =
+    let new : OwnView = record { base = own.base; bytes = put_mid (at - own.base) n own.bytes bytes } in
+    let above : own.base ≤ at = is.above in
+    let below : at + 8 ≤ own.base + length own.bytes = is.below in
+    let eight : length bytes ≡ 8 = ap length same in
+    let byte : (j : ℕ) → j < 8 → own_byte new (at + j) ≡ get_or (to_le_bytes w64 word) j 0 = λ j less.
+    let there : is_own new (at + j) ≡ true = own_there new (at + j) (omega arith) (omega arith) in
+    let place : at + j - own.base ≡ at - own.base + j = omega arith in
+    own_read new (at + j) there ∙ ap (λ (i : ℕ). get_or new.bytes i 0) place ∙ put_there own.bytes bytes (at - own.base) n j (omega arith) (omega arith)
+    ∙ ap (λ (bs : List ℕ). get_or bs j 0) same in
+    let w = to_le_bytes w64 word in
+    let b = own_byte new in
+    let z : at + 0 ≡ at = omega arith in
+    let first : b at ≡ get_or w 0 0 = ap b (sym z) ∙ byte 0 (omega arith) in
+    ap (from_le_bytes w64) (same_eight (get_or w 0 0) (get_or w 1 0) (get_or w 2 0) (get_or w 3 0) (get_or w 4 0) (get_or w 5 0) (get_or w 6 0) (get_or w 7 0) (b at) (b (at + 1)) (b (at + 2)) (b (at + 3)) (b (at + 4)) (b (at + 5)) (b (at + 6)) (b (at + 7)) first (byte 1 (omega arith)) (byte 2 (omega arith)) (byte 3 (omega arith)) (byte 4 (omega arith)) (byte 5 (omega arith)) (byte 6 (omega arith)) (byte 7 (omega arith)))
+    ∙ from_le_bytes-to_le_bytes_8 word small

@@ -1,10 +1,11 @@
 //! The hypervisor's memory.
-ghost use Rattle.std.specs.Prelude.{◌≡◌, ◌≢◌, ℕ, ◌+◌, ◌-◌, ◌%◌, ◌^◌, ◌≤◌, ◌<◌, true, MatchBool, length, slice_index, slice_range, IfOk};
+ghost use Rattle.std.specs.Prelude.{◌≡◌, ℕ, ◌+◌, ◌-◌, ◌%◌, ◌^◌, ◌≤◌, ◌<◌, true, MatchBool, length, slice_index, slice_range, IfOk};
 ghost use Rattle.jh_num.specs.declared.address.TheConstants.{ADDRESS_END};
 ghost use Rattle.jh_num.specs.Memory.{spelled, stored};
 ghost use Rattle.jh_frames.specs.Memory.{is_own, own_byte, word_in, AreOwnBytes};
 ghost use Rattle.jh_frames.specs.Kept.{IsWholePages};
 
+use byteorder::{ByteOrder, LittleEndian};
 use jh_num::{NoMemory, spelled};
 use std::alloc::Global;
 use std::marker::Model;
@@ -88,39 +89,6 @@ impl Own {
         spelled(&self.bytes[k..k + width])
     }
 
-    /// Writes the byte at the place.
-    fn set(&mut self, at: u64, byte: u8)
-        requires { AreOwnBytes self.old at 1 }
-        ensures base { self.new.base ≡ self.old.base }
-        ensures size { length self.new.bytes ≡ length self.old.bytes }
-        ensures at { own_byte self.new at ≡ byte }
-        ensures others { (q : ℕ) → q ≢ at → own_byte self.new q ≡ own_byte self.old q }
-    {
-        let k = (at - self.base) as usize;
-        self.bytes[k] = byte;
-    }
-
-    /// As `set_word`, where it is told that the places behind the word have numbers of 64 bits.
-    fn set_bytes(&mut self, at: u64, word: u64)
-        requires own { AreOwnBytes self.old at 8 }
-        requires fits { at + 8 < 2 ^ 64 }
-        ensures base { self.new.base ≡ self.old.base }
-        ensures size { length self.new.bytes ≡ length self.old.bytes }
-        ensures at { word_in (own_byte self.new) at ≡ word }
-        ensures below { (q : ℕ) → q < at → own_byte self.new q ≡ own_byte self.old q }
-        ensures above { (q : ℕ) → at + 8 ≤ q → own_byte self.new q ≡ own_byte self.old q }
-    {
-        let b = word.to_le_bytes();
-        self.set(at, b[0]);
-        self.set(at + 1, b[1]);
-        self.set(at + 2, b[2]);
-        self.set(at + 3, b[3]);
-        self.set(at + 4, b[4]);
-        self.set(at + 5, b[5]);
-        self.set(at + 6, b[6]);
-        self.set(at + 7, b[7]);
-    }
-
     /// Writes the word over the eight bytes from the place on, the lowest byte first.
     pub fn set_word(&mut self, at: u64, word: u64)
         requires { AreOwnBytes self.old at 8 }
@@ -130,9 +98,8 @@ impl Own {
         ensures below { (q : ℕ) → q < at → own_byte self.new q ≡ own_byte self.old q }
         ensures above { (q : ℕ) → at + 8 ≤ q → own_byte self.new q ≡ own_byte self.old q }
     {
-        // for the proof: the invariant, by which the range ends within the addresses
-        let _ = &self.base;
-        self.set_bytes(at, word);
+        let k = (at - self.base) as usize;
+        LittleEndian::write_u64(&mut self.bytes[k..k + 8], word);
     }
 
     /// Puts the bytes from the place on.
