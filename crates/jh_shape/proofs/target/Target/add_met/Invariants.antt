@@ -1,7 +1,7 @@
 -- What the regions so far meet is marked, each new mark is counted, and the span done has no gap.
 use Rattle.std.proofs.Common.{◌≡◌, ◌+◌, ◌*◌, ◌/◌, ◌≤◌, ◌||◌, take}
 use Rattle.std.specs.List.{list_any}
-use Rattle.jh_num.specs.declared.address.TheConstants.{ADDRESS_END}
+use Rattle.jh_shape.specs.declared.marks.TheConstants.{WINDOW}
 use Rattle.jh_cellcfg.specs.declared.region.Region.{Region}
 use Rattle.jh_shape.specs.Private.Marks.{is_marked, marked_slots, AreMarked, AreMarkedWithin}
 use Rattle.jh_shape.specs.Shapes.{is_met_by}
@@ -10,7 +10,7 @@ use Rattle.jh_shape.proofs.target.Target.add_met.Given as goal
 
 abbrev pub invariant-loop-region : goal.invariant-loop-region
 invariant-loop-region l =
-    AreMarked l.words l.level (λ n. is_marked l.initial.words n || list_any (λ (region : Region). is_met_by l.level (n * slot_size l.level) region) (take l.region-index l.self.regions.now))
+    AreMarked l.words l.level (λ n. is_marked l.initial.words n || list_any (λ (region : Region). is_met_by l.level (l.base + n * slot_size l.level) region) (take l.region-index l.self.regions.now))
     × (marked_slots l.words l.level ≡ marked_slots l.initial.words l.level + l.more)
     × (l.more ≤ 262144)
-    × AreMarkedWithin (ADDRESS_END / slot_size l.level) l.words l.level l.done.start l.done.end
+    × AreMarkedWithin l.base (WINDOW / slot_size l.level) l.words l.level l.done.start l.done.end

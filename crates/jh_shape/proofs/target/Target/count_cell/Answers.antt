@@ -3,4 +3,4 @@ use Rattle.jh_shape.proofs.MarkLemmas.{none_beyond_all}
 use Rattle.jh_shape.proofs.target.Target.count_cell.Goals as goal
 
 pub count_by-requires-clause-room : goal.count_by-requires-clause-room
-count_by-requires-clause-room c = none_beyond_all c.args.level c.args.self.now.regions.now c.requires.level
+count_by-requires-clause-room c = none_beyond_all c.args.base c.args.level c.args.self.now.regions.now c.requires.level

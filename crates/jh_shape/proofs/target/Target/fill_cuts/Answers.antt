@@ -1,5 +1,5 @@
 -- A holder adds the slots that its regions meet in part, and a cell that doesn't hold adds none.
-use Rattle.std.proofs.Common.{◌≡◌, ◌*◌, ◌||◌, true, false, sym, ap, ◌∙◌}
+use Rattle.std.proofs.Common.{◌≡◌, ◌+◌, ◌*◌, ◌||◌, true, false, sym, ap, ◌∙◌}
 use Rattle.std.specs.List.{list_any}
 use Rattle.jh_cellcfg.specs.declared.region.Region.{Region}
 use Rattle.jh_num.specs.Bits.{has_bit}
@@ -22,12 +22,12 @@ loop-i-preserved c = λ n low below.
           let bit : has_bit target.held c.loop-i.i ≡ true = ap (λ mask. has_bit mask c.loop-i.i) (sym c.from.ensures) ∙ sym c.has_bit.ensures ∙ w.if-has_bit.true in
           ap (λ ws. is_marked ws n) w.words-is
           ∙ w.mark_cuts.ensures n low below
-          ∙ ap (λ rs. is_marked c.loop-i.words n || list_any (λ (region : Region). meets_in_part region (n * size) size) rs) w.as_slice.ensures.value
-          ∙ ap (λ b. b || list_any (λ (region : Region). meets_in_part region (n * size) size) c.cell-item.result.memory_regions) (c.loop-i.invariant n low below)
-          ∙ sym (cut_more target.held target.loadable target.cells.now c.loop-i.i c.cell-item.result (n * size) size c.loop-i-test.true c.cell-item.is bit)
+          ∙ ap (λ rs. is_marked c.loop-i.words n || list_any (λ (region : Region). meets_in_part region (c.args.base + n * size) size) rs) w.as_slice.ensures.value
+          ∙ ap (λ b. b || list_any (λ (region : Region). meets_in_part region (c.args.base + n * size) size) c.cell-item.result.memory_regions) (c.loop-i.invariant n low below)
+          ∙ sym (cut_more target.held target.loadable target.cells.now c.loop-i.i c.cell-item.result (c.args.base + n * size) size c.loop-i-test.true c.cell-item.is bit)
       | else-has_bit w ↦
           let bit : has_bit target.held c.loop-i.i ≡ false = ap (λ mask. has_bit mask c.loop-i.i) (sym c.from.ensures) ∙ sym c.has_bit.ensures ∙ w.if-has_bit.false in
           ap (λ ws. is_marked ws n) w.words-is
           ∙ c.loop-i.invariant n low below
-          ∙ sym (cut_same target.held target.loadable target.cells.now c.loop-i.i c.cell-item.result (n * size) size c.loop-i-test.true c.cell-item.is bit)
+          ∙ sym (cut_same target.held target.loadable target.cells.now c.loop-i.i c.cell-item.result (c.args.base + n * size) size c.loop-i-test.true c.cell-item.is bit)
     ]
