@@ -233,14 +233,17 @@ fn words_that_nothing_writes_are_read(rt: HostRuntime) {
 
 #[test]
 fn an_address_is_an_index_and_an_offset_a_level(rt: HostRuntime) {
-    let at = 0x40_8060_7123;
-    assert_eq!(rt; [index(1, at), index(2, at), index(3, at)], [258, 3, 7]);
+    let at = 0x82c0_8060_7123;
     assert_eq!(rt;
-        [offset(1, at), offset(2, at), offset(3, at)],
-        [0x60_7123, 0x7123, 0x123]
+        [index(0, at), index(1, at), index(2, at), index(3, at)],
+        [261, 258, 3, 7]
     );
     assert_eq!(rt;
-        [slot_size(1), slot_size(2), slot_size(3)],
-        [0x4000_0000, 0x20_0000, 0x1000]
+        [offset(0, at), offset(1, at), offset(2, at), offset(3, at)],
+        [0x40_8060_7123, 0x60_7123, 0x7123, 0x123]
+    );
+    assert_eq!(rt;
+        [slot_size(0), slot_size(1), slot_size(2), slot_size(3)],
+        [0x80_0000_0000, 0x4000_0000, 0x20_0000, 0x1000]
     );
 }

@@ -25,10 +25,10 @@ fn a_write_over_a_border_is_read_back(rt: HostRuntime) -> Result<(), Fail> {
 #[test]
 fn the_last_place_is_written(rt: HostRuntime) -> Result<(), Fail> {
     let mut memory = Frames::open(rt.alloc(), BASE, 0x1000)?;
-    memory.write(0x7f_ffff_ffff, &[9])?;
-    assert_eq!(rt; memory.value(0x7f_ffff_ffff, 1), 9);
-    assert_eq!(rt; memory.holds(0x7f_ffff_f000), true);
-    assert_eq!(rt; memory.holds(0x7f_ffff_efff), false);
+    memory.write(0xffff_ffff_ffff, &[9])?;
+    assert_eq!(rt; memory.value(0xffff_ffff_ffff, 1), 9);
+    assert_eq!(rt; memory.holds(0xffff_ffff_f000), true);
+    assert_eq!(rt; memory.holds(0xffff_ffff_efff), false);
     Ok(())
 }
 

@@ -79,11 +79,11 @@ fn told(cells: &Cells) -> (Option<u32>, u64, u16) {
 #[test]
 fn a_cell_joins_and_leaves(rt: HostRuntime) -> Result<(), Fail> {
     let mut cells = with_one(rt.alloc())?;
-    assert_eq!(rt; told(&cells), (Some(1), 5, 0x1));
+    assert_eq!(rt; told(&cells), (Some(1), 7, 0x1));
     // for the proof: the cell is there
     if cells.list().len() == 1 {
         cells.drop_cell(1);
     }
-    assert_eq!(rt; told(&cells), (None, 1, 0x0));
+    assert_eq!(rt; told(&cells), (None, 2, 0x0));
     Ok(())
 }

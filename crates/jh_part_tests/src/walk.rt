@@ -14,19 +14,22 @@ const SECOND: u64 = FIRST + 0x1000;
 
 const THIRD: u64 = FIRST + 0x2000;
 
+const FOURTH: u64 = FIRST + 0x3000;
+
 /// A 2 MB block at 0x40000000, rwx, normal memory.
 const BLOCK: u64 = 0x0000_0000_4000_07fd;
 
 /// A page at 0x9000000, rw-, device memory.
 const PAGE: u64 = 0x0040_0000_0900_07c7;
 
-/// Tables of three levels: addresses from 0x40000000 on have a block, then a page at 0x40200000.
+/// Tables of four levels: addresses from 0x40000000 on have a block, then a page at 0x40200000.
 fn tables(alloc: std::alloc::Global) -> Result<Frames, Fail> {
-    let mut memory = Frames::open(alloc, FIRST, 0x3000)?;
-    put(&mut memory, FIRST + 8, SECOND + 3)?;
-    put(&mut memory, SECOND, BLOCK)?;
+    let mut memory = Frames::open(alloc, FIRST, 0x4000)?;
+    put(&mut memory, FIRST, SECOND + 3)?;
     put(&mut memory, SECOND + 8, THIRD + 3)?;
-    put(&mut memory, THIRD, PAGE)?;
+    put(&mut memory, THIRD, BLOCK)?;
+    put(&mut memory, THIRD + 8, FOURTH + 3)?;
+    put(&mut memory, FOURTH, PAGE)?;
     Ok(memory)
 }
 
@@ -45,7 +48,7 @@ fn walked(memory: &Frames, ipa: u64) -> (Option<Hit>, u64) {
 }
 
 #[test]
-fn a_block_is_found_at_the_second_level(rt: HostRuntime) -> Result<(), Fail> {
+fn a_block_is_found_at_level_2(rt: HostRuntime) -> Result<(), Fail> {
     let memory = tables(rt.alloc())?;
     let (hit, reads) = walked(&memory, 0x4012_3456);
     let block = Hit {
@@ -55,12 +58,12 @@ fn a_block_is_found_at_the_second_level(rt: HostRuntime) -> Result<(), Fail> {
         span: 0x20_0000,
     };
     assert_eq!(rt; hit, Some(block));
-    assert_eq!(rt; reads, 2);
+    assert_eq!(rt; reads, 3);
     Ok(())
 }
 
 #[test]
-fn a_page_is_found_at_the_third_level(rt: HostRuntime) -> Result<(), Fail> {
+fn a_page_is_found_at_level_3(rt: HostRuntime) -> Result<(), Fail> {
     let memory = tables(rt.alloc())?;
     let (hit, reads) = walked(&memory, 0x4020_0123);
     let page = Hit {
@@ -70,32 +73,45 @@ fn a_page_is_found_at_the_third_level(rt: HostRuntime) -> Result<(), Fail> {
         span: 0x1000,
     };
     assert_eq!(rt; hit, Some(page));
-    assert_eq!(rt; reads, 3);
+    assert_eq!(rt; reads, 4);
+    Ok(())
+}
+
+/// Its index is 511 at each level.
+#[test]
+fn the_last_page_is_found_through_four_tables(rt: HostRuntime) -> Result<(), Fail> {
+    let mut memory = tables(rt.alloc())?;
+    put(&mut memory, FIRST + 0xff8, SECOND + 3)?;
+    put(&mut memory, SECOND + 0xff8, THIRD + 3)?;
+    put(&mut memory, THIRD + 0xff8, FOURTH + 3)?;
+    put(&mut memory, FOURTH + 0xff8, PAGE)?;
+    let (hit, reads) = walked(&memory, 0xffff_ffff_f123);
+    let page = Hit {
+        out: 0x900_0123,
+        rights: READ_WRITE,
+        device: true,
+        span: 0x1000,
+    };
+    assert_eq!(rt; hit, Some(page));
+    assert_eq!(rt; reads, 4);
     Ok(())
 }
 
 #[test]
 fn an_invalid_word_ends_a_walk_at_each_level(rt: HostRuntime) -> Result<(), Fail> {
     let memory = tables(rt.alloc())?;
-    assert_eq!(rt; walked(&memory, 0), (None, 1));
-    assert_eq!(rt; walked(&memory, 0x4040_0000), (None, 2));
-    assert_eq!(rt; walked(&memory, 0x4020_1000), (None, 3));
-    Ok(())
-}
-
-#[test]
-fn a_table_past_the_end_of_addresses_gives_nothing(rt: HostRuntime) -> Result<(), Fail> {
-    let mut memory = tables(rt.alloc())?;
-    put(&mut memory, FIRST + 8, 0x80_0000_0003)?;
-    assert_eq!(rt; walked(&memory, 0x4012_3456), (None, 1));
+    assert_eq!(rt; walked(&memory, 0x80_0000_0000), (None, 1));
+    assert_eq!(rt; walked(&memory, 0), (None, 2));
+    assert_eq!(rt; walked(&memory, 0x4040_0000), (None, 3));
+    assert_eq!(rt; walked(&memory, 0x4020_1000), (None, 4));
     Ok(())
 }
 
 #[test]
 fn a_block_at_the_last_level_is_invalid(rt: HostRuntime) -> Result<(), Fail> {
     let mut memory = tables(rt.alloc())?;
-    put(&mut memory, THIRD, PAGE - 2)?;
-    assert_eq!(rt; walked(&memory, 0x4020_0123), (None, 3));
+    put(&mut memory, FOURTH, PAGE - 2)?;
+    assert_eq!(rt; walked(&memory, 0x4020_0123), (None, 4));
     Ok(())
 }
 
@@ -105,13 +121,17 @@ fn reads_are_told_in_order(rt: HostRuntime) -> Result<(), Fail> {
     let mut steps = Steps::new();
     let _ = walk(&memory, FIRST, 0x4012_3456, &mut steps);
     let first = Probe {
-        at: FIRST + 8,
+        at: FIRST,
         word: SECOND + 3,
     };
     let second = Probe {
-        at: SECOND,
+        at: SECOND + 8,
+        word: THIRD + 3,
+    };
+    let third = Probe {
+        at: THIRD,
         word: BLOCK,
     };
-    assert_eq!(rt; steps.probes(), &[first, second][..]);
+    assert_eq!(rt; steps.probes(), &[first, second, third][..]);
     Ok(())
 }
