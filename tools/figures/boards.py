@@ -187,9 +187,9 @@ def fourteen(name, place, flags, then, pages=1024):
 
 def beside_fourteen():
     places = {
-        "disjoint": (lambda c, r: FIRST + (c * 1024 + r) * 2 * PAGE, 0, 166),
-        "by_turns": (lambda c, r: FIRST + (r * 15 + c) * 2 * PAGE, 0, 166),
-        "shared": (lambda c, r: FIRST + r * 2 * PAGE, SHARED, 106),
+        "disjoint": (lambda c, r: FIRST + (c * 1024 + r) * 2 * PAGE, 0, 182),
+        "by_turns": (lambda c, r: FIRST + (r * 15 + c) * 2 * PAGE, 0, 182),
+        "shared": (lambda c, r: FIRST + r * 2 * PAGE, SHARED, 122),
     }
     create = f"hvc 1 {CONFIGS + 0x10000 * 14:#x} 0"
     for name, (place, flags, pages) in places.items():

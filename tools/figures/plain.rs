@@ -8,7 +8,7 @@ use std::io::{Read as _, Write as _};
 use std::process::exit;
 use std::sync::Mutex;
 
-const ADDRESS_END: u64 = 1 << 39;
+const ADDRESS_END: u64 = 1 << 48;
 const PAGE: u64 = 4096;
 const MAX_FINDINGS: usize = 1000;
 const MAX_ENTRIES: usize = 262_144;
@@ -634,9 +634,9 @@ fn any_between(ones: &[Span], twos: &[Span], mut is_found: impl FnMut(&Span, &Sp
 // ---------------------------------------------------------------------------------------------------------
 // Pages of tables
 
-/// Whether slots of 2^bits bytes may be blocks of the region.
+/// Whether slots of 2^bits bytes may be blocks of the region: those of 512 GB never are.
 fn allows_blocks(region: &Region, bits: u32) -> bool {
-    !region.has(COMM_REGION | NO_HUGEPAGES) && (region.phys ^ region.virt).trailing_zeros() >= bits
+    bits < 39 && !region.has(COMM_REGION | NO_HUGEPAGES) && (region.phys ^ region.virt).trailing_zeros() >= bits
 }
 
 /// The slots at the ends of a range that it meets in part.
@@ -675,7 +675,7 @@ fn table_slots(regions: &[Region], cuts: &[(u64, u64)], bits: u32) -> u64 {
 }
 
 fn tables(regions: &[Region], cuts: &[(u64, u64)]) -> u64 {
-    1 + table_slots(regions, cuts, 30) + table_slots(regions, cuts, 21)
+    1 + [39, 30, 21].into_iter().map(|bits| table_slots(regions, cuts, bits)).sum::<u64>()
 }
 
 fn unshared_places(cell: &CellConfig) -> impl Iterator<Item = (u64, u64)> + '_ {

@@ -54,11 +54,11 @@ def spoil(rng, regions, devices_args, big):
     r = rng.choice(regions)
     what = rng.randrange(9)
     if what == 0:
-        r[0] += rng.choice([1, PAGE, -PAGE, 0x1000000, 1 << 39])
+        r[0] += rng.choice([1, PAGE, -PAGE, 0x1000000, 1 << 39, 1 << 48])
     elif what == 1:
-        r[1] += rng.choice([1, 16, PAGE, -PAGE, 1 << 39])
+        r[1] += rng.choice([1, 16, PAGE, -PAGE, 1 << 39, 1 << 48])
     elif what == 2:
-        r[2] = rng.choice([0, 1, 64, PAGE, 3 * PAGE, PAGE + 16, 1 << 39, (1 << 64) - 1])
+        r[2] = rng.choice([0, 1, 64, PAGE, 3 * PAGE, PAGE + 16, 1 << 39, 1 << 48, (1 << 64) - 1])
     elif what == 3:
         r[3] ^= rng.choice([1, 2, 4, 0x20, 0x40, 0x80, 0x100])
     elif what == 4:
@@ -139,9 +139,9 @@ def make_configs(rng, spoilt):
             it[rng.choice([0])] = rng.choice(["c0", "root"])
         if rng.random() < 0.2:
             rng.choice(cells)[1] = rng.choice([0, 1, 2])
-    hypervisor = rng.choice([(0x7fc00000, 0x400000)] * 9 + [(0x7fc00000, rng.choice([10, 16, 20, 28]) * PAGE)])
+    hypervisor = rng.choice([(0x7fc00000, 0x400000)] * 9 + [(0x7fc00000, rng.choice([11, 18, 23, 32]) * PAGE)])
     if spoilt and rng.random() < 0.1:
-        hypervisor = rng.choice([(0x7fc00000, 0), (0x7fc00010, PAGE), (0x7fc00000, 65 << 20), (1 << 39, PAGE)])
+        hypervisor = rng.choice([(0x7fc00000, 0), (0x7fc00010, PAGE), (0x7fc00000, 65 << 20), (1 << 48, PAGE)])
     sys_bytes = system("root", 0, range(cpus), [tuple(it) for it in root], [device(d[0], d[1], d[2] & 255, d[3], d[4])
                        for d in root_devices], hypervisor=hypervisor, ecam=ECAM if links or rng.random() < 0.4 else 0)
     cell_bytes = [cell(it[0], it[1], it[2], [tuple(r) for r in it[3]],
@@ -249,7 +249,7 @@ def root_program(rng, cells, caller, bdfs):
         lines += setup(rng, bdf, bars[bdf], bdfs)
     safe = [0x40001000, 0x41000000, 0x40002ff8, 0x7fafe000]
     risky = [0x7f000000, 0x7f100000, 0x7f200000, 0x9000000, 0x9002040, 0x9002080, SHM, SHM + PAGE, SHM + 0x20000,
-             0x8e00000, 0x7fbff000, 0x7fc00000, 0x30000000, (1 << 39) - 8, 0x7f080000, 0x2000000]
+             0x8e00000, 0x7fbff000, 0x7fc00000, 0x30000000, (1 << 39) - 8, (1 << 48) - 8, 0x7f080000, 0x2000000]
     for _ in range(rng.randrange(4, 26)):
         kind = rng.random()
         if kind < 0.55 and caller:
