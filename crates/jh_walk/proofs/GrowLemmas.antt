@@ -13,9 +13,10 @@ use Rattle.jh_num.specs.Levels.{slot_size}
 use Rattle.jh_walk.specs.Walks.{walk_of, walk_on, descriptor_at}
 use Rattle.jh_num.specs.Below.{sum_below}
 use Rattle.jh_num.proofs.Public.{sum_le}
-use Rattle.jh_walk.specs.Pages.{by_next, count, page_weight, times, Grows, IsKept}
+use Rattle.jh_walk.specs.Counts.{by_next}
+use Rattle.jh_walk.specs.Pages.{page_weight, times, Grows, IsKept}
 use Rattle.jh_walk.proofs.WalkLemmas.{below_end, past_end}
-use Rattle.jh_walk.proofs.LiftLemmas.{slot_counts, count_more, count_none}
+use Rattle.jh_walk.proofs.LiftLemmas.{slot_times, times_more, times_none}
 
 pub index_small : (x : ℕ) → x % 512 < 512
 index_small x = omega arith
@@ -40,20 +41,20 @@ grown_walk w w' (suc n) t at hit grows e =
     grow_by w w' n (LAST_LEVEL - n) (descriptor_at (LAST_LEVEL - n) t at) at hit (read_of (w (descriptor_at (LAST_LEVEL - n) t at)) (LAST_LEVEL - n)) refl (grows (index_of (LAST_LEVEL - n) at) small)
     (λ next more found. grown_walk w w' n next at hit more found) e
 
-slot_by : (w w' : ℕ → ℕ) (n q level slot : ℕ) (d : Descriptor) → read_of (w slot) level ≡ d → IsKept (Grows w w' n) d (w' slot ≡ w slot) → ((next : ℕ) → Grows w w' n next → times w n next q ≤ times w' n next q) → by_next (count (page_weight q) w n) d ≤ by_next (count (page_weight q) w' n) (read_of (w' slot) level)
+slot_by : (w w' : ℕ → ℕ) (n q level slot : ℕ) (d : Descriptor) → read_of (w slot) level ≡ d → IsKept (Grows w w' n) d (w' slot ≡ w slot) → ((next : ℕ) → Grows w w' n next → times w n next q ≤ times w' n next q) → by_next (λ next. times w n next q) d ≤ by_next (λ next. times w' n next q) (read_of (w' slot) level)
 slot_by w w' n q level slot Invalid is kept rest = omega arith
 slot_by w w' n q level slot (Leaf out rights device) is kept rest = omega arith
 slot_by w w' n q level slot (Table next) is kept rest =
-    let same : by_next (count (page_weight q) w' n) (read_of (w' slot) level) ≡ times w' n next q = ap (λ z. by_next (count (page_weight q) w' n) (read_of z level)) kept.0 ∙ ap (by_next (count (page_weight q) w' n)) is in
+    let same : by_next (λ next'. times w' n next' q) (read_of (w' slot) level) ≡ times w' n next q = ap (λ z. by_next (λ next'. times w' n next' q) (read_of z level)) kept.0 ∙ ap (by_next (λ next'. times w' n next' q)) is in
     let more : times w n next q ≤ times w' n next q = rest next kept.1 in
     omega arith
 
 pub grown_times : (w w' : ℕ → ℕ) (n t q : ℕ) → Grows w w' n t → times w n t q ≤ times w' n t q
 grown_times w w' zero t q grows =
-    let a : times w 0 t q ≡ 0 = count_none (page_weight q) w t in omega arith
+    let a : times w 0 t q ≡ 0 = times_none w t q in omega arith
 grown_times w w' (suc n) t q grows =
-    let a : times w (suc n) t q ≡ page_weight q w n t + sum_below 512 (slot_counts (page_weight q) w n t) = count_more (page_weight q) w n t in
-    let b : times w' (suc n) t q ≡ page_weight q w' n t + sum_below 512 (slot_counts (page_weight q) w' n t) = count_more (page_weight q) w' n t in
-    let slots : sum_below 512 (slot_counts (page_weight q) w n t) ≤ sum_below 512 (slot_counts (page_weight q) w' n t) = sum_le 512 (slot_counts (page_weight q) w n t) (slot_counts (page_weight q) w' n t) (λ i lt.
+    let a : times w (suc n) t q ≡ page_weight q w n t + sum_below 512 (slot_times w n t q) = times_more w n t q in
+    let b : times w' (suc n) t q ≡ page_weight q w' n t + sum_below 512 (slot_times w' n t q) = times_more w' n t q in
+    let slots : sum_below 512 (slot_times w n t q) ≤ sum_below 512 (slot_times w' n t q) = sum_le 512 (slot_times w n t q) (slot_times w' n t q) (λ i lt.
     slot_by w w' n q (LAST_LEVEL - n) (t + 8 * i) (read_of (w (t + 8 * i)) (LAST_LEVEL - n)) refl (grows i lt) (λ next more. grown_times w w' n next q more)) in
     omega arith

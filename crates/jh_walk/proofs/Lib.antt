@@ -4,3 +4,5 @@ mod PathLemmas
 mod SameLemmas
 mod SlotLemmas
 mod GrowLemmas
+mod ReachLemmas
+mod ListedLemmas

@@ -11,17 +11,17 @@ use Rattle.jh_num.specs.declared.level.TheConstants.{LAST_LEVEL}
 use Rattle.jh_num.specs.Levels.{slot_size}
 use Rattle.jh_walk.specs.Walks.{walk_of, walk_on, probes_of, probes_on, descriptor_at}
 use Rattle.jh_num.specs.Below.{sum_below}
-use Rattle.jh_walk.specs.Pages.{by_next, count, page_weight, times, HaveSameTables}
+use Rattle.jh_walk.specs.Counts.{by_next, count_from, Step, StateWeight}
+use Rattle.jh_walk.specs.Pages.{times, HaveSameTables, HaveSameWeights}
 use Rattle.jh_num.proofs.Public.{sum_same}
-use Rattle.jh_walk.proofs.LiftLemmas.{slot_counts, count_more, count_none, next_same, self_times, slot_is, slot_le}
+use Rattle.jh_walk.proofs.LiftLemmas.{slot_counts, count_more, count_none, next_same, self_times, times_below}
 use Rattle.jh_walk.proofs.GrowLemmas.{index_small}
 
 -- the words of a page that the page leads to are the same too
 same_below : (w w' : ℕ → ℕ) (n t i next : ℕ) → HaveSameTables w w' (suc n) t → i < 512 → read_of (w (t + 8 * i)) (LAST_LEVEL - n) ≡ Table next → HaveSameTables w w' n next
 same_below w w' n t i next same lt leads = record {
   words = λ q j some small.
-      let e : slot_counts (page_weight q) w n t i ≡ times w n next q = slot_is (page_weight q) w n t i next leads in
-      let le : page_weight q w n t + slot_counts (page_weight q) w n t i ≤ times w (suc n) t q = slot_le (page_weight q) w n t i lt in
+      let le : times w n next q ≤ times w (suc n) t q = times_below w n t q i next lt leads in
       same.words q j (omega arith) small;
 }
 
@@ -59,11 +59,18 @@ probes_same w w' (suc n) t at same =
     ∙ ap (λ l. first ∷ l) (probes_on_same (λ next. probes_of w n next at) (λ next. probes_of w' n next at) (read_of (w (descriptor_at (LAST_LEVEL - n) t at)) (LAST_LEVEL - n)) (λ next leads.
     probes_same w w' n next at (same_below w w' n t (index_of (LAST_LEVEL - n) at) next same small leads)))
 
-pub times_same : (w w' : ℕ → ℕ) (n t q : ℕ) → HaveSameTables w w' n t → times w' n t q ≡ times w n t q
-times_same w w' zero t q same = count_none (page_weight q) w' t ∙ sym (count_none (page_weight q) w t)
-times_same w w' (suc n) t q same =
-    let slots : sum_below 512 (slot_counts (page_weight q) w' n t) ≡ sum_below 512 (slot_counts (page_weight q) w n t) = sum_same 512 (slot_counts (page_weight q) w' n t) (slot_counts (page_weight q) w n t) (λ i lt.
-    ap (λ z. by_next (count (page_weight q) w' n) (read_of z (LAST_LEVEL - n))) (same_here w w' n t i same lt)
-    ∙ next_same (count (page_weight q) w' n) (count (page_weight q) w n) (read_of (w (t + 8 * i)) (LAST_LEVEL - n)) (λ next leads.
-    times_same w w' n next q (same_below w w' n t i next same lt leads))) in
-    count_more (page_weight q) w' n t ∙ ap (λ x. page_weight q w n t + x) slots ∙ sym (count_more (page_weight q) w n t)
+weights_below : (weight : StateWeight) (w w' : ℕ → ℕ) (n t i next : ℕ) → HaveSameWeights weight w w' (suc n) t → i < 512 → read_of (w (t + 8 * i)) (LAST_LEVEL - n) ≡ Table next → HaveSameWeights weight w w' n next
+weights_below weight w w' n t i next same lt leads s m q some =
+    let le : times w n next q ≤ times w (suc n) t q = times_below w n t q i next lt leads in
+    same s m q (omega arith)
+
+-- pages with the same words that weigh the same count the same
+pub counts_same : (step : Step) (weight : StateWeight) (w w' : ℕ → ℕ) (n : ℕ) (s : Option ℕ) (t : ℕ) → HaveSameTables w w' n t → HaveSameWeights weight w w' n t → count_from step weight w' n s t ≡ count_from step weight w n s t
+counts_same step weight w w' zero s t same weighs = count_none step weight w' s t ∙ sym (count_none step weight w s t)
+counts_same step weight w w' (suc n) s t same weighs =
+    let own : weight s w' n t ≡ weight s w n t = weighs s n t (self_times w n t t refl) in
+    let slots : sum_below 512 (slot_counts step weight w' n s t) ≡ sum_below 512 (slot_counts step weight w n s t) = sum_same 512 (slot_counts step weight w' n s t) (slot_counts step weight w n s t) (λ i lt.
+    ap (λ z. by_next (count_from step weight w' n (step s n i)) (read_of z (LAST_LEVEL - n))) (same_here w w' n t i same lt)
+    ∙ next_same (count_from step weight w' n (step s n i)) (count_from step weight w n (step s n i)) (read_of (w (t + 8 * i)) (LAST_LEVEL - n)) (λ next leads.
+    counts_same step weight w w' n (step s n i) next (same_below w w' n t i next same lt leads) (weights_below weight w w' n t i next weighs lt leads))) in
+    count_more step weight w' n s t ∙ (ap (λ x. x + sum_below 512 (slot_counts step weight w' n s t)) own ∙ (ap (λ x. weight s w n t + x) slots ∙ sym (count_more step weight w n s t)))
