@@ -3,6 +3,7 @@ mod WalkLemmas
 mod PathLemmas
 mod SameLemmas
 mod SlotLemmas
+mod WholeLemmas
 mod GrowLemmas
 mod ReachLemmas
 mod ListedLemmas

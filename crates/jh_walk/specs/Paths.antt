@@ -30,3 +30,7 @@ EndsAtLeaf word (suc n) table at hit =
 -- what the same leaf gives another address of its slot
 abbrev pub shifted : ℕ → ℕ → Hit → Hit
 shifted at other hit = record hit { out = hit.out - at % hit.span + other % hit.span }
+
+-- what is given so many bytes behind
+abbrev pub behind : ℕ → Hit → Hit
+behind k hit = record hit { out = hit.out + k }

@@ -1,8 +1,9 @@
 //! What holds of every walk, over any words. Each function does nothing; its contract is the law.
-ghost use Rattle.std.specs.Prelude.{◌≡◌, ◌≢◌, ℕ, ◌+◌, ◌/◌, ◌<◌, ◌≤◌, ◌↔◌, Option, List, AllPairs, Contains, length, sum_by, Some};
+ghost use Rattle.std.specs.Prelude.{◌≡◌, ◌≢◌, ℕ, ◌+◌, ◌-◌, ◌/◌, ◌%◌, ◌<◌, ◌≤◌, ◌↔◌, Option, List, AllPairs, Contains, length, option_map, sum_by, Some};
+ghost use Rattle.jh_num.specs.declared.address.TheConstants.{ADDRESS_END};
 ghost use Rattle.jh_desc.specs.declared.descriptor.Hit.{Hit as AnyHit};
 ghost use Rattle.jh_walk.specs.Walks.{levels, probes_of, walk_of};
-ghost use Rattle.jh_walk.specs.Paths.{shifted, EndsAtLeaf};
+ghost use Rattle.jh_walk.specs.Paths.{behind, shifted, EndsAtLeaf};
 ghost use Rattle.jh_walk.specs.Counts.{Step, StateWeight, IsReachedAs, count_from};
 ghost use Rattle.jh_walk.specs.Pages.{Grows, HaveSameTables, HaveSameWeights, IsReached, TableChange, WasReachedOnce, counted_after, counted_before, pages_reached, times, times_before};
 
@@ -17,6 +18,22 @@ pub fn a_walk_ends_at_a_leaf()
 pub fn a_hit_covers_its_slot()
     ensures { (word : ℕ → ℕ) (table at other : ℕ) (hit : AnyHit) → walk_of word levels table at ≡ Some hit
         → other / hit.span ≡ at / hit.span → walk_of word levels table other ≡ Some (shifted at other hit) }
+{}
+
+/// All addresses of a page are given places that follow one another, or none is given anything.
+pub fn a_page_is_given_whole()
+    ensures { (word : ℕ → ℕ) (table page k : ℕ) → page % 4096 ≡ 0 → k < 4096 → walk_of word levels table (page + k) ≡ option_map (behind k) (walk_of word levels table page) }
+{}
+
+/// What a walk gives lies below the end of places, and so does the whole slot.
+pub fn a_hit_lies_below_the_end()
+    ensures place { (word : ℕ → ℕ) (table at : ℕ) (hit : AnyHit) → walk_of word levels table at ≡ Some hit → hit.out < ADDRESS_END }
+    ensures slot { (word : ℕ → ℕ) (table at : ℕ) (hit : AnyHit) → walk_of word levels table at ≡ Some hit → hit.out - at % hit.span + hit.span ≤ ADDRESS_END }
+{}
+
+/// An address and the place that it is given lie at the same offset in their pages.
+pub fn a_hit_keeps_the_offset()
+    ensures { (word : ℕ → ℕ) (table at : ℕ) (hit : AnyHit) → walk_of word levels table at ≡ Some hit → hit.out % 4096 ≡ at % 4096 }
 {}
 
 /// A walk reads a descriptor a level at most.
