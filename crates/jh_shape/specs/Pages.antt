@@ -1,11 +1,12 @@
 -- How many pages a cell's tables take.
 use Rattle.std.specs.Prelude.{ℕ, ◌+◌, ◌*◌, ◌-◌, ◌/◌, Bool, true, false, zero, suc, List, [], map, sum_by, if◌then◌else◌}
 use Rattle.jh_cellcfg.specs.declared.config.CellConfig.{CellConfig}
+use Rattle.jh_cellcfg.specs.declared.live.Live.{Live}
 use Rattle.jh_cellcfg.specs.declared.region.Region.{Region}
 use Rattle.jh_num.specs.declared.address.TheConstants.{ADDRESS_END}
 use Rattle.jh_num.specs.declared.level.TheConstants.{FIRST_LEVEL, LAST_LEVEL}
 use Rattle.jh_shape.specs.Claims.{Claims, holder_of}
-use Rattle.jh_shape.specs.Shapes.{is_table}
+use Rattle.jh_shape.specs.Shapes.{holder_of_live, is_table}
 use Rattle.jh_num.specs.Levels.{slot_size}
 
 -- how many of the numbers below `n` pass the test
@@ -29,6 +30,10 @@ tables_of claims = 1 + tables_from claims FIRST_LEVEL (LAST_LEVEL - FIRST_LEVEL)
 -- what root's tables are made from: they depend on all cells; root has no communication page, so that is left 0
 abbrev pub root_claims : List Region → List CellConfig → Claims
 root_claims regions cells = record { regions = regions; root = true; holders = map holder_of cells; comm = 0 }
+
+-- what root's tables are made from beside these live cells, each with its mark
+abbrev pub live_root_claims : List Region → List Live → Claims
+live_root_claims regions lives = record { regions = regions; root = true; holders = map holder_of_live lives; comm = 0 }
 
 -- what the tables of a cell besides root are counted from: they depend on no other cell, and where its communication
 -- page lies is left 0

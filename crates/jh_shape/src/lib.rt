@@ -12,10 +12,11 @@ mod want;
 
 pub use laws::{
     a_new_cell_frees_no_page, a_page_is_granted_wholly_or_not_at_all,
-    a_table_stands_where_no_leaf_serves, each_wanted_table_is_counted,
-    fewer_cells_take_no_more_pages, loadable_cells_change_no_shape, tables_are_few,
-    tables_stand_below_tables, the_communication_page_changes_no_count,
-    what_live_cells_hold_is_closed,
+    a_table_stands_where_no_leaf_serves, a_wanted_leaf_may_be_written,
+    each_wanted_table_is_counted, fewer_cells_take_no_more_pages, loadable_cells_change_no_shape,
+    marks_change_no_table, more_holders_keep_tables, tables_are_counted_from_the_top,
+    tables_are_few, tables_stand_below_tables, the_communication_page_changes_no_count,
+    what_is_wanted_tells_grants, what_live_cells_hold_is_closed,
 };
 pub use pages::{cell_pages, pages_of};
 pub use region::{any_takes, takes_places};
