@@ -9,6 +9,7 @@ mod pages;
 mod region;
 mod target;
 mod want;
+mod wants;
 
 pub use laws::{
     a_new_cell_frees_no_page, a_page_is_granted_wholly_or_not_at_all,
