@@ -3,3 +3,4 @@ mod VerdictLemmas
 mod CauseLemmas
 mod ChangeLemmas
 mod OrderLemmas
+mod SoundLemmas

@@ -1,11 +1,16 @@
 //! What holds of the live cells, whatever befalls them: each law is the contract of a function that does nothing.
-ghost use Rattle.std.specs.Prelude.{◌≡◌, ◌↔◌, ◌⊎◌, true, ℕ, ℤ, Bool, List, [], remove, slice_get, fold, map, Some, None};
+ghost use Rattle.std.specs.Prelude.{◌≡◌, ◌%◌, ◌<◌, ◌↔◌, ◌⊎◌, true, ℕ, ℤ, Bool, List, [], remove, slice_get, fold, map, Contains, Some, None};
 ghost use Rattle.std.specs.List.{find};
+ghost use Rattle.jh_num.specs.declared.address.TheConstants.{ADDRESS_END, PAGE_SIZE};
 ghost use Rattle.jh_num.specs.declared.error.TheConstants.{EBUSY, EEXIST, EINVAL, ENOMEM, EPERM};
+ghost use Rattle.jh_cellcfg.specs.declared.config.SystemConfig.{SystemConfig};
 ghost use Rattle.jh_cellcfg.specs.declared.live.Live.{Live};
 ghost use Rattle.jh_cellcfg.specs.Lives.{has_id};
 ghost use Rattle.jh_life.specs.CellsView.{CellsView};
+ghost use Rattle.jh_check.specs.Clean.{IsClean};
 ghost use Rattle.jh_shape.specs.Lives.{configs_of, marked};
+ghost use Rattle.jh_shape.specs.Pages.{cell_claims, live_root_claims};
+ghost use Rattle.jh_shape.specs.SoundClaims.{AreSoundClaims};
 ghost use Rattle.jh_life.specs.Changes.{CellChange, IsMarkedAt, without, after, live_after, lasting, AreNew};
 ghost use Rattle.jh_life.specs.Causes.{Create, IsLetIn, verdict_on, Cause, Known, TakenCpu, BrokenRule, Overlap, FewPages, number_for, SpeaksAgainst, IsFirst};
 
@@ -68,4 +73,12 @@ pub fn each_number_has_its_causes()
     ensures invalid { (seen : CellsView) (create : Create) → (verdict_on seen create ≡ Some EINVAL) ↔ IsFirst seen create BrokenRule }
     ensures pages { (seen : CellsView) (create : Create) → (verdict_on seen create ≡ Some ENOMEM) ↔ IsFirst seen create FewPages }
     ensures none { (seen : CellsView) (create : Create) → (verdict_on seen create ≡ None) ↔ ((cause : Cause) → SpeaksAgainst seen create cause → ⊥) }
+{}
+
+/// Live cells in which nothing is found may be asked what their tables are to be: what root's are made from is sound, and
+/// so is what those of each other cell are, wherever its communication page begins among the pages.
+pub fn live_claims_are_sound()
+    ensures root { (system : SystemConfig) (lives : List Live) → IsClean system (configs_of lives) → AreSoundClaims (live_root_claims system.root.memory_regions lives) }
+    ensures cells { (system : SystemConfig) (lives : List Live) (live : Live) (comm : ℕ) → IsClean system (configs_of lives) → Contains lives live → comm % PAGE_SIZE ≡ 0 → comm < ADDRESS_END
+        → AreSoundClaims (record (cell_claims live.config) { comm = comm }) }
 {}

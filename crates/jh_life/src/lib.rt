@@ -12,5 +12,5 @@ pub use laws::{
     a_cell_is_as_it_was_last_set, a_cell_is_dropped_by_its_id,
     a_cell_is_let_in_where_nothing_holds, a_cell_is_marked_by_its_id,
     a_refusal_tells_its_first_cause, a_verdict_goes_by_the_listed_cells,
-    cells_are_listed_in_order_of_creation, each_number_has_its_causes,
+    cells_are_listed_in_order_of_creation, each_number_has_its_causes, live_claims_are_sound,
 };
