@@ -1,6 +1,7 @@
 #!/usr/bin/env python3
 """boards.py FOLDER: writes the boards of the figures into FOLDER, a folder each, with the words of each call in
 NAME.words (one word a line). README.md says what each board is."""
+import argparse
 import os
 import struct
 import sys
@@ -223,8 +224,9 @@ def many_pages():
 
 
 if __name__ == "__main__":
-    if len(sys.argv) != 2:
-        sys.exit("usage: boards.py FOLDER")
+    asked = argparse.ArgumentParser(description=__doc__, allow_abbrev=False)
+    asked.add_argument("folder")
+    asked.parse_args()
     check_boards()
     fifteen("fifteen_beside", lambda c, r: FIRST + (c * 1000 + r) * 2 * PAGE)
     fifteen("fifteen_by_turns", lambda c, r: FIRST + (r * 15 + c) * 2 * PAGE)

@@ -53,7 +53,7 @@ def quartile(times):
 
 
 def main():
-    asked = argparse.ArgumentParser(description=__doc__)
+    asked = argparse.ArgumentParser(description=__doc__, allow_abbrev=False)
     asked.add_argument("ours")
     asked.add_argument("plain")
     asked.add_argument("boards")

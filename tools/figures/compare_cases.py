@@ -1,6 +1,7 @@
 #!/usr/bin/env python3
 """compare_cases.py FOLDER OURS PLAIN: compares the text and the status of two programs on each of FOLDER's cases, which
 random_cases.py wrote. Tells each difference, and ends with 1 where there is one."""
+import argparse
 import os
 import subprocess
 import sys
@@ -21,9 +22,11 @@ def first_difference(one, two):
 
 
 def main():
-    if len(sys.argv) != 4:
-        sys.exit("usage: compare_cases.py FOLDER OURS PLAIN")
-    folder, ours, plain = map(os.path.abspath, sys.argv[1:])
+    asked = argparse.ArgumentParser(description=__doc__, allow_abbrev=False)
+    for name in ("folder", "ours", "plain"):
+        asked.add_argument(name, type=os.path.abspath)
+    asked = asked.parse_args()
+    folder, ours, plain = asked.folder, asked.ours, asked.plain
     data, cases = os.path.join(folder, "data"), os.path.join(folder, "cases")
     same = bad = 0
     for name in sorted(it[:-5] for it in os.listdir(cases) if it.endswith(".args")):

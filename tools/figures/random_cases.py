@@ -1,6 +1,7 @@
 #!/usr/bin/env python3
 """random_cases.py COUNT SEED FOLDER PLAIN: writes COUNT random calls of `check`, `play` and `audit`: the words of each in
 FOLDER/cases/NAME.args, all files in FOLDER/data. Journals for `audit` come from the plain program."""
+import argparse
 import os
 import random
 import struct
@@ -396,9 +397,13 @@ def check_case(case, spoilt):
 
 
 def main():
-    if len(sys.argv) != 5:
-        sys.exit("usage: random_cases.py COUNT SEED FOLDER PLAIN")
-    count, seed, folder = int(sys.argv[1]), int(sys.argv[2]), sys.argv[3]
+    asked = argparse.ArgumentParser(description=__doc__, allow_abbrev=False)
+    asked.add_argument("count", type=int)
+    asked.add_argument("seed", type=int)
+    asked.add_argument("folder")
+    asked.add_argument("plain")
+    asked = asked.parse_args()
+    count, seed, folder = asked.count, asked.seed, asked.folder
     for it in ("data", "cases"):
         os.makedirs(os.path.join(folder, it), exist_ok=True)
     for k in range(count):
