@@ -2,9 +2,9 @@
 
 /// Whether the text has these lines, in this order, maybe with others between.
 pub(crate) fn has_in_order(text: &str, lines: &str) -> bool {
-    let mut rest = lines;
+    let mut rest = lines.as_bytes();
     for line in text.lines() {
-        if let Some(behind) = behind_line(rest, line) {
+        if let Some(behind) = behind_line(rest, line.as_bytes()) {
             rest = behind;
         }
     }
@@ -12,8 +12,8 @@ pub(crate) fn has_in_order(text: &str, lines: &str) -> bool {
 }
 
 /// What stands behind the first line; `None` where that is another one.
-fn behind_line<'a>(lines: &'a str, line: &str) -> Option<&'a str> {
-    lines.strip_prefix(line)?.strip_prefix('\n')
+fn behind_line<'a>(lines: &'a [u8], line: &[u8]) -> Option<&'a [u8]> {
+    lines.strip_prefix(line)?.strip_prefix(b"\n")
 }
 
 /// Whether the text has one of these lines.
