@@ -1,9 +1,9 @@
 //! Memory as bytes at places.
-ghost use Rattle.std.specs.Prelude.{◌≡◌, ◌≢◌, ℕ, ◌+◌, ◌-◌, ◌*◌, ◌%◌, ◌/◌, ◌≤◌, ◌<◌, ◌⊎◌, true, false, None, option_copied, map, length, slice_index, IfOk, OnOk, OnErr, IsOk, if◌then◌else◌};
+ghost use Rattle.std.specs.Prelude.{◌≡◌, ◌≢◌, ℕ, ◌+◌, ◌-◌, ◌*◌, ◌%◌, ◌/◌, ◌^◌, ◌≤◌, ◌<◌, ◌⊎◌, true, false, None, option_copied, ◌++◌, map, length, vec_len, vec_capacity, slice_index, IfOk, IfSome, OnOk, OnErr, IsOk, if◌then◌else◌};
 ghost use Rattle.std.specs.List.{range_with_len};
 ghost use Rattle.jh_num.specs.declared.address.TheConstants.{ADDRESS_END};
 ghost use Rattle.jh_num.specs.Memory.{spelled, stored};
-ghost use Rattle.jh_frames.specs.Memory.{byte_at, holds, missing, missing_from, pages_in, word_in, AreOwnBytes};
+ghost use Rattle.jh_frames.specs.Memory.{byte_at, is_own, holds, missing, missing_from, page_of, pages_in, word_in, AreOwnBytes};
 ghost use Rattle.jh_num.specs.Pages.{page_at};
 ghost use Rattle.jh_frames.specs.Kept.{IsWholePages};
 
@@ -64,6 +64,13 @@ impl Frames {
         } else {
             self.guest.read(at)
         }
+    }
+
+    /// Whether the place is in the hypervisor's memory.
+    pub fn is_own(&self, at: u64) -> bool
+        ensures { result ≡ is_own self.now.own at }
+    {
+        self.own.has(at)
     }
 
     /// Whether the page of the place is held.
@@ -132,6 +139,49 @@ impl Frames {
         } else {
             self.guest.value(at, width as usize)
         }
+    }
+
+    /// Puts `count` bytes of one page from the place on behind those of the buffer, which has room for them.
+    fn append_piece(&self, buffer: &mut Vec<u8>, at: u64, count: usize)
+        requires one_page { at % 4096 + count ≤ 4096 }
+        requires room { vec_len buffer.old + count ≤ vec_capacity buffer.old }
+        ensures items { buffer.new.items ≡ buffer.old.items ++ map (byte_at self.now) (range_with_len at count) }
+        ensures len { vec_len buffer.new ≡ vec_len buffer.old + count }
+        ensures capacity { vec_capacity buffer.old ≤ vec_capacity buffer.new }
+    {
+        if self.own.has(at) {
+            self.own.append(buffer, at, count);
+        } else {
+            self.guest.append(buffer, at, count);
+        }
+    }
+
+    /// Puts `count` bytes from the place on behind those of the buffer, page by page. The buffer has room for them.
+    fn append_pieces(&self, buffer: &mut Vec<u8>, at: u64, count: usize)
+        requires place { at + count < 2 ^ 64 }
+        requires room { vec_len buffer.old + count ≤ vec_capacity buffer.old }
+        ensures { buffer.new.items ≡ buffer.old.items ++ map (byte_at self.now) (range_with_len at count) }
+    {
+        let mut done = 0;
+        while done < count {
+            let place = at + done as u64;
+            let left_of_page = (PAGE_SIZE - place % PAGE_SIZE) as usize;
+            let piece = left_of_page.min(count - done);
+            self.append_piece(buffer, place, piece);
+            done += piece;
+        }
+    }
+
+    /// Puts `count` bytes from the place on behind those of the buffer: all of them, or none for want of memory. Each page
+    /// is looked up once, and none comes to be held.
+    pub fn append(&self, buffer: &mut Vec<u8>, at: u64, count: usize) -> Result<(), NoMemory>
+        requires { at + count < 2 ^ 64 }
+        ensures ok { OnOk result (buffer.new.items ≡ buffer.old.items ++ map (byte_at self.now) (range_with_len at count)) }
+        ensures err { OnErr result (buffer.new.items ≡ buffer.old.items) }
+    {
+        buffer.reserve(count)?;
+        self.append_pieces(buffer, at, count);
+        Ok(())
     }
 
     /// The word at a place anywhere.
@@ -393,4 +443,14 @@ fn pages_in(at: u64, count: usize) -> u64
     } else {
         (at + count as u64 - 1) / PAGE_SIZE + 1 - at / PAGE_SIZE
     }
+}
+
+/// Each page that is held has 4,096 bytes, the hypervisor's and those of guests.
+pub fn held_pages_have_4096_bytes(frames: &Frames)
+    ensures guest { (number : ℕ) → IfSome (page_at frames.now.guest.pages number) (λ page. length page ≡ 4096) }
+    ensures all { (number : ℕ) → IfSome (page_of frames.now number) (λ page. length page ≡ 4096) }
+{
+    // for the proof: what holds of the hypervisor's range and of the pages of guests
+    let _ = frames.own.has(0);
+    frames.guest.pages_are_whole();
 }

@@ -1,9 +1,10 @@
 //! The pages of guests.
-ghost use Rattle.std.specs.Prelude.{◌≡◌, ◌≢◌, ℕ, ◌+◌, ◌%◌, ◌/◌, ◌≤◌, ◌<◌, true, false, None, if◌then◌else◌, map, length, is_some, option_copied, OnOk, OnErr, IsOk};
+ghost use Rattle.std.specs.Prelude.{◌≡◌, ◌≢◌, ℕ, ◌+◌, ◌%◌, ◌/◌, ◌≤◌, ◌<◌, true, false, None, if◌then◌else◌, map, length, replicate, ◌++◌, vec_len, vec_capacity, is_some, option_copied, OnOk, OnErr, IsOk};
 ghost use Rattle.std.specs.List.{range_with_len};
 ghost use Rattle.jh_num.specs.Memory.{spelled, stored};
 ghost use Rattle.indexmap.specs.IndexMap.{spare};
 ghost use Rattle.jh_num.specs.Pages.{page_at, byte_of_page, paged_byte};
+ghost use Rattle.jh_frames.specs.Kept.{AreWholePages};
 
 use crate::page::Page;
 use indexmap::IndexMap;
@@ -21,10 +22,13 @@ pub struct Guest {
 impl Model for Guest {
     ghost use Rattle.indexmap.specs.IndexMap.{spare};
     ghost use Rattle.jh_frames.specs.Memory.{GuestView};
+    ghost use Rattle.jh_frames.specs.Kept.{AreWholePages};
 
     ghost Value = { GuestView };
 
     ghost view = { λ g. record { pages = g.pages.entries; spare = spare g.pages } };
+
+    ghost invariant = { λ g. AreWholePages g.pages.entries };
 }
 
 /// Puts the bytes into the page of the number from the offset on. A page that isn't held comes to be held, of
@@ -40,6 +44,7 @@ fn put_page(
     ensures page { OnOk result ((k : ℕ) → byte_of_page (page_at pages.new.entries number) k ≡ stored (byte_of_page (page_at pages.old.entries number)) offset bytes.now k) }
     ensures held { OnOk result (is_some (page_at pages.new.entries number) ≡ true) }
     ensures others { (other : ℕ) → other ≢ number → page_at pages.new.entries other ≡ page_at pages.old.entries other }
+    ensures whole { AreWholePages pages.old.entries → AreWholePages pages.new.entries }
     ensures unchanged { OnErr result (pages.new.entries ≡ pages.old.entries) }
     ensures succeeds { (is_some (page_at pages.old.entries number) ≡ false → 0 < spare pages.old) → IsOk result }
     ensures spare { spare pages.old ≤ spare pages.new + (if is_some (page_at pages.old.entries number) then 0 else 1) }
@@ -52,6 +57,18 @@ fn put_page(
     Ok(())
 }
 
+/// Puts `count` zeros behind the bytes of the buffer, which has room for them.
+fn append_zeros(buffer: &mut Vec<u8>, count: usize)
+    requires { vec_len buffer.old + count ≤ vec_capacity buffer.old }
+    ensures items { buffer.new.items ≡ buffer.old.items ++ replicate count 0 }
+    ensures len { vec_len buffer.new ≡ vec_len buffer.old + count }
+    ensures capacity { vec_capacity buffer.old ≤ vec_capacity buffer.new }
+{
+    let len = buffer.len() + count;
+    // there is room, so this takes no memory and succeeds
+    let _ = buffer.resize(len, 0);
+}
+
 impl Guest {
     /// Pages of guests, of which none is held.
     pub fn new(alloc: Global) -> Self
@@ -60,6 +77,14 @@ impl Guest {
         Guest {
             pages: IndexMap::new(alloc),
         }
+    }
+
+    /// Each page has 4,096 bytes.
+    pub fn pages_are_whole(&self)
+        ensures { AreWholePages self.now.pages }
+    {
+        // for the proof: the invariant
+        let _ = &self.pages;
     }
 
     /// Whether the page of the place is held.
@@ -96,6 +121,21 @@ impl Guest {
         match self.pages.get(&(at / PAGE_SIZE)) {
             None => 0,
             Some(page) => page.value((at % PAGE_SIZE) as usize, width),
+        }
+    }
+
+    /// Puts `count` bytes of one page from the place on, zeros where the page isn't held, behind those of the buffer,
+    /// which has room for them.
+    pub fn append(&self, buffer: &mut Vec<u8>, at: u64, count: usize)
+        requires within { at % 4096 + count ≤ 4096 }
+        requires room { vec_len buffer.old + count ≤ vec_capacity buffer.old }
+        ensures items { buffer.new.items ≡ buffer.old.items ++ map (paged_byte self.now.pages) (range_with_len at count) }
+        ensures len { vec_len buffer.new ≡ vec_len buffer.old + count }
+        ensures capacity { vec_capacity buffer.old ≤ vec_capacity buffer.new }
+    {
+        match self.pages.get(&(at / PAGE_SIZE)) {
+            None => append_zeros(buffer, count),
+            Some(page) => page.append(buffer, (at % PAGE_SIZE) as usize, count),
         }
     }
 

@@ -1,5 +1,5 @@
 //! The hypervisor's memory.
-ghost use Rattle.std.specs.Prelude.{◌≡◌, ℕ, ◌+◌, ◌-◌, ◌%◌, ◌^◌, ◌≤◌, ◌<◌, true, MatchBool, length, slice_index, slice_range, IfOk};
+ghost use Rattle.std.specs.Prelude.{◌≡◌, ℕ, ◌+◌, ◌-◌, ◌%◌, ◌^◌, ◌≤◌, ◌<◌, true, MatchBool, length, slice_index, slice_range, ◌++◌, vec_len, vec_capacity, IfOk};
 ghost use Rattle.jh_num.specs.declared.address.TheConstants.{ADDRESS_END};
 ghost use Rattle.jh_num.specs.Memory.{spelled, stored};
 ghost use Rattle.jh_frames.specs.Memory.{is_own, own_byte, word_in, AreOwnBytes};
@@ -111,6 +111,19 @@ impl Own {
     {
         let k = (at - self.base) as usize;
         self.bytes[k..k + bytes.len()].copy_from_slice(bytes);
+    }
+
+    /// Puts `count` bytes from the place on behind those of the buffer, which has room for them.
+    pub fn append(&self, buffer: &mut Vec<u8>, at: u64, count: usize)
+        requires own { AreOwnBytes self.now at count }
+        requires room { vec_len buffer.old + count ≤ vec_capacity buffer.old }
+        ensures items { buffer.new.items ≡ buffer.old.items ++ slice_range self.now.bytes (at - self.now.base) (at - self.now.base + count) }
+        ensures len { vec_len buffer.new ≡ vec_len buffer.old + count }
+        ensures capacity { vec_capacity buffer.old ≤ vec_capacity buffer.new }
+    {
+        let k = (at - self.base) as usize;
+        // there is room, so this takes no memory and succeeds
+        let _ = buffer.extend_from_slice(&self.bytes[k..k + count]);
     }
 
     /// The 4,096 bytes from the place on.

@@ -1,5 +1,5 @@
 //! A page of 4,096 bytes.
-ghost use Rattle.std.specs.Prelude.{◌≡◌, ℕ, ◌+◌, ◌≤◌, ◌<◌, length, slice_index, slice_range};
+ghost use Rattle.std.specs.Prelude.{◌≡◌, ℕ, ◌+◌, ◌≤◌, ◌<◌, ◌++◌, length, slice_index, slice_range, vec_len, vec_capacity};
 ghost use Rattle.jh_num.specs.Memory.{spelled, stored};
 
 use jh_num::spelled;
@@ -24,7 +24,8 @@ impl Model for Page {
 impl Page {
     /// A page of zeros.
     pub fn zero() -> Self
-        ensures { (k : ℕ) → slice_index result k ≡ 0 }
+        ensures zeros { (k : ℕ) → slice_index result k ≡ 0 }
+        ensures whole { length result ≡ 4096 }
     {
         Page { bytes: [0; 4096] }
     }
@@ -47,10 +48,24 @@ impl Page {
         spelled(&self.bytes[offset..offset + width])
     }
 
+    /// Puts `count` bytes from the offset on behind those of the buffer, which has room for them.
+    pub fn append(&self, buffer: &mut Vec<u8>, offset: usize, count: usize)
+        requires within { offset + count ≤ 4096 }
+        requires room { vec_len buffer.old + count ≤ vec_capacity buffer.old }
+        ensures items { buffer.new.items ≡ buffer.old.items ++ slice_range self.now offset (offset + count) }
+        ensures len { vec_len buffer.new ≡ vec_len buffer.old + count }
+        ensures whole { length self.now ≡ 4096 }
+        ensures capacity { vec_capacity buffer.old ≤ vec_capacity buffer.new }
+    {
+        // there is room, so this takes no memory and succeeds
+        let _ = buffer.extend_from_slice(&self.bytes[offset..offset + count]);
+    }
+
     /// Writes the bytes over those from the offset on, all of them within the page.
     pub fn write(&mut self, offset: usize, bytes: &[u8])
         requires { offset + length bytes.now ≤ 4096 }
-        ensures { (k : ℕ) → slice_index self.new k ≡ stored (slice_index self.old) offset bytes.now k }
+        ensures bytes { (k : ℕ) → slice_index self.new k ≡ stored (slice_index self.old) offset bytes.now k }
+        ensures whole { length self.new ≡ 4096 }
     {
         self.bytes[offset..offset + bytes.len()].copy_from_slice(bytes);
     }
