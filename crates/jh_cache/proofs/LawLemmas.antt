@@ -1,5 +1,5 @@
 -- Lists of translations after fills and flushes.
-use Rattle.std.proofs.Common.{◌≡◌, ℕ, ◌+◌, ◌-◌, ◌<◌, ◌≤◌, Bool, true, false, not, eqb, List, [], ◌∷◌, ◌++◌, length, drop, get_or, map, Option, Some, None, refl, sym, ap, ◌∙◌, arith}
+use Rattle.std.proofs.Common.{◌≡◌, ℕ, ◌+◌, ◌-◌, ◌<◌, ◌≤◌, Bool, true, false, not, eqb, List, [], ◌∷◌, ◌++◌, length, drop, Option, Some, None, refl, sym, ap, ◌∙◌, arith}
 use Rattle.std.specs.List.{find}
 use Rattle.std.specs.Option.{option_map}
 use Rattle.std.proofs.lemmas.Bool.{and_parts, and_from, and_left, eq-eqb, eqb-true, ne_eqb, not-true, not_from_false, false_from_ne_true, both_ways}
@@ -7,18 +7,18 @@ use Rattle.jh_num.proofs.Public.{IsFound_from_filter, filter_all, find_None, fin
 use Rattle.jh_desc.specs.declared.descriptor.Hit.{Hit}
 use Rattle.jh_cache.specs.declared.translation.Translation.{Translation}
 use Rattle.jh_cache.specs.Translations.{is_for, looked, without, newest, filled, flushed}
-use Rattle.jh_cache.proofs.ListLemmas.{find_drop, find_last, find_more, filter_few, filter_fewer, newest_few, mapped_at}
+use Rattle.jh_cache.proofs.ListLemmas.{find_drop, find_last, find_more, filter_few, filter_fewer, newest_few}
 
-abbrev hit_in : Option Translation → Option Hit
+abbrev pub hit_in : Option Translation → Option Hit
 hit_in = option_map (λ (t : Translation). t.hit)
 
 -- where none that are looked for stay, none is found
-none_stays : (q out : Translation → Bool) (list : List Translation) → ((x : Translation) → out x ≡ false → q x ≡ false) → find q (without out list) ≡ None
+pub none_stays : (q out : Translation → Bool) (list : List Translation) → ((x : Translation) → out x ≡ false → q x ≡ false) → find q (without out list) ≡ None
 none_stays q out list goes = find_nothing q (without out list) (λ x held.
     goes x (not-true (out x) (IsFound_from_filter (λ y. not (out y)) list x held).passes))
 
 -- where none is found, none is taken out
-all_stay : (p : Translation → Bool) (list : List Translation) → find p list ≡ None → without p list ≡ list
+pub all_stay : (p : Translation → Bool) (list : List Translation) → find p list ≡ None → without p list ≡ list
 all_stay p list none = filter_all (λ x. not (p x)) list (λ x held. not_from_false (p x) (find_None p list x none held))
 
 for_itself : (t : Translation) → is_for t.tag t.page t ≡ true
@@ -76,11 +76,3 @@ flushed_others list tag other page ne =
     ap hit_in (find_kept (is_for other page) (λ x. not (eqb x.tag tag)) list (λ x is.
     let same : x.tag ≡ other = eqb-true x.tag other (and_parts (eqb x.tag other) (eqb x.page page) is).0 in
     not_from_false (eqb x.tag tag) (ne_eqb x.tag tag (λ too. ne (sym same ∙ too)))))
-
--- flushed lists are no longer than they were
-pub flushed_few : (lists : List (List Translation)) (tag : ℕ) → ((cpu : ℕ) → length (get_or lists cpu []) ≤ 64) → (cpu : ℕ) → length (get_or (map (flushed tag) lists) cpu []) ≤ 64
-flushed_few lists tag few cpu =
-    let same : get_or (map (flushed tag) lists) cpu [] ≡ flushed tag (get_or lists cpu []) = mapped_at (flushed tag) lists cpu refl in
-    let fewer : length (flushed tag (get_or lists cpu [])) ≤ length (get_or lists cpu []) = filter_few (λ x. not (eqb x.tag tag)) (get_or lists cpu []) in
-    let most : length (get_or lists cpu []) ≤ 64 = few cpu in
-    rw same (omega arith)

@@ -1,2 +1,3 @@
 mod ListLemmas
 mod LawLemmas
+mod MemberLemmas

@@ -1,5 +1,5 @@
 -- Lists of translations, the oldest first.
-use Rattle.std.specs.Prelude.{ℕ, ◌-◌, Bool, not, ◌&&◌, ◌==◌, List, [], ◌∷◌, ◌++◌, length, drop, Option, slice_index_or}
+use Rattle.std.specs.Prelude.{◌≡◌, ℕ, ◌-◌, ◌≤◌, Bool, not, ◌&&◌, ◌==◌, List, [], ◌∷◌, ◌++◌, length, drop, Option, None, slice_index_or}
 use Rattle.std.specs.List.{filter, find}
 use Rattle.std.specs.Option.{option_map}
 use Rattle.jh_desc.specs.declared.descriptor.Hit.{Hit}
@@ -32,3 +32,13 @@ flushed tag list = without (λ (t : Translation). t.tag == tag) list
 -- the translations of the CPU; past the last one there is nothing
 abbrev pub translations_of : List (List Translation) → ℕ → List Translation
 translations_of lists cpu = slice_index_or lists cpu []
+
+-- no two of the list are for the same page in the tables with the same tag
+abbrev pub AreApart : List Translation → Type 0
+AreApart [] = Unit {0}
+AreApart (t ∷ list) = (find (is_for t.tag t.page) list ≡ None) × AreApart list
+
+-- a CPU can hold the list: 64 translations at most, each page with its tag once
+pub record IsHeld (list : List Translation) : Type 0 where
+  pub few : length list ≤ 64
+  pub apart : AreApart list

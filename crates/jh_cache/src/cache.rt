@@ -1,6 +1,6 @@
 //! The translations of all CPUs.
 ghost use Rattle.std.specs.Prelude.{◌≡◌, ◌≢◌, ℕ, ◌<◌, ◌≤◌, [], IfOk, length, map};
-ghost use Rattle.jh_cache.specs.Translations.{filled, flushed, looked, translations_of};
+ghost use Rattle.jh_cache.specs.Translations.{filled, flushed, looked, translations_of, AreApart};
 
 use crate::cpu_cache::CpuCache;
 use crate::translation::Translation;
@@ -16,15 +16,15 @@ pub struct Cache {
 }
 
 impl Model for Cache {
-    ghost use Rattle.std.specs.Prelude.{ℕ, List, ◌≤◌, length};
+    ghost use Rattle.std.specs.Prelude.{ℕ, List};
     ghost use Rattle.jh_cache.specs.declared.translation.Translation.{Translation};
-    ghost use Rattle.jh_cache.specs.Translations.{translations_of};
+    ghost use Rattle.jh_cache.specs.Translations.{translations_of, IsHeld};
 
     ghost Value = { List (List Translation) };
 
     ghost view = { λ c. c.caches.items };
 
-    ghost invariant = { λ c. (cpu : ℕ) → length (translations_of c.caches.items cpu) ≤ 64 };
+    ghost invariant = { λ c. (cpu : ℕ) → IsHeld (translations_of c.caches.items cpu) };
 }
 
 /// Drops the translations of the tag from each of the lists.
@@ -81,6 +81,14 @@ impl Cache {
 /// No CPU has more than 64 translations at any time.
 pub fn at_most_64_are_held(cache: &Cache)
     ensures { (cpu : ℕ) → length (translations_of cache.now cpu) ≤ 64 }
+{
+    // for the proof: the invariant of the cache
+    let _ = &cache.caches;
+}
+
+/// No CPU has two translations of one page with one tag at any time.
+pub fn pages_are_held_once(cache: &Cache)
+    ensures { (cpu : ℕ) → AreApart (translations_of cache.now cpu) }
 {
     // for the proof: the invariant of the cache
     let _ = &cache.caches;

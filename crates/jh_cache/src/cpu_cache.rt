@@ -1,7 +1,7 @@
 //! The translations of one CPU.
 ghost use Rattle.std.specs.Prelude.{◌≡◌, ◌≤◌, [], ◌∷◌, ◌++◌, IfOk, length};
 ghost use Rattle.std.specs.VecDeque.{deque_capacity};
-ghost use Rattle.jh_cache.specs.Translations.{filled, flushed, is_for, looked, newest, without};
+ghost use Rattle.jh_cache.specs.Translations.{filled, flushed, is_for, looked, newest, without, IsHeld};
 
 use crate::translation::Translation;
 use jh_desc::Hit;
@@ -20,7 +20,8 @@ pub struct CpuCache {
 }
 
 impl Model for CpuCache {
-    ghost use Rattle.std.specs.Prelude.{List, ◌≤◌, length};
+    ghost use Rattle.std.specs.Prelude.{List, ◌≤◌};
+    ghost use Rattle.jh_cache.specs.Translations.{IsHeld};
     ghost use Rattle.std.specs.VecDeque.{deque_capacity};
     ghost use Rattle.jh_cache.specs.declared.translation.Translation.{Translation};
 
@@ -28,7 +29,7 @@ impl Model for CpuCache {
 
     ghost view = { λ c. c.translations.items };
 
-    ghost invariant = { λ c. (length c.translations.items ≤ 64) × (64 ≤ deque_capacity c.translations) };
+    ghost invariant = { λ c. IsHeld c.translations.items × (64 ≤ deque_capacity c.translations) };
 }
 
 /// Takes the translation of the page in the tables with the tag out, where there is one.
@@ -96,7 +97,7 @@ impl CpuCache {
     /// are held. It takes no memory.
     pub fn fill(&mut self, translation: Translation)
         ensures value { self.new ≡ filled translation self.old }
-        ensures few { length self.new ≤ 64 }
+        ensures held { IsHeld self.new }
     {
         take_out(&mut self.translations, translation.tag, translation.page);
         drop_oldest(&mut self.translations);
@@ -106,7 +107,7 @@ impl CpuCache {
     /// Drops the translations of the tag, and no other.
     pub fn flush(&mut self, tag: u8)
         ensures value { self.new ≡ flushed tag self.old }
-        ensures few { length self.new ≤ 64 }
+        ensures held { IsHeld self.new }
     {
         self.translations.retain(|t| t.tag != tag);
     }

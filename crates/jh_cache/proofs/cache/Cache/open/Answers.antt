@@ -4,7 +4,7 @@ use Rattle.jh_cache.proofs.ListLemmas.{empty_more}
 use Rattle.jh_cache.proofs.cache.Cache.open.Goals as goal
 
 pub invariant_of-result : goal.invariant_of-result
-invariant_of-result c = λ cpu. rw (c.loop.invariant.empty cpu) (omega arith)
+invariant_of-result c = λ cpu. rw (c.loop.invariant.empty cpu) (record { few = omega arith; apart = tt })
 
 pub loop-preserved : goal.loop-preserved
 loop-preserved c = record {
