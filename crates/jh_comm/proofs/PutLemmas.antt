@@ -1,5 +1,5 @@
 -- Bytes that are put into a page, byte by byte.
-use Rattle.std.proofs.Common.{rules, ◌≡◌, ℕ, ◌+◌, ◌<◌, ◌≤◌, ◌∙◌, ap, cond, leb, ltb, List, ◌++◌, length, drop, slice_index, arith}
+use Rattle.std.proofs.Common.{rules, ◌≡◌, ℕ, ◌+◌, ◌≤◌, ◌∙◌, ap, cond, leb, ltb, List, ◌++◌, length, drop, slice_index}
 use Rattle.std.specs.Prelude.{◌&&◌, ◌-◌}
 use Rattle.std.proofs.lemmas.List.{places, append-nil, drop_all}
 use borrow.Rule.Slice.PartMut.{put_mid}
@@ -12,6 +12,6 @@ put_stored page bytes part old at k is whole within =
     let same : part ≡ bytes = search (rules, is, append-nil, drop_all) in
     rw same (search (rules, places))
 
--- bytes over two pages that are alike at one place
-pub stored_same : (f g : ℕ → ℕ) (at : ℕ) (bytes : List ℕ) (k : ℕ) → f k ≡ g k → stored f at bytes k ≡ stored g at bytes k
-stored_same f g at bytes k same = ap (λ (b : ℕ). cond (leb at k && ltb k (at + length bytes)) (slice_index bytes (k - at)) b) same
+-- a byte of a page that was put over another one, which is known at its place
+pub put_over : (byte : ℕ) (f g : ℕ → ℕ) (at : ℕ) (bytes : List ℕ) (k : ℕ) → byte ≡ stored f at bytes k → f k ≡ g k → byte ≡ stored g at bytes k
+put_over byte f g at bytes k is same = is ∙ ap (λ (b : ℕ). cond (leb at k && ltb k (at + length bytes)) (slice_index bytes (k - at)) b) same
