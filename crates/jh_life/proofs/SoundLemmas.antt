@@ -1,5 +1,5 @@
 -- What tables of live cells are made from, where nothing is found in the cells.
-use Rattle.std.proofs.Common.{◌≡◌, ℕ, ◌%◌, ◌<◌, zero, suc, Bool, true, false, ◌&&◌, nat_lt, List, ◌∷◌, length, get_or, map, Some, slice_get, Contains, All, AllPairs, refl, sym, ap, subst, ◌∙◌, arith}
+use Rattle.std.proofs.Common.{◌≡◌, ℕ, ◌+◌, ◌%◌, ◌<◌, zero, suc, Bool, true, false, ◌&&◌, nat_lt, List, ◌∷◌, length, get_or, map, Some, slice_get, Contains, All, AllPairs, refl, sym, ap, subst, ◌∙◌, arith}
 use Rattle.std.proofs.lemmas.Bool.{and_parts, both_ways, false_from_ne_true, ltb-true}
 use Rattle.std.proofs.lemmas.Option.{slice_get-get_or}
 use Rattle.jh_num.specs.declared.address.TheConstants.{ADDRESS_END, PAGE_SIZE}
