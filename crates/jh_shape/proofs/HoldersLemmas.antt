@@ -26,7 +26,7 @@ are_cut_append xs ys place size =
     list_any-append (λ (holder : Holder). list_any (λ (region : Region). meets_in_part region place size) holder.regions) xs ys
 
 -- the cells so far and one more, which holds or doesn't
-next_cell : (held loadable : ℕ) (cells : List CellConfig) (index : ℕ) (cell : CellConfig) → index < length cells → cell ≡ get_or cells index cell → held_from held loadable 0 (take (index + 1) cells) ≡ held_from held loadable 0 (take index cells) ++ held_from held loadable index (cell ∷ [])
+pub next_cell : (held loadable : ℕ) (cells : List CellConfig) (index : ℕ) (cell : CellConfig) → index < length cells → cell ≡ get_or cells index cell → held_from held loadable 0 (take (index + 1) cells) ≡ held_from held loadable 0 (take index cells) ++ held_from held loadable index (cell ∷ [])
 next_cell held loadable cells index cell l e =
     let len : length (take index cells) ≡ index = length-take-le index cells (omega arith) in
     let next : take (index + 1) cells ≡ take index cells ++ cell ∷ [] = take_more cells index cell l ∙ ap (λ c. take index cells ++ c ∷ []) (sym e) in

@@ -1,5 +1,5 @@
 //! The tables that a cell is to have.
-ghost use Rattle.std.specs.Prelude.{◌≡◌, ◌+◌, ◌*◌, ◌^◌, ◌<◌, ◌≤◌, false, length, [], None};
+ghost use Rattle.std.specs.Prelude.{◌≡◌, ◌+◌, ◌*◌, ◌^◌, ◌<◌, ◌≤◌, false, length, [], None, if◌then◌else◌};
 
 use crate::region::{addresses, any_in_part, any_met, any_takes, fits_blocks, is_mapped, place_in};
 use crate::want::Want;
@@ -26,8 +26,9 @@ pub struct Target<'a> {
 ghost use Rattle.jh_shape.specs.Claims.{claims_of};
 
 impl<'a> Target<'a> {
-    ghost use Rattle.jh_cellcfg.specs.Regions.{is_comm, place_in};
-    ghost use Rattle.jh_shape.specs.Shapes.{are_cut, is_closed, may_be_block, is_leaf_by, leaf_region, is_met, leaf_of, want_of};
+    ghost use Rattle.jh_cellcfg.specs.Regions.{is_comm, is_device, place_in, rights_of};
+    ghost use Rattle.jh_shape.specs.Shapes.{are_cut, is_closed, may_be_block, is_leaf_by, leaf_region, is_kept_from, is_met, leaf_of, out_of, want_of};
+    ghost use Rattle.jh_shape.specs.declared.want.Want.TheVariants.{Leaf, Nothing};
     ghost use Rattle.jh_shape.specs.Grants.{DescribesGrants};
     ghost use Rattle.jh_shape.specs.SoundClaims.{AreSoundClaims, IsSlot};
 
@@ -93,6 +94,17 @@ impl<'a> Target<'a> {
         }
     }
 
+    /// Whether the cell is root, and a holder takes the place of the region's address from it.
+    pub(crate) fn is_kept_from(&self, region: &Region, start: u64) -> bool
+        requires cells { length self.now.cells.now ≤ 15 }
+        requires fits { is_comm region.now ≡ false → place_in region.now start < 2 ^ 64 }
+        ensures { result ≡ is_kept_from (claims_of self.now) region.now start }
+    {
+        self.root
+            && !region.is_comm()
+            && self.is_closed(region.phys_start + start.saturating_sub(region.virt_start))
+    }
+
     /// Whether a block may map the slot.
     fn may_be_block(&self, level: u8, start: u64, region: &Region) -> bool
         requires cells { length self.now.cells.now ≤ 15 }
@@ -137,6 +149,27 @@ impl<'a> Target<'a> {
         any_met(self.regions, level, start)
     }
 
+    /// What is to stand at the address `start` where the region makes the slot a leaf, and is kept from the cell there or
+    /// isn't.
+    pub(crate) fn leaf_unless(&self, kept: bool, region: &Region, start: u64) -> Want
+        requires fits { is_comm region.now ≡ false → place_in region.now start < 2 ^ 64 }
+        ensures { result ≡ (if kept then Nothing else Leaf (out_of (claims_of self.now) region.now start) (rights_of region.now) (is_device region.now)) }
+    {
+        if kept {
+            return Want::Nothing;
+        }
+        let out = if region.is_comm() {
+            self.comm
+        } else {
+            region.phys_start + start.saturating_sub(region.virt_start)
+        };
+        Want::Leaf {
+            out,
+            rights: region.rights(),
+            device: region.is_device(),
+        }
+    }
+
     /// What is to stand at the address `start` where the region makes the slot a leaf: for root nothing where
     /// the place is closed.
     fn leaf_of(&self, region: &Region, start: u64) -> Want
@@ -144,26 +177,8 @@ impl<'a> Target<'a> {
         requires fits { is_comm region.now ≡ false → place_in region.now start < 2 ^ 64 }
         ensures { result ≡ leaf_of (claims_of self.now) region.now start }
     {
-        let rights = region.rights();
-        let device = region.is_device();
-        if region.is_comm() {
-            let out = self.comm;
-            return Want::Leaf {
-                out,
-                rights,
-                device,
-            };
-        }
-        let out = region.phys_start + start.saturating_sub(region.virt_start);
-        if self.root && self.is_closed(out) {
-            Want::Nothing
-        } else {
-            Want::Leaf {
-                out,
-                rights,
-                device,
-            }
-        }
+        let kept = self.is_kept_from(region, start);
+        self.leaf_unless(kept, region, start)
     }
 
     /// What the descriptor of the slot is to be that begins at the address `start`.
