@@ -1,37 +1,19 @@
 -- Bytes of memory at places.
-use Rattle.std.proofs.Common.{◌≡◌, ℕ, zero, suc, ◌+◌, ◌-◌, ◌/◌, ◌%◌, ◌<◌, ◌≤◌, List, [], ◌++◌, sym, ◌∙◌, ap, subst, arith, inl, inr}
-use Rattle.std.specs.Prelude.{All, IsSome}
+use Rattle.std.proofs.Common.{◌≡◌, ℕ, zero, suc, ◌+◌, ◌-◌, ◌/◌, ◌%◌, ◌<◌, List, [], ◌++◌, sym, ◌∙◌, ap, subst, arith}
+use Rattle.std.specs.Prelude.{All}
 use Rattle.std.specs.List.{AllByRecursion}
-use Rattle.std.proofs.lemmas.Bool.{cases_eq}
 use Rattle.std.proofs.lemmas.List.{append-nil}
 use Rattle.std.proofs.lemmas.List.Elements.{recursion_from_All, All-from_recursion}
 use Rattle.jh_history.specs.declared.place.Place.{Place}
 use Rattle.jh_history.specs.declared.place.Place.TheVariants.{Physical, Page}
 use Rattle.jh_history.specs.Places.{further, places_in_row, with_byte, written, overlaid}
 use Rattle.jh_history.proofs.Public.{further_none, further_next, row_next, written_over}
-use Rattle.jh_board.specs.Pages.{byte_of, HoldsPage, HoldsPlace, MemoryView}
+use Rattle.jh_board.specs.Pages.{byte_of, HoldsPlace, MemoryView}
 use Rattle.jh_board.specs.Private.Pages.{MayHold}
-use Rattle.jh_num.specs.Pages.{page_at}
-
-abbrev Pages : Type 0
-Pages = List (ℕ × List ℕ)
 
 pub MayHold_same : (old new : MemoryView) → ((q : Place) → HoldsPlace old q → HoldsPlace new q) → (q : Place) → MayHold old q → MayHold new q
-MayHold_same old new same (Physical a) h = tt
+MayHold_same old new same (Physical a) h = h
 MayHold_same old new same (Page cell offset) h = same (Page cell offset) h
-
--- a page is the first's or the last's of a row
-two_pages : (pages : Pages) (p k n : ℕ) → k ≤ n → n < 8 → HoldsPage pages p → HoldsPage pages (p + n) → HoldsPage pages (p + k)
-two_pages pages p k n le few first last =
-    let P : ℕ → Type 0 = λ number. IsSome (page_at pages number) in
-    elim (cases_eq ((p + k) / 4096) (p / 4096)) [
-      | inl e ↦ subst P (sym e) first
-      | inr other ↦ let e : (p + k) / 4096 ≡ (p + n) / 4096 = omega arith in subst P (sym e) last
-    ]
-
-pub held_between : (memory : MemoryView) (p : Place) (k n : ℕ) → k ≤ n → n < 8 → HoldsPlace memory p → HoldsPlace memory (further p n) → HoldsPlace memory (further p k)
-held_between memory (Physical a) k n le few first last = two_pages memory.physical a k n le few first last
-held_between memory (Page cell offset) k n le few first last = let end = last.1 in (first.0, omega arith)
 
 each_held : (pages : MemoryView) (p : Place) (count : ℕ) → ((k : ℕ) → k < count → HoldsPlace pages (further p k)) → AllByRecursion (HoldsPlace pages) (places_in_row p count)
 each_held pages p zero each = tt
@@ -40,10 +22,9 @@ each_held pages p (suc count) each = (
   each_held pages (further p 1) count (λ k lt. subst (HoldsPlace pages) (sym (further_next p k)) (each (k + 1) (omega arith))),
 )
 
--- so all of a row is held where its first and its last place are
-pub row_held : (pages : MemoryView) (p : Place) (count : ℕ) → 0 < count → count ≤ 8 → HoldsPlace pages p → HoldsPlace pages (further p (count - 1)) → All (HoldsPlace pages) (places_in_row p count)
-row_held pages p count some few first last =
-    All-from_recursion (HoldsPlace pages) (places_in_row p count) (each_held pages p count (λ k lt. held_between pages p k (count - 1) (omega arith) (omega arith) first last))
+-- so all of a row is held where each of its places is
+pub row_held : (pages : MemoryView) (p : Place) (count : ℕ) → ((k : ℕ) → k < count → HoldsPlace pages (further p k)) → All (HoldsPlace pages) (places_in_row p count)
+row_held pages p count each = All-from_recursion (HoldsPlace pages) (places_in_row p count) (each_held pages p count each)
 
 -- the k-th place of a row is one of its places
 at_place : (Q : Place → Type 0) (p : Place) (count k : ℕ) → k < count → AllByRecursion Q (places_in_row p count) → Q (further p k)

@@ -1,4 +1,4 @@
--- Bytes of one page read as a number, and lists of bytes that are stored.
+-- Bytes of memory in a row, and lists of bytes that are stored.
 use Rattle.std.proofs.Common.{◌≡◌, ℕ, zero, suc, ◌+◌, ◌-◌, ◌*◌, ◌/◌, ◌%◌, ◌^◌, ◌<◌, ◌≤◌, List, [], ◌∷◌, length, take, map, cond, eqb, refl, sym, ◌∙◌, ap, inl, inr, arith}
 use Rattle.std.specs.Prelude.{slice_index}
 use Rattle.std.specs.Int.{byte_at as byte_of_number, bytes_low_first}
@@ -11,31 +11,16 @@ use Rattle.jh_history.specs.Places.{places_in_row, with_byte, written}
 use Rattle.jh_history.proofs.Public.{row_length}
 use Rattle.jh_board.specs.Pages.{byte_of, byte_in, MemoryView}
 use Rattle.jh_board.specs.Private.Pages.{bytes_from}
-use Rattle.jh_num.specs.Pages.{page_at, byte_of_page, paged_byte}
+use Rattle.jh_frames.specs.Memory.{byte_at}
 use Rattle.jh_num.proofs.Public.{stored_before, stored_behind, stored_in}
 
 abbrev Pages : Type 0
 Pages = List (ℕ × List ℕ)
 
--- the bytes in a row of one page
-pub row_of_page : (pages : Pages) (number offset n a : ℕ) → a ≡ number * 4096 + offset → offset + n ≤ 4096 → bytes_from (paged_byte pages) a n ≡ bytes_from (byte_of_page (page_at pages number)) offset n
-row_of_page pages number offset zero a is within = refl
-row_of_page pages number offset (suc n) a is within =
-    let quotient : a / 4096 ≡ number = omega arith in
-    let rest_is : a % 4096 ≡ offset = omega arith in
-    let first : paged_byte pages a ≡ byte_of_page (page_at pages number) offset = rw (quotient, rest_is) refl in
-    let rest : bytes_from (paged_byte pages) (a + 1) n ≡ bytes_from (byte_of_page (page_at pages number)) (offset + 1) n = row_of_page pages number (offset + 1) n (a + 1) (omega arith) (omega arith) in
-    ap (λ (b : ℕ). b ∷ bytes_from (paged_byte pages) (a + 1) n) first
-    ∙ ap (λ (bs : List ℕ). byte_of_page (page_at pages number) offset ∷ bs) rest
-
--- so they spell what the page's bytes do
-pub spelled_of_page : (pages : Pages) (at n v : ℕ) → at % 4096 + n ≤ 4096 → v ≡ spelled (bytes_from (byte_of_page (page_at pages (at / 4096))) (at % 4096) n) → v ≡ spelled (bytes_from (paged_byte pages) at n)
-spelled_of_page pages at n v within is = is ∙ ap spelled (sym (row_of_page pages (at / 4096) (at % 4096) n at (omega arith) within))
-
 -- the bytes at places of physical memory in a row
-pub row_of_memory : (memory : MemoryView) (a n : ℕ) → map (byte_of memory) (places_in_row (Physical a) n) ≡ bytes_from (paged_byte memory.physical) a n
+pub row_of_memory : (memory : MemoryView) (a n : ℕ) → map (byte_of memory) (places_in_row (Physical a) n) ≡ bytes_from (byte_at memory.frames) a n
 row_of_memory memory a zero = refl
-row_of_memory memory a (suc n) = ap (λ (bs : List ℕ). paged_byte memory.physical a ∷ bs) (row_of_memory memory (a + 1) n)
+row_of_memory memory a (suc n) = ap (λ (bs : List ℕ). byte_at memory.frames a ∷ bs) (row_of_memory memory (a + 1) n)
 
 -- zeros spell nothing
 pub zeros_spell_nothing : (offset n : ℕ) → spelled (bytes_from (λ k. 0) offset n) ≡ 0
@@ -86,10 +71,10 @@ written_elsewhere byte a zero v cell offset = refl
 written_elsewhere byte a (suc n) v cell offset = written_elsewhere (with_byte byte (Physical a) (v % 256)) (a + 1) n (v / 256) cell offset
 
 -- so it is where that list was put
-pub written_piece : (old new : MemoryView) (a n v : ℕ) (bytes : List ℕ) → n ≤ 8 → bytes ≡ take n (bytes_low_first 0 8 v) → ((q : ℕ) → paged_byte new.physical q ≡ stored (paged_byte old.physical) a bytes q) → new.comms ≡ old.comms
+pub written_piece : (old new : MemoryView) (a n v : ℕ) (bytes : List ℕ) → n ≤ 8 → bytes ≡ take n (bytes_low_first 0 8 v) → ((q : ℕ) → byte_at new.frames q ≡ stored (byte_at old.frames) a bytes q) → new.comms ≡ old.comms
     → (q : Place) → byte_of new q ≡ written (byte_of old) (places_in_row (Physical a) n) v q
 written_piece old new a n v bytes few is put same (Physical q) =
-    put q ∙ ap (λ (bs : List ℕ). stored (paged_byte old.physical) a bs q) is ∙ sym (written_low_first (byte_of old) a n 0 8 v q few)
+    put q ∙ ap (λ (bs : List ℕ). stored (byte_at old.frames) a bs q) is ∙ sym (written_low_first (byte_of old) a n 0 8 v q few)
     ∙ ap (λ (x : ℕ). written (byte_of old) (places_in_row (Physical a) n) x (Physical q)) (div-one v)
 written_piece old new a n v bytes few is put same (Page cell offset) = ap (λ (pages : Pages). byte_in pages cell offset) same ∙ sym (written_elsewhere (byte_of old) a n v cell offset)
 

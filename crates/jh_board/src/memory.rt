@@ -1,25 +1,28 @@
 //! Bytes at places: those of physical memory, and those of communication pages.
-ghost use Rattle.std.specs.Prelude.{◌≡◌, ℕ, ◌+◌, ◌%◌, ◌<◌, ◌≤◌, ◌^◌, ◌++◌, OnOk, OnErr, IfSome, length, map, List, All};
+ghost use Rattle.std.specs.Prelude.{◌≡◌, ℕ, ◌+◌, ◌%◌, ◌<◌, ◌≤◌, ◌^◌, ◌++◌, IfOk, OnOk, OnErr, IfSome, length, map, List, All};
+ghost use Rattle.jh_num.specs.declared.address.TheConstants.{ADDRESS_END};
 ghost use Rattle.jh_num.specs.Memory.{spelled, stored};
+ghost use Rattle.jh_frames.specs.Memory.{byte_at};
 ghost use Rattle.jh_history.specs.declared.place.Place.{Place as ThePlace};
 ghost use Rattle.jh_history.specs.Access.{with_endpoint_word};
 ghost use Rattle.jh_history.specs.Pages.{with_page};
 ghost use Rattle.jh_history.specs.Places.{number_of, places_in_row, places_of_row, IsRow, with_byte, written, overlaid};
 ghost use Rattle.jh_board.specs.Pages.{byte_of, IsHeld, HoldsPlace, HoldsEndpointWord};
-ghost use Rattle.jh_board.specs.Private.Pages.{MayHold};
-ghost use Rattle.jh_num.specs.Pages.{paged_byte};
+ghost use Rattle.jh_board.specs.Private.Pages.{bytes_from, MayHold};
 
 use crate::page_map::PageMap;
+use byteorder::{ByteOrder, LittleEndian};
+use jh_frames::Frames;
 use jh_history::{Bytes, PageWrite, Place, Places, Row, endpoint_word_places, value_of};
 use jh_ivshmem::EndpointWord;
-use jh_num::{NoMemory, PAGE_SIZE};
+use jh_num::{ADDRESS_END, NoMemory, PAGE_SIZE};
 use std::alloc::Global;
 use std::marker::Model;
 
-/// The memory of a board: physical memory, and the communication pages of cells.
+/// The memory of a board: physical memory, with the hypervisor's, and the communication pages of cells.
 #[derive(Drop)]
 pub struct Memory {
-    physical: PageMap,
+    frames: Frames,
     comms: PageMap,
 }
 
@@ -28,14 +31,14 @@ impl Model for Memory {
 
     ghost Value = { MemoryView };
 
-    ghost view = { λ m. record { physical = m.physical; comms = m.comms } };
+    ghost view = { λ m. record { frames = m.frames; comms = m.comms } };
 }
 
-/// So many bytes from the address on, all of one page.
+/// So many bytes of physical memory from the address on.
 #[derive(Clone, Copy)]
 struct Piece {
     at: u64,
-    count: usize,
+    count: u8,
 }
 
 /// So many bytes of the communication page of the cell with the id, from the offset on.
@@ -48,16 +51,18 @@ struct PagePiece {
 
 /// The piece of physical memory that the places are, if they are one.
 fn piece_of(places: &Places) -> Option<Piece>
-    ensures page { IfSome result (λ piece. piece.at % 4096 + piece.count ≤ 4096) }
+    ensures within { IfSome result (λ piece. piece.at + piece.count ≤ ADDRESS_END) }
     ensures few { IfSome result (λ piece. piece.count ≤ 8) }
     ensures places { IfSome result (λ piece. places.now ≡ places_in_row (Place.Physical piece.at) piece.count) }
 {
     let (low, high) = places.rows();
     match low.first {
         Place::Physical(at) => {
-            let count = usize::from(low.count);
-            if high.count == 0 && (at % PAGE_SIZE) as usize + count <= PAGE_SIZE as usize {
-                Some(Piece { at, count })
+            if high.count == 0 && at <= ADDRESS_END - u64::from(low.count) {
+                Some(Piece {
+                    at,
+                    count: low.count,
+                })
             } else {
                 None
             }
@@ -91,14 +96,18 @@ fn piece_of_page(places: &Places) -> Option<PagePiece>
 }
 
 impl Memory {
-    /// Memory of zeros, where no page is held.
-    pub fn new(alloc: Global) -> Self
-        ensures { (q : ThePlace) → byte_of result q ≡ 0 }
+    /// Memory of zeros, of which the hypervisor has `size` bytes from `base` on. No other page is held.
+    pub fn open(alloc: Global, base: u64, size: u64) -> Result<Self, NoMemory>
+        requires aligned { base % 4096 ≡ 0 }
+        requires whole { size % 4096 ≡ 0 }
+        requires below { base + size ≤ ADDRESS_END }
+        ensures { IfOk result (λ memory. (q : ThePlace) → byte_of memory q ≡ 0) }
     {
-        Memory {
-            physical: PageMap::new(alloc),
+        let frames = Frames::open(alloc, base, size)?;
+        Ok(Memory {
+            frames,
             comms: PageMap::new(alloc),
-        }
+        })
     }
 
     /// The number that the bytes at the places spell, the lowest first.
@@ -107,10 +116,7 @@ impl Memory {
         ensures fits { result < 256 ^ length places.now }
     {
         if let Some(piece) = piece_of(places) {
-            let offset = (piece.at % PAGE_SIZE) as usize;
-            return self
-                .physical
-                .value(piece.at / PAGE_SIZE, offset, piece.count);
+            return self.frames.value(piece.at, piece.count);
         }
         match piece_of_page(places) {
             Some(piece) => self
@@ -120,6 +126,17 @@ impl Memory {
         }
     }
 
+    /// Puts so many bytes of physical memory, from the place `at` on, behind those of the buffer.
+    fn append_physical(&self, bytes: &mut Vec<u8>, at: u64, count: usize) -> Result<(), NoMemory>
+        requires { at + count < 2 ^ 64 }
+        ensures { OnOk result (bytes.new.items ≡ bytes.old.items ++ bytes_from (byte_at self.now.frames) at count) }
+    {
+        for k in 0..count {
+            bytes.push(self.frames.read(at + k as u64))?;
+        }
+        Ok(())
+    }
+
     /// Puts the bytes at so many places in a row behind those of the buffer.
     pub fn append(&self, bytes: &mut Vec<u8>, first: Place, count: u16) -> Result<(), NoMemory>
         requires { number_of first + count < 2 ^ 64 }
@@ -127,7 +144,7 @@ impl Memory {
     {
         let count = usize::from(count);
         match first {
-            Place::Physical(at) => self.physical.append(bytes, at, count),
+            Place::Physical(at) => self.append_physical(bytes, at, count),
             Place::Page { cell, offset } => self
                 .comms
                 .append_page(bytes, u64::from(cell), offset, count),
@@ -142,25 +159,22 @@ impl Memory {
         ensures others { (q : ThePlace) → HoldsPlace self.old q → HoldsPlace self.new q }
     {
         match place {
-            Place::Physical(address) => self.physical.hold(address / PAGE_SIZE),
+            Place::Physical(address) => self.frames.hold(address),
             Place::Page { .. } => Ok(()),
         }
     }
 
-    /// Holds the pages of the row: those of its first and its last place.
+    /// Holds the pages of the row.
     fn hold_row(&mut self, row: Row) -> Result<(), NoMemory>
         requires row { IsRow row }
-        requires few { row.count ≤ 8 }
         requires may { All (MayHold self.old) (places_of_row row) }
         ensures bytes { (q : ThePlace) → byte_of self.new q ≡ byte_of self.old q }
         ensures held { OnOk result (All (HoldsPlace self.new) (places_of_row row)) }
         ensures others { (q : ThePlace) → HoldsPlace self.old q → HoldsPlace self.new q }
     {
-        if row.count == 0 {
-            return Ok(());
+        for k in 0..row.count {
+            self.hold_place(row.first.further(k))?;
         }
-        self.hold_place(row.first)?;
-        self.hold_place(row.first.further(row.count - 1))?;
         Ok(())
     }
 
@@ -184,9 +198,7 @@ impl Memory {
         ensures held { (q : ThePlace) → HoldsPlace self.old q → HoldsPlace self.new q }
     {
         match place {
-            Place::Physical(address) => self
-                .physical
-                .set(address / PAGE_SIZE, address % PAGE_SIZE, byte),
+            Place::Physical(address) => self.frames.set(address, byte),
             Place::Page { cell, offset } => self.comms.set(u64::from(cell), offset, byte),
         }
     }
@@ -228,8 +240,10 @@ impl Memory {
     {
         match piece_of(places) {
             Some(piece) => {
-                let bytes = value.to_le_bytes();
-                self.physical.put(piece.at, &bytes[..piece.count])?;
+                let mut bytes = [0; 8];
+                LittleEndian::write_u64(&mut bytes, value);
+                self.frames
+                    .write(piece.at, &bytes[..usize::from(piece.count)])?;
                 Ok(())
             }
             None => {
@@ -242,7 +256,7 @@ impl Memory {
 
     /// Holds the pages of the word of a state table. No byte changes.
     pub fn hold_endpoint_word(&mut self, word: &EndpointWord) -> Result<(), NoMemory>
-        requires { word.now.place + 4 < 2 ^ 64 }
+        requires { word.now.place + 4 ≤ ADDRESS_END }
         ensures bytes { (q : ThePlace) → byte_of self.new q ≡ byte_of self.old q }
         ensures held { OnOk result (HoldsEndpointWord self.new word.now) }
         ensures others { (q : ThePlace) → HoldsPlace self.old q → HoldsPlace self.new q }
@@ -262,11 +276,11 @@ impl Memory {
 
     /// Puts the bytes into physical memory from `at` on.
     pub fn store(&mut self, at: u64, bytes: &[u8]) -> Result<(), NoMemory>
-        requires { at + length bytes.now < 2 ^ 64 }
-        ensures bytes { OnOk result ((q : ℕ) → byte_of self.new (Place.Physical q) ≡ stored (paged_byte self.old.physical) at bytes.now q) }
+        requires { at + length bytes.now ≤ ADDRESS_END }
+        ensures bytes { OnOk result ((q : ℕ) → byte_of self.new (Place.Physical q) ≡ stored (byte_at self.old.frames) at bytes.now q) }
         ensures comms { self.new.comms ≡ self.old.comms }
     {
-        self.physical.store(at, bytes)
+        self.frames.write(at, bytes)
     }
 
     /// Holds the communication page of the cell. No byte changes.
@@ -295,9 +309,7 @@ impl Bytes for Memory {
 
     fn byte(&self, place: Place) -> u8 {
         match place {
-            Place::Physical(address) => self
-                .physical
-                .byte(address / PAGE_SIZE, address % PAGE_SIZE),
+            Place::Physical(address) => self.frames.read(address),
             Place::Page { cell, offset } => self.comms.byte(u64::from(cell), offset),
         }
     }

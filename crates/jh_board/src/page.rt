@@ -1,6 +1,6 @@
 //! A page of 4,096 bytes.
-ghost use Rattle.std.specs.Prelude.{◌≡◌, ◌≢◌, ℕ, ◌+◌, ◌<◌, ◌≤◌, ◌^◌, ◌++◌, length, slice_index, IfOk, OnOk};
-ghost use Rattle.jh_num.specs.Memory.{spelled, stored};
+ghost use Rattle.std.specs.Prelude.{◌≡◌, ◌≢◌, ℕ, ◌+◌, ◌<◌, ◌≤◌, ◌^◌, length, slice_index, IfOk};
+ghost use Rattle.jh_num.specs.Memory.{spelled};
 ghost use Rattle.jh_history.specs.Pages.{page_after};
 ghost use Rattle.jh_board.specs.Private.Pages.{bytes_from};
 
@@ -72,15 +72,6 @@ impl Page {
         spelled(&self.bytes[offset..offset + count])
     }
 
-    /// Puts `count` bytes of the page, from the offset on, behind those of the buffer.
-    pub fn append(&self, bytes: &mut Vec<u8>, offset: usize, count: usize) -> Result<(), NoMemory>
-        requires { offset + count ≤ 4096 }
-        ensures { OnOk result (bytes.new.items ≡ bytes.old.items ++ bytes_from (slice_index self.now) offset count) }
-    {
-        bytes.extend_from_slice(&self.bytes[offset..offset + count])?;
-        Ok(())
-    }
-
     /// Writes the byte at the offset, which is below 4,096.
     pub fn set(&mut self, offset: usize, byte: u8)
         requires { offset < 4096 }
@@ -88,14 +79,6 @@ impl Page {
         ensures others { (k : ℕ) → k ≢ offset → slice_index self.new k ≡ slice_index self.old k }
     {
         self.bytes[offset] = byte;
-    }
-
-    /// Writes the bytes over those from the offset on, all of them within the page.
-    pub fn put(&mut self, offset: usize, bytes: &[u8])
-        requires { offset + length bytes.now ≤ 4096 }
-        ensures { (k : ℕ) → slice_index self.new k ≡ stored (slice_index self.old) offset bytes.now k }
-    {
-        self.bytes[offset..offset + bytes.len()].copy_from_slice(bytes);
     }
 
     /// Makes the change to the page, a communication page.

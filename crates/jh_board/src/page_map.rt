@@ -1,7 +1,6 @@
-//! Pages of memory by their numbers; a page that isn't held is zero.
-ghost use Rattle.std.specs.Prelude.{◌≡◌, ◌≢◌, ℕ, ◌+◌, ◌%◌, ◌^◌, ◌<◌, ◌≤◌, ◌++◌, OnOk, OnErr, length};
-ghost use Rattle.jh_num.specs.Memory.{spelled, stored};
-ghost use Rattle.jh_num.specs.Pages.{paged_byte};
+//! Communication pages by the ids of their cells; a page that isn't held is zero.
+ghost use Rattle.std.specs.Prelude.{◌≡◌, ◌≢◌, ℕ, ◌+◌, ◌^◌, ◌<◌, ◌≤◌, ◌++◌, OnOk};
+ghost use Rattle.jh_num.specs.Memory.{spelled};
 ghost use Rattle.jh_history.specs.Pages.{page_after};
 ghost use Rattle.jh_board.specs.Pages.{byte_in, IsHeld};
 ghost use Rattle.jh_board.specs.Private.Pages.{bytes_from};
@@ -9,7 +8,7 @@ ghost use Rattle.jh_board.specs.Private.Pages.{bytes_from};
 use crate::page::Page;
 use indexmap::IndexMap;
 use jh_history::PageChange;
-use jh_num::{NoMemory, PAGE_SIZE};
+use jh_num::NoMemory;
 use std::alloc::Global;
 use std::marker::Model;
 
@@ -26,16 +25,6 @@ impl Model for PageMap {
     ghost Value = { List (ℕ × List ℕ) };
 
     ghost view = { λ m. m.pages.entries };
-}
-
-/// Puts so many zeros behind the bytes of the buffer.
-fn append_zeros(bytes: &mut Vec<u8>, count: usize) -> Result<(), NoMemory>
-    ensures { OnOk result ((offset : ℕ) → bytes.new.items ≡ bytes.old.items ++ bytes_from (λ k. 0) offset count) }
-{
-    for _k in 0..count {
-        bytes.push(0)?;
-    }
-    Ok(())
 }
 
 impl PageMap {
@@ -69,23 +58,6 @@ impl PageMap {
         match self.pages.get(&number) {
             Some(page) => page.value(offset, count),
             None => 0,
-        }
-    }
-
-    /// Puts so many bytes of the page, from the offset on, behind those of the buffer.
-    fn append_piece(
-        &self,
-        bytes: &mut Vec<u8>,
-        number: u64,
-        offset: usize,
-        count: usize,
-    ) -> Result<(), NoMemory>
-        requires { offset + count ≤ 4096 }
-        ensures { OnOk result (bytes.new.items ≡ bytes.old.items ++ bytes_from (byte_in self.now number) offset count) }
-    {
-        match self.pages.get(&number) {
-            Some(page) => page.append(bytes, offset, count),
-            None => append_zeros(bytes, count),
         }
     }
 
@@ -143,59 +115,6 @@ impl PageMap {
     {
         for k in 0..count {
             bytes.push(self.byte(number, offset + k as u64))?;
-        }
-        Ok(())
-    }
-
-    /// Puts `count` bytes, from the place `at` on, behind those of the buffer.
-    pub fn append(&self, bytes: &mut Vec<u8>, at: u64, count: usize) -> Result<(), NoMemory>
-        requires { at + count < 2 ^ 64 }
-        ensures { OnOk result (bytes.new.items ≡ bytes.old.items ++ bytes_from (paged_byte self.now) at count) }
-    {
-        let mut done = 0;
-        while done < count {
-            let from = at + done as u64;
-            let room = (PAGE_SIZE - from % PAGE_SIZE) as usize;
-            let here = room.min(count - done);
-            self.append_piece(bytes, from / PAGE_SIZE, (from % PAGE_SIZE) as usize, here)?;
-            done += here;
-        }
-        Ok(())
-    }
-
-    /// Writes the bytes over those from the place `at` on, all of them in the page of the first, which is held from
-    /// then on.
-    pub fn put(&mut self, at: u64, bytes: &[u8]) -> Result<(), NoMemory>
-        requires { at % 4096 + length bytes.now ≤ 4096 }
-        ensures ok { OnOk result ((q : ℕ) → paged_byte self.new q ≡ stored (paged_byte self.old) at bytes.now q) }
-        ensures err { OnErr result ((q : ℕ) → paged_byte self.new q ≡ paged_byte self.old q) }
-        ensures held { (q : ℕ) → IsHeld self.old q → IsHeld self.new q }
-    {
-        let number = at / PAGE_SIZE;
-        let offset = (at % PAGE_SIZE) as usize;
-        if let Some(page) = self.pages.get_mut(&number) {
-            page.put(offset, bytes);
-            return Ok(());
-        }
-        let mut page = Page::zero(self.alloc)?;
-        page.put(offset, bytes);
-        self.pages.insert(number, page)?;
-        Ok(())
-    }
-
-    /// Writes the bytes over those from the place `at` on, in as many pages as they reach. For want of memory some may
-    /// be written.
-    pub fn store(&mut self, at: u64, bytes: &[u8]) -> Result<(), NoMemory>
-        requires { at + length bytes.now < 2 ^ 64 }
-        ensures { OnOk result ((q : ℕ) → paged_byte self.new q ≡ stored (paged_byte self.old) at bytes.now q) }
-    {
-        let mut done = 0;
-        while done < bytes.len() {
-            let from = at + done as u64;
-            let room = (PAGE_SIZE - from % PAGE_SIZE) as usize;
-            let end = bytes.len().min(done + room);
-            self.put(from, &bytes[done..end])?;
-            done = end;
         }
         Ok(())
     }

@@ -114,7 +114,8 @@ impl Frames {
     fn torn_value(&self, at: u64, width: usize) -> u64
         requires place { at + width ≤ ADDRESS_END }
         requires width { width ≤ 8 }
-        ensures { result ≡ spelled (map (byte_at self.now) (range_with_len at width)) }
+        ensures value { result ≡ spelled (map (byte_at self.now) (range_with_len at width)) }
+        ensures fits { result < 256 ^ width }
     {
         let number = at / PAGE_SIZE;
         let first = self.guest.page(number);
@@ -130,7 +131,8 @@ impl Frames {
     pub fn value(&self, at: u64, width: u8) -> u64
         requires place { at + width ≤ ADDRESS_END }
         requires width { width ≤ 8 }
-        ensures { result ≡ spelled (map (byte_at self.now) (range_with_len at width)) }
+        ensures value { result ≡ spelled (map (byte_at self.now) (range_with_len at width)) }
+        ensures fits { result < 256 ^ width }
     {
         if at % PAGE_SIZE + u64::from(width) > PAGE_SIZE {
             self.torn_value(at, width as usize)
@@ -284,6 +286,23 @@ impl Frames {
             Ok(())
         } else {
             self.guest.write(at, bytes)
+        }
+    }
+
+    /// Writes the byte at the place, whose page is held. It takes no memory.
+    pub fn set(&mut self, at: u64, byte: u8)
+        requires place { at < ADDRESS_END }
+        requires held { holds self.old at ≡ true }
+        ensures at { byte_at self.new at ≡ byte }
+        ensures others { (q : ℕ) → q ≢ at → byte_at self.new q ≡ byte_at self.old q }
+        ensures held { (q : ℕ) → holds self.old q ≡ true → holds self.new q ≡ true }
+        ensures base { self.new.own.base ≡ self.old.own.base }
+        ensures size { length self.new.own.bytes ≡ length self.old.own.bytes }
+    {
+        match self.write_page(at, &[byte]) {
+            Ok(()) => {}
+            // the page is held
+            Err(_) => unreachable!(),
         }
     }
 

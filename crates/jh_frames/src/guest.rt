@@ -1,5 +1,5 @@
 //! The pages of guests.
-ghost use Rattle.std.specs.Prelude.{◌≡◌, ◌≢◌, ℕ, ◌+◌, ◌%◌, ◌/◌, ◌≤◌, ◌<◌, true, false, None, if◌then◌else◌, map, length, replicate, ◌++◌, vec_len, vec_capacity, is_some, option_copied, OnOk, OnErr, IsOk};
+ghost use Rattle.std.specs.Prelude.{◌≡◌, ◌≢◌, ℕ, ◌+◌, ◌%◌, ◌/◌, ◌≤◌, ◌<◌, true, false, None, if◌then◌else◌, map, length, replicate, ◌++◌, vec_len, vec_capacity, is_some, option_copied, OnOk, OnErr, IsOk, ◌^◌};
 ghost use Rattle.std.specs.List.{range_with_len};
 ghost use Rattle.jh_num.specs.Memory.{spelled, stored};
 ghost use Rattle.indexmap.specs.IndexMap.{spare};
@@ -116,7 +116,8 @@ impl Guest {
     pub fn value(&self, at: u64, width: usize) -> u64
         requires width { width ≤ 8 }
         requires within { at % 4096 + width ≤ 4096 }
-        ensures { result ≡ spelled (map (paged_byte self.now.pages) (range_with_len at width)) }
+        ensures value { result ≡ spelled (map (paged_byte self.now.pages) (range_with_len at width)) }
+        ensures fits { result < 256 ^ width }
     {
         match self.pages.get(&(at / PAGE_SIZE)) {
             None => 0,

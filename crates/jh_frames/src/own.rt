@@ -83,7 +83,8 @@ impl Own {
     pub fn value(&self, at: u64, width: usize) -> u64
         requires width { width ≤ 8 }
         requires own { AreOwnBytes self.now at width }
-        ensures { result ≡ spelled (slice_range self.now.bytes (at - self.now.base) (at - self.now.base + width)) }
+        ensures value { result ≡ spelled (slice_range self.now.bytes (at - self.now.base) (at - self.now.base + width)) }
+        ensures fits { result < 256 ^ width }
     {
         let k = (at - self.base) as usize;
         spelled(&self.bytes[k..k + width])

@@ -1,5 +1,5 @@
 //! A page of 4,096 bytes.
-ghost use Rattle.std.specs.Prelude.{◌≡◌, ℕ, ◌+◌, ◌≤◌, ◌<◌, ◌++◌, length, slice_index, slice_range, vec_len, vec_capacity};
+ghost use Rattle.std.specs.Prelude.{◌≡◌, ℕ, ◌+◌, ◌≤◌, ◌<◌, ◌++◌, length, slice_index, slice_range, vec_len, vec_capacity, ◌^◌};
 ghost use Rattle.jh_num.specs.Memory.{spelled, stored};
 
 use jh_num::spelled;
@@ -43,6 +43,7 @@ impl Page {
         requires width { width ≤ 8 }
         requires within { offset + width ≤ 4096 }
         ensures value { result ≡ spelled (slice_range self.now offset (offset + width)) }
+        ensures fits { result < 256 ^ width }
         ensures whole { length self.now ≡ 4096 }
     {
         spelled(&self.bytes[offset..offset + width])

@@ -10,8 +10,8 @@ use Rattle.jh_board.proofs.board.load.Goals as goal
 
 pub loop-preload-init : goal.loop-preload-init
 loop-preload-init c = record {
-  bytes = λ q. c.new-memory.ensures (Physical q);
-  comms = λ cell offset. c.new-memory.ensures (Page cell offset);
+  bytes = λ q. c.in_ok-memory.ensures (Physical q);
+  comms = λ cell offset. c.in_ok-memory.ensures (Page cell offset);
 }
 
 pub returns : goal.returns
