@@ -8,7 +8,7 @@ ghost use Rattle.jh_history.specs.Access.{with_endpoint_word};
 ghost use Rattle.jh_history.specs.Pages.{with_page};
 ghost use Rattle.jh_history.specs.Places.{number_of, places_in_row, places_of_row, IsRow, with_byte, written, overlaid};
 ghost use Rattle.jh_board.specs.Pages.{byte_of, IsHeld, HoldsPlace, HoldsEndpointWord};
-ghost use Rattle.jh_board.specs.Private.Pages.{bytes_from, MayHold};
+ghost use Rattle.jh_board.specs.Private.Pages.{MayHold};
 
 use crate::page_map::PageMap;
 use byteorder::{ByteOrder, LittleEndian};
@@ -126,17 +126,6 @@ impl Memory {
         }
     }
 
-    /// Puts so many bytes of physical memory, from the place `at` on, behind those of the buffer.
-    fn append_physical(&self, bytes: &mut Vec<u8>, at: u64, count: usize) -> Result<(), NoMemory>
-        requires { at + count < 2 ^ 64 }
-        ensures { OnOk result (bytes.new.items ≡ bytes.old.items ++ bytes_from (byte_at self.now.frames) at count) }
-    {
-        for k in 0..count {
-            bytes.push(self.frames.read(at + k as u64))?;
-        }
-        Ok(())
-    }
-
     /// Puts the bytes at so many places in a row behind those of the buffer.
     pub fn append(&self, bytes: &mut Vec<u8>, first: Place, count: u16) -> Result<(), NoMemory>
         requires { number_of first + count < 2 ^ 64 }
@@ -144,7 +133,7 @@ impl Memory {
     {
         let count = usize::from(count);
         match first {
-            Place::Physical(at) => self.append_physical(bytes, at, count),
+            Place::Physical(at) => self.frames.append(bytes, at, count),
             Place::Page { cell, offset } => self
                 .comms
                 .append_page(bytes, u64::from(cell), offset, count),
