@@ -1,5 +1,5 @@
 -- What cells beside root cut and close of the places of one table.
-use Rattle.std.proofs.Common.{◌≡◌, ℕ, ◌+◌, ◌*◌, ◌/◌, ◌<◌, ◌≤◌, zero, suc, min, Bool, true, false, not, ◌&&◌, ◌||◌, nat_le, nat_lt, List, [], ◌∷◌, ◌++◌, length, get_or, take, refl, sym, ap, ◌∙◌, arith}
+use Rattle.std.proofs.Common.{◌≡◌, ℕ, ◌+◌, ◌*◌, ◌/◌, ◌<◌, ◌≤◌, zero, suc, Bool, true, false, not, ◌&&◌, ◌||◌, nat_le, nat_lt, List, [], ◌∷◌, ◌++◌, length, get_or, take, refl, sym, ap, ◌∙◌, arith}
 use Rattle.std.specs.List.{list_any}
 use Rattle.std.proofs.lemmas.Bool.{and_left, and_right}
 use Rattle.std.proofs.lemmas.Bool.Decides.{nat_tests}
@@ -57,10 +57,6 @@ closes_nothing loadable region base n size some few none =
 
 pub no_more : (old test : Bool) → test ≡ false → old ≡ (old || test)
 no_more old test none = sym (ap (λ b. old || b) none ∙ or-false old)
-
--- a slot below the table's last is below the lesser end
-pub lesser_end : (n to : ℕ) → n < 512 → nat_lt n (min to 512) ≡ nat_lt n to
-lesser_end n to few = grind (arith, nat_tests)
 
 -- the cells so far and one more, which holds or doesn't, by a test of those that hold
 pub held_more : (p : Holder → Bool) (held loadable : ℕ) (cells : List CellConfig) (index : ℕ) (cell : CellConfig) → index < length cells → cell ≡ get_or cells index cell → has_bit held index ≡ true → list_any p (held_from held loadable 0 (take (index + 1) cells)) ≡ (list_any p (held_from held loadable 0 (take index cells)) || p (record { regions = cell.memory_regions; loadable = has_bit loadable index }))

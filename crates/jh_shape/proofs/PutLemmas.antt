@@ -1,8 +1,8 @@
 -- What is wanted of the slots of a table, region by region.
-use Rattle.std.proofs.Common.{◌≡◌, ℕ, ◌+◌, ◌<◌, ◌==◌, Bool, true, false, ◌&&◌, ◌||◌, cond, nat_le, nat_lt, List, [], ◌∷◌, ◌++◌, length, drop, get_or, take, Option, Some, None, Contains, AllPairs, ⊎_elim, refl, sym, ap, subst, ◌∙◌, arith}
+use Rattle.std.proofs.Common.{◌≡◌, ℕ, ◌+◌, ◌<◌, Bool, true, false, ◌&&◌, ◌||◌, cond, nat_le, nat_lt, List, [], ◌∷◌, ◌++◌, length, drop, get_or, take, Option, Some, None, Contains, AllPairs, ⊎_elim, refl, sym, ap, subst, ◌∙◌, arith}
 use Rattle.std.specs.List.{list_any}
 use Rattle.std.specs.Option.{option_or}
-use Rattle.std.proofs.lemmas.Bool.{and_from, and_parts, cases_Bool, cond-false, cond-true, le-leb, lt-ltb, or_cases, eqb-true}
+use Rattle.std.proofs.lemmas.Bool.{and_from, and_parts, cases_Bool, cond-false, cond-true, le-leb, lt-ltb}
 use Rattle.std.proofs.lemmas.List.{take-append-drop, take_more}
 use Rattle.std.proofs.lemmas.List.Elements.{Contains-append_left}
 use Rattle.std.proofs.lemmas.List.Folds.{find-append, list_any-append}
@@ -15,25 +15,15 @@ use Rattle.jh_cellcfg.proofs.Public.{same_region}
 use Rattle.jh_shape.specs.declared.want.Want.{Want}
 use Rattle.jh_shape.specs.declared.want.Want.TheVariants.{Table}
 use Rattle.jh_shape.specs.Claims.{Claims}
-use Rattle.jh_shape.specs.Intervals.{spans, touches}
+use Rattle.jh_shape.specs.Intervals.{touches}
 use Rattle.jh_shape.specs.Private.Marks.{want_by}
-use Rattle.jh_shape.specs.Shapes.{is_leaf_by, is_mapped, is_met, is_met_by, leaf_of, leaf_region, may_be_block, want_from, want_of, want_without_leaf}
-use Rattle.jh_shape.proofs.LawLemmas.{block_there, size_some, touch_there}
+use Rattle.jh_shape.specs.Shapes.{is_leaf_by, is_mapped, is_met, is_met_by, leaf_of, leaf_region, want_from, want_of, want_without_leaf}
+use Rattle.jh_shape.proofs.LawLemmas.{size_some, touch_there}
 use Rattle.jh_shape.proofs.WantLemmas.{leaf_parts}
 
 -- the cell with these regions in place of its own
 abbrev pub with_regions : Claims → List Region → Claims
 with_regions claims regions = record claims { regions = regions }
-
--- a leaf stands above the first level
-pub leaf_above : (claims : Claims) (level start : ℕ) (region : Region) → is_leaf_by claims level start region ≡ true → 0 < level
-leaf_above claims level start region h =
-    let a = and_parts (is_mapped region) (spans region.virt_start (virt_end region) start (slot_size level) && ((level == 3) || may_be_block claims level start region)) h in
-    let b = and_parts (spans region.virt_start (virt_end region) start (slot_size level)) ((level == 3) || may_be_block claims level start region) a.1 in
-    ⊎_elim
-    (λ last. let three : level ≡ 3 = eqb-true level 3 last in omega arith)
-    (λ block. (block_there claims level start region block).below)
-    (or_cases (level == 3) (may_be_block claims level start region) b.1)
 
 -- what makes a leaf of a slot has an address in it
 pub leaf_met : (claims : Claims) (level start : ℕ) (region : Region) → is_leaf_by claims level start region ≡ true → is_met_by level start region ≡ true

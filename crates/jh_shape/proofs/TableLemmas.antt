@@ -1,5 +1,5 @@
 -- The slots of one table.
-use Rattle.std.proofs.Common.{◌≡◌, ◌≢◌, ℕ, ◌+◌, ◌-◌, ◌*◌, ◌/◌, ◌%◌, ◌<◌, ◌≤◌, zero, suc, max, true, cond, List, length, get_or, replicate, set, slice_get, Option, Some, ⊎_elim, sym, ap, ◌∙◌, arith}
+use Rattle.std.proofs.Common.{◌≡◌, ◌≢◌, ℕ, ◌+◌, ◌-◌, ◌*◌, ◌/◌, ◌<◌, ◌≤◌, zero, suc, max, true, cond, List, length, get_or, replicate, set, slice_get, Option, Some, ⊎_elim, sym, ap, ◌∙◌, arith}
 use Rattle.std.proofs.lemmas.Bool.{cases_eq, cond-true}
 use Rattle.std.proofs.lemmas.Bool.Decides.{nat_tests}
 use Rattle.std.proofs.lemmas.List.{get_or-set_same, get_or-set_other, length-replicate, length-set}
@@ -9,24 +9,7 @@ use Rattle.jh_num.specs.Levels.{slot_size}
 use Rattle.jh_num.proofs.Public.{get_or_same}
 use Rattle.jh_shape.specs.declared.want.Want.{Want}
 use Rattle.jh_shape.specs.declared.want.Want.TheVariants.{Nothing}
-use Rattle.jh_shape.specs.SoundClaims.{IsSlot}
 use Rattle.jh_shape.proofs.MarkLemmas.{is_from}
-
--- a table ends within the addresses
-pub table_ends : (level start : ℕ) → level ≤ 3 → start % (512 * slot_size level) ≡ 0 → start < ADDRESS_END → start + 512 * slot_size level ≤ ADDRESS_END
-table_ends zero start l whole low =
-    let w : start % 281474976710656 ≡ 0 = whole in
-    let e : start + 281474976710656 ≤ 281474976710656 = omega arith in e
-table_ends (suc zero) start l whole low =
-    let w : start % 549755813888 ≡ 0 = whole in
-    let e : start + 549755813888 ≤ 281474976710656 = omega arith in e
-table_ends (suc (suc zero)) start l whole low =
-    let w : start % 1073741824 ≡ 0 = whole in
-    let e : start + 1073741824 ≤ 281474976710656 = omega arith in e
-table_ends (suc (suc (suc zero))) start l whole low =
-    let w : start % 2097152 ≡ 0 = whole in
-    let e : start + 2097152 ≤ 281474976710656 = omega arith in e
-table_ends (suc (suc (suc (suc n)))) start l whole low = absurd (omega arith)
 
 -- a slot's number times its size is small
 pub slot_fits : (level i : ℕ) → level ≤ 3 → i ≤ 512 → i * slot_size level ≤ ADDRESS_END
@@ -35,46 +18,6 @@ slot_fits (suc zero) i l few = let e : i * 1073741824 ≤ 281474976710656 = omeg
 slot_fits (suc (suc zero)) i l few = let e : i * 2097152 ≤ 281474976710656 = omega arith in e
 slot_fits (suc (suc (suc zero))) i l few = let e : i * 4096 ≤ 281474976710656 = omega arith in e
 slot_fits (suc (suc (suc (suc n)))) i l few = absurd (omega arith)
-
-slot_begins : (level start i : ℕ) → level ≤ 3 → start % slot_size level ≡ 0 → (start + i * slot_size level) % slot_size level ≡ 0
-slot_begins zero start i l e =
-    let b : start % 549755813888 ≡ 0 = e in
-    let a : (start + i * 549755813888) % 549755813888 ≡ 0 = omega arith in a
-slot_begins (suc zero) start i l e =
-    let b : start % 1073741824 ≡ 0 = e in
-    let a : (start + i * 1073741824) % 1073741824 ≡ 0 = omega arith in a
-slot_begins (suc (suc zero)) start i l e =
-    let b : start % 2097152 ≡ 0 = e in
-    let a : (start + i * 2097152) % 2097152 ≡ 0 = omega arith in a
-slot_begins (suc (suc (suc zero))) start i l e =
-    let b : start % 4096 ≡ 0 = e in
-    let a : (start + i * 4096) % 4096 ≡ 0 = omega arith in a
-slot_begins (suc (suc (suc (suc n)))) start i l e = absurd (omega arith)
-
-slot_low : (level start i : ℕ) → level ≤ 3 → start % (512 * slot_size level) ≡ 0 → start < ADDRESS_END → i < 512 → start + i * slot_size level < ADDRESS_END
-slot_low zero start i l whole low few =
-    let w : start % 281474976710656 ≡ 0 = whole in
-    let e : start + i * 549755813888 < 281474976710656 = omega arith in e
-slot_low (suc zero) start i l whole low few =
-    let w : start % 549755813888 ≡ 0 = whole in
-    let e : start + i * 1073741824 < 281474976710656 = omega arith in e
-slot_low (suc (suc zero)) start i l whole low few =
-    let w : start % 1073741824 ≡ 0 = whole in
-    let e : start + i * 2097152 < 281474976710656 = omega arith in e
-slot_low (suc (suc (suc zero))) start i l whole low few =
-    let w : start % 2097152 ≡ 0 = whole in
-    let e : start + i * 4096 < 281474976710656 = omega arith in e
-slot_low (suc (suc (suc (suc n)))) start i l whole low few = absurd (omega arith)
-
--- each slot of a table is one
-pub slot_in_table : (level start i : ℕ) → IsSlot level start → start % (512 * slot_size level) ≡ 0 → i < 512 → IsSlot level (start + i * slot_size level)
-slot_in_table level start i slot whole few =
-    record {
-      first = slot.first;
-      last = slot.last;
-      begins = slot_begins level start i slot.last slot.begins;
-      bound = slot_low level start i slot.last whole slot.bound few;
-    }
 
 -- a table has so many slots
 pub slots_of_table : (level x : ℕ) → level ≤ 3 → x ≤ 512 * slot_size level → (x + (slot_size level - 1)) / slot_size level ≤ 512
