@@ -1,0 +1,12 @@
+mod SumLemmas
+mod DescriptorLemmas
+mod StandLemmas
+mod WalkLemmas
+mod LackLemmas
+mod BoundLemmas
+mod GrantLemmas
+mod PlanLemmas
+mod CountingLemmas
+mod WritingLemmas
+mod MadeLemmas
+mod RemovalLemmas

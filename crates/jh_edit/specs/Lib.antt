@@ -1,0 +1,4 @@
+pub mod Trees
+pub mod Turns
+pub mod Plans
+pub mod Private

@@ -1,0 +1,3 @@
+-- Definitions that mirror the code: clauses of private functions alone cite them, and no public clause rests on them.
+pub mod Slots
+pub mod Written
