@@ -70,7 +70,7 @@ one_by : (s : Sight) (p : ℕ) (h : Hit) (o : Option Hit) → FillsAreFound → 
 one_by s p h None found all hit is = found (translation_of s.base.tag (look_of s p h)) s.cached
 one_by s p h (Some k) found all hit is = is ∙ sym (cached_hit s p k all is) ∙ hit
 
-apart_by : (tag p q : ℕ) (h : Hit) (b : Bool) → p ≢ q → is_for tag q (record { tag = tag; page = p; hit = h }) ≡ b → is_for tag q (record { tag = tag; page = p; hit = h }) ≡ false
+pub apart_by : (tag p q : ℕ) (h : Hit) (b : Bool) → p ≢ q → is_for tag q (record { tag = tag; page = p; hit = h }) ≡ b → is_for tag q (record { tag = tag; page = p; hit = h }) ≡ false
 apart_by tag p q h true ne is = absurd (ne (eqb-true p q (and_parts (eqb tag tag) (eqb p q) is).1))
 apart_by tag p q h false ne is = is
 

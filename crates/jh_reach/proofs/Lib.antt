@@ -6,3 +6,5 @@ mod LookLemmas
 mod TwoLemmas
 mod CauseLemmas
 mod KeptLemmas
+mod AddedLemmas
+mod LeftLemmas

@@ -1,15 +1,15 @@
 //! What holds of looks. Each function does nothing; its contract is the law.
-ghost use Rattle.std.specs.Prelude.{◌≡◌, ℕ, ◌+◌, ◌*◌, ◌<◌, ◌≤◌, ◌⊎◌, ◌↔◌, false, not, [], All, List, Contains, filter, length, IsSome, None, Some};
+ghost use Rattle.std.specs.Prelude.{◌≡◌, ℕ, ◌+◌, ◌*◌, ◌<◌, ◌≤◌, ◌⊎◌, ◌↔◌, false, not, [], All, List, Contains, filter, length, IsSome, IsTrue, ◌++◌, map, None, Some};
 ghost use Rattle.jh_num.specs.declared.address.TheConstants.{ADDRESS_END};
 ghost use Rattle.jh_walk.specs.Walks.{levels};
 ghost use Rattle.jh_cache.specs.declared.translation.Translation.{Translation as AnyTranslation};
-ghost use Rattle.jh_cache.specs.Translations.{filled, is_for, looked};
+ghost use Rattle.jh_cache.specs.Translations.{filled, is_for, looked, newest, IsHeld};
 ghost use Rattle.jh_reach.specs.declared.access.Access.{Access as AnyAccess};
 ghost use Rattle.jh_reach.specs.Places.{Sight, AreTrueTranslations, LacksPlace, hit_at, places_given};
-ghost use Rattle.jh_reach.specs.Looks.{is_cached, looks_of, pages_in, reads_of};
-ghost use Rattle.jh_reach.specs.Fills.{filled_with};
+ghost use Rattle.jh_reach.specs.Looks.{is_cached, looks_at, looks_of, pages_in, reads_of};
+ghost use Rattle.jh_reach.specs.Fills.{filled_with, is_to_fill, translation_of, without_looks, IsOfAccess};
 
-use jh_cache::what_is_filled_is_found;
+use jh_cache::{a_fill_adds_one_alone, fills_keep_the_newest, what_is_filled_is_found};
 use jh_walk::{a_page_is_given_whole, a_walk_reads_few};
 
 /// An access isn't given its places exactly where it ends past the addresses, or one of its bytes has none.
@@ -32,6 +32,21 @@ pub fn what_was_looked_at_is_cached()
     a_page_is_given_whole();
     what_is_filled_is_found();
     a_fill_of_two_keeps_both();
+}
+
+/// A fill adds translations of the access's pages, which are what walks find there, and no other.
+pub fn a_fill_adds_what_walks_find()
+    ensures { (s : Sight) (access : AnyAccess) (t : AnyTranslation) → Contains (filled_with s.base.tag (looks_of s access) s.cached) t → Contains s.cached t ⊎ IsOfAccess s access t }
+{
+    a_fill_adds_one_alone();
+}
+
+/// Where a page was missed, a fill leaves the newest 64: those that were there, without those of the pages that were
+/// looked at, and then these, in order.
+pub fn a_fill_leaves_the_newest()
+    ensures { (s : Sight) (access : AnyAccess) → IsHeld s.cached → IsTrue (is_to_fill (looks_of s access)) → filled_with s.base.tag (looks_of s access) s.cached ≡ newest 64 (without_looks s.base.tag (looks_at s access) s.cached ++ map (translation_of s.base.tag) (looks_at s access)) }
+{
+    fills_keep_the_newest();
 }
 
 /// Of two translations that are filled one after another, of different pages or tags, both are found, also where the

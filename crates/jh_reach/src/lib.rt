@@ -12,8 +12,8 @@ mod page;
 pub use access::{Access, Base, Needs, Run};
 pub use filling::{fill, tell};
 pub use laws::{
-    a_fill_of_two_keeps_both, a_look_reads_few, what_is_not_given_has_its_cause,
-    what_was_looked_at_is_cached,
+    a_fill_adds_what_walks_find, a_fill_leaves_the_newest, a_fill_of_two_keeps_both,
+    a_look_reads_few, what_is_not_given_has_its_cause, what_was_looked_at_is_cached,
 };
 pub use looking::look;
 pub use looks::{Look, Looks};
