@@ -47,41 +47,38 @@ pub record IsOfPage (s : Sight) (needs : Needs) (pages : List ℕ) (look : Look)
   pub among : Contains pages page
   pub is : look_at s needs page ≡ Some look
 
-nothing_in : {X : Type 0} (x : X) → Contains [] x → ⊥
-nothing_in x has = omega (arith, has.1)
-
 page_later : (s : Sight) (needs : Needs) (x : ℕ) (pages : List ℕ) (look : Look) → IsOfPage s needs pages look → IsOfPage s needs (x ∷ pages) look
 page_later s needs x pages look of = record { page = of.page; among = Contains_tail x pages of.page of.among; is = of.is }
 
 page_by : (s : Sight) (needs : Needs) (x : ℕ) (pages next : List ℕ) (look : Look) (o : Option Look) (b : Bool) → look_at s needs x ≡ o → (Contains (filter_map (look_at s needs) next) look → IsOfPage s needs pages look) → Contains (cons_option o (filter_map (look_at s needs) (if b then next else []))) look → IsOfPage s needs (x ∷ pages) look
 page_by s needs x pages next look None true is rest has = page_later s needs x pages look (rest has)
-page_by s needs x pages next look None false is rest has = absurd (nothing_in look has)
+page_by s needs x pages next look None false is rest has = absurd (omega (arith, has.1))
 page_by s needs x pages next look (Some k) true is rest has = elim (Contains_cases k (filter_map (look_at s needs) next) look has) [
   | inl same ↦ record { page = x; among = Contains_head x pages; is = is ∙ ap (λ (l : Look). Some l) same }
   | inr later ↦ page_later s needs x pages look (rest later)
 ]
 page_by s needs x pages next look (Some k) false is rest has = elim (Contains_cases k [] look has) [
   | inl same ↦ record { page = x; among = Contains_head x pages; is = is ∙ ap (λ (l : Look). Some l) same }
-  | inr later ↦ absurd (nothing_in look later)
+  | inr later ↦ absurd (omega (arith, later.1))
 ]
 
 look_page : (s : Sight) (needs : Needs) (pages : List ℕ) (look : Look) → Contains (filter_map (look_at s needs) (up_to_refused (λ page. is_some (given s needs page)) pages)) look → IsOfPage s needs pages look
-look_page s needs [] look has = absurd (nothing_in look has)
+look_page s needs [] look has = absurd (omega (arith, has.1))
 look_page s needs (x ∷ pages) look has =
     page_by s needs x pages (up_to_refused (λ page. is_some (given s needs page)) pages) look (look_at s needs x) (is_some (given s needs x)) refl (λ later. look_page s needs pages look later) has
 
 aligned_by : (b none one : Bool) (at p : ℕ) → Contains (if b then (if none then [] else (if one then page_of at ∷ [] else page_of at ∷ (page_of at + 4096) ∷ [])) else []) p → p % 4096 ≡ 0
-aligned_by false none one at p has = absurd (nothing_in p has)
-aligned_by true true one at p has = absurd (nothing_in p has)
+aligned_by false none one at p has = absurd (omega (arith, has.1))
+aligned_by true true one at p has = absurd (omega (arith, has.1))
 aligned_by true false true at p has = elim (Contains_cases (page_of at) [] p has) [
   | inl is ↦ subst (λ n. n % 4096 ≡ 0) is (omega arith)
-  | inr later ↦ absurd (nothing_in p later)
+  | inr later ↦ absurd (omega (arith, later.1))
 ]
 aligned_by true false false at p has = elim (Contains_cases (page_of at) ((page_of at + 4096) ∷ []) p has) [
   | inl is ↦ subst (λ n. n % 4096 ≡ 0) is (omega arith)
   | inr later ↦ elim (Contains_cases (page_of at + 4096) [] p later) [
     | inl is ↦ subst (λ n. n % 4096 ≡ 0) is (omega arith)
-    | inr last ↦ absurd (nothing_in p last)
+    | inr last ↦ absurd (omega (arith, last.1))
   ]
 ]
 

@@ -1,7 +1,6 @@
 -- What is left at each way out of a look: its runs, its looks and its reads.
 use Rattle.std.proofs.Common.{◌≡◌, ℕ, ◌≤◌, true, false, List, [], ◌++◌, length, Option, Some, None, refl, sym, ap, subst, ◌∙◌}
 use Rattle.std.specs.Option.{option_to_list}
-use Rattle.std.proofs.lemmas.List.{append-nil}
 use Rattle.std.proofs.lemmas.List.Sums.{fold-append}
 use Rattle.jh_num.specs.Counted.{Counted}
 use Rattle.jh_num.specs.declared.steps.Probe.{Probe}
@@ -12,7 +11,7 @@ use Rattle.jh_reach.specs.declared.looks.Look.{Look}
 use Rattle.jh_reach.specs.Places.{Sight, place_given, places_from, places_given, places_in, places_in_both}
 use Rattle.jh_reach.specs.Looks.{looks_at, reads_of}
 use Rattle.jh_reach.specs.Private.Parts.{are_given, low_of, high_of, IsSplit}
-use Rattle.jh_reach.proofs.PartLemmas.{given_not_low, given_not_high, given_runs, looks_low, looks_both, reads_low, reads_both}
+use Rattle.jh_reach.proofs.PartLemmas.{given_not_low, given_not_high, given_runs, looks_both, reads_low, reads_both}
 use Rattle.jh_reach.proofs.ReadLemmas.{few_kept, eight_at_most, kept}
 
 -- each walk reads one descriptor a level at most
@@ -43,11 +42,6 @@ pub kept_counts : (after : Counted) (probes : List Probe) → after ≡ kept pro
 kept_counts after probes is = subst (λ (c : Counted). c.count ≡ length c.probes) (sym is) refl
 
 -- ---- looks
-
-pub low_looks : (s : Sight) (access low : Access) (first second : Option Look) → low ≡ low_of access low.width → IsSplit access low.width → false ≡ are_given s low → option_to_list first ≡ looks_at s low → second ≡ None → option_to_list first ++ option_to_list second ≡ looks_at s access
-low_looks s access low first second is split not seen unseen =
-    let none : are_given s (low_of access low.width) ≡ false = subst (λ l. are_given s l ≡ false) is (sym not) in
-    ap (λ (o : Option Look). option_to_list first ++ option_to_list o) unseen ∙ append-nil (option_to_list first) ∙ seen ∙ ap (looks_at s) is ∙ sym (looks_low s access low.width split none)
 
 pub both_looks : (s : Sight) (access low high : Access) (first second : Option Look) → low ≡ low_of access low.width → high ≡ high_of access low.width → IsSplit access low.width → true ≡ are_given s low → option_to_list first ≡ looks_at s low → option_to_list second ≡ looks_at s high → option_to_list first ++ option_to_list second ≡ looks_at s access
 both_looks s access low high first second is rest split may one other =

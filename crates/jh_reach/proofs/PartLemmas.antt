@@ -97,13 +97,6 @@ looked_joined s access here split =
 
 -- ---- looks
 
-pub looks_low : (s : Sight) (access : Access) (here : ℕ) → IsSplit access here → are_given s (low_of access here) ≡ false → looks_at s access ≡ looks_at s (low_of access here)
-looks_low s access here split not =
-    let low : List ℕ = up_to_refused (λ page. is_some (given s access.needs page)) (pages_in (low_of access here)) in
-    ap (filter_map (look_at s access.needs)) (looked_joined s access here split
-    ∙ ap (λ (b : Bool). low ++ (if b then up_to_refused (λ page. is_some (given s access.needs page)) (pages_in (high_of access here)) else [])) not
-    ∙ append-nil low)
-
 pub looks_both : (s : Sight) (access : Access) (here : ℕ) → IsSplit access here → are_given s (low_of access here) ≡ true → looks_at s access ≡ looks_at s (low_of access here) ++ looks_at s (high_of access here)
 looks_both s access here split is =
     let low : List ℕ = up_to_refused (λ page. is_some (given s access.needs page)) (pages_in (low_of access here)) in

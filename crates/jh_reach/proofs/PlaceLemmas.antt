@@ -51,17 +51,9 @@ page_run s needs page offset count hit whole within is =
 
 -- ---- what a look at the page says
 
--- no look, so nothing is found there
-pub unseen : (s : Sight) (page : ℕ) (o : Option Hit) → None ≡ option_map (look_of s page) o → o ≡ None
-unseen s page None is = refl
-unseen s page (Some hit) is = cc
-
 pub seen : (s : Sight) (page : ℕ) (look : Look) (o : Option Hit) → Some look ≡ option_map (look_of s page) o → o ≡ Some look.hit
 seen s page look None is = cc
 seen s page look (Some hit) is = let same : look ≡ look_of s page hit = cc in ap (λ (l : Look). Some l.hit) (sym same)
-
-pub given_none : (s : Sight) (needs : Needs) (page : ℕ) → hit_at s page ≡ None → given s needs page ≡ None
-given_none s needs page none = ap (option_and_then (allowed needs)) none
 
 pub given_some : (s : Sight) (needs : Needs) (page : ℕ) (hit : Hit) → hit_at s page ≡ Some hit → allows needs hit.rights ≡ true → given s needs page ≡ Some hit
 given_some s needs page hit is may = ap (option_and_then (allowed needs)) is ∙ ap (λ b. if b then Some hit else None) may
