@@ -9,4 +9,6 @@ mod PlanLemmas
 mod CountingLemmas
 mod WritingLemmas
 mod MadeLemmas
+mod FallLemmas
+mod LinkLemmas
 mod RemovalLemmas

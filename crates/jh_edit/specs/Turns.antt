@@ -1,5 +1,5 @@
 -- The turns that an edit of one tree of tables takes, its plan, and what each of its turns leaves of the tables.
-use Rattle.std.specs.Prelude.{◌≡◌, ℕ, ◌+◌, ◌-◌, ◌*◌, ◌<◌, ◌⊎◌, Bool, true, false, not, ◌&&◌, nat_eq, Some, None, zero, suc, if◌then◌else◌}
+use Rattle.std.specs.Prelude.{◌≡◌, ◌≢◌, ℕ, ◌+◌, ◌-◌, ◌*◌, ◌<◌, ◌⊎◌, Bool, true, false, not, ◌&&◌, nat_eq, Some, None, zero, suc, if◌then◌else◌}
 use Rattle.jh_num.specs.declared.level.TheConstants.{LAST_LEVEL}
 use Rattle.jh_num.specs.declared.rights.Rights.{Rights}
 use Rattle.jh_num.specs.Below.{any_below, sum_below}
@@ -9,6 +9,7 @@ use Rattle.jh_desc.specs.Descriptors.{read_of}
 use Rattle.jh_walk.specs.Counts.{StateWeight, count_from}
 use Rattle.jh_shape.specs.declared.want.Want.{Want}
 use Rattle.jh_shape.specs.declared.want.Want.TheVariants.{Nothing, Table as WantTable, Leaf as WantLeaf}
+use Rattle.jh_shape.specs.Laws.{is_to_table}
 use Rattle.jh_shape.specs.Wanted.{Wants, slot_start, tables_under}
 use Rattle.jh_edit.specs.Trees.{IsAsWanted, staying, lacking}
 
@@ -73,6 +74,57 @@ turns_at want (Some start) word n table =
 -- the turns from a table on that stays and begins at the address, with so many levels left at it
 abbrev pub turns_of : Wants → (ℕ → ℕ) → ℕ → ℕ → ℕ → ℕ
 turns_of want word n table start = count_from (staying want) (turns_at want) word n (Some start) table
+
+-- ---- a turn of one table
+
+-- the descriptor of a slot after its table is emptied: invalid where it was a leaf that isn't wanted so
+abbrev pub emptied : Want → Descriptor → Descriptor
+emptied want d = if is_wrong_leaf want d then Invalid else d
+
+-- and after its table is filled: the leaf that is wanted, if one is
+abbrev pub filled : Want → Descriptor → Descriptor
+filled Nothing d = d
+filled WantTable d = d
+filled (WantLeaf out rights device) d = Leaf out rights device
+
+-- each slot of the table that begins at the address is emptied of a leaf that isn't wanted so
+abbrev pub EmptiesTable : Wants → (ℕ → ℕ) → (ℕ → ℕ) → ℕ → ℕ → ℕ → Type 0
+EmptiesTable want word word' n table start =
+    (slot : ℕ) → slot < 512 → read_of (word' (table + 8 * slot)) (LAST_LEVEL - n) ≡ emptied (want (LAST_LEVEL - n) (slot_start (LAST_LEVEL - n) start slot)) (read_of (word (table + 8 * slot)) (LAST_LEVEL - n))
+
+-- each slot of the table has the leaf that is wanted there
+abbrev pub FillsTable : Wants → (ℕ → ℕ) → (ℕ → ℕ) → ℕ → ℕ → ℕ → Type 0
+FillsTable want word word' n table start =
+    (slot : ℕ) → slot < 512 → read_of (word' (table + 8 * slot)) (LAST_LEVEL - n) ≡ filled (want (LAST_LEVEL - n) (slot_start (LAST_LEVEL - n) start slot)) (read_of (word (table + 8 * slot)) (LAST_LEVEL - n))
+
+-- the turns of each table that the table's slots lead to are the same after
+abbrev pub KeepsTurnsBelow : Wants → (ℕ → ℕ) → (ℕ → ℕ) → ℕ → ℕ → ℕ → Type 0
+KeepsTurnsBelow want word word' n table start =
+    (slot next : ℕ) → slot < 512 → read_of (word (table + 8 * slot)) (LAST_LEVEL - n) ≡ Table next
+    → count_from (staying want) (turns_at want) word' n (staying want (Some start) n slot) next ≡ count_from (staying want) (turns_at want) word n (staying want (Some start) n slot) next
+
+-- no slot of the table has a table where none is wanted
+abbrev pub HasNoTableTooMany : Wants → (ℕ → ℕ) → ℕ → ℕ → ℕ → Type 0
+HasNoTableTooMany want word n table start =
+    (slot next : ℕ) → slot < 512 → is_to_table (want (LAST_LEVEL - n) (slot_start (LAST_LEVEL - n) start slot)) ≡ false → read_of (word (table + 8 * slot)) (LAST_LEVEL - n) ≡ Table next → ⊥
+
+-- a table is wanted in the slot of the table; its word read invalid, and names the next one after; all other slots are as they
+-- were
+pub record LinksTable (want : Wants) (word word' : ℕ → ℕ) (n table start slot next : ℕ) : Type 0 where
+  pub within : slot < 512
+  pub wanted : want (LAST_LEVEL - n) (slot_start (LAST_LEVEL - n) start slot) ≡ WantTable
+  pub invalid : read_of (word (table + 8 * slot)) (LAST_LEVEL - n) ≡ Invalid
+  pub leads : read_of (word' (table + 8 * slot)) (LAST_LEVEL - n) ≡ Table next
+  pub others : (i : ℕ) → i < 512 → i ≢ slot → read_of (word' (table + 8 * i)) (LAST_LEVEL - n) ≡ read_of (word (table + 8 * i)) (LAST_LEVEL - n)
+
+-- no table is wanted in the slot of the table; its word named the next one, and reads invalid after; all other slots are as they
+-- were
+pub record PrunesTable (want : Wants) (word word' : ℕ → ℕ) (n table start slot next : ℕ) : Type 0 where
+  pub within : slot < 512
+  pub unwanted : is_to_table (want (LAST_LEVEL - n) (slot_start (LAST_LEVEL - n) start slot)) ≡ false
+  pub leads : read_of (word (table + 8 * slot)) (LAST_LEVEL - n) ≡ Table next
+  pub invalid : read_of (word' (table + 8 * slot)) (LAST_LEVEL - n) ≡ Invalid
+  pub others : (i : ℕ) → i < 512 → i ≢ slot → read_of (word' (table + 8 * i)) (LAST_LEVEL - n) ≡ read_of (word (table + 8 * i)) (LAST_LEVEL - n)
 
 -- ---- what a turn leaves
 

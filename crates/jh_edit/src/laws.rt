@@ -1,6 +1,7 @@
 //! What holds of every tree of tables, over any words. Each function does nothing; its contract is the law.
-ghost use Rattle.std.specs.Prelude.{◌≡◌, ℕ, ◌+◌, ◌*◌, ◌%◌, ◌<◌, ◌≤◌, Bool, IfSome, Some, None};
+ghost use Rattle.std.specs.Prelude.{◌≡◌, ℕ, ◌+◌, ◌-◌, ◌*◌, ◌%◌, ◌<◌, ◌≤◌, Bool, IfSome, Some, None, true, false};
 ghost use Rattle.jh_num.specs.declared.address.TheConstants.{ADDRESS_END};
+ghost use Rattle.jh_num.specs.declared.level.TheConstants.{LAST_LEVEL};
 ghost use Rattle.jh_num.specs.declared.rights.Rights.{Rights as AnyRights};
 ghost use Rattle.jh_desc.specs.declared.descriptor.Hit.{Hit as AnyHit};
 ghost use Rattle.jh_walk.specs.Pages.{HaveSameTables, pages_reached};
@@ -9,11 +10,11 @@ ghost use Rattle.jh_shape.specs.Claims.{Claims};
 ghost use Rattle.jh_shape.specs.Grants.{IsGranted};
 ghost use Rattle.jh_shape.specs.Shapes.{want_of};
 ghost use Rattle.jh_shape.specs.SoundClaims.{AreSoundClaims};
-ghost use Rattle.jh_shape.specs.Wanted.{Wants, tables_under};
+ghost use Rattle.jh_shape.specs.Wanted.{Wants, slot_start, tables_under};
 ghost use Rattle.jh_edit.specs.Trees.{Stands, WantsItsTables, WantsPagesAtTheEnd, lack_of, walked};
 ghost use Rattle.jh_edit.specs.declared.edit.Ahead.{Ahead};
 ghost use Rattle.jh_edit.specs.Plans.{EditView, HasSameWords, IsMadeTable, IsTakenOut, Plans};
-ghost use Rattle.jh_edit.specs.Turns.{turns_of};
+ghost use Rattle.jh_edit.specs.Turns.{has_lacking_leaf, has_wrong_leaf, turns_of, EmptiesTable, FillsTable, HasNoTableTooMany, KeepsTurnsBelow, LinksTable, PrunesTable};
 
 use jh_shape::{a_table_stands_where_no_leaf_serves, what_is_wanted_tells_grants};
 use jh_walk::walks_read_their_pages;
@@ -66,6 +67,36 @@ pub fn walked_tells_grants()
 pub fn made_tables_lack_tables_alone()
     ensures { (want : Wants) (word : ℕ → ℕ) (n table start : ℕ) → IsMadeTable want word n table start
         → turns_of want word (n + 1) table start + 2 ≡ 2 * tables_under want (n + 1) start }
+{}
+
+/// A table that has wrong leaves takes a turn less once it is emptied of them, where nothing changes below it.
+pub fn an_emptied_table_takes_a_turn_less()
+    ensures { (want : Wants) (word word' : ℕ → ℕ) (n table start : ℕ) → EmptiesTable want word word' n table start → KeepsTurnsBelow want word word' n table start
+        → has_wrong_leaf want word n table start ≡ true
+        → turns_of want word' (n + 1) table start + 1 ≡ turns_of want word (n + 1) table start }
+{}
+
+/// A table that lacks leaves takes a turn less once they are filled in, where it has no wrong leaf and no table too many,
+/// and nothing changes below it.
+pub fn a_filled_table_takes_a_turn_less()
+    ensures { (want : Wants) (word word' : ℕ → ℕ) (n table start : ℕ) → FillsTable want word word' n table start → KeepsTurnsBelow want word word' n table start
+        → has_wrong_leaf want word n table start ≡ false → HasNoTableTooMany want word n table start → has_lacking_leaf want word n table start ≡ true
+        → turns_of want word' (n + 1) table start + 1 ≡ turns_of want word (n + 1) table start }
+{}
+
+/// A table takes two turns less once the table that lacked in a slot of it is linked, which has no turn left but those of the
+/// tables below it that lack, and where nothing changes below the other slots.
+pub fn a_linked_table_takes_two_turns_less()
+    ensures { (want : Wants) (word word' : ℕ → ℕ) (n table start slot next : ℕ) → LinksTable want word word' n table start slot next → KeepsTurnsBelow want word word' n table start
+        → turns_of want word' n next (slot_start (LAST_LEVEL - n) start slot) + 2 ≡ 2 * tables_under want n (slot_start (LAST_LEVEL - n) start slot)
+        → turns_of want word' (n + 1) table start + 2 ≡ turns_of want word (n + 1) table start }
+{}
+
+/// A table takes a turn less once a page that isn't wanted, and has no tables of its own, is taken away from a slot of it,
+/// where nothing changes below the other slots.
+pub fn a_pruned_table_takes_a_turn_less()
+    ensures { (want : Wants) (word word' : ℕ → ℕ) (n table start slot next : ℕ) → PrunesTable want word word' n table start slot next → KeepsTurnsBelow want word word' n table start
+        → pages_reached word n next ≡ 1 → turns_of want word' (n + 1) table start + 1 ≡ turns_of want word (n + 1) table start }
 {}
 
 /// The plan of an edit stays while the words of the tables that are reached stay, and those of the page that is ahead.

@@ -1,0 +1,10 @@
+-- One slot counts less, and all others as they did.
+use Rattle.std.proofs.Common.{◌≡◌, ◌+◌, suc, sym, subst, arith}
+use Rattle.jh_edit.specs.Turns.{turns_of}
+use Rattle.jh_edit.proofs.LinkLemmas.{pruned_falls}
+use Rattle.jh_edit.proofs.laws.a_pruned_table_takes_a_turn_less.Goals as goal
+
+pub returns : goal.returns
+returns c = λ want word word' n table start slot next prunes below one.
+    let more : n + 1 ≡ suc n = omega arith in
+    subst (λ m. turns_of want word' m table start + 1 ≡ turns_of want word m table start) (sym more) (pruned_falls want word word' n table start slot next prunes below one)
