@@ -12,9 +12,11 @@ use Rattle.jh_shape.specs.declared.want.Want.{Want}
 use Rattle.jh_shape.specs.declared.want.Want.TheVariants.{Nothing, Table as WantTable, Leaf as WantLeaf}
 use Rattle.jh_shape.specs.Laws.{is_to_table}
 use Rattle.jh_shape.specs.Wanted.{Wants, slot_start, if_table, tables_under}
+use Rattle.jh_walk.proofs.Public.{count_none}
+use Rattle.jh_edit.proofs.StandLemmas.{stays_at}
 use Rattle.jh_edit.specs.Trees.{lacking, staying}
 use Rattle.jh_edit.specs.Turns.{is_wrong_leaf, lacks_leaf, turn_if, turns_at, turns_of}
-use Rattle.jh_edit.proofs.SumLemmas.{count_more, count_none, sum_double, sum_plus, under_more}
+use Rattle.jh_edit.proofs.SumLemmas.{count_more, sum_double, sum_plus, under_more}
 
 pub pages_more : (word : ℕ → ℕ) (n table : ℕ) → pages_reached word (suc n) table ≡ 1 + sum_below 512 (λ i. by_next (pages_reached word n) (read_of (word (table + 8 * i)) (LAST_LEVEL - n)))
 pages_more word n table = count_more unmoved (λ state word n page. 1) word n None table
@@ -54,9 +56,6 @@ slot_bounded tables pages f WantTable (Table next) stays goes = let a : f next �
 slot_bounded tables pages f (WantLeaf out rights device) Invalid stays goes = omega arith
 slot_bounded tables pages f (WantLeaf out rights device) (Leaf out' rights' device') stays goes = omega arith
 slot_bounded tables pages f (WantLeaf out rights device) (Table next) stays goes = let a : f next ≤ 2 * pages next = goes refl next in omega arith
-
-stays_at : (want : Wants) (n start i : ℕ) → want (LAST_LEVEL - n) (slot_start (LAST_LEVEL - n) start i) ≡ WantTable → staying want (Some start) n i ≡ Some (slot_start (LAST_LEVEL - n) start i)
-stays_at want n start i e = rw e refl
 
 goes_at : (want : Wants) (word : ℕ → ℕ) (n start i next : ℕ) → is_to_table (want (LAST_LEVEL - n) (slot_start (LAST_LEVEL - n) start i)) ≡ false → count_from (staying want) (turns_at want) word n (staying want (Some start) n i) next ≡ pages_reached word n next
 goes_at want word n start i next other = ap (λ b. count_from (staying want) (turns_at want) word n (if b then Some (slot_start (LAST_LEVEL - n) start i) else None) next) other ∙ gone_turns want word n next

@@ -15,10 +15,11 @@ use Rattle.jh_shape.specs.declared.want.Want.TheVariants.{Nothing, Table as Want
 use Rattle.jh_shape.specs.Laws.{is_to_table}
 use Rattle.jh_shape.specs.SoundClaims.{IsSlot}
 use Rattle.jh_shape.specs.Wanted.{Wants, if_table, slot_start, tables_under}
+use Rattle.jh_walk.proofs.Public.{count_none}
 use Rattle.jh_edit.specs.Trees.{lacking, staying}
 use Rattle.jh_edit.specs.Turns.{has_lacking_leaf, has_wrong_leaf, is_wrong_leaf, lacks_leaf, turn_if, turns_at, turns_of}
 use Rattle.jh_edit.specs.Private.Slots.{IsTableStart, lacks_at, slot_turns, want_at, wrong_at}
-use Rattle.jh_edit.proofs.SumLemmas.{any_same, count_more, count_none, sum_plus, under_more, under_none}
+use Rattle.jh_edit.proofs.SumLemmas.{any_same, count_more, sum_plus, under_more, under_none}
 use Rattle.jh_edit.proofs.BoundLemmas.{gone_turns, next_alike, pages_more, pages_none, slot_bounded, turns_bounded}
 
 -- ---- sums that loops make
@@ -122,7 +123,7 @@ under_few want (suc (suc (suc zero))) start few = under_3 want start
 under_few want (suc (suc (suc (suc n)))) start few = absurd (let wrong : ⊥ = omega arith in wrong)
 
 pub under_zero : (want : Wants) (n start : ℕ) → n ≡ 0 → 0 ≡ tables_under want n start
-under_zero want n start e = subst (λ m. 0 ≡ tables_under want m start) (sym e) (sym (under_none want start))
+under_zero want n start e = subst (λ m. 0 ≡ tables_under want m start) (sym e) (under_none want start)
 
 -- ---- where slots begin
 
@@ -242,10 +243,6 @@ turns_all want word (suc n) level table start turns wants wrong lacks some is ar
     let one : suc n - 1 ≡ n = omega arith in
     turns_by want word n level table start turns wants wrong lacks (omega arith) are w l
     (subst (λ m. turns ≡ (turn_if wrong + turn_if lacks) + sum_below 512 (λ i. slot_turns want word m (start + i * slot_size level) (want_at wants i) (read_of (word (table + 8 * i)) level))) one e)
-
-pub flag_few : (b : Bool) → turn_if b ≤ 1
-flag_few true = omega arith
-flag_few false = omega arith
 
 -- what a slot takes
 gone_if : (want : Wants) (word : ℕ → ℕ) (n start next : ℕ) (b : Bool) → b ≡ false → count_from (staying want) (turns_at want) word n (if b then Some start else None) next ≡ pages_reached word n next

@@ -12,6 +12,7 @@ use Rattle.jh_shape.specs.declared.want.Want.{Want}
 use Rattle.jh_shape.specs.declared.want.Want.TheVariants.{Nothing, Table as WantTable, Leaf as WantLeaf}
 use Rattle.jh_shape.specs.Laws.{is_to_table}
 use Rattle.jh_shape.specs.Wanted.{Wants, slot_start, tables_under}
+use Rattle.jh_walk.proofs.Public.{next_same}
 use Rattle.jh_edit.specs.Trees.{lacking, staying}
 use Rattle.jh_edit.specs.Turns.{EmptiesTable, FillsTable, KeepsTurnsBelow, emptied, filled, has_lacking_leaf, has_wrong_leaf, is_wrong_leaf, lacks_leaf, turn_if, turns_at, turns_of}
 use Rattle.jh_edit.proofs.SumLemmas.{any_down, any_none, any_same, count_more}
@@ -93,19 +94,14 @@ filled_lacking much Nothing d = refl
 filled_lacking much WantTable d = refl
 filled_lacking much (WantLeaf o r v) d = refl
 
-next_kept : (f g : ℕ → ℕ) (d : Descriptor) → ((next : ℕ) → d ≡ Table next → f next ≡ g next) → by_next f d ≡ by_next g d
-next_kept f g Invalid h = refl
-next_kept f g (Leaf o r v) h = refl
-next_kept f g (Table next) h = h next refl
-
 none_next : (g : ℕ → ℕ) (d : Descriptor) → ((next : ℕ) → d ≡ Table next → ⊥) → 0 ≡ by_next g d
 none_next g Invalid none = refl
 none_next g (Leaf o r v) none = refl
 none_next g (Table next) none = absurd (none next refl)
 
 filled_next : (f g : ℕ → ℕ) (want : Want) (d : Descriptor) → (is_to_table want ≡ false → (next : ℕ) → d ≡ Table next → ⊥) → ((next : ℕ) → d ≡ Table next → f next ≡ g next) → by_next f (filled want d) ≡ by_next g d
-filled_next f g Nothing d none h = next_kept f g d h
-filled_next f g WantTable d none h = next_kept f g d h
+filled_next f g Nothing d none h = next_same f g d h
+filled_next f g WantTable d none h = next_same f g d h
 filled_next f g (WantLeaf o r v) d none h = none_next g d (none refl)
 
 pub filled_falls : (want : Wants) (word word' : ℕ → ℕ) (n table start : ℕ) → FillsTable want word word' n table start → KeepsTurnsBelow want word word' n table start

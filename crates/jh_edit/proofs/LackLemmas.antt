@@ -11,9 +11,10 @@ use Rattle.jh_shape.specs.declared.want.Want.{Want}
 use Rattle.jh_shape.specs.declared.want.Want.TheVariants.{Nothing, Table as WantTable, Leaf as WantLeaf}
 use Rattle.jh_shape.specs.Laws.{is_to_table}
 use Rattle.jh_shape.specs.Wanted.{Wants, slot_start, if_table, tables_under}
+use Rattle.jh_walk.proofs.Public.{count_none}
 use Rattle.jh_edit.specs.Trees.{IsAsWanted, Stands, WantsItsTables, lack_at, lack_of, lacking, staying}
-use Rattle.jh_edit.proofs.SumLemmas.{count_more, count_none, sum_none, sum_plus, under_more}
-use Rattle.jh_edit.proofs.StandLemmas.{stand_down, stand_zero}
+use Rattle.jh_edit.proofs.SumLemmas.{count_more, sum_none, sum_plus, under_more}
+use Rattle.jh_edit.proofs.StandLemmas.{stand_down, stand_zero, stays_at}
 
 -- what a slot lacks of the wants, by itself and below
 abbrev slot_lacks : Wants → (ℕ → ℕ) → ℕ → ℕ → ℕ → ℕ → ℕ
@@ -54,9 +55,6 @@ slot_more on mine theirs f (WantLeaf out rights device) other d e has below =
     let a : lacking theirs other d ≡ if_table theirs other = ap (lacking theirs other) e ∙ lack_leaf theirs out rights device other in
     let b : by_next f d ≡ 0 = ap (by_next f) e in omega arith
 
-stays_at : (want : Wants) (n start i : ℕ) → want (LAST_LEVEL - n) (slot_start (LAST_LEVEL - n) start i) ≡ WantTable → staying want (Some start) n i ≡ Some (slot_start (LAST_LEVEL - n) start i)
-stays_at want n start i e = rw e refl
-
 pub lack_more_wanted : (want other : Wants) (word : ℕ → ℕ) → WantsItsTables want other → (n table start : ℕ) → Stands want word n table start → lack_of other word n table start + tables_under want n start ≡ tables_under other n start
 lack_more_wanted want other word has zero table start stands = absurd (stand_zero want word table start stands)
 lack_more_wanted want other word has (suc n) table start stands =
@@ -86,7 +84,7 @@ gone_lacks : (want : Wants) (word : ℕ → ℕ) (n table : ℕ) → count_from 
 gone_lacks want word zero table = count_none (staying want) (lack_at want) word None table
 gone_lacks want word (suc n) table =
     let B = λ (i : ℕ). by_next (count_from (staying want) (lack_at want) word n None) (read_of (word (table + 8 * i)) (LAST_LEVEL - n)) in
-    let below : sum_below 512 B ≡ 0 = sum_none 512 B (λ i lt. next_none (count_from (staying want) (lack_at want) word n None) (read_of (word (table + 8 * i)) (LAST_LEVEL - n)) (gone_lacks want word n)) in
+    let below : sum_below 512 B ≡ 0 = sum_none B 512 (λ i lt. next_none (count_from (staying want) (lack_at want) word n None) (read_of (word (table + 8 * i)) (LAST_LEVEL - n)) (gone_lacks want word n)) in
     let all = count_more (staying want) (lack_at want) word n None table in omega arith
 
 slot_none : (on : ℕ → Type 0) (theirs : ℕ) (f : ℕ → ℕ) (want other : Want) (d : Descriptor) → IsAsWanted on want d → (other ≡ WantTable → want ≡ WantTable)
@@ -107,7 +105,7 @@ lack_none want other word has zero table start stands = absurd (stand_zero want 
 lack_none want other word has (suc n) table start stands =
     let S = λ (i : ℕ). slot_start (LAST_LEVEL - n) start i in
     let each = stand_down want word n table start stands in
-    lack_more other word n table start ∙ sum_none 512 (slot_lacks other word n table start) (λ i lt.
+    lack_more other word n table start ∙ sum_none (slot_lacks other word n table start) 512 (λ i lt.
     slot_none (λ next. Stands want word n next (S i)) (tables_under other n (S i)) (count_from (staying other) (lack_at other) word n (staying other (Some start) n i))
     (want (LAST_LEVEL - n) (S i)) (other (LAST_LEVEL - n) (S i)) (read_of (word (table + 8 * i)) (LAST_LEVEL - n)) (each i lt) (has (LAST_LEVEL - n) (S i))
     (λ next is more. ap (λ s. count_from (staying other) (lack_at other) word n s next) (stays_at other n start i is) ∙ lack_none want other word has n next (S i) more)

@@ -13,6 +13,8 @@ use Rattle.jh_shape.specs.declared.want.Want.{Want}
 use Rattle.jh_shape.specs.declared.want.Want.TheVariants.{Nothing, Table as WantTable, Leaf as WantLeaf}
 use Rattle.jh_shape.specs.Laws.{is_to_table}
 use Rattle.jh_shape.specs.Wanted.{Wants, slot_start, tables_under}
+use Rattle.jh_walk.proofs.Public.{next_same}
+use Rattle.jh_edit.proofs.StandLemmas.{stays_at}
 use Rattle.jh_edit.specs.Trees.{lacking, staying}
 use Rattle.jh_edit.specs.Turns.{KeepsTurnsBelow, LinksTable, PrunesTable, has_lacking_leaf, has_wrong_leaf, is_wrong_leaf, lacks_leaf, turn_if, turns_at, turns_of}
 use Rattle.jh_edit.proofs.SumLemmas.{any_same, count_more}
@@ -21,14 +23,6 @@ use Rattle.jh_edit.proofs.BoundLemmas.{gone_turns}
 -- a fact of all slots, from that of the one and those of the others
 each : (P : ℕ → Type 0) (k : ℕ) → P k → ((i : ℕ) → i < 512 → i ≢ k → P i) → (i : ℕ) → i < 512 → P i
 each P k here others i lt = ⊎_elim (λ is. subst P (sym is) here) (λ apart. others i lt apart) (cases_eq i k)
-
-next_kept : (f g : ℕ → ℕ) (d : Descriptor) → ((next : ℕ) → d ≡ Table next → f next ≡ g next) → by_next f d ≡ by_next g d
-next_kept f g Invalid h = refl
-next_kept f g (Leaf o r v) h = refl
-next_kept f g (Table next) h = h next refl
-
-stays_at : (want : Wants) (n start i : ℕ) → want (LAST_LEVEL - n) (slot_start (LAST_LEVEL - n) start i) ≡ WantTable → staying want (Some start) n i ≡ Some (slot_start (LAST_LEVEL - n) start i)
-stays_at want n start i e = rw e refl
 
 pub linked_falls : (want : Wants) (word word' : ℕ → ℕ) (n table start slot next : ℕ) → LinksTable want word word' n table start slot next → KeepsTurnsBelow want word word' n table start
     → turns_of want word' n next (slot_start (LAST_LEVEL - n) start slot) + 2 ≡ 2 * tables_under want n (slot_start (LAST_LEVEL - n) start slot)
@@ -58,7 +52,7 @@ linked_falls want word word' n table start k next links below made =
     let b_moves : B' k + 0 ≡ B k + turns_of want word' n next (slot_start (LAST_LEVEL - n) start k) = omega arith in
     let tables : sum_below 512 K' + M k ≡ sum_below 512 K + 0 = sum_moves 512 K K' k (M k) 0 links.within k_moves (λ i lt apart. ap (lacking (M i) (W i)) (links.others i lt apart)) in
     let deep : sum_below 512 B' + 0 ≡ sum_below 512 B + turns_of want word' n next (slot_start (LAST_LEVEL - n) start k) =
-    sum_moves 512 B B' k 0 (turns_of want word' n next (slot_start (LAST_LEVEL - n) start k)) links.within b_moves (λ i lt apart. ap (by_next (f word' i)) (links.others i lt apart) ∙ next_kept (f word' i) (f word i) (D i) (λ next leads. below i next lt leads)) in
+    sum_moves 512 B B' k 0 (turns_of want word' n next (slot_start (LAST_LEVEL - n) start k)) links.within b_moves (λ i lt apart. ap (by_next (f word' i)) (links.others i lt apart) ∙ next_same (f word' i) (f word i) (D i) (λ next leads. below i next lt leads)) in
     let before = count_more (staying want) (turns_at want) word n (Some start) table in
     let after = count_more (staying want) (turns_at want) word' n (Some start) table in
     omega arith
@@ -97,7 +91,7 @@ pruned_falls want word word' n table start k next prunes below one =
     let b_old : B k ≡ 1 = ap (by_next (f word k)) old ∙ ap (λ b. count_from (staying want) (turns_at want) word n (if b then Some (slot_start (LAST_LEVEL - n) start k) else None) next) other ∙ gone_turns want word n next ∙ one in
     let b_new : B' k ≡ 0 = ap (by_next (f word' k)) new in
     let b_moves : B' k + 1 ≡ B k + 0 = omega arith in
-    let deep : sum_below 512 B' + 1 ≡ sum_below 512 B + 0 = sum_moves 512 B B' k 1 0 prunes.within b_moves (λ i lt apart. ap (by_next (f word' i)) (prunes.others i lt apart) ∙ next_kept (f word' i) (f word i) (D i) (λ next leads. below i next lt leads)) in
+    let deep : sum_below 512 B' + 1 ≡ sum_below 512 B + 0 = sum_moves 512 B B' k 1 0 prunes.within b_moves (λ i lt apart. ap (by_next (f word' i)) (prunes.others i lt apart) ∙ next_same (f word' i) (f word i) (D i) (λ next leads. below i next lt leads)) in
     let before = count_more (staying want) (turns_at want) word n (Some start) table in
     let after = count_more (staying want) (turns_at want) word' n (Some start) table in
     omega arith

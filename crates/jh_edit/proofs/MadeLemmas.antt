@@ -42,7 +42,7 @@ made_turns want word n table start made =
     let T = λ (i : ℕ). tables_under want n (slot_start (LAST_LEVEL - n) start i) in
     let wrong : turn_if (any_below (λ i. is_wrong_leaf (W i) (D i)) 512) ≡ 0 = ap turn_if (any_none (λ i. is_wrong_leaf (W i) (D i)) 512 (λ i lt. no_wrong (W i) (D i) (made i lt))) in
     let lack : turn_if (any_below (λ i. lacks_leaf (W i) (D i)) 512) ≡ 0 = ap turn_if (any_none (λ i. lacks_leaf (W i) (D i)) 512 (λ i lt. no_lack (W i) (D i) (made i lt))) in
-    let deep : sum_below 512 (λ i. by_next (f i) (D i)) ≡ 0 = sum_none 512 (λ i. by_next (f i) (D i)) (λ i lt. no_next (f i) (W i) (D i) (made i lt)) in
+    let deep : sum_below 512 (λ i. by_next (f i) (D i)) ≡ 0 = sum_none (λ i. by_next (f i) (D i)) 512 (λ i lt. no_next (f i) (W i) (D i) (made i lt)) in
     let twice : sum_below 512 (λ i. lacking (2 * T i) (W i) (D i)) ≡ 2 * sum_below 512 (λ i. if_table (T i) (W i)) =
     sum_double 512 (λ i. if_table (T i) (W i)) (λ i. lacking (2 * T i) (W i) (D i)) (λ i lt. lacks_twice (T i) (W i) (D i) (made i lt)) in
     let all = count_more (staying want) (turns_at want) word n (Some start) table in

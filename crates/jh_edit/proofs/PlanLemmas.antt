@@ -12,6 +12,7 @@ use Rattle.jh_walk.specs.Walks.{levels}
 use Rattle.jh_shape.specs.declared.want.Want.{Want}
 use Rattle.jh_shape.specs.declared.want.Want.TheVariants.{Nothing, Table as WantTable, Leaf as WantLeaf}
 use Rattle.jh_shape.specs.Wanted.{Wants, slot_start, tables_under}
+use Rattle.jh_walk.proofs.Public.{on_times, same_below, same_here}
 use Rattle.jh_edit.specs.declared.edit.Ahead.{Ahead}
 use Rattle.jh_edit.specs.Trees.{lacking, staying}
 use Rattle.jh_edit.specs.Turns.{is_wrong_leaf, lacks_leaf, turn_if, turns_at}
@@ -23,23 +24,12 @@ use Rattle.jh_edit.proofs.SumLemmas.{any_same, count_more}
 times_more : (word : ℕ → ℕ) (n table q : ℕ) → times word (suc n) table q ≡ page_weight q word n table + sum_below 512 (λ i. by_next (λ next. times word n next q) (read_of (word (table + 8 * i)) (LAST_LEVEL - n)))
 times_more word n table q = count_more unmoved (λ state. page_weight q) word n None table
 
-self_times : (word : ℕ → ℕ) (n table q : ℕ) → table ≡ q → 0 < times word (suc n) table q
-self_times word n table q e = rw (times_more word n table q) (grind arith)
-
 times_below : (word : ℕ → ℕ) (n table i next q : ℕ) → i < 512 → read_of (word (table + 8 * i)) (LAST_LEVEL - n) ≡ Table next → times word n next q ≤ times word (suc n) table q
 times_below word n table i next q lt leads =
     let T = λ (j : ℕ). by_next (λ next. times word n next q) (read_of (word (table + 8 * j)) (LAST_LEVEL - n)) in
     let is : T i ≡ times word n next q = ap (by_next (λ next. times word n next q)) leads in
     let le : T i ≤ sum_below 512 T = term_le 512 T i lt in
     let all = times_more word n table q in omega arith
-
-pub same_below : (word word' : ℕ → ℕ) (n table i next : ℕ) → HaveSameTables word word' (suc n) table → i < 512 → read_of (word (table + 8 * i)) (LAST_LEVEL - n) ≡ Table next → HaveSameTables word word' n next
-same_below word word' n table i next same lt leads = record {
-  words = λ q j some small. let le : times word n next q ≤ times word (suc n) table q = times_below word n table i next q lt leads in same.words q j (omega arith) small;
-}
-
-pub same_here : (word word' : ℕ → ℕ) (n table i : ℕ) → HaveSameTables word word' (suc n) table → i < 512 → word' (table + 8 * i) ≡ word (table + 8 * i)
-same_here word word' n table i same lt = same.words table i (self_times word n table table refl) lt
 
 -- ---- turns
 
@@ -73,19 +63,11 @@ same_reached step word word' (suc n) s table left there page same (inr (i, next,
       ),
     )
 
--- a page that is reached counts
-reached_counts : (step : Step) (word : ℕ → ℕ) (n : ℕ) (s : Option ℕ) (table left : ℕ) (there : Option ℕ) (page : ℕ) → IsReachedAs step word n s table left there page → 0 < times word n table page
-reached_counts step word zero s table left there page reached = absurd reached
-reached_counts step word (suc n) s table left there page (inl (e, (is, at))) = self_times word n table page is
-reached_counts step word (suc n) s table left there page (inr (i, next, (names, reached))) =
-    let below : 0 < times word n next page = reached_counts step word n (step s n i) next left there page reached in
-    let le : times word n next page ≤ times word (suc n) table page = times_below word n table i next page names.within names.descriptor in omega arith
-
 same_ahead : (want : Wants) (word word' : ℕ → ℕ) (table : ℕ) (ahead : Ahead) → HaveSameTables word word' levels table → times word' levels table ahead.page ≡ times word levels table ahead.page → HasSameWords word word' ahead.page → IsAhead want word table ahead → IsAhead want word' table ahead
 same_ahead want word word' table ahead same times_same words is =
     let slot = is.slot in
     let parent : word' (word_place slot) ≡ word (word_place slot) =
-    same.words slot.parent slot.slot (reached_counts (staying want) word levels (Some 0) table (suc (suc slot.below)) (Some slot.start) slot.parent is.empty.stays) is.empty.within in
+    same.words slot.parent slot.slot (on_times (staying want) word levels (Some 0) table (suc (suc slot.below)) (Some slot.start) slot.parent is.empty.stays) is.empty.within in
     record {
       slot = slot;
       empty = record {

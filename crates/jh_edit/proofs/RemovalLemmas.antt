@@ -8,22 +8,17 @@ use Rattle.jh_desc.specs.declared.descriptor.Descriptor.TheVariants.{Invalid, Ta
 use Rattle.jh_desc.specs.Descriptors.{read_of}
 use Rattle.jh_walk.specs.Counts.{by_next, unmoved}
 use Rattle.jh_walk.specs.Pages.{pages_reached}
+use Rattle.jh_walk.proofs.Public.{next_same}
 use Rattle.jh_edit.specs.Plans.{IsTakenOut}
 use Rattle.jh_edit.proofs.BoundLemmas.{pages_more}
 use Rattle.jh_edit.proofs.PlanLemmas.{CountsStay}
-
--- what a slot leads to counts the same, where that table does
-same_next : (f g : ℕ → ℕ) (d : Descriptor) → ((next : ℕ) → d ≡ Table next → f next ≡ g next) → by_next f d ≡ by_next g d
-same_next f g Invalid same = refl
-same_next f g (Leaf out rights device) same = refl
-same_next f g (Table next) same = same next refl
 
 -- each slot but one leads to as many pages as before
 same_slot : CountsStay → (word word' : ℕ → ℕ) (n table slot next : ℕ) → IsTakenOut word word' n table slot next → (i : ℕ) → i < 512 → i ≢ slot
     → by_next (pages_reached word' n) (read_of (word' (table + 8 * i)) (LAST_LEVEL - n)) ≡ by_next (pages_reached word n) (read_of (word (table + 8 * i)) (LAST_LEVEL - n))
 same_slot stay word word' n table slot next out i few other =
     ap (λ (w : ℕ). by_next (pages_reached word' n) (read_of w (LAST_LEVEL - n))) (out.others i few other)
-    ∙ same_next (pages_reached word' n) (pages_reached word n) (read_of (word (table + 8 * i)) (LAST_LEVEL - n))
+    ∙ next_same (pages_reached word' n) (pages_reached word n) (read_of (word (table + 8 * i)) (LAST_LEVEL - n))
     (λ below is. stay unmoved (λ state word n page. 1) word word' n None below (out.below i below few other is) (λ state m page some. refl))
 
 pub one_page_less : CountsStay → (word word' : ℕ → ℕ) (n table slot next : ℕ) → IsTakenOut word word' n table slot next → pages_reached word' (suc n) table + 1 ≡ pages_reached word (suc n) table

@@ -1,6 +1,6 @@
 -- Where no turn is left, tables stand as they are wanted; and where they stand, none is left.
 use Rattle.std.proofs.Common.{◌≡◌, ℕ, ◌+◌, ◌-◌, ◌*◌, ◌%◌, ◌<◌, ◌≤◌, zero, suc, ap, ◌∙◌, sym, subst, arith, refl, Some, None, Bool, true, false, not, ◌&&◌, nat_eq}
-use Rattle.std.proofs.lemmas.Bool.{and_parts, eqb-true, false≢true}
+use Rattle.std.proofs.lemmas.Bool.{and_parts, eqb-true, false≢true, not-false}
 use Rattle.jh_num.specs.declared.level.TheConstants.{LAST_LEVEL}
 use Rattle.jh_num.specs.declared.rights.Rights.{Rights}
 use Rattle.jh_num.specs.Below.{any_below, sum_below}
@@ -47,16 +47,12 @@ rights_same r s e =
 leaf_by : (o o' : ℕ) (r r' : Rights) (v v' : Bool) → o' ≡ o → r' ≡ r → v' ≡ v → Leaf o' r' v' ≡ Leaf o r v
 leaf_by o o' r r' v v' a b c = λ i. Leaf (a i) (b i) (c i)
 
-true_of : (b : Bool) → not b ≡ false → b ≡ true
-true_of true e = refl
-true_of false e = absurd (false≢true (sym e))
-
 -- the leaf that isn't lacked stands
 pub leaf_stands : (o : ℕ) (r : Rights) (v : Bool) (d : Descriptor) → lacks_leaf (WantLeaf o r v) d ≡ false → d ≡ Leaf o r v
 leaf_stands o r v Invalid e = absurd (false≢true (sym e))
 leaf_stands o r v (Table next) e = absurd (false≢true (sym e))
 leaf_stands o r v (Leaf o' r' v') e =
-    let p = and_parts (nat_eq o' o) (are_same_rights r' r && is_same_flag v' v) (true_of (is_wanted_leaf (WantLeaf o r v) (Leaf o' r' v')) e) in
+    let p = and_parts (nat_eq o' o) (are_same_rights r' r && is_same_flag v' v) (not-false (is_wanted_leaf (WantLeaf o r v) (Leaf o' r' v')) e) in
     let q = and_parts (are_same_rights r' r) (is_same_flag v' v) p.1 in
     leaf_by o o' r r' v v' (eqb-true o' o p.0) (rights_same r' r q.0) (flag_same v' v q.1)
 
@@ -171,7 +167,7 @@ no_below on f Nothing d e h = ap (by_next f) e
 no_below on f WantTable d (next, (e, more)) h = ap (by_next f) e ∙ h refl next more
 no_below on f (WantLeaf o r v) d e h = ap (by_next f) e
 
-stays_at : (want : Wants) (n start i : ℕ) → want (LAST_LEVEL - n) (slot_start (LAST_LEVEL - n) start i) ≡ WantTable → staying want (Some start) n i ≡ Some (slot_start (LAST_LEVEL - n) start i)
+pub stays_at : (want : Wants) (n start i : ℕ) → want (LAST_LEVEL - n) (slot_start (LAST_LEVEL - n) start i) ≡ WantTable → staying want (Some start) n i ≡ Some (slot_start (LAST_LEVEL - n) start i)
 stays_at want n start i e = rw e refl
 
 pub none_stand : (want : Wants) (word : ℕ → ℕ) (n table start : ℕ) → Stands want word n table start → turns_of want word n table start ≡ 0
@@ -185,8 +181,8 @@ none_stand want word (suc n) table start stands =
     let each = stand_down want word n table start stands in
     let wrong : turn_if (any_below (λ i. is_wrong_leaf (W i) (D i)) 512) ≡ 0 = ap turn_if (any_none (λ i. is_wrong_leaf (W i) (D i)) 512 (λ i lt. no_wrong (on i) (W i) (D i) (each i lt))) in
     let lack : turn_if (any_below (λ i. lacks_leaf (W i) (D i)) 512) ≡ 0 = ap turn_if (any_none (λ i. lacks_leaf (W i) (D i)) 512 (λ i lt. no_lack (on i) (W i) (D i) (each i lt))) in
-    let tables : sum_below 512 K ≡ 0 = sum_none 512 K (λ i lt. no_lacking (on i) (2 * tables_under want n (slot_start (LAST_LEVEL - n) start i)) (W i) (D i) (each i lt)) in
-    let below : sum_below 512 B ≡ 0 = sum_none 512 B (λ i lt.
+    let tables : sum_below 512 K ≡ 0 = sum_none K 512 (λ i lt. no_lacking (on i) (2 * tables_under want n (slot_start (LAST_LEVEL - n) start i)) (W i) (D i) (each i lt)) in
+    let below : sum_below 512 B ≡ 0 = sum_none B 512 (λ i lt.
     no_below (on i) (count_from (staying want) (turns_at want) word n (staying want (Some start) n i)) (W i) (D i) (each i lt) (λ is next more.
     ap (λ s. count_from (staying want) (turns_at want) word n s next) (stays_at want n start i is) ∙ none_stand want word n next (slot_start (LAST_LEVEL - n) start i) more)) in
     let all = count_more (staying want) (turns_at want) word n (Some start) table in

@@ -31,10 +31,10 @@ any_same f g (suc n) e =
     ap (λ b. b || f n) (any_same f g n (λ i lt. e i (omega arith))) ∙ ap (λ b. any_below g n || b) last
 
 -- no term counts
-pub sum_none : (n : ℕ) (f : ℕ → ℕ) → ((i : ℕ) → i < n → f i ≡ 0) → sum_below n f ≡ 0
+pub sum_none : (f : ℕ → ℕ) (n : ℕ) → ((i : ℕ) → i < n → f i ≡ 0) → sum_below n f ≡ 0
 unfolding sum_below
-sum_none zero f e = refl
-sum_none (suc n) f e = rw (sum_none n f (λ i lt. e i (omega arith)), e n (omega arith)) refl
+sum_none f zero e = refl
+sum_none f (suc n) e = rw (sum_none f n (λ i lt. e i (omega arith)), e n (omega arith)) refl
 
 -- each term is twice its fellow
 pub sum_double : (n : ℕ) (f g : ℕ → ℕ) → ((i : ℕ) → i < n → g i ≡ 2 * f i) → sum_below n g ≡ 2 * sum_below n f
@@ -56,15 +56,11 @@ pub count_more : (step : Step) (w : StateWeight) (word : ℕ → ℕ) (n : ℕ) 
 unfolding count_from
 count_more step w word n s table = refl
 
-pub count_none : (step : Step) (w : StateWeight) (word : ℕ → ℕ) (s : Option ℕ) (table : ℕ) → count_from step w word zero s table ≡ 0
-unfolding count_from
-count_none step w word s table = refl
-
 pub under_more : (want : Wants) (n start : ℕ) → tables_under want (suc n) start ≡ 1 + sum_below 512 (λ i. if_table (tables_under want n (slot_start (LAST_LEVEL - n) start i)) (want (LAST_LEVEL - n) (slot_start (LAST_LEVEL - n) start i)))
 unfolding tables_under
 under_more want n start = refl
 
-pub under_none : (want : Wants) (start : ℕ) → tables_under want zero start ≡ 0
+pub under_none : (want : Wants) (start : ℕ) → 0 ≡ tables_under want zero start
 unfolding tables_under
 under_none want start = refl
 

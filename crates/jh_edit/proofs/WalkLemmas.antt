@@ -12,12 +12,10 @@ use Rattle.jh_walk.specs.Walks.{descriptor_at, walk_of, walk_on}
 use Rattle.jh_shape.specs.declared.want.Want.{Want}
 use Rattle.jh_shape.specs.declared.want.Want.TheVariants.{Nothing, Table as WantTable, Leaf as WantLeaf}
 use Rattle.jh_shape.specs.Wanted.{Wants, slot_start}
+use Rattle.jh_walk.proofs.Public.{index_small}
 use Rattle.jh_edit.specs.Trees.{IsAsWanted, Stands, walked, walked_on}
 use Rattle.jh_edit.proofs.DescriptorLemmas.{named_below}
 use Rattle.jh_edit.proofs.StandLemmas.{stand_down}
-
-pub index_small : (x : ℕ) → x % 512 < 512
-index_small x = omega arith
 
 step_as : (on : ℕ → Option Hit) (rest : Option Hit) (right : ℕ → Type 0) (level at word : ℕ) (want : Want) (d : Descriptor) → read_of word level ≡ d → IsAsWanted right want d → ((next : ℕ) → right next → on next ≡ rest) → walk_on on level at d ≡ walked_on rest level at want
 step_as on rest right level at word Nothing d is e below = ap (walk_on on level at) e

@@ -55,17 +55,6 @@ written_more how level page wants old now next slot word small before is put = r
   above = λ q le. put.above q (omega arith) ∙ before.above q le;
 }
 
-pub written_none : (how : Writing) (level page : ℕ) (wants : List Want) (old : FramesView) → IsWrittenTo how level page wants old old 0
-written_none how level page wants old = record {
-  base = refl;
-  size = refl;
-  guest = refl;
-  done = λ s lt. absurd (let wrong : ⊥ = omega arith in wrong);
-  ahead = λ s le. refl;
-  below = λ q lt. refl;
-  above = λ q le. refl;
-}
-
 -- what is made of a wanted leaf may be written
 pub writable_of : (level : ℕ) (w : Want) → ((out : ℕ) (rights : Rights) (device : Bool) → w ≡ WantLeaf out rights device → (0 < level) × (out % slot_size level ≡ 0) × (out + slot_size level ≤ ADDRESS_END)) → IsWritable (made_of w) level
 writable_of level Nothing h = tt

@@ -7,3 +7,4 @@ mod WholeLemmas
 mod GrowLemmas
 mod ReachLemmas
 mod ListedLemmas
+pub mod Public

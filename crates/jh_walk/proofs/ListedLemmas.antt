@@ -30,10 +30,10 @@ sum_alike f g (x ∷ xs) same =
     let a : sum_by f (x ∷ xs) ≡ f x + sum_by f xs = sum_by-cons f x xs in
     let b : sum_by g (x ∷ xs) ≡ g x + sum_by g xs = sum_by-cons g x xs in omega arith
 
-sum_both : (f g : ℕ → ℕ) (xs : List ℕ) → sum_by (λ q. f q + g q) xs ≡ sum_by f xs + sum_by g xs
+sum_both : (f g : ℕ → ℕ) (xs : List ℕ) → sum_by f xs + sum_by g xs ≡ sum_by (λ q. f q + g q) xs
 sum_both f g [] = refl
 sum_both f g (x ∷ xs) =
-    let rest : sum_by (λ q. f q + g q) xs ≡ sum_by f xs + sum_by g xs = sum_both f g xs in
+    let rest : sum_by f xs + sum_by g xs ≡ sum_by (λ q. f q + g q) xs = sum_both f g xs in
     let both : sum_by (λ q. f q + g q) (x ∷ xs) ≡ f x + g x + sum_by (λ q. f q + g q) xs = sum_by-cons (λ q. f q + g q) x xs in
     let a : sum_by f (x ∷ xs) ≡ f x + sum_by f xs = sum_by-cons f x xs in
     let b : sum_by g (x ∷ xs) ≡ g x + sum_by g xs = sum_by-cons g x xs in omega arith
@@ -43,7 +43,7 @@ sum_turned : (m : ℕ) (h : ℕ → ℕ → ℕ) (xs : List ℕ) → sum_by (λ 
 unfolding sum_below
 sum_turned zero h xs = sum_none (λ q. sum_below zero (h q)) xs (λ q has. refl)
 sum_turned (suc m) h xs =
-    let split : sum_by (λ q. sum_below m (h q) + h q m) xs ≡ sum_by (λ q. sum_below m (h q)) xs + sum_by (λ q. h q m) xs = sum_both (λ q. sum_below m (h q)) (λ q. h q m) xs in
+    let split : sum_by (λ q. sum_below m (h q) + h q m) xs ≡ sum_by (λ q. sum_below m (h q)) xs + sum_by (λ q. h q m) xs = sym (sum_both (λ q. sum_below m (h q)) (λ q. h q m) xs) in
     let rest : sum_by (λ q. sum_below m (h q)) xs ≡ sum_below m (λ i. sum_by (λ q. h q i) xs) = sum_turned m h xs in omega arith
 
 -- ---- one page
@@ -88,7 +88,7 @@ listed_count word zero t xs apart all =
 listed_count word (suc n) t xs apart all =
     let own : sum_by (λ q. page_weight q word n t) xs ≡ 1 = one_weight word n t xs apart (all t (self_times word n t t refl)) in
     let split : sum_by (λ q. page_weight q word n t + sum_below 512 (slot_times word n t q)) xs ≡ sum_by (λ q. page_weight q word n t) xs + sum_by (λ q. sum_below 512 (slot_times word n t q)) xs =
-    sum_both (λ q. page_weight q word n t) (λ q. sum_below 512 (slot_times word n t q)) xs in
+    sym (sum_both (λ q. page_weight q word n t) (λ q. sum_below 512 (slot_times word n t q)) xs) in
     let each : sum_by (times word (suc n) t) xs ≡ sum_by (λ q. page_weight q word n t + sum_below 512 (slot_times word n t q)) xs =
     sum_alike (times word (suc n) t) (λ q. page_weight q word n t + sum_below 512 (slot_times word n t q)) xs (λ q. times_more word n t q) in
     let turned : sum_by (λ q. sum_below 512 (slot_times word n t q)) xs ≡ sum_below 512 (λ i. sum_by (λ q. slot_times word n t q i) xs) = sum_turned 512 (slot_times word n t) xs in

@@ -18,14 +18,14 @@ use Rattle.jh_walk.proofs.LiftLemmas.{slot_counts, count_more, count_none, next_
 use Rattle.jh_walk.proofs.GrowLemmas.{index_small}
 
 -- the words of a page that the page leads to are the same too
-same_below : (w w' : ℕ → ℕ) (n t i next : ℕ) → HaveSameTables w w' (suc n) t → i < 512 → read_of (w (t + 8 * i)) (LAST_LEVEL - n) ≡ Table next → HaveSameTables w w' n next
+pub same_below : (w w' : ℕ → ℕ) (n t i next : ℕ) → HaveSameTables w w' (suc n) t → i < 512 → read_of (w (t + 8 * i)) (LAST_LEVEL - n) ≡ Table next → HaveSameTables w w' n next
 same_below w w' n t i next same lt leads = record {
   words = λ q j some small.
       let le : times w n next q ≤ times w (suc n) t q = times_below w n t q i next lt leads in
       same.words q j (omega arith) small;
 }
 
-same_here : (w w' : ℕ → ℕ) (n t i : ℕ) → HaveSameTables w w' (suc n) t → i < 512 → w' (t + 8 * i) ≡ w (t + 8 * i)
+pub same_here : (w w' : ℕ → ℕ) (n t i : ℕ) → HaveSameTables w w' (suc n) t → i < 512 → w' (t + 8 * i) ≡ w (t + 8 * i)
 same_here w w' n t i same lt = same.words t i (self_times w n t t refl) lt
 
 on_same : (on on' : ℕ → Option Hit) (level at : ℕ) (d : Descriptor) → ((next : ℕ) → d ≡ Table next → on' next ≡ on next) → walk_on on' level at d ≡ walk_on on level at d
