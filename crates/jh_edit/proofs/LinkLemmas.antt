@@ -5,7 +5,7 @@ use Rattle.jh_num.specs.declared.level.TheConstants.{LAST_LEVEL}
 use Rattle.jh_num.specs.Below.{sum_below}
 use Rattle.jh_num.proofs.Public.{sum_moves, sum_same}
 use Rattle.jh_desc.specs.declared.descriptor.Descriptor.{Descriptor}
-use Rattle.jh_desc.specs.declared.descriptor.Descriptor.TheVariants.{Invalid, Table, Leaf}
+use Rattle.jh_desc.specs.declared.descriptor.Descriptor.TheVariants.{Invalid, Table}
 use Rattle.jh_desc.specs.Descriptors.{read_of}
 use Rattle.jh_walk.specs.Counts.{by_next, count_from}
 use Rattle.jh_walk.specs.Pages.{pages_reached}

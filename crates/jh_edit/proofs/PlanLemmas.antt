@@ -1,12 +1,12 @@
 -- A plan stays where the words of the tables, and of the page that is ahead, are the same.
-use Rattle.std.proofs.Common.{◌≡◌, ℕ, ◌+◌, ◌-◌, ◌*◌, ◌<◌, ◌≤◌, inl, inr, zero, suc, ap, ◌∙◌, sym, subst, arith, refl, Option, Some, None, IfSome}
+use Rattle.std.proofs.Common.{◌≡◌, ℕ, ◌+◌, ◌-◌, ◌*◌, ◌<◌, inl, inr, zero, suc, ap, ◌∙◌, sym, subst, arith, refl, Option, Some, None, IfSome}
 use Rattle.jh_num.specs.declared.level.TheConstants.{LAST_LEVEL}
 use Rattle.jh_num.specs.Below.{any_below, sum_below}
-use Rattle.jh_num.proofs.Public.{sum_same, term_le}
+use Rattle.jh_num.proofs.Public.{sum_same}
 use Rattle.jh_desc.specs.declared.descriptor.Descriptor.{Descriptor}
 use Rattle.jh_desc.specs.declared.descriptor.Descriptor.TheVariants.{Table}
 use Rattle.jh_desc.specs.Descriptors.{read_of}
-use Rattle.jh_walk.specs.Counts.{Step, StateWeight, IsReachedAs, by_next, count_from, unmoved}
+use Rattle.jh_walk.specs.Counts.{Step, StateWeight, IsReachedAs, count_from, unmoved}
 use Rattle.jh_walk.specs.Pages.{HaveSameTables, HaveSameWeights, page_weight, times}
 use Rattle.jh_walk.specs.Walks.{levels}
 use Rattle.jh_shape.specs.declared.want.Want.{Want}
@@ -17,19 +17,9 @@ use Rattle.jh_edit.specs.declared.edit.Ahead.{Ahead}
 use Rattle.jh_edit.specs.Trees.{lacking, staying}
 use Rattle.jh_edit.specs.Turns.{is_wrong_leaf, lacks_leaf, turn_if, turns_at}
 use Rattle.jh_edit.specs.Plans.{EditView, HasSameWords, IsAhead, IsDoneBelow, IsDoneSlot, IsMade, Plans, begin_of, word_place}
-use Rattle.jh_edit.proofs.SumLemmas.{any_same, count_more}
+use Rattle.jh_edit.proofs.SumLemmas.{any_same}
 
 -- ---- pages that are reached
-
-times_more : (word : ℕ → ℕ) (n table q : ℕ) → times word (suc n) table q ≡ page_weight q word n table + sum_below 512 (λ i. by_next (λ next. times word n next q) (read_of (word (table + 8 * i)) (LAST_LEVEL - n)))
-times_more word n table q = count_more unmoved (λ state. page_weight q) word n None table
-
-times_below : (word : ℕ → ℕ) (n table i next q : ℕ) → i < 512 → read_of (word (table + 8 * i)) (LAST_LEVEL - n) ≡ Table next → times word n next q ≤ times word (suc n) table q
-times_below word n table i next q lt leads =
-    let T = λ (j : ℕ). by_next (λ next. times word n next q) (read_of (word (table + 8 * j)) (LAST_LEVEL - n)) in
-    let is : T i ≡ times word n next q = ap (by_next (λ next. times word n next q)) leads in
-    let le : T i ≤ sum_below 512 T = term_le 512 T i lt in
-    let all = times_more word n table q in omega arith
 
 -- ---- turns
 

@@ -1,10 +1,8 @@
 -- A table that is taken out of the one that names it takes its one turn with it.
-use Rattle.std.proofs.Common.{◌≡◌, ◌≢◌, ℕ, ◌+◌, ◌-◌, ◌*◌, ◌<◌, suc, refl, ap, ◌∙◌, arith, Option, None}
+use Rattle.std.proofs.Common.{◌≡◌, ◌≢◌, ℕ, ◌+◌, ◌-◌, ◌*◌, ◌<◌, suc, refl, ap, ◌∙◌, arith, None}
 use Rattle.jh_num.specs.declared.level.TheConstants.{LAST_LEVEL}
 use Rattle.jh_num.specs.Below.{sum_below}
 use Rattle.jh_num.proofs.Public.{sum_falls}
-use Rattle.jh_desc.specs.declared.descriptor.Descriptor.{Descriptor}
-use Rattle.jh_desc.specs.declared.descriptor.Descriptor.TheVariants.{Invalid, Table, Leaf}
 use Rattle.jh_desc.specs.Descriptors.{read_of}
 use Rattle.jh_walk.specs.Counts.{by_next, unmoved}
 use Rattle.jh_walk.specs.Pages.{pages_reached}

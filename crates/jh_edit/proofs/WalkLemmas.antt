@@ -1,5 +1,5 @@
 -- Tables that stand give an address what the wants alone give it.
-use Rattle.std.proofs.Common.{◌≡◌, ℕ, ◌-◌, ◌/◌, ◌%◌, ◌<◌, ◌∙◌, ap, if◌then◌else◌, Option, None, zero, suc, arith, refl}
+use Rattle.std.proofs.Common.{◌≡◌, ℕ, ◌-◌, ◌/◌, ◌<◌, ◌∙◌, ap, if◌then◌else◌, Option, None, zero, suc, refl}
 use Rattle.std.proofs.lemmas.Bool.{lt-ltb}
 use Rattle.jh_num.specs.declared.address.TheConstants.{ADDRESS_END}
 use Rattle.jh_num.specs.declared.level.TheConstants.{LAST_LEVEL}
