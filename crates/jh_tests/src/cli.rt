@@ -77,7 +77,7 @@ fn called<R: Threads + Wait + Sync>(
 }
 
 /// Calls with these words, and compares the status and the text.
-pub(crate) fn ends<R: Abort + Threads + Wait + Sync>(
+fn ends<R: Abort + Threads + Wait + Sync>(
     rt: &R,
     alloc: Global,
     files: &mut MemFiles,
@@ -91,7 +91,7 @@ pub(crate) fn ends<R: Abort + Threads + Wait + Sync>(
     Ok(())
 }
 
-pub(crate) const PLAY: [&str; 4] = ["jailhouse", "play", "b.json", "s.txt"];
+const PLAY: [&str; 4] = ["jailhouse", "play", "b.json", "s.txt"];
 
 const RUN: [&str; 3] = ["jailhouse", "run", "b.json"];
 

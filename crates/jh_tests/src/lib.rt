@@ -1,13 +1,10 @@
-//! Tests of the board, of schedules and runs, of the commands and the exchanges, by public calls. It has no code but
-//! for tests.
+//! Tests of the board, of schedules and runs and of the commands, by public calls. It has no code but for tests.
 #![tactic(auto)]
 
 #[cfg(test)]
 mod board;
 #[cfg(test)]
 mod cli;
-#[cfg(test)]
-mod exchanges;
 #[cfg(test)]
 mod meeting;
 #[cfg(test)]
