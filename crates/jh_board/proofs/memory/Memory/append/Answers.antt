@@ -13,7 +13,7 @@ use Rattle.jh_board.proofs.memory.Memory.append.Goals as goal
 pub returns-in-Physical : goal.returns-in-Physical
 returns-in-Physical c =
     let memory : MemoryView = c.args.self.now in
-    let P : List ℕ → Type 0 = λ row. OnOk c.append.result (c.append.new.bytes.items ≡ c.args.bytes.now.items ++ row) in
+    let P : List ℕ → Type 0 = λ row. OnOk c.append.result (c.append.new.buffer.items ≡ c.args.bytes.now.items ++ row) in
     subst P
     (ap (λ (m : MemoryView). bytes_from (byte_at m.frames) c.in-Physical.at c.from-count.result) c.self.view_is
     ∙ sym (row_of_memory memory c.in-Physical.at c.from-count.result)
