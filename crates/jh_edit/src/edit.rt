@@ -12,7 +12,11 @@ ghost use Rattle.jh_edit.specs.Plans.{Plans};
 ghost use Rattle.jh_edit.specs.Turns.{turns_of};
 
 use crate::counting::{LEVELS, pages_from, turns_from};
+use crate::finding::{Link, Table, Todo, find, last_link};
+use crate::writing::{Writing, write_table};
+use jh_cache::Cache;
 use jh_frames::Frames;
+use jh_pool::Pool;
 use jh_shape::Target;
 use std::marker::Model;
 
@@ -85,5 +89,71 @@ impl Edit {
         ensures { result ≡ self.now.left }
     {
         self.left
+    }
+
+    /// Takes the link away, and gives its page back.
+    fn prune(link: Link, f: &mut Frames, p: &mut Pool, c: &mut Cache, tag: u8) {
+        f.set_word(link.at, 0);
+        p.give(link.page);
+        c.flush(tag);
+    }
+
+    /// One turn of a removal.
+    fn turn_away(&self, f: &mut Frames, p: &mut Pool, c: &mut Cache, tag: u8) {
+        match last_link(f, LEVELS, self.table) {
+            Some(link) => Self::prune(link, f, p, c, tag),
+            None => {
+                p.give(self.table);
+                c.flush(tag);
+            }
+        }
+    }
+
+    /// Takes a page and makes it a table for the word at the place.
+    fn make(&mut self, at: u64, left: u8, start: u64, t: &Target, f: &mut Frames, p: &mut Pool) {
+        if let Some(page) = p.take() {
+            write_table(t, f, Writing::Make, left, page, start);
+            self.ahead = Some(Ahead { at, page });
+            self.cursor = start;
+        }
+    }
+
+    /// One turn towards the target, where no page is ahead.
+    fn turn_on(&mut self, t: &Target, f: &mut Frames, p: &mut Pool, c: &mut Cache, tag: u8) {
+        let first = Table {
+            page: self.table,
+            left: LEVELS,
+            start: 0,
+        };
+        match find(t, f, self.cursor, first) {
+            Some(Todo::Prune { link, start }) => {
+                self.cursor = start;
+                Self::prune(link, f, p, c, tag);
+            }
+            Some(Todo::Empty(table)) => {
+                self.cursor = table.start;
+                write_table(t, f, Writing::Empty, table.left, table.page, table.start);
+                c.flush(tag);
+            }
+            Some(Todo::Fill(table)) => {
+                self.cursor = table.start;
+                write_table(t, f, Writing::Fill, table.left, table.page, table.start);
+            }
+            Some(Todo::Make { at, left, start }) => self.make(at, left, start, t, f, p),
+            None => {}
+        }
+    }
+
+    /// One turn.
+    pub fn turn(&mut self, t: &Target, f: &mut Frames, p: &mut Pool, c: &mut Cache, tag: u8) {
+        self.left -= 1;
+        if self.removing {
+            self.turn_away(f, p, c, tag);
+        } else if let Some(ahead) = self.ahead {
+            f.set_word(ahead.at, ahead.page + 3);
+            self.ahead = None;
+        } else {
+            self.turn_on(t, f, p, c, tag);
+        }
     }
 }

@@ -4,6 +4,7 @@
 
 mod counting;
 mod edit;
+mod finding;
 mod laws;
 mod writing;
 
@@ -15,3 +16,6 @@ pub use laws::{
     made_tables_lack_tables_alone, plans_stay, standing_tables_lack_the_difference,
     standing_tables_walk_as_wanted, walked_tells_grants, where_nothing_is_left_tables_stand,
 };
+
+#[cfg(test)]
+mod tests;
