@@ -22,6 +22,7 @@ impl<'a> Target<'a> {
     fn fill_held(&self, cuts: &mut [u64], closed: &mut [u64], level: u8, base: u64)
         requires cells { length self.now.cells.now ≤ 15 }
         requires level { level ≤ LAST_LEVEL }
+        requires base { base < ADDRESS_END }
         requires room { TABLE_SLOTS ≤ WORD_BITS * length cuts.old }
         requires closed_room { TABLE_SLOTS ≤ WORD_BITS * length closed.old }
         requires clear { (n : ℕ) → is_marked cuts.old n ≡ false }
@@ -53,6 +54,7 @@ impl<'a> Target<'a> {
     fn tell_held(&self, cuts: &mut [u64], closed: &mut [u64], level: u8, base: u64)
         requires cells { length self.now.cells.now ≤ 15 }
         requires level { level ≤ LAST_LEVEL }
+        requires base { base < ADDRESS_END }
         requires room { TABLE_SLOTS ≤ WORD_BITS * length cuts.old }
         requires closed_room { TABLE_SLOTS ≤ WORD_BITS * length closed.old }
         requires clear { (n : ℕ) → is_marked cuts.old n ≡ false }
