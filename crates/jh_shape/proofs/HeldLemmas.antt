@@ -1,7 +1,7 @@
 -- What cells beside root cut and close of the places of one table.
 use Rattle.std.proofs.Common.{◌≡◌, ℕ, ◌+◌, ◌-◌, ◌*◌, ◌/◌, ◌<◌, ◌≤◌, zero, suc, Bool, true, false, not, ◌&&◌, ◌||◌, nat_le, nat_lt, List, [], ◌∷◌, ◌++◌, length, get_or, take, refl, sym, ap, ◌∙◌, arith}
 use Rattle.std.specs.List.{list_any}
-use Rattle.std.proofs.lemmas.Bool.{and_left, and_parts, and_right, both_ways, leb-true, ltb-true}
+use Rattle.std.proofs.lemmas.Bool.{and_left, and_parts, and_right, ltb-true}
 use Rattle.std.proofs.lemmas.Bool.Decides.{nat_tests}
 use Rattle.std.proofs.lemmas.List.{take_all}
 use Rattle.std.proofs.lemmas.List.Folds.{list_any-append}
@@ -15,11 +15,9 @@ use Rattle.jh_cellcfg.specs.Regions.{has_place, is_loadable, is_unshared, phys_e
 use Rattle.jh_shape.specs.declared.marks.TheConstants.{WINDOW}
 use Rattle.jh_shape.specs.Claims.{Holder, held_from, holder_of}
 use Rattle.jh_shape.specs.Intervals.{spans, touches}
-use Rattle.jh_shape.specs.Private.Marks.{AreCutBehind, is_marked}
 use Rattle.jh_shape.specs.Shapes.{meets_in_part, takes}
 use Rattle.jh_shape.proofs.HoldersLemmas.{next_cell}
-use Rattle.jh_shape.proofs.LawLemmas.{size_some, touch_back}
-use Rattle.jh_shape.proofs.MarkLemmas.{as_before, next_slot, span_touches}
+use Rattle.jh_shape.proofs.MarkLemmas.{next_slot}
 
 -- a table's slots above level 0 are a window's
 pub table_in_window : (level n : ℕ) → 0 < level → level ≤ 3 → n < 512 → n < WINDOW / slot_size level
@@ -86,10 +84,6 @@ held_end p held loadable cells i cell old new l e f =
     ∙ ap (λ b. list_any p all || b) (sym (or-false (p (holder_of cell))))
     ∙ sym (list_any-append p all (holder_of cell ∷ []))
 
--- a region meets a table by its first place and its size
-pub meets_by : (first size base table : ℕ) → 0 < table → (nat_lt first (base + table) && nat_lt (base - first) size) ≡ touches first (first + size) base table
-meets_by first size base table some = grind (arith, nat_tests)
-
 -- what lies behind the first place of a slot touches no other
 pub behind_alone : (base size n k : ℕ) → touches (base + n * size + 1) (base + n * size + size) (base + k * size) size ≡ true → k ≡ n
 behind_alone base size n k h =
@@ -104,33 +98,3 @@ behind_alone base size n k h =
     let low : n < k + 1 = (let l : n * size < (k + 1) * size = omega arith in lt_of_mul-lt-mul_right size {m = n} {n = k + 1} l) in
     let high : k < n + 1 = (let l : k * size < (n + 1) * size = omega arith in lt_of_mul-lt-mul_right size {m = k} {n = n + 1} l) in
     omega arith
-
-pub nothing_behind : (base size n : ℕ) → touches 0 0 (base + n * size) size ≡ true → ⊥
-nothing_behind base size n h = both_ways false refl h
-
--- a region that lies within such places cuts no other slot, and takes no slot's first place
-pub cuts_no_more : (words : List ℕ) (level base start end n : ℕ) (region : Region) → AreCutBehind words level base start end → n < 512 → (nat_le start region.phys_start && nat_le region.size (end - region.phys_start)) ≡ true → is_marked words n ≡ (is_marked words n || meets_in_part region (base + n * slot_size level) (slot_size level))
-cuts_no_more words level base start end n region done few has =
-    let at = base + n * slot_size level in
-    let size = slot_size level in
-    as_before (is_marked words n) (meets_in_part region at size) (λ meets.
-    let p = and_parts (is_unshared region) (touches region.phys_start (phys_end region) at size && not (spans region.phys_start (phys_end region) at size)) meets in
-    let q = and_parts (touches region.phys_start (phys_end region) at size) (not (spans region.phys_start (phys_end region) at size)) p.1 in
-    (done n few (span_touches start end region.phys_start region.size at size has q.0)).0)
-
-pub closes_no_more : (words : List ℕ) (marked loadable : Bool) (level base start end n : ℕ) (region : Region) → AreCutBehind words level base start end → n < 512 → (nat_le start region.phys_start && nat_le region.size (end - region.phys_start)) ≡ true → marked ≡ (marked || takes loadable region (base + n * slot_size level))
-closes_no_more words marked loadable level base start end n region done few has =
-    let at = base + n * slot_size level in
-    let size = slot_size level in
-    as_before marked (takes loadable region at) (λ taken.
-    let p = and_parts (is_unshared region) (not (loadable && is_loadable region) && has_place region at) taken in
-    let q = and_parts (not (loadable && is_loadable region)) (has_place region at) p.1 in
-    let r = and_parts (nat_le region.phys_start at) (nat_lt at (phys_end region)) q.1 in
-    let low = leb-true region.phys_start at r.0 in
-    let high = ltb-true at (phys_end region) r.1 in
-    let some = size_some level in
-    let touched = touch_back region.phys_start (phys_end region) at size at (omega arith) (omega arith) low high in
-    let before = (done n few (span_touches start end region.phys_start region.size at size has touched)).1 in
-    let s = and_parts (nat_le start region.phys_start) (nat_le region.size (end - region.phys_start)) has in
-    let first = leb-true start region.phys_start s.0 in
-    absurd (omega arith))
