@@ -5,23 +5,9 @@
 #[cfg(test)]
 mod cellcfg;
 #[cfg(test)]
-mod check;
-#[cfg(test)]
 mod frames;
 #[cfg(test)]
-mod ivshmem;
-#[cfg(test)]
-mod life;
-#[cfg(test)]
-mod map;
-#[cfg(test)]
-mod mmio;
-#[cfg(test)]
-mod script;
-#[cfg(test)]
 mod shape;
-#[cfg(test)]
-mod spec;
 #[cfg(test)]
 mod syscfg;
 #[cfg(test)]

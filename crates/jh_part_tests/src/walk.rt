@@ -2,11 +2,22 @@
 ghost use Rattle.std.specs.Prelude.{◌+◌, ◌<◌, ◌≤◌};
 ghost use Rattle.jh_num.specs.declared.address.TheConstants.{ADDRESS_END};
 
-use crate::map::{ALL, READ_WRITE};
 use jh_frames::Frames;
-use jh_num::{Probe, Steps};
+use jh_num::{Rights, Steps};
 use jh_walk::{Hit, walk};
 use std::test::Fail;
+
+const ALL: Rights = Rights {
+    read: true,
+    write: true,
+    execute: true,
+};
+
+const READ_WRITE: Rights = Rights {
+    read: true,
+    write: true,
+    execute: false,
+};
 
 const FIRST: u64 = 0x7fc0_0000;
 
@@ -22,7 +33,8 @@ const BLOCK: u64 = 0x0000_0000_4000_07fd;
 /// A page at 0x9000000, rw-, device memory.
 const PAGE: u64 = 0x0040_0000_0900_07c7;
 
-/// Tables of four levels: addresses from 0x40000000 on have a block, then a page at 0x40200000.
+/// Tables of four levels: addresses from 0x40000000 on have a block, then a page at 0x40200000, and a word that is no page's
+/// behind it; the last page of all has index 511 at each level.
 fn tables(alloc: std::alloc::Global) -> Result<Frames, Fail> {
     let mut memory = Frames::open(alloc, FIRST, 0x4000)?;
     put(&mut memory, FIRST, SECOND + 3)?;
@@ -30,6 +42,11 @@ fn tables(alloc: std::alloc::Global) -> Result<Frames, Fail> {
     put(&mut memory, THIRD, BLOCK)?;
     put(&mut memory, THIRD + 8, FOURTH + 3)?;
     put(&mut memory, FOURTH, PAGE)?;
+    put(&mut memory, FOURTH + 8, PAGE - 2)?;
+    put(&mut memory, FIRST + 0xff8, SECOND + 3)?;
+    put(&mut memory, SECOND + 0xff8, THIRD + 3)?;
+    put(&mut memory, THIRD + 0xff8, FOURTH + 3)?;
+    put(&mut memory, FOURTH + 0xff8, PAGE)?;
     Ok(memory)
 }
 
@@ -48,90 +65,26 @@ fn walked(memory: &Frames, ipa: u64) -> (Option<Hit>, u64) {
 }
 
 #[test]
-fn a_block_is_found_at_level_2(rt: HostRuntime) -> Result<(), Fail> {
+fn walks_end_at_a_block_a_page_or_an_invalid_word(rt: HostRuntime) -> Result<(), Fail> {
     let memory = tables(rt.alloc())?;
-    let (hit, reads) = walked(&memory, 0x4012_3456);
     let block = Hit {
         out: 0x4012_3456,
         rights: ALL,
         device: false,
         span: 0x20_0000,
     };
-    assert_eq!(rt; hit, Some(block));
-    assert_eq!(rt; reads, 3);
-    Ok(())
-}
-
-#[test]
-fn a_page_is_found_at_level_3(rt: HostRuntime) -> Result<(), Fail> {
-    let memory = tables(rt.alloc())?;
-    let (hit, reads) = walked(&memory, 0x4020_0123);
     let page = Hit {
         out: 0x900_0123,
         rights: READ_WRITE,
         device: true,
         span: 0x1000,
     };
-    assert_eq!(rt; hit, Some(page));
-    assert_eq!(rt; reads, 4);
-    Ok(())
-}
-
-/// Its index is 511 at each level.
-#[test]
-fn the_last_page_is_found_through_four_tables(rt: HostRuntime) -> Result<(), Fail> {
-    let mut memory = tables(rt.alloc())?;
-    put(&mut memory, FIRST + 0xff8, SECOND + 3)?;
-    put(&mut memory, SECOND + 0xff8, THIRD + 3)?;
-    put(&mut memory, THIRD + 0xff8, FOURTH + 3)?;
-    put(&mut memory, FOURTH + 0xff8, PAGE)?;
-    let (hit, reads) = walked(&memory, 0xffff_ffff_f123);
-    let page = Hit {
-        out: 0x900_0123,
-        rights: READ_WRITE,
-        device: true,
-        span: 0x1000,
-    };
-    assert_eq!(rt; hit, Some(page));
-    assert_eq!(rt; reads, 4);
-    Ok(())
-}
-
-#[test]
-fn an_invalid_word_ends_a_walk_at_each_level(rt: HostRuntime) -> Result<(), Fail> {
-    let memory = tables(rt.alloc())?;
+    assert_eq!(rt; walked(&memory, 0x4012_3456), (Some(block), 3));
+    assert_eq!(rt; walked(&memory, 0x4020_0123), (Some(page), 4));
+    assert_eq!(rt; walked(&memory, 0xffff_ffff_f123), (Some(page), 4));
     assert_eq!(rt; walked(&memory, 0x80_0000_0000), (None, 1));
     assert_eq!(rt; walked(&memory, 0), (None, 2));
     assert_eq!(rt; walked(&memory, 0x4040_0000), (None, 3));
     assert_eq!(rt; walked(&memory, 0x4020_1000), (None, 4));
-    Ok(())
-}
-
-#[test]
-fn a_block_at_the_last_level_is_invalid(rt: HostRuntime) -> Result<(), Fail> {
-    let mut memory = tables(rt.alloc())?;
-    put(&mut memory, FOURTH, PAGE - 2)?;
-    assert_eq!(rt; walked(&memory, 0x4020_0123), (None, 4));
-    Ok(())
-}
-
-#[test]
-fn reads_are_told_in_order(rt: HostRuntime) -> Result<(), Fail> {
-    let memory = tables(rt.alloc())?;
-    let mut steps = Steps::new();
-    let _ = walk(&memory, FIRST, 0x4012_3456, &mut steps);
-    let first = Probe {
-        at: FIRST,
-        word: SECOND + 3,
-    };
-    let second = Probe {
-        at: SECOND + 8,
-        word: THIRD + 3,
-    };
-    let third = Probe {
-        at: THIRD,
-        word: BLOCK,
-    };
-    assert_eq!(rt; steps.probes(), &[first, second, third][..]);
     Ok(())
 }
