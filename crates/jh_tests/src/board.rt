@@ -1,6 +1,6 @@
 //! A board whose journal is at its limit. Whatever else a board does is shown by whole runs of the program.
 
-use crate::run::{FIRST, read, ready};
+use crate::plain::{FIRST, read, ready};
 use jh_board::{Board, Turn, TurnFault};
 use jh_num::{NoMemory, Steps};
 use std::alloc::Global;

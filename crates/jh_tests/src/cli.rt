@@ -95,8 +95,6 @@ const PLAY: [&str; 4] = ["jailhouse", "play", "b.json", "s.txt"];
 
 const RUN: [&str; 3] = ["jailhouse", "run", "b.json"];
 
-const SOAK: [&str; 3] = ["jailhouse", "soak", "1"];
-
 /// The read behind the last one isn't made, and can't fail.
 #[test]
 fn each_read_may_fail_in_its_turn(rt: HostRuntime) -> Result<(), Fail> {
@@ -150,33 +148,23 @@ fn without_memory_a_run_writes_nothing(rt: HostRuntime) -> Result<(), Fail> {
     Ok(())
 }
 
-/// Calls with these words behind a gate at which the workers of CPUs 0 and 1 wait for one another.
-fn meets<R: Abort + Threads + Wait + Sync>(
-    rt: &R,
-    alloc: Global,
-    texts: &[&str],
-    text: &str,
-) -> Result<(), NoMemory> {
-    let mut files = files(alloc)?;
-    let mut out = MemSink::new(alloc, 4096)?;
-    let gate = Meeting::with(1);
-    let words = words(alloc, texts)?;
-    let got = jailhouse(rt, alloc, words.as_slice(), &mut files, &mut out, &gate);
-    assert_eq!(rt; got, Status::Good);
-    assert_eq!(rt; out.bytes(), text.as_bytes());
-    assert_eq!(rt; gate.met(), 2);
-    Ok(())
-}
-
+/// The workers of CPUs 0 and 1 wait for one another at a gate.
 #[test]
 fn workers_of_a_run_wait_for_one_another(rt: HostRuntime) -> Result<(), Fail> {
-    meets(&rt, rt.alloc(), &RUN, JOURNAL)?;
-    Ok(())
-}
-
-#[test]
-fn workers_of_a_soak_wait_for_one_another(rt: HostRuntime) -> Result<(), Fail> {
-    let soaked = "entries 603 reads 258 writes 292 stops 13 sum 32642\n";
-    meets(&rt, rt.alloc(), &SOAK, soaked)?;
+    let mut files = files(rt.alloc())?;
+    let mut out = MemSink::new(rt.alloc(), 4096)?;
+    let gate = Meeting::with(1);
+    let words = words(rt.alloc(), &RUN)?;
+    let got = jailhouse(
+        &rt,
+        rt.alloc(),
+        words.as_slice(),
+        &mut files,
+        &mut out,
+        &gate,
+    );
+    assert_eq!(rt; got, Status::Good);
+    assert_eq!(rt; out.bytes(), JOURNAL.as_bytes());
+    assert_eq!(rt; gate.met(), 2);
     Ok(())
 }

@@ -1,4 +1,4 @@
-//! Tests of the board, of schedules and runs and of the commands, by public calls. It has no code but for tests.
+//! Tests of the board, of the plain definition and of the commands, by public calls. It has no code but for tests.
 #![tactic(auto)]
 
 #[cfg(test)]
@@ -8,4 +8,4 @@ mod cli;
 #[cfg(test)]
 mod meeting;
 #[cfg(test)]
-mod run;
+mod plain;

@@ -1,13 +1,10 @@
-//! Boards whose journals are at their limit, workers that wait for one another, and the plain definition.
+//! What is due at the beginning of a journal, by the plain definition.
 ghost use Rattle.std.specs.Prelude.{IfOk};
 ghost use Rattle.jh_history.specs.Admitted.{IsAdmitted};
 
-use crate::meeting::Meeting;
 use jh_cellcfg::{CellConfig, Region, SystemConfig};
 use jh_history::{Act, Entry, Journal, admit, due, is_on_board, quiet};
 use jh_num::{NoMemory, Seq};
-use jh_outside::NoGate;
-use jh_run::{Ended, follow, play, run};
 use jh_script::{Image, Op, Program};
 use std::alloc::Global;
 use std::process::Abort;
@@ -15,9 +12,6 @@ use std::test::Fail;
 
 /// The one page of root's memory.
 const BASE: u64 = 0x4000_0000;
-
-/// More entries than any of the boards makes.
-const AMPLE: u32 = 64;
 
 /// Root's region: that page, which may be read and written.
 fn region() -> Region {
@@ -88,68 +82,6 @@ pub(crate) const FIRST: Entry = Entry {
         got: Some(0),
     },
 };
-
-/// The items of the schedule alone end so on a board of one entry, where CPU 0 has two to make.
-fn follows(rt: &impl Abort, alloc: Global, schedule: &[u8], ended: Ended) -> Result<(), NoMemory> {
-    let image = ready(rt, alloc, &[read(1), read(2)])?;
-    assert!(rt; schedule.iter().all(|cpu| is_on_board(&image, *cpu)));
-    let (board, how) = follow(alloc, image, schedule, 1)?;
-    assert_eq!(rt; how, ended);
-    assert_eq!(rt; board.journal().as_slice(), [FIRST].as_slice());
-    Ok(())
-}
-
-#[test]
-fn follow_stops_at_the_first_item_that_is_one_too_many(rt: HostRuntime) -> Result<(), Fail> {
-    follows(&rt, rt.alloc(), &[0, 1, 0, 3], Ended::Full)?;
-    follows(&rt, rt.alloc(), &[0, 1], Ended::Unstopped)?;
-    Ok(())
-}
-
-/// The schedule and the rounds after it end so on a board of one entry.
-fn plays(
-    rt: &impl Abort,
-    alloc: Global,
-    ops: &[Op],
-    schedule: &[u8],
-    ended: Ended,
-) -> Result<(), NoMemory> {
-    let image = ready(rt, alloc, ops)?;
-    assert!(rt; schedule.iter().all(|cpu| is_on_board(&image, *cpu)));
-    let (board, how) = play(alloc, image, schedule, 1)?;
-    assert_eq!(rt; how, ended);
-    assert_eq!(rt; board.journal().as_slice(), [FIRST].as_slice());
-    Ok(())
-}
-
-#[test]
-fn play_stops_at_a_full_journal(rt: HostRuntime) -> Result<(), Fail> {
-    plays(&rt, rt.alloc(), &[read(1), read(2)], &[], Ended::Full)?;
-    plays(&rt, rt.alloc(), &[read(1)], &[], Ended::Unstopped)?;
-    Ok(())
-}
-
-#[test]
-fn workers_of_two_cpus_wait_for_one_another(rt: HostRuntime) -> Result<(), Fail> {
-    let alloc = rt.alloc();
-    let image = ready(&rt, alloc, &[read(1)])?;
-    let meeting = Meeting::with(3);
-    let (board, ended) = run(&rt, alloc, image, &meeting, AMPLE)?;
-    assert_eq!(rt; ended, Ended::Unstopped);
-    assert_eq!(rt; board.journal().as_slice(), [FIRST].as_slice());
-    assert_eq!(rt; meeting.met(), 2);
-    Ok(())
-}
-
-#[test]
-fn a_run_stops_at_a_full_journal(rt: HostRuntime) -> Result<(), Fail> {
-    let alloc = rt.alloc();
-    let image = ready(&rt, alloc, &[read(1), read(2)])?;
-    let (board, ended) = run(&rt, alloc, image, &NoGate, 1)?;
-    assert_eq!(rt; ended, Ended::Full);
-    assert_eq!(rt; board.journal().as_slice(), [FIRST].as_slice());
-    Ok(())
-}
 
 /// What is due to CPU 0 at the beginning of the image's journal, and whether nothing is.
 #[tactic(auto, unfolding(jh_history::specs::Due::IsLegal))]
