@@ -14,6 +14,3 @@ pub use laws::{
     fills_and_flushes_leave_what_can_be_held, fills_keep_the_newest, what_is_filled_is_found,
 };
 pub use translation::Translation;
-
-#[cfg(test)]
-mod tests;

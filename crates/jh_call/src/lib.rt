@@ -13,6 +13,3 @@ pub use laws::{
     a_cell_is_refused_what_is_roots, codes_one_to_four_manage, other_codes_are_unknown,
 };
 pub use seen::{CpuSeen, Seen};
-
-#[cfg(test)]
-mod tests;

@@ -6,6 +6,3 @@ mod laws;
 
 pub use cpu::{Cpu, Mode};
 pub use laws::a_lent_cpu_comes_back_where_it_was;
-
-#[cfg(test)]
-mod tests;

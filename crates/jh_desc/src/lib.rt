@@ -14,6 +14,3 @@ pub use laws::{
 };
 pub use levels::{index, offset};
 pub use words::{read, word};
-
-#[cfg(test)]
-mod tests;

@@ -37,6 +37,3 @@ pub use rights::Rights;
 pub use room::make_room;
 pub use seq::Seq;
 pub use steps::{Probe, Steps};
-
-#[cfg(test)]
-mod tests;

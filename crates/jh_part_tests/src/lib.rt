@@ -1,9 +1,13 @@
-//! Tests of the crates below the journal that are dear to prove, by their public calls: a crate with tests is proved
-//! twice. It has no code of its own, and nothing stands on it, so it is proved beside the crates above.
+//! Tests of the crates below the journal, by their public calls: a crate with tests is proved twice. It has no code of its
+//! own, and nothing stands on it, so it is proved beside the crates above.
 #![tactic(auto)]
 
 #[cfg(test)]
 mod cellcfg;
+#[cfg(test)]
+mod comm;
+#[cfg(test)]
+mod desc;
 #[cfg(test)]
 mod frames;
 #[cfg(test)]

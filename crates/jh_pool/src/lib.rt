@@ -4,6 +4,3 @@
 mod pool;
 
 pub use pool::{Pool, pages_taken_once_are_counted};
-
-#[cfg(test)]
-mod tests;

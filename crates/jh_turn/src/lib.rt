@@ -33,6 +33,3 @@ mod turner;
 
 pub use shared::{Port, Shared};
 pub use turner::Turner;
-
-#[cfg(test)]
-mod tests;

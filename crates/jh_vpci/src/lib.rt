@@ -10,6 +10,3 @@ mod word;
 pub use config::ConfigSpace;
 pub use function::FunctionSpec;
 pub use laws::{a_read_gives_what_was_written, a_write_reaches_its_writable_bits};
-
-#[cfg(test)]
-mod tests;

@@ -1,51 +1,16 @@
-//! The words of a block and of a page, each right and kind of memory at each level, and words that nothing here writes.
+//! The words of blocks and pages, each right and kind of memory at each level, of a table, and words that nothing here
+//! writes.
 ghost use Rattle.std.specs.Prelude.{◌≡◌, ◌≤◌, ◌%◌};
 ghost use Rattle.jh_num.specs.Levels.{slot_size};
 
-use crate::{Descriptor, index, offset, read, word};
+use jh_desc::{Descriptor, index, offset, read, word};
 use jh_num::{FIRST_LEVEL, LAST_LEVEL, Rights, slot_size};
 use std::process::Abort;
-
-/// A block at 0x40000000, rwx, normal memory, of 2 MB at level 2 and of 1 GB at level 1.
-const BLOCK: u64 = 0x0000_0000_4000_07fd;
-
-/// A page at 0x9000000, rw-, device memory.
-const PAGE: u64 = 0x0040_0000_0900_07c7;
-
-const ALL: Rights = Rights {
-    read: true,
-    write: true,
-    execute: true,
-};
 
 const DATA: Rights = Rights {
     read: true,
     write: true,
     execute: false,
-};
-
-const NONE: Rights = Rights {
-    read: false,
-    write: false,
-    execute: false,
-};
-
-const NORMAL_BLOCK: Descriptor = Descriptor::Leaf {
-    out: 0x4000_0000,
-    rights: ALL,
-    device: false,
-};
-
-const DEVICE_PAGE: Descriptor = Descriptor::Leaf {
-    out: 0x900_0000,
-    rights: DATA,
-    device: true,
-};
-
-const CLOSED_PAGE: Descriptor = Descriptor::Leaf {
-    out: 0,
-    rights: NONE,
-    device: false,
 };
 
 const fn leaf(out: u64, rights: Rights, device: bool) -> Descriptor {
@@ -140,66 +105,22 @@ const DEVICE_PAGES: [u64; 8] = [
 ];
 
 #[test]
-fn each_block_of_a_gigabyte_has_its_word(rt: HostRuntime) {
+fn each_leaf_has_its_word(rt: HostRuntime) {
     leaves_have_words(&rt, 1, false, NORMAL_BLOCKS);
     leaves_have_words(&rt, 1, true, DEVICE_BLOCKS);
-}
-
-#[test]
-fn each_block_of_two_megabytes_has_its_word(rt: HostRuntime) {
     leaves_have_words(&rt, 2, false, NORMAL_BLOCKS);
     leaves_have_words(&rt, 2, true, DEVICE_BLOCKS);
-}
-
-#[test]
-fn each_page_has_its_word(rt: HostRuntime) {
     leaves_have_words(&rt, 3, false, NORMAL_PAGES);
     leaves_have_words(&rt, 3, true, DEVICE_PAGES);
-}
-
-#[test]
-fn a_block_of_normal_memory_has_its_word(rt: HostRuntime) {
-    assert_eq!(rt; word(NORMAL_BLOCK, 2), BLOCK);
-    assert_eq!(rt; read(BLOCK, 2), NORMAL_BLOCK);
-    assert_eq!(rt; word(NORMAL_BLOCK, 1), BLOCK);
-    assert_eq!(rt; read(BLOCK, 1), NORMAL_BLOCK);
-}
-
-#[test]
-fn a_page_of_a_device_has_its_word(rt: HostRuntime) {
-    assert_eq!(rt; word(DEVICE_PAGE, 3), PAGE);
-    assert_eq!(rt; read(PAGE, 3), DEVICE_PAGE);
-}
-
-#[test]
-fn a_block_stands_above_the_last_level(rt: HostRuntime) {
-    assert_eq!(rt; read(BLOCK, 3), Descriptor::Invalid);
-    assert_eq!(rt; read(BLOCK - 1, 2), Descriptor::Invalid);
 }
 
 #[test]
 fn a_table_is_its_address_and_three(rt: HostRuntime) {
     let table = Descriptor::Table { next: 0x7fc0_3000 };
     assert_eq!(rt; word(table, 1), 0x7fc0_3003);
-    assert_eq!(rt; word(table, 2), 0x7fc0_3003);
-    assert_eq!(rt; read(0x7fc0_3003, 1), table);
     assert_eq!(rt; read(0x7fc0_3003, 2), table);
-}
-
-#[test]
-fn nothing_is_mapped_by_a_word_of_zero(rt: HostRuntime) {
-    assert_eq!(rt; word(Descriptor::Invalid, 1), 0);
-    assert_eq!(rt; word(Descriptor::Invalid, 2), 0);
     assert_eq!(rt; word(Descriptor::Invalid, 3), 0);
     assert_eq!(rt; read(0, 1), Descriptor::Invalid);
-    assert_eq!(rt; read(0, 2), Descriptor::Invalid);
-    assert_eq!(rt; read(0, 3), Descriptor::Invalid);
-}
-
-#[test]
-fn a_leaf_may_grant_nothing(rt: HostRuntime) {
-    assert_eq!(rt; word(CLOSED_PAGE, 3), 0x0040_0000_0000_073f);
-    assert_eq!(rt; read(0x0040_0000_0000_073f, 3), CLOSED_PAGE);
 }
 
 /// Address bits below the slot's size, contiguous hints, other memory kinds, a block's word at the last level, and a
