@@ -19,7 +19,9 @@ pub use laws::{
     first_fault_of_a_schedule_decides, lines_are_words_of_operations,
     numbers_are_decimal_or_hexadecimal,
 };
-pub use number::read_digits;
+pub use line::{LINE_GAPS, is_ascii};
+pub use number::{read_digits, read_number};
 pub use op::{Op, access_width, max_of_width};
 pub use program::read_program;
 pub use schedule::read_schedule;
+pub use words::{is_word, next_line, next_word};

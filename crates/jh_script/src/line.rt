@@ -6,12 +6,12 @@ ghost use Rattle.jh_script.specs.Operations.{is_ascii, line_of, line_of_op, none
 ghost use Rattle.jh_script.specs.Private.Lines.{IsWellFormedLine, valued_of};
 ghost use Rattle.jh_script.specs.Words.{words, line_gaps};
 
-use crate::number::number;
+use crate::number::read_number;
 use crate::op::{Op, access_width, max_of_width};
-use crate::words::{is, next_word};
+use crate::words::{is_word, next_word};
 
-/// The bytes that part the words of a line.
-const LINE_GAPS: &[u8] = b" \t";
+/// The bytes that part the words of a line: the space and the tab.
+pub const LINE_GAPS: &[u8] = b" \t";
 
 /// What a line tells.
 #[derive(Clone, Copy, PartialEq, Eq, Debug)]
@@ -45,7 +45,7 @@ pub(crate) fn read_line(text: &[u8]) -> Line
 }
 
 /// Whether all bytes are below 128.
-fn is_ascii(text: &[u8]) -> bool
+pub fn is_ascii(text: &[u8]) -> bool
     ensures { result ≡ is_ascii text.now }
 {
     text.iter().all(|byte| *byte < 128)
@@ -56,22 +56,22 @@ fn is_ascii(text: &[u8]) -> bool
 fn operation(name: &[u8], behind: &[u8]) -> Line
     ensures { result ≡ line_of_op (op_of name.now (words line_gaps behind.now)) }
 {
-    if is(name, "read") {
+    if is_word(name, "read") {
         return read(behind);
     }
-    if is(name, "write") {
+    if is_word(name, "write") {
         return write(behind);
     }
-    if is(name, "fetch") {
+    if is_word(name, "fetch") {
         return fetch(behind);
     }
-    if is(name, "await") {
+    if is_word(name, "await") {
         return wait(behind);
     }
-    if is(name, "irq") {
+    if is_word(name, "irq") {
         return interrupt(behind);
     }
-    if is(name, "hvc") {
+    if is_word(name, "hvc") {
         return call(behind);
     }
     Line::Syntax
@@ -173,7 +173,7 @@ fn one_number(text: &[u8]) -> Option<u64>
     if next_word(LINE_GAPS, rest).is_some() {
         return None;
     }
-    number(a)
+    read_number(a)
 }
 
 /// The two words of the text, numbers both.
@@ -186,7 +186,7 @@ fn two_numbers(text: &[u8]) -> Option<(u64, u64)>
     if next_word(LINE_GAPS, rest).is_some() {
         return None;
     }
-    Some((number(a)?, number(b)?))
+    Some((read_number(a)?, read_number(b)?))
 }
 
 /// The three words of the text, numbers all.
@@ -200,5 +200,5 @@ fn three_numbers(text: &[u8]) -> Option<(u64, u64, u64)>
     if next_word(LINE_GAPS, rest).is_some() {
         return None;
     }
-    Some((number(a)?, number(b)?, number(c)?))
+    Some((read_number(a)?, read_number(b)?, read_number(c)?))
 }

@@ -8,7 +8,7 @@ use crate::words::behind;
 /// The number below 2^64 that the word is: decimal without leading zeros, or `0x` and 1 to 16 hexadecimal digits of
 /// either case.
 #[tactic(auto, unfolding(crate::specs::Numbers::number_written))]
-pub(crate) fn number(word: &[u8]) -> Option<u64>
+pub fn read_number(word: &[u8]) -> Option<u64>
     ensures { result ≡ number_written word.now }
 {
     if word.starts_with(b"0x") {

@@ -5,7 +5,7 @@ ghost use Rattle.std.specs.Str.{bytes_eq};
 ghost use Rattle.jh_script.specs.Words.{is_gap, words};
 
 /// The first line without its end, and what stands behind it.
-pub(crate) fn next_line(text: &[u8]) -> Option<(&[u8], &[u8])>
+pub fn next_line(text: &[u8]) -> Option<(&[u8], &[u8])>
     ensures lines { MatchOption result (lines text.now ≡ [])
         (λ x. lines text.now ≡ x.0.now ∷ lines x.1.now) }
     ensures shorter { IfSome result (λ x. length x.1.now < length text.now) }
@@ -48,7 +48,7 @@ fn without_carriage_return(line: &[u8]) -> &[u8]
 }
 
 /// The first word, and what stands behind it; `gaps` are the bytes that part words.
-pub(crate) fn next_word<'a>(gaps: &[u8], text: &'a [u8]) -> Option<(&'a [u8], &'a [u8])>
+pub fn next_word<'a>(gaps: &[u8], text: &'a [u8]) -> Option<(&'a [u8], &'a [u8])>
     ensures words { MatchOption result (words gaps.now text.now ≡ [])
         (λ x. words gaps.now text.now ≡ x.0.now ∷ words gaps.now x.1.now) }
     ensures shorter { IfSome result (λ x. length x.1.now < length text.now) }
@@ -80,7 +80,7 @@ fn word_end(gaps: &[u8], text: &[u8]) -> Option<usize>
 }
 
 /// Whether the word is the name, byte for byte.
-pub(crate) fn is(word: &[u8], name: &str) -> bool
+pub fn is_word(word: &[u8], name: &str) -> bool
     ensures { result ≡ bytes_eq word.now name.now }
 {
     word == name.as_bytes()
