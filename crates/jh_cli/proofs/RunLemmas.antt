@@ -1,5 +1,5 @@
 -- What a run that ended so tells.
-use Rattle.std.proofs.Common.{◌≡◌, ℕ, List, ◌↔◌, ◌⊎◌, refl, sym, ap, subst, ◌∙◌, inl, inr, arith}
+use Rattle.std.proofs.Common.{◌≡◌, ◌≤◌, ℕ, List, length, ◌↔◌, ◌⊎◌, refl, sym, ap, subst, ◌∙◌, inl, inr, arith}
 use Rattle.jh_script.specs.declared.image.Image.{Image}
 use Rattle.jh_history.specs.declared.entry.Entry.{Entry}
 use Rattle.jh_history.specs.Due.{IsLegal, IsQuiet}
@@ -22,9 +22,9 @@ ends_run : (image : Image) (entries : List Entry) (ended : Ended) → ((ended �
 ends_run image entries Unstopped quiet full = quiet.0 refl
 ends_run image entries Full quiet full = full.0 refl
 
-pub made_by_run : (image : Image) (entries : List Entry) (ended : Ended) (status : Status) → IsLegal image entries → ((ended ≡ Unstopped) ↔ IsQuiet image entries)
+pub made_by_run : (image : Image) (entries : List Entry) (ended : Ended) (status : Status) → IsLegal image entries → length entries ≤ max_entries → ((ended ≡ Unstopped) ↔ IsQuiet image entries)
     → ((ended ≡ Full) ↔ IsFullAndBusy image max_entries entries) → status ≡ played_status (is_full ended) → IsMadeByRun image entries status
-made_by_run image entries ended status legal quiet full is = record { legal = legal; ends = subst (EndsRun image entries) (sym is) (ends_run image entries ended quiet full) }
+made_by_run image entries ended status legal few quiet full is = record { legal = legal; few = few; ends = subst (EndsRun image entries) (sym is) (ends_run image entries ended quiet full) }
 
 -- a soak reads no file
 other : (reply : Reply) (one : Status) → reply.status ≡ one → ¬ (exit_number one ≡ exit_number status.ReadFault) → reply.status ≡ status.ReadFault → ⊥

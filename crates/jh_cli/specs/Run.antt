@@ -1,5 +1,5 @@
 -- What `run` ends with. Threads take their turns in any order, so it is one of several texts.
-use Rattle.std.specs.Prelude.{◌≡◌, ℕ, List}
+use Rattle.std.specs.Prelude.{◌≡◌, ◌≤◌, ℕ, List, length}
 use Rattle.jh_script.specs.declared.image.Image.{Image}
 use Rattle.jh_history.specs.declared.entry.Entry.{Entry}
 use Rattle.jh_history.specs.Due.{IsLegal, IsQuiet}
@@ -18,9 +18,10 @@ EndsRun image entries Good = IsQuiet image entries
 EndsRun image entries Full = IsFullAndBusy image max_entries entries
 EndsRun image entries _ = ⊥
 
--- a run of the image may make these entries, and end with this status
+-- a run of the image may make these entries, which are no more than a journal may have, and end with this status
 pub record IsMadeByRun (image : Image) (entries : List Entry) (status : Status) : Type 0 where
   pub legal : IsLegal image entries
+  pub few : length entries ≤ max_entries
   pub ends : EndsRun image entries status
 
 -- the reply has the text of a journal that a run of the image may make, and the status that it ends with

@@ -1,6 +1,7 @@
 -- The journal that the workers made is told.
-use Rattle.std.proofs.Common.{◌∙◌, ap, List}
+use Rattle.std.proofs.Common.{◌≤◌, ◌∙◌, ap, subst, ℕ, List, length}
 use Rattle.jh_history.specs.declared.entry.Entry.{Entry}
+use Rattle.jh_board.specs.BoardView.{BoardView}
 use Rattle.jh_text.specs.Text.{journal_text}
 use Rattle.jh_cli.proofs.RunLemmas.{made_by_run}
 use Rattle.jh_cli.proofs.run.run_image.Goals as goal
@@ -9,6 +10,6 @@ pub returns : goal.returns
 returns g c =
     record {
       entries = c.in_ok-board.board.entries;
-      run = made_by_run c.args.image c.in_ok-board.board.entries c.in_ok-board.ended c.status_of.result c.in_ok-board.ensures.legal c.in_ok-board.ensures.quiet c.in_ok-board.ensures.full c.status_of.ensures;
+      run = made_by_run c.args.image c.in_ok-board.board.entries c.in_ok-board.ended c.status_of.result c.in_ok-board.ensures.legal (subst (λ (m : ℕ). length c.in_ok-board.board.entries ≤ m) (ap (λ (b : BoardView). b.limit) c.in_ok-board.ensures.board) c.journal.ensures.within) c.in_ok-board.ensures.quiet c.in_ok-board.ensures.full c.status_of.ensures;
       told = c.in_ok-text.ensures ∙ ap (λ (es : List Entry). journal_text es) c.journal.ensures.entries;
     }
