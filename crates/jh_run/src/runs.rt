@@ -2,6 +2,7 @@
 ghost use Rattle.std.specs.Prelude.{◌≡◌, ◌≢◌, ◌<◌, ◌↔◌, length, All, AllPairs, IsTrue, IfOk};
 ghost use Rattle.jh_history.specs.Admitted.{IsAdmitted};
 ghost use Rattle.jh_history.specs.Due.{IsLegal, IsQuiet};
+ghost use Rattle.jh_history.specs.Items.{cpus_of};
 ghost use Rattle.jh_history.specs.Lives.{is_on_board};
 ghost use Rattle.jh_turn.specs.Ports.{AreAllPorts, opened_value};
 ghost use Rattle.jh_run.specs.Drives.{SomeShows};
@@ -28,6 +29,7 @@ use std::thread::Threads;
 /// The callers of a board's lock: its CPUs in rising order.
 fn callers_of_board(alloc: Global, image: &Image) -> Result<Vec<u8>, NoMemory>
     requires { IsAdmitted image.now }
+    ensures callers { IfOk result (λ callers. callers.items ≡ cpus_of image.now) }
     ensures some { IfOk result (λ callers. 0 < length callers.items) }
     ensures differ { IfOk result (λ callers. AllPairs (λ a b. a ≢ b) callers.items) }
     ensures served { IfOk result (λ callers. All (λ cpu. IsTrue (is_on_board image.now cpu)) callers.items) }
