@@ -44,4 +44,7 @@ mod AnswerLemmas
 mod ExchangeLemmas
 mod FailedLemmas
 mod NewIdLemmas
+mod PageLemmas
+mod PageCauseLemmas
+mod PageLawLemmas
 pub mod Public

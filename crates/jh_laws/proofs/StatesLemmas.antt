@@ -234,7 +234,7 @@ pub record IsPhaseBegun (image : Image) (before : List Entry) (entry : Entry) (c
   pub holds : IsInPhase image (configs_of (facts image before).cells) (facts image before).cpu entry.cpu call phase
   pub manages : is_management call ≡ true
 
-phase_begun : (image : Image) (before rest : List Entry) (entry : Entry) (call : Call) → IsAdmitted image → IsLegal image (before ++ entry ∷ rest) → begun_call before ≡ Some call → is_phase entry.act ≡ true → IsPhaseBegun image before entry call
+pub phase_begun : (image : Image) (before rest : List Entry) (entry : Entry) (call : Call) → IsAdmitted image → IsLegal image (before ++ entry ∷ rest) → begun_call before ≡ Some call → is_phase entry.act ≡ true → IsPhaseBegun image before entry call
 phase_begun image before rest entry call admitted legal is phase =
     let f : Facts = facts image before in
     let sound = legal_sound image before admitted (IsLegal_begin image before (entry ∷ rest) legal) in

@@ -19,3 +19,4 @@ pub mod Exchanges
 pub mod Typed
 pub mod Creations
 pub mod Preloads
+pub mod Pages

@@ -14,6 +14,7 @@ mod hypercalls;
 mod items;
 mod opening;
 mod order;
+mod pages;
 mod root_alone;
 mod states;
 mod typed;
@@ -44,6 +45,7 @@ pub use order::{
     beginnings_are_legal, cpus_determine_the_journal, legal_entries_are_due,
     nothing_extends_a_quiet_journal,
 };
+pub use pages::pages_change_by_their_causes;
 pub use root_alone::{
     accesses_of_root_alone_go_by_grants, bytes_of_root_alone_are_the_last_written,
     due_entries_of_root_alone_are_their_cpus_own, entries_of_root_alone_follow_the_program,
