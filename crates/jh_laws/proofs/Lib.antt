@@ -44,6 +44,13 @@ mod AnswerLemmas
 mod ExchangeLemmas
 mod FailedLemmas
 mod NewIdLemmas
+mod OwnDeviceLemmas
+mod FreshLemmas
+mod ToldLemmas
+mod NoteLemmas
+mod OpeningLemmas
+mod WaitLemmas
+mod PlaceWordLemmas
 mod PageLemmas
 mod PageCauseLemmas
 mod PageLawLemmas

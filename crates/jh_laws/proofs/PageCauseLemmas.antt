@@ -69,7 +69,7 @@ named_about cells (Loadable id) config h = let found = live_found cells id (find
 named_about cells (Destroy id) config h = let found = live_found cells id (find (has_id id) cells) config refl h in record { lives = found.0; about = sym found.1 }
 named_about cells _ config h = absurd (none-some config h)
 
-sound_at : (m : AdmittedMoment) → IsSound m.image (facts_before m)
+pub sound_at : (m : AdmittedMoment) → IsSound m.image (facts_before m)
 sound_at m = legal_sound m.image m.before m.admitted (IsLegal_begin m.image m.before (m.entry ∷ m.rest) m.legal)
 
 -- the call that is open is about the cell
@@ -136,15 +136,15 @@ loses_write m id h =
 -- ---- Commits
 
 -- what a Commit writes, by the phase that it is made in
-record IsCommitting (m : AdmittedMoment) (call : Call) : Type 0 where
-  phase : Phase
-  expects : Expects phase Commit
-  holds : IsInPhase m.image (configs_of (facts_before m).cells) (facts_before m).cpu m.entry.cpu call phase
-  opens : (facts_before m).call ≡ Some (record { caller = m.entry.cpu; call = call; phase = phase })
-  writes : page_write_by m.image (facts_before m) m.entry m.entry.act ≡ committing m.image.system.platform.pci_mmconfig_base (facts_before m).cells call phase
-  cells : (facts_behind m).cells ≡ committed_cells call phase (facts_before m).cells
+pub record IsCommitting (m : AdmittedMoment) (call : Call) : Type 0 where
+  pub phase : Phase
+  pub expects : Expects phase Commit
+  pub holds : IsInPhase m.image (configs_of (facts_before m).cells) (facts_before m).cpu m.entry.cpu call phase
+  pub opens : (facts_before m).call ≡ Some (record { caller = m.entry.cpu; call = call; phase = phase })
+  pub writes : page_write_by m.image (facts_before m) m.entry m.entry.act ≡ committing m.image.system.platform.pci_mmconfig_base (facts_before m).cells call phase
+  pub cells : (facts_behind m).cells ≡ committed_cells call phase (facts_before m).cells
 
-committing_at : (m : AdmittedMoment) (call : Call) → call_before m ≡ Some call → m.entry.act ≡ Commit → IsCommitting m call
+pub committing_at : (m : AdmittedMoment) (call : Call) → call_before m ≡ Some call → m.entry.act ≡ Commit → IsCommitting m call
 committing_at m call begun act =
     let f : Facts = facts_before m in
     let window : ℕ = m.image.system.platform.pci_mmconfig_base in
@@ -159,20 +159,20 @@ committing_at m call begun act =
       cells = cells_behind m.image m.before m.entry ∙ ap (λ (c : Option OpenCall). cells_by c f.cells m.entry.act) of.opens ∙ ap (cells_by (Some (record { caller = m.entry.cpu; call = call; phase = of.phase })) f.cells) act;
     }
 
-loadable_lives : (image : Image) (configs : List CellConfig) (cpu : ℕ → Cpu) (caller id : ℕ) (phase : Phase) → Expects phase Commit → IsInPhase image configs cpu caller (Loadable id) phase → IsAboutLive configs (Loadable id)
-loadable_lives image configs cpu caller id ToDecide e h = absurd (not_same is_commit Commit (Decide e.0) refl refl e.1)
-loadable_lives image configs cpu caller id (ToSettle waited) e h = absurd (not_same is_commit Commit (Settle e.0) refl refl e.1)
-loadable_lives image configs cpu caller id (ToCreate config) e h = absurd h.0
-loadable_lives image configs cpu caller id ToCommit e h = h
-loadable_lives image configs cpu caller id (ToNote told about answer) e h = absurd (not_same is_commit Commit (Note told) refl refl e)
-loadable_lives image configs cpu caller id (ToNoted told about answer waited) e h = absurd (not_same is_commit Commit (Noted told e.0) refl refl e.1)
-loadable_lives image configs cpu caller id (ToFinish answer) e h = absurd (not_same is_commit Commit (Finish answer) refl refl e)
+pub commit_lives : (image : Image) (configs : List CellConfig) (cpu : ℕ → Cpu) (caller : ℕ) (call : Call) (phase : Phase) → (IsCreate call → ⊥) → Expects phase Commit → IsInPhase image configs cpu caller call phase → IsAboutLive configs call
+commit_lives image configs cpu caller call ToDecide other e h = absurd (not_same is_commit Commit (Decide e.0) refl refl e.1)
+commit_lives image configs cpu caller call (ToSettle waited) other e h = absurd (not_same is_commit Commit (Settle e.0) refl refl e.1)
+commit_lives image configs cpu caller call (ToCreate config) other e h = absurd (other h.0)
+commit_lives image configs cpu caller call ToCommit other e h = h
+commit_lives image configs cpu caller call (ToNote told about answer) other e h = absurd (not_same is_commit Commit (Note told) refl refl e)
+commit_lives image configs cpu caller call (ToNoted told about answer waited) other e h = absurd (not_same is_commit Commit (Noted told e.0) refl refl e.1)
+commit_lives image configs cpu caller call (ToFinish answer) other e h = absurd (not_same is_commit Commit (Finish answer) refl refl e)
 
 pub loadable_write : (m : AdmittedMoment) (id : ℕ) → MakesLoadable m id → page_write_by m.image (facts_before m) m.entry m.entry.act ≡ Some (record { cell = id; change = State 2 })
 loadable_write m id h =
     let f : Facts = facts_before m in
     let at = committing_at m (Loadable id) h.begun h.commits in
-    let live = loadable_lives m.image (configs_of f.cells) f.cpu m.entry.cpu id at.phase at.expects at.holds in
+    let live = commit_lives m.image (configs_of f.cells) f.cpu m.entry.cpu (Loadable id) at.phase (λ none. none) at.expects at.holds in
     at.writes
     ∙ ap (option_map (on_page (State 2))) (of_named m.image f.cells (Loadable id) live.0 (sound_at m).cells live.1 live.2)
     ∙ ap (λ (k : ℕ). Some (record { cell = k; change = State 2 })) (sym (eqb-true id live.0.id live.2))

@@ -20,3 +20,6 @@ pub mod Typed
 pub mod Creations
 pub mod Preloads
 pub mod Pages
+pub mod Words
+pub mod Notes
+pub mod Devices
