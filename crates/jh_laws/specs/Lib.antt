@@ -23,3 +23,4 @@ pub mod Pages
 pub mod Words
 pub mod Notes
 pub mod Devices
+pub mod Creates

@@ -9,6 +9,7 @@
 mod calls;
 mod cells;
 mod commits;
+mod creates;
 mod devices;
 mod held;
 mod hypercalls;
@@ -30,6 +31,7 @@ pub use calls::{
 };
 pub use cells::{cpus_belong_to_live_cells, the_check_holds_of_live_cells};
 pub use commits::{cells_live_from_commit_to_commit, configurations_are_read_at_the_decide};
+pub use creates::creates_are_decided_by_what_root_reads;
 pub use devices::{devices_begin_fresh, devices_do_what_their_cells_write};
 pub use held::{
     accesses_end_as_granted, cells_are_granted_their_places, root_is_granted_its_addresses,
