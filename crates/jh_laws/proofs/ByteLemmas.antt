@@ -8,7 +8,6 @@ use Rattle.std.proofs.lemmas.List.{get_or_default}
 use Rattle.jh_cellcfg.specs.declared.live.Live.{Live}
 use Rattle.jh_cellcfg.specs.Cells.{name_of}
 use Rattle.jh_ivshmem.specs.declared.endpoint.Endpoint.{Endpoint}
-use Rattle.jh_ivshmem.specs.declared.spec.EndpointSpec.{EndpointSpec}
 use Rattle.jh_ivshmem.specs.Links.{endpoint_at}
 use Rattle.jh_script.specs.declared.image.Image.{Image}
 use Rattle.jh_script.specs.declared.image.Preload.{Preload}
@@ -21,7 +20,6 @@ use Rattle.jh_history.specs.declared.entry.Act.TheVariants.{Write}
 use Rattle.jh_history.specs.Facts.{Facts}
 use Rattle.jh_history.specs.Bytes.{byte_written, preloaded, loaded_byte}
 use Rattle.jh_history.specs.Devices.{specs_of}
-use Rattle.jh_history.specs.Endpoints.{with_words}
 use Rattle.jh_history.specs.History.{after, facts}
 use Rattle.jh_history.specs.Due.{IsLegal, IsLegalFrom}
 use Rattle.jh_history.specs.Admitted.{IsAdmitted, has_byte_at, IsOtherPreload}

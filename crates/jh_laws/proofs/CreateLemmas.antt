@@ -1,7 +1,6 @@
 -- Creates by what root may read at their address.
-use Rattle.std.proofs.Common.{◌≡◌, ◌≢◌, ℕ, zero, suc, ◌+◌, ◌<◌, ◌≤◌, min, List, [], ◌∷◌, ◌++◌, ℤ, negsuc, Bool, true, false, cond, not, ◌&&◌, ◌||◌, eqb, length, length-take, get_or, take, map, Option, Some, None, refl, sym, ap, subst, ◌∙◌, inl, inr, ⊎_elim, arith}
-use Rattle.std.specs.Prelude.{◌⊎◌, Contains, nat_eq, nat_lt, slice_index, option_map, option_and_then}
-use Rattle.std.specs.List.{list_any}
+use Rattle.std.proofs.Common.{◌≡◌, ◌≢◌, ℕ, zero, suc, ◌+◌, ◌<◌, min, List, [], ◌∷◌, ℤ, negsuc, Bool, true, false, cond, not, ◌&&◌, eqb, length, length-take, get_or, take, map, Option, Some, None, refl, sym, ap, subst, ◌∙◌, inl, inr, ⊎_elim, arith}
+use Rattle.std.specs.Prelude.{◌⊎◌, Contains, nat_eq, nat_lt, option_map, option_and_then}
 use Rattle.std.specs.Cmp.Lexicographic.{pointwise}
 use Rattle.std.proofs.lemmas.Bool.{both_ways, and_from, and_left, and_right, cases_Bool, eqb-true, eq-eqb, ne_eqb, false_from_ne_true, lt-ltb, le-ltb, or_cases, or_left, or_right}
 use Rattle.std.proofs.lemmas.List.{get_or-take}
@@ -11,10 +10,9 @@ use Rattle.jh_num.proofs.Public.{Contains_cases, Contains_from_map, Contains_hea
 use Rattle.jh_cellcfg.specs.declared.config.CellConfig.{CellConfig}
 use Rattle.jh_cellcfg.specs.declared.fault.ConfigFault.{ConfigFault}
 use Rattle.jh_cellcfg.specs.declared.fault.ConfigFault.TheVariants.{Short, Signature, Revision, Name, Count, Trailing, NoMemory}
-use Rattle.jh_cellcfg.specs.declared.fault.Part.{Part}
 use Rattle.jh_cellcfg.specs.declared.fault.Part.TheVariants.{CpuSet, MemoryRegions, CacheRegions, Irqchips, PioRegions, PciDevices, PciCaps, StreamIds, Total}
 use Rattle.jh_cellcfg.specs.declared.live.Live.{Live}
-use Rattle.jh_cellcfg.specs.Cells.{name_of, is_cpu_set}
+use Rattle.jh_cellcfg.specs.Cells.{name_of}
 use Rattle.jh_cellcfg.specs.Faults.{header_fault, size_by_header}
 use Rattle.jh_cellcfg.specs.Lives.{id_of}
 use Rattle.jh_cellcfg.specs.Reading.{config_of}
@@ -23,9 +21,7 @@ use Rattle.jh_check.specs.declared.verdict.NewCell.TheVariants.{Clean, Invalid, 
 use Rattle.jh_check.specs.Refusals.{is_known, is_namesake, names_beyond, by_check, refusal_of}
 use Rattle.jh_check.specs.Verdicts.{verdict_of}
 use Rattle.jh_check.proofs.Public.{beyond_named, named_beyond}
-use Rattle.jh_shape.specs.Lives.{configs_of}
 use Rattle.jh_call.specs.declared.call.Call.TheVariants.{Create}
-use Rattle.jh_script.specs.declared.image.Image.{Image}
 use Rattle.jh_history.specs.declared.access.Access.TheVariants.{Read as ToRead}
 use Rattle.jh_history.specs.declared.place.Place.{Place}
 use Rattle.jh_history.specs.Access.{places_from}
@@ -35,12 +31,9 @@ use Rattle.jh_history.specs.Facts.{Facts}
 use Rattle.jh_history.specs.Grants.{granted}
 use Rattle.jh_history.specs.Lives.{is_on_board}
 use Rattle.jh_history.specs.Phases.{may_give, state_word}
-use Rattle.jh_history.specs.Sound.{IsSound}
 use Rattle.jh_laws.specs.Creates.{RootMayRead, RootReads, RootReadsNot, ReadsHeader, ReadsWhole, DecidesCreate, DecidesFreely, IsLockedCell, IsTooLong, HasNamesake, NamesForeignCpu, IsFree, pages_with, IsVerdictOn}
-use Rattle.jh_laws.specs.Decisions.{LivesLocked, NoneIsLocked, IsReadRefusal, IsConfigRefusal, IsCreateDecision}
-use Rattle.jh_laws.specs.Held.{IsRootOrLive, IsGrantedTo}
+use Rattle.jh_laws.specs.Decisions.{NoneIsLocked, IsReadRefusal, IsCreateDecision}
 use Rattle.jh_laws.specs.Moments.{AdmittedMoment, facts_before, state_before, cells_before}
-use Rattle.jh_laws.specs.Words.{number_in_page}
 use Rattle.jh_laws.proofs.DecisionLemmas.{decides}
 use Rattle.jh_laws.proofs.HeldLemmas.{granted_to, to_granted_holds}
 use Rattle.jh_laws.proofs.PageCauseLemmas.{sound_at}
@@ -182,10 +175,6 @@ refuses_faulty m at refused header fault h reads is other = refuses_fault m at r
 abbrev root_and_live : AdmittedMoment → List CellConfig
 root_and_live m = m.image.system.root ∷ cells_before m
 
-named_alike : (config other : CellConfig) → (other.id ≡ config.id) ⊎ (name_of other ≡ name_of config) → is_namesake config other ≡ true
-named_alike config other (inl id) = or_left (eqb other.id config.id) (pointwise nat_eq (name_of other) (name_of config)) (eq-eqb other.id config.id id)
-named_alike config other (inr name) = or_right (eqb other.id config.id) (pointwise nat_eq (name_of other) (name_of config)) ((bytes_eq-Decides (name_of other) (name_of config)).1 name)
-
 known_of : (m : AdmittedMoment) (config : CellConfig) → HasNamesake m config → is_known (root_and_live m) config ≡ true
 known_of m config h =
     let among : Contains (root_and_live m) h.0 =
@@ -193,7 +182,14 @@ known_of m config h =
     (λ (root : h.0 ≡ m.image.system.root). (let P : CellConfig → Type 0 = Contains (root_and_live m) in subst P (sym root) (Contains_head m.image.system.root (cells_before m))))
     (λ (live : Contains (cells_before m) h.0). Contains_tail m.image.system.root (cells_before m) h.0 live)
     h.1 in
-    list_any_from_Contains (is_namesake config) (root_and_live m) h.0 among (named_alike config h.0 h.2)
+    let same_id : Bool = eqb h.0.id config.id in
+    let same_name : Bool = pointwise nat_eq (name_of h.0) (name_of config) in
+    let alike : is_namesake config h.0 ≡ true =
+    ⊎_elim
+    (λ (id : h.0.id ≡ config.id). or_left same_id same_name (eq-eqb h.0.id config.id id))
+    (λ (name : name_of h.0 ≡ name_of config). or_right same_id same_name ((bytes_eq-Decides (name_of h.0) (name_of config)).1 name))
+    h.2 in
+    list_any_from_Contains (is_namesake config) (root_and_live m) h.0 among alike
 
 of_known : (m : AdmittedMoment) (config : CellConfig) → is_known (root_and_live m) config ≡ true → HasNamesake m config
 of_known m config h =

@@ -1,8 +1,7 @@
 -- Devices at opening, and behind the Commit of a create or a start.
-use Rattle.std.proofs.Common.{◌≡◌, ◌≢◌, ℕ, List, [], ◌∷◌, ◌++◌, Option, Some, None, All, refl, sym, ap, subst, ◌∙◌, inl, inr, ⊎_elim}
+use Rattle.std.proofs.Common.{◌≡◌, ◌≢◌, ℕ, List, [], ◌∷◌, Option, Some, None, refl, sym, ap, subst, ◌∙◌, inl, inr, ⊎_elim}
 use Rattle.std.specs.Prelude.{◌⊎◌, Contains}
 use Rattle.std.proofs.lemmas.List.Elements.{All-contains}
-use Rattle.std.proofs.lemmas.Option.{none-some}
 use Rattle.jh_cellcfg.specs.declared.config.CellConfig.{CellConfig}
 use Rattle.jh_call.specs.declared.call.Call.TheVariants.{Create, Start}
 use Rattle.jh_ivshmem.specs.declared.endpoint.Endpoint.{Endpoint}
@@ -16,9 +15,9 @@ use Rattle.jh_history.specs.Devices.{specs_of}
 use Rattle.jh_history.specs.Due.{due_at}
 use Rattle.jh_history.specs.Endpoints.{endpoints_after, endpoints_changed}
 use Rattle.jh_history.specs.Facts.{Facts}
-use Rattle.jh_history.specs.History.{after, facts}
+use Rattle.jh_history.specs.History.{facts}
 use Rattle.jh_history.specs.Sound.{IsOfDevice, IsSound}
-use Rattle.jh_history.proofs.Public.{call_open, due_split, facts_nil, facts_push, other_id, sound_after, spec_cell}
+use Rattle.jh_history.proofs.Public.{call_open, facts_nil, facts_push, other_id, sound_after, spec_cell}
 use Rattle.jh_shape.specs.Lives.{configs_of}
 use Rattle.jh_laws.specs.Devices.{BeginsDevices, IsFresh}
 use Rattle.jh_laws.specs.Moments.{AdmittedMoment, facts_before, facts_behind}
@@ -26,8 +25,8 @@ use Rattle.jh_laws.specs.Pages.{Creates, Starts}
 use Rattle.jh_laws.specs.Vectors.{Clears}
 use Rattle.jh_laws.proofs.ClearLemmas.{IsClear, IsJoin, IsIdle, among_specs, commit_cases}
 use Rattle.jh_laws.proofs.DevicesLemmas.{endpoint_held}
-use Rattle.jh_laws.proofs.LinkedLemmas.{IsAmong, IsQuiet, IsQuietAt, joined_quiet_all, quiet_all}
-use Rattle.jh_laws.proofs.PageCauseLemmas.{IsCommitting, committing_at, creating_call, sound_at}
+use Rattle.jh_laws.proofs.LinkedLemmas.{IsAmong, IsQuietAt, joined_quiet_all, quiet_all}
+use Rattle.jh_laws.proofs.PageCauseLemmas.{IsCommitting, committing_at, creating_call, due_of, sound_at}
 use Rattle.jh_laws.proofs.PendingLemmas.{endpoint_found}
 use Rattle.jh_laws.proofs.VectorLemmas.{endpoints_behind, quiet_none}
 
@@ -35,9 +34,6 @@ pub opens_fresh : (image : Image) (id n : ℕ) (e : Endpoint) → endpoint_at id
 opens_fresh image id n e there =
     let here : endpoint_at id n (endpoints_changed Join (specs_of image.system.root) []) ≡ Some e = ap (λ (f : Facts). endpoint_at id n f.endpoints) (sym (facts_nil image)) ∙ there in
     (joined_quiet_all (specs_of image.system.root) [] id n (quiet_none id n [] refl) e here).as_new
-
-due_of : (m : AdmittedMoment) → due_at m.image (facts_before m) m.entry.cpu ≡ Some m.entry
-due_of m = due_split m.image m.before m.rest m.entry m.legal
 
 -- a cell that comes had no endpoint
 abbrev HadNone : AdmittedMoment → ℕ → Type 0

@@ -44,6 +44,7 @@ mod AnswerLemmas
 mod ExchangeLemmas
 mod FailedLemmas
 mod NewIdLemmas
+mod RootProgramLemmas
 mod CreateLemmas
 mod OwnDeviceLemmas
 mod FreshLemmas

@@ -1,13 +1,12 @@
 -- Who is told of a create or a destroy, from its Commit to its end.
-use Rattle.std.proofs.Common.{◌≡◌, ◌≢◌, ℕ, ℤ, pos, suc, ◌+◌, ◌<◌, ◌≤◌, List, [], ◌∷◌, ◌++◌, Bool, true, false, eqb, length, map, Option, Some, None, All, refl, sym, ap, subst, ◌∙◌, ⊎_elim, append-nil, append_assoc, arith}
-use Rattle.std.specs.Prelude.{AllPairs, Contains, filter, find, option_map}
+use Rattle.std.proofs.Common.{◌≡◌, ℕ, ℤ, pos, suc, ◌+◌, ◌≤◌, List, [], ◌∷◌, ◌++◌, true, false, eqb, length, Option, Some, None, All, refl, sym, ap, subst, ◌∙◌, ⊎_elim, append-nil, append_assoc, arith}
+use Rattle.std.specs.Prelude.{filter, find, option_map}
 use Rattle.std.specs.List.{fold}
-use Rattle.std.proofs.lemmas.Bool.{both_ways, cond_both, eqb-true}
+use Rattle.std.proofs.lemmas.Bool.{both_ways, cond_both}
 use Rattle.std.proofs.lemmas.List.{length-append}
 use Rattle.std.proofs.lemmas.List.Elements.{All-head, All-tail}
 use Rattle.std.proofs.lemmas.Option.{none-some}
 use Rattle.jh_num.specs.Numbers.{counted_up}
-use Rattle.jh_check.specs.Refusals.{AreTwo}
 use Rattle.jh_cellcfg.specs.declared.config.CellConfig.{CellConfig}
 use Rattle.jh_cellcfg.specs.declared.live.Live.{Live}
 use Rattle.jh_cellcfg.specs.Lives.{has_id}
@@ -17,22 +16,21 @@ use Rattle.jh_call.specs.declared.call.Call.TheVariants.{Create, Destroy}
 use Rattle.jh_script.specs.declared.image.Image.{Image}
 use Rattle.jh_history.specs.declared.call.OpenCall.{OpenCall}
 use Rattle.jh_history.specs.declared.call.Phase.{Phase}
-use Rattle.jh_history.specs.declared.call.Phase.TheVariants.{ToDecide, ToSettle, ToCreate, ToCommit, ToNote, ToNoted, ToFinish}
+use Rattle.jh_history.specs.declared.call.Phase.TheVariants.{ToCreate, ToNote, ToNoted, ToFinish}
 use Rattle.jh_history.specs.declared.entry.Entry.{Entry}
 use Rattle.jh_history.specs.declared.entry.Act.{Act}
-use Rattle.jh_history.specs.declared.entry.Act.TheVariants.{Begin, Decide, Settle, Commit, Note, Noted, Finish}
+use Rattle.jh_history.specs.declared.entry.Act.TheVariants.{Commit, Note, Noted, Finish}
 use Rattle.jh_history.specs.Calls.{counted, telling, first_recipient, listed_behind, call_by, is_of_call}
 use Rattle.jh_history.specs.Commits.{is_commit, is_other}
 use Rattle.jh_history.specs.Due.{due_at, is_idle_but, IsLegal, IsLegalFrom}
 use Rattle.jh_history.specs.Facts.{Facts}
-use Rattle.jh_history.specs.History.{after, facts, coming_of}
-use Rattle.jh_history.specs.Lives.{live_in}
+use Rattle.jh_history.specs.History.{after, coming_of}
 use Rattle.jh_history.specs.Sound.{IsMadeOfBytes, IsSound}
-use Rattle.jh_history.proofs.Public.{facts_push, IsLegal_begin, configs_joined, legal_sound, sound_after, after_call, after_cells, uncommitted_cells}
-use Rattle.jh_laws.specs.Moments.{AdmittedMoment, AdmittedSpan, NoneFinishesBetween, facts_before, facts_behind, cells_before, call_before}
+use Rattle.jh_history.proofs.Public.{facts_push, IsLegal_begin, sound_after, after_call, after_cells, uncommitted_cells}
+use Rattle.jh_laws.specs.Moments.{AdmittedMoment, AdmittedSpan, NoneFinishesBetween, facts_before, facts_behind, call_before}
 use Rattle.jh_laws.specs.Notes.{CommitsChangeOf, told_ids, noted_ids, with_note, at_first}
 use Rattle.jh_laws.specs.Pages.{Creates}
-use Rattle.jh_laws.specs.Ways.{is_finish, is_phase}
+use Rattle.jh_laws.specs.Ways.{is_finish}
 use Rattle.jh_laws.proofs.CallLemmas.{Expects, IsBeside, call_counted, entry_of_call, not_same, phase_expects, stretch}
 use Rattle.jh_laws.proofs.DueCpusLemmas.{of_named}
 use Rattle.jh_laws.proofs.FewCellsLemmas.{few_cells}
@@ -276,13 +274,10 @@ told_all s about answer h more ends =
 
 -- ---- how many
 
-long_configs : (cells : List Live) → length (configs_of cells) ≡ length cells
-long_configs cells = length_map (λ (live : Live). live.config) cells
-
 few_before : (m : AdmittedMoment) → IsMadeOfBytes m.image → length (facts_before m).cells ≤ 15
 few_before m bytes =
     let few = few_cells m.image m.before m.admitted bytes (IsLegal_begin m.image m.before (m.entry ∷ m.rest) m.legal) in
-    omega (arith, few, long_configs (facts_before m).cells)
+    omega (arith, few, length_map (λ (live : Live). live.config) (facts_before m).cells)
 
 found_some : (o : Option Live) (config : CellConfig) → option_map (λ (live : Live). live.config) o ≡ Some config → (live : Live) × (o ≡ Some live)
 found_some None config is = absurd (none-some config is)
@@ -295,7 +290,7 @@ few_created m config creates bytes =
     let P : List Entry → Type 0 = IsLegal m.image in
     let legal : IsLegal m.image (m.before ++ m.entry ∷ []) = IsLegal_begin m.image (m.before ++ m.entry ∷ []) m.rest (subst P (sym whole) m.legal) in
     let few : length (configs_of (facts_behind m).cells) ≤ 15 = few_cells m.image (m.before ++ m.entry ∷ []) m.admitted bytes legal in
-    let long : length (configs_of (facts_behind m).cells) ≡ length (cells ++ new_live config ∷ []) = long_configs (facts_behind m).cells ∙ ap length creates.joins in
+    let long : length (configs_of (facts_behind m).cells) ≡ length (cells ++ new_live config ∷ []) = length_map (λ (live : Live). live.config) (facts_behind m).cells ∙ ap length creates.joins in
     let sum : length (cells ++ new_live config ∷ []) ≡ length cells + 1 = length-append cells (new_live config ∷ []) in
     omega (arith, few, long, sum)
 

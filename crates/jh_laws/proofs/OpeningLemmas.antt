@@ -1,5 +1,5 @@
 -- Memory at opening, with the words of root's devices.
-use Rattle.std.proofs.Common.{◌≡◌, ℕ, zero, suc, ◌+◌, ◌*◌, ◌^◌, ◌<◌, ◌≤◌, List, [], ◌∷◌, length, get_or, Bool, true, false, cond, ◌&&◌, eqb, Option, Some, None, refl, sym, ap, subst, ◌∙◌, ⊎_elim, arith}
+use Rattle.std.proofs.Common.{◌≡◌, ℕ, zero, suc, ◌+◌, ◌*◌, ◌^◌, ◌<◌, List, [], ◌∷◌, get_or, Bool, true, cond, Some, refl, sym, ap, subst, ◌∙◌, ⊎_elim, arith}
 use Rattle.std.specs.Prelude.{Contains, nat_lt, slice_get}
 use Rattle.std.proofs.lemmas.Bool.{and_from, and_parts, cond_both, eq-eqb, lt-ltb, ltb-true}
 use Rattle.std.proofs.lemmas.Option.{same_Some, slice_get-get_or, slice_get_within}
@@ -13,14 +13,13 @@ use Rattle.jh_ivshmem.specs.Specs.{endpoint_word_of}
 use Rattle.jh_script.specs.declared.image.Image.{Image}
 use Rattle.jh_history.specs.declared.place.Place.TheVariants.{Physical}
 use Rattle.jh_history.specs.Admitted.{IsAdmitted}
-use Rattle.jh_history.specs.Devices.{is_endpoint, place_of_section, section_at, spec_of, specs_from, specs_of}
-use Rattle.jh_history.specs.Facts.{Facts}
+use Rattle.jh_history.specs.Devices.{is_endpoint, place_of_section, spec_of, specs_from, specs_of}
 use Rattle.jh_history.specs.History.{facts}
 use Rattle.jh_history.specs.Places.{number_of}
 use Rattle.jh_history.proofs.Public.{kind_from, sound_start, specs_device}
 use Rattle.jh_laws.specs.Preloads.{IsPreloaded, IsInStateWord}
 use Rattle.jh_laws.proofs.ByteLemmas.{IsApartAtOpening, opening_word, opening_byte, opening_zero}
-use Rattle.jh_laws.proofs.WordLemmas.{AreApart, IsByteAt, IsInWords, words_or}
+use Rattle.jh_laws.proofs.WordLemmas.{IsByteAt, IsInWords, words_or}
 
 -- ---- the endpoint of a device
 

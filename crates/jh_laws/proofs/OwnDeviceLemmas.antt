@@ -1,6 +1,6 @@
 -- What the writes of a cell leave of its own devices.
-use Rattle.std.proofs.Common.{◌≡◌, ◌≢◌, ℕ, zero, suc, ◌+◌, ◌-◌, ◌*◌, ◌/◌, ◌%◌, ◌^◌, ◌<◌, ◌≤◌, List, [], ◌∷◌, ◌++◌, Bool, true, false, cond, not, ◌&&◌, eqb, length, get_or, set, Option, Some, None, refl, sym, ap, subst, ◌∙◌, inl, inr, ⊎_elim, arith}
-use Rattle.std.specs.Prelude.{◌⊎◌, nat_lt, option_and_then}
+use Rattle.std.proofs.Common.{◌≡◌, ◌≢◌, ℕ, ◌-◌, ◌*◌, ◌/◌, ◌%◌, ◌^◌, ◌<◌, ◌≤◌, List, Bool, true, false, cond, not, ◌&&◌, eqb, length, get_or, set, Option, Some, None, refl, sym, ap, subst, ◌∙◌, inl, inr, ⊎_elim, arith}
+use Rattle.std.specs.Prelude.{◌⊎◌, option_and_then}
 use Rattle.std.specs.Option.{option_map_or}
 use Rattle.std.proofs.lemmas.Bool.{and_from, and_left, and_right, eq-eqb, ne_eqb, le-ltb, lt-ltb, false≢true}
 use Rattle.std.proofs.lemmas.List.{get_or-set_other, get_or-set_same}
@@ -12,22 +12,21 @@ use Rattle.jh_ivshmem.specs.declared.vector.Vector.{Vector}
 use Rattle.jh_ivshmem.specs.Changes.{changed}
 use Rattle.jh_ivshmem.specs.Endpoint.{raised, vector_at, fresh_vector}
 use Rattle.jh_ivshmem.specs.Links.{endpoint_at, state_written, told_of, written}
-use Rattle.jh_ivshmem.specs.Registers.{register_written, with_word, is_in_table}
+use Rattle.jh_ivshmem.specs.Registers.{register_written, with_word}
 use Rattle.jh_ivshmem.specs.Specs.{is_device, is_other}
 use Rattle.jh_ivshmem.proofs.Public.{named_cell, named_device, register_written_spec}
 use Rattle.jh_script.specs.declared.image.Image.{Image}
 use Rattle.jh_history.specs.declared.access.Access.TheVariants.{Write as ToWrite}
 use Rattle.jh_history.specs.declared.access.Reach.{Reach}
 use Rattle.jh_history.specs.declared.access.Reach.TheVariants.{Config, Window}
-use Rattle.jh_history.specs.declared.entry.Entry.{Entry}
 use Rattle.jh_history.specs.declared.entry.Act.{Act}
 use Rattle.jh_history.specs.declared.entry.Act.TheVariants.{Write, Irq, Commit}
 use Rattle.jh_history.specs.Commits.{is_commit}
 use Rattle.jh_history.specs.Devices.{Devices, number_at}
-use Rattle.jh_history.specs.Endpoints.{endpoints_acted, endpoints_after, endpoints_put, function_put}
+use Rattle.jh_history.specs.Endpoints.{endpoints_acted, endpoints_put, function_put}
 use Rattle.jh_history.specs.Facts.{Facts}
 use Rattle.jh_history.specs.Grants.{reach, devices_of}
-use Rattle.jh_history.specs.Sound.{IsSound, IsSoundEndpoint}
+use Rattle.jh_history.specs.Sound.{IsSoundEndpoint}
 use Rattle.jh_laws.specs.Devices.{PutsFunction, PutsWord, with_space, with_control, with_state, HasWordOfVector, TakesNothing, may_change_devices}
 use Rattle.jh_laws.specs.Ends.{IsAnsweredByConfig}
 use Rattle.jh_laws.specs.Moments.{AdmittedMoment, facts_before, facts_behind}
@@ -37,6 +36,7 @@ use Rattle.jh_laws.proofs.EndsLemmas.{IsSmallAct, small_at}
 use Rattle.jh_laws.proofs.LinkedLemmas.{found_changed, found_told, is_notified}
 use Rattle.jh_laws.proofs.PageCauseLemmas.{sound_at}
 use Rattle.jh_laws.proofs.ReachedLemmas.{Way, OnMemory, OnRegion, OnWindow, OnRegister, OnNothing, way}
+use Rattle.jh_laws.proofs.RaiseLemmas.{written_other}
 use Rattle.jh_laws.proofs.StoredLemmas.{register_reached}
 use Rattle.jh_laws.proofs.VectorLemmas.{after_acted, endpoints_behind}
 use Rattle.jh_laws.proofs.WordLemmas.{value_fits}
@@ -162,15 +162,11 @@ puts_state m value e h =
     ∙ own_changed e (λ (o : Endpoint). record o { state = value }) (told_of e value list) (λ o. refl) told
 
 -- any other but the doorbell
-other_list : (e : Endpoint) (bar at value : ℕ) (list : List Endpoint) → (eqb bar 0 && eqb at 0x0c) ≡ false → (eqb bar 0 && eqb at 0x10) ≡ false → written e bar at value list ≡ changed (is_device e.spec.cell e.spec.device) (register_written bar at value) list
-unfolding written
-other_list e bar at value list bell state = rw (bell, state) refl
-
 puts_other : (m : AdmittedMoment) (bar offset value : ℕ) (e : Endpoint) → PutsWord m bar offset value e → (eqb bar 0 && eqb offset 0x0c) ≡ false → (eqb bar 0 && eqb offset 0x10) ≡ false → endpoint_behind m e ≡ Some (register_written bar offset value e)
 puts_other m bar offset value e h bell state =
     let list : List Endpoint = (facts_before m).endpoints in
     word_behind m bar offset value e h
-    ∙ ap (endpoint_at e.spec.cell e.spec.device) (other_list e bar offset value list bell state)
+    ∙ ap (endpoint_at e.spec.cell e.spec.device) (written_other e bar offset value list bell state)
     ∙ own_changed e (register_written bar offset value) list (register_written_spec bar offset value) (own_there m bar offset value e h)
 
 control_written : (value : ℕ) (e : Endpoint) → register_written 0 0x08 value e ≡ with_control value e

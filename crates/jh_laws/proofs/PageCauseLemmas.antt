@@ -1,6 +1,6 @@
 -- From what an entry is to what the hypervisor writes into a page with it, and back.
-use Rattle.std.proofs.Common.{◌≡◌, ◌≢◌, ℕ, List, [], ◌∷◌, ◌++◌, Bool, true, false, cond, not, ◌&&◌, ◌||◌, eqb, length, Option, Some, None, is_some, refl, sym, ap, subst, ◌∙◌, inl, inr, ⊎_elim}
-use Rattle.std.specs.Prelude.{◌⊎◌, ◌<◌, ◌≤◌, Contains, find, option_map, option_and_then}
+use Rattle.std.proofs.Common.{◌≡◌, ℕ, List, [], ◌∷◌, ◌++◌, Bool, true, false, cond, not, ◌&&◌, ◌||◌, eqb, Option, Some, None, is_some, refl, sym, ap, subst, ◌∙◌, inl, inr, ⊎_elim}
+use Rattle.std.specs.Prelude.{Contains, find, option_map, option_and_then}
 use Rattle.std.proofs.lemmas.Bool.{both_ways, and_parts, and_from, or_from, or_parts, cases_Bool, eqb-true, eq-eqb, ne_eqb, false≢true, not-true, false_from_ne_true}
 use Rattle.std.proofs.lemmas.List.{append_cancel_left}
 use Rattle.std.proofs.lemmas.Option.{none-some, same_Some}
@@ -21,10 +21,8 @@ use Rattle.jh_script.specs.declared.image.Image.{Image}
 use Rattle.jh_history.specs.declared.call.OpenCall.{OpenCall}
 use Rattle.jh_history.specs.declared.call.Phase.{Phase}
 use Rattle.jh_history.specs.declared.call.Phase.TheVariants.{ToDecide, ToSettle, ToCreate, ToCommit, ToNote, ToNoted, ToFinish}
-use Rattle.jh_history.specs.declared.comm.PageChange.{PageChange}
 use Rattle.jh_history.specs.declared.comm.PageChange.TheVariants.{State, Message, Fresh}
 use Rattle.jh_history.specs.declared.comm.PageWrite.{PageWrite}
-use Rattle.jh_history.specs.declared.entry.Entry.{Entry}
 use Rattle.jh_history.specs.declared.entry.Settled.TheVariants.{Timeout}
 use Rattle.jh_history.specs.declared.entry.Heard.TheVariants.{Timeout as Unheard}
 use Rattle.jh_history.specs.declared.entry.Act.{Act}
@@ -32,14 +30,13 @@ use Rattle.jh_history.specs.declared.entry.Act.TheVariants.{Read, Write, Fetch, 
 use Rattle.jh_history.specs.Calls.{is_named}
 use Rattle.jh_history.specs.Commits.{cells_by, committed_cells, is_commit}
 use Rattle.jh_history.specs.Cpus.{acted}
-use Rattle.jh_history.specs.Due.{due_at, IsLegal}
+use Rattle.jh_history.specs.Due.{due_at}
 use Rattle.jh_history.specs.Facts.{Facts}
-use Rattle.jh_history.specs.History.{facts}
 use Rattle.jh_history.specs.Lives.{is_on_board, live_in}
 use Rattle.jh_history.specs.Pages.{named_cell, is_unfailed_of, failing, unless_good, asking, committing, on_page, page_write_by}
 use Rattle.jh_history.specs.Sound.{IsAboutLive, IsCreate, IsInPhase, IsSound}
-use Rattle.jh_history.proofs.Public.{IsLegal_begin, board_few, legal_sound}
-use Rattle.jh_laws.specs.Moments.{AdmittedMoment, facts_before, facts_behind, state_behind, cells_before, call_before}
+use Rattle.jh_history.proofs.Public.{IsLegal_begin, board_few, due_split, legal_sound}
+use Rattle.jh_laws.specs.Moments.{AdmittedMoment, facts_before, facts_behind, state_behind, call_before}
 use Rattle.jh_laws.specs.Outcomes.{is_violation}
 use Rattle.jh_laws.specs.Pages.{IsCallAbout, IsCallOnCell, AsksToShutDown, SettlesByTime, LosesItsCpus, MakesLoadable, Creates, Starts, ChangesPage}
 use Rattle.jh_laws.specs.Ways.{is_phase}
@@ -71,6 +68,9 @@ named_about cells _ config h = absurd (none-some config h)
 
 pub sound_at : (m : AdmittedMoment) → IsSound m.image (facts_before m)
 sound_at m = legal_sound m.image m.before m.admitted (IsLegal_begin m.image m.before (m.entry ∷ m.rest) m.legal)
+
+pub due_of : (m : AdmittedMoment) → due_at m.image (facts_before m) m.entry.cpu ≡ Some m.entry
+due_of m = due_split m.image m.before m.rest m.entry m.legal
 
 -- the call that is open is about the cell
 record IsOpenOn (m : AdmittedMoment) (config : CellConfig) : Type 0 where
@@ -223,10 +223,13 @@ loses_by m w violates is = by_left left refl is
   where
     f : Facts
     f = facts_before m
+
     test : ℕ → Bool
     test i = is_on_board m.image i && is_unfailed_of m.entry.cell (acted m.image f.call m.entry.act m.entry.cpu i (f.cpu i))
+
     left : Bool
     left = eqb m.entry.cell m.image.system.root.id || any_below test 16
+
     by_left : (b : Bool) → left ≡ b → cond b None (Some (record { cell = m.entry.cell; change = State 3 })) ≡ Some w → LosesItsCpus m w.cell
     by_left true e h = absurd (none-some w h)
     by_left false e h =

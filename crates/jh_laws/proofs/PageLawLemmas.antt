@@ -1,18 +1,14 @@
 -- What the hypervisor writes into pages, by its causes.
-use Rattle.std.proofs.Common.{◌≡◌, ℕ, List, [], ◌∷◌, ◌++◌, length, Option, Some, None, All, refl, sym, ap, subst, ◌∙◌, ⊎_elim}
+use Rattle.std.proofs.Common.{◌≡◌, ℕ, ◌∷◌, length, Some, All, refl, sym, ap, subst, ⊎_elim}
 use Rattle.std.specs.Prelude.{◌≤◌}
 use Rattle.std.proofs.lemmas.Bool.{false≢true}
 use Rattle.jh_cellcfg.specs.declared.config.CellConfig.{CellConfig}
 use Rattle.jh_call.specs.declared.call.Call.TheVariants.{Create}
 use Rattle.jh_script.specs.declared.image.Preload.{Preload}
-use Rattle.jh_history.specs.declared.call.OpenCall.{OpenCall}
 use Rattle.jh_history.specs.declared.call.Phase.TheVariants.{ToCreate}
 use Rattle.jh_history.specs.declared.comm.PageChange.TheVariants.{State, Message, Fresh}
-use Rattle.jh_history.specs.declared.comm.PageWrite.{PageWrite}
 use Rattle.jh_history.specs.declared.place.Place.{Place}
 use Rattle.jh_history.specs.declared.place.Place.TheVariants.{Physical, Page}
-use Rattle.jh_history.specs.declared.entry.Act.{Act}
-use Rattle.jh_history.specs.Facts.{Facts}
 use Rattle.jh_history.specs.Pages.{page_write_by}
 use Rattle.jh_history.specs.Sound.{AreBytes}
 use Rattle.jh_history.proofs.Public.{IsLegal_begin}

@@ -1,9 +1,8 @@
 -- Pages behind a change of the hypervisor's, byte by byte.
-use Rattle.std.proofs.Common.{◌≡◌, ℕ, zero, suc, ◌+◌, ◌-◌, ◌/◌, ◌%◌, ◌^◌, ◌<◌, ◌≤◌, List, [], ◌∷◌, ◌++◌, length, get_or, Option, Some, None, refl, sym, ap, ◌∙◌, inl, inr, ⊎_elim, arith}
+use Rattle.std.proofs.Common.{◌≡◌, ℕ, zero, suc, ◌+◌, ◌/◌, ◌%◌, ◌^◌, ◌<◌, ◌≤◌, List, [], ◌∷◌, ◌++◌, length, get_or, Some, refl, sym, ap, ◌∙◌, inl, inr, ⊎_elim, arith}
 use Rattle.std.specs.Prelude.{◌⊎◌, slice_index}
 use Rattle.std.specs.Int.{to_le_bytes, w16, w32, w64}
 use Rattle.std.proofs.lemmas.Bool.{cases_lt}
-use Rattle.std.proofs.lemmas.Option.{none-some, same_Some}
 use Rattle.std.proofs.lemmas.List.{get_or_past}
 use Rattle.jh_num.specs.Memory.{stored}
 use Rattle.jh_num.proofs.Public.{stored_before, stored_behind, stored_there}
@@ -22,7 +21,7 @@ use Rattle.jh_history.specs.Facts.{Facts}
 use Rattle.jh_history.specs.History.{facts}
 use Rattle.jh_history.specs.Pages.{page_after, page_write_by}
 use Rattle.jh_history.specs.Places.{number_of}
-use Rattle.jh_laws.specs.Pages.{HasWord, KeepsAllBut, HasNewState, HasNewMessage, IsFreshPage}
+use Rattle.jh_laws.specs.Pages.{HasWord, HasNewState, HasNewMessage, IsFreshPage}
 use Rattle.jh_laws.proofs.PlacesHeldLemmas.{byte_behind}
 use Rattle.jh_laws.proofs.WordLemmas.{words_page}
 use Rattle.jh_laws.proofs.WrittenLemmas.{paged_by, page_keeps, quiet_act}

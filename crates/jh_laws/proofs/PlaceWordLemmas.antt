@@ -1,9 +1,8 @@
 -- Codes of hypercalls, and words of communication pages, as numbers.
-use Rattle.std.proofs.Common.{◌≡◌, ℕ, ◌+◌, ◌*◌, ◌<◌, true, false, cond, eqb, refl, ◌∙◌, ap, inl, inr, ⊎_elim, ◌⊎◌, arith}
-use Rattle.std.specs.Prelude.{◌≢◌, ◌↔◌}
+use Rattle.std.proofs.Common.{◌≡◌, ℕ, ◌+◌, ◌*◌, ◌<◌, true, false, eqb, refl, inl, inr, ⊎_elim, ◌⊎◌, arith}
+use Rattle.std.specs.Prelude.{◌↔◌}
 use Rattle.std.proofs.lemmas.Bool.{eqb-true, eq-eqb, ne_eqb, or_cases, or_left, or_right}
-use Rattle.jh_call.specs.declared.call.Call.{Call}
-use Rattle.jh_call.specs.declared.call.Call.TheVariants.{Create, Start, Loadable, Destroy, Info, State, CpuInfo, Unknown}
+use Rattle.jh_call.specs.declared.call.Call.TheVariants.{Unknown}
 use Rattle.jh_call.specs.Calls.{decoded}
 use Rattle.jh_history.specs.Facts.{Facts}
 use Rattle.jh_history.specs.Phases.{state_word, reply_word, is_down}
@@ -14,8 +13,15 @@ pub no_code : (code a b : ℕ) → (code ≡ 0) ⊎ (7 < code) → decoded code 
 no_code code a b out =
     let other : (n : ℕ) → 0 < n → n < 8 → eqb code n ≡ false =
     λ n some few. ne_eqb code n (λ is. ⊎_elim (λ none. omega (arith, none, is, some)) (λ past. omega (arith, past, is, few)) out) in
-    rw (other 1 (omega arith) (omega arith), other 2 (omega arith) (omega arith), other 3 (omega arith) (omega arith), other 4 (omega arith) (omega arith),
-    other 5 (omega arith) (omega arith), other 6 (omega arith) (omega arith), other 7 (omega arith) (omega arith)) refl
+    rw (
+      other 1 (omega arith) (omega arith),
+      other 2 (omega arith) (omega arith),
+      other 3 (omega arith) (omega arith),
+      other 4 (omega arith) (omega arith),
+      other 5 (omega arith) (omega arith),
+      other 6 (omega arith) (omega arith),
+      other 7 (omega arith) (omega arith),
+    ) refl
 
 -- four bytes
 spelled_four : (a b c d : ℕ) → a + 256 * (b + 256 * (c + 256 * (d + 256 * 0))) ≡ a + 256 * b + 65536 * c + 16777216 * d

@@ -43,6 +43,7 @@ use Rattle.jh_laws.specs.Outcomes.{is_violation}
 use Rattle.jh_laws.specs.States.{changes_others, changes_none, is_stop_act, HasBegun, HasSettled, HasCommitted, HasFinished}
 use Rattle.jh_laws.proofs.CallLemmas.{Expects, phase_expects, phase_of_due, same_call, not_same, IsMadeBy, Stopping, Running as Runs, Calling, made_by, phase_call}
 use Rattle.jh_laws.proofs.FactsLemmas.{cpu_after_holds}
+use Rattle.jh_laws.proofs.HvcLemmas.{not_failed}
 
 -- CPU i behind an entry
 pub behind_cpu : (image : Image) (before : List Entry) (entry : Entry) (i : ℕ) → (facts image (before ++ entry ∷ [])).cpu i ≡ acted image (facts image before).call entry.act entry.cpu i ((facts image before).cpu i)
@@ -290,11 +291,6 @@ settle_cpus image before rest entry call i admitted legal is agreed =
     let of = phase_begun image before rest entry call admitted legal is (agreement_phase entry.act agreed) in
     let P : Cpu → Type 0 = HasSettled call (f.cpu i) in
     subst P (sym (behind_cpu image before entry i)) (settle_by image f.call (record { caller = entry.cpu; call = call; phase = of.phase }) entry.act entry.cpu i (f.cpu i) of.opens agreed)
-
-not_failed : (mode : Mode) → mode ≢ Failed → is_failed mode ≡ false
-not_failed Running other = refl
-not_failed Parked other = refl
-not_failed Failed other = absurd (other refl)
 
 is_lent : (id : ℕ) (cpu : Cpu) → IsLentTo id cpu (lent id cpu)
 is_lent id cpu = record {

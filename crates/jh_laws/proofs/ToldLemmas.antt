@@ -1,9 +1,9 @@
 -- The cells that are told of a change, in a list of cells with different ids.
-use Rattle.std.proofs.Common.{◌≡◌, ◌≢◌, ℕ, zero, suc, ◌+◌, ◌<◌, ◌≤◌, List, [], ◌∷◌, ◌++◌, Bool, true, false, cond, not, ◌&&◌, eqb, length, map, get_or, Option, Some, None, All, refl, sym, ap, subst, ◌∙◌, ⊎_elim, append-nil, arith}
+use Rattle.std.proofs.Common.{◌≡◌, ◌≢◌, ℕ, suc, ◌<◌, ◌≤◌, List, [], ◌∷◌, ◌++◌, Bool, true, false, cond, not, eqb, length, map, get_or, Option, Some, None, refl, sym, ap, ◌∙◌, ⊎_elim, append-nil, arith}
 use Rattle.std.specs.Prelude.{AllPairs, filter, find, option_map}
 use Rattle.std.specs.List.{AllByRecursion}
-use Rattle.std.proofs.lemmas.Bool.{both_ways, and_left, cases_Bool, cond_both, eqb-true, eq-eqb, ne_eqb}
-use Rattle.std.proofs.lemmas.List.Elements.{filter-append, recursion_from_All}
+use Rattle.std.proofs.lemmas.Bool.{and_left, cases_Bool, cond_both, eqb-true, eq-eqb, ne_eqb}
+use Rattle.std.proofs.lemmas.List.Elements.{recursion_from_All}
 use Rattle.std.proofs.lemmas.Option.{none-some, same_Some}
 use Rattle.jh_check.specs.Refusals.{AreTwo}
 use Rattle.jh_cellcfg.specs.declared.config.CellConfig.{CellConfig}

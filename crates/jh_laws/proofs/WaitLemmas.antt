@@ -1,24 +1,22 @@
 -- How many entries the open call has counted, while a cell is waited for.
-use Rattle.std.proofs.Common.{◌≡◌, ◌≢◌, ℕ, ℤ, ◌+◌, ◌-◌, ◌^◌, min, List, [], ◌∷◌, ◌++◌, Bool, true, false, eqb, Option, Some, None, All, count_by, refl, sym, ap, subst, ◌∙◌, arith}
-use Rattle.std.specs.List.{fold}
+use Rattle.std.proofs.Common.{◌≡◌, ℕ, ℤ, ◌+◌, ◌-◌, ◌^◌, min, List, ◌∷◌, Bool, eqb, Option, Some, None, count_by, refl, sym, ap, subst, ◌∙◌, arith}
 use Rattle.std.proofs.lemmas.Bool.{eqb-true, eq-eqb}
 use Rattle.jh_num.proofs.Public.{same_test}
 use Rattle.jh_cellcfg.specs.declared.config.CellConfig.{CellConfig}
 use Rattle.jh_call.specs.declared.call.Call.{Call}
 use Rattle.jh_call.specs.declared.call.Call.TheVariants.{Start, Loadable, Destroy}
-use Rattle.jh_script.specs.declared.image.Image.{Image}
 use Rattle.jh_history.specs.declared.call.OpenCall.{OpenCall}
 use Rattle.jh_history.specs.declared.call.Phase.{Phase}
 use Rattle.jh_history.specs.declared.call.Phase.TheVariants.{ToSettle, ToNoted}
 use Rattle.jh_history.specs.declared.entry.Entry.{Entry}
 use Rattle.jh_history.specs.declared.entry.Act.{Act}
-use Rattle.jh_history.specs.declared.entry.Act.TheVariants.{Decide, Note}
+use Rattle.jh_history.specs.declared.entry.Act.TheVariants.{Note}
 use Rattle.jh_history.specs.Calls.{is_named, after_decide}
-use Rattle.jh_history.specs.Due.{due_at, is_idle_but, IsLegal, IsLegalFrom}
+use Rattle.jh_history.specs.Due.{due_at, is_idle_but, IsLegalFrom}
 use Rattle.jh_history.specs.Facts.{Facts}
-use Rattle.jh_history.specs.History.{after, facts, coming_by}
+use Rattle.jh_history.specs.History.{after, coming_by}
 use Rattle.jh_history.specs.Sound.{IsSound}
-use Rattle.jh_history.proofs.Public.{IsLegal_begin, legal_sound, same_function, sound_after}
+use Rattle.jh_history.proofs.Public.{IsLegal_begin, legal_sound, sound_after}
 use Rattle.jh_laws.specs.Exchanges.{made_by_named, made_by_cell, RestsBehind, IsAsked, HasCallIn}
 use Rattle.jh_laws.specs.Moments.{AdmittedMoment, facts_before}
 use Rattle.jh_laws.specs.Pages.{IsCallAbout}
@@ -31,13 +29,13 @@ use Rattle.jh_laws.proofs.LegalLemmas.{IsLegal_rest}
 
 -- ---- the cell that is asked
 
-flipped : (a b : ℕ) → eqb a b ≡ eqb b a
-flipped a b = same_test (eqb a b) (eqb b a) (λ h. eq-eqb b a (sym (eqb-true a b h))) (λ h. eq-eqb a b (sym (eqb-true b a h)))
+tested_by : (own id cell : ℕ) → own ≡ id → eqb own cell ≡ eqb cell id
+tested_by own id cell is = same_test (eqb own cell) (eqb cell id) (λ h. eq-eqb cell id (sym (eqb-true own cell h) ∙ is)) (λ h. eq-eqb own cell (is ∙ sym (eqb-true cell id h)))
 
 named_is : (call : Call) (id cell : ℕ) → IsCallAbout call id → is_named call cell ≡ eqb cell id
-named_is (Start own) id cell is = flipped own cell ∙ ap (eqb cell) is
-named_is (Loadable own) id cell is = flipped own cell ∙ ap (eqb cell) is
-named_is (Destroy own) id cell is = flipped own cell ∙ ap (eqb cell) is
+named_is (Start own) id cell is = tested_by own id cell is
+named_is (Loadable own) id cell is = tested_by own id cell is
+named_is (Destroy own) id cell is = tested_by own id cell is
 named_is _ id cell is = absurd is
 
 asked_phase : (call : Call) (id : ℕ) (coming : Option CellConfig) → IsCallAbout call id → after_decide call coming None ≡ ToSettle 0

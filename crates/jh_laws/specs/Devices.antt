@@ -1,5 +1,5 @@
 -- What a cell's writes leave of its own devices, and how a device begins.
-use Rattle.std.specs.Prelude.{◌≡◌, ◌≢◌, ◌<◌, ◌≤◌, ◌-◌, ◌*◌, ◌/◌, ◌%◌, ◌==◌, ◌⊎◌, ℕ, Bool, true, false, Contains, Option, Some}
+use Rattle.std.specs.Prelude.{◌≡◌, ◌≢◌, ◌≤◌, ◌-◌, ◌*◌, ◌%◌, ◌==◌, ◌⊎◌, ℕ, Bool, true, false}
 use Rattle.jh_cellcfg.specs.declared.config.CellConfig.{CellConfig}
 use Rattle.jh_vpci.specs.Writes.{written as space_written}
 use Rattle.jh_ivshmem.specs.declared.endpoint.Endpoint.{Endpoint}
@@ -9,7 +9,7 @@ use Rattle.jh_history.specs.declared.access.Access.TheVariants.{Write as ToWrite
 use Rattle.jh_history.specs.declared.entry.Act.{Act}
 use Rattle.jh_history.specs.declared.entry.Act.TheVariants.{Write, Irq, Commit}
 use Rattle.jh_laws.specs.Ends.{IsAnsweredByConfig, IsAnsweredByRegister, IsFunctionAt}
-use Rattle.jh_laws.specs.Moments.{AdmittedMoment, facts_before, facts_behind}
+use Rattle.jh_laws.specs.Moments.{AdmittedMoment, facts_before}
 use Rattle.jh_laws.specs.Pages.{Creates, Starts}
 
 -- ---- writes
@@ -31,8 +31,8 @@ pub record PutsWord (m : AdmittedMoment) (bar offset value : ℕ) (e : Endpoint)
   pub act : m.entry.act ≡ Write width at value true
   pub answered : IsAnsweredByRegister m.image (facts_before m) m.entry.cell ToWrite at width number bar offset e
 
--- the endpoint, with its configuration space as a write of the value to so many bytes at the offset in it leaves it, and all
--- else as it was
+-- the endpoint, with its configuration space as a write of the value to so many bytes at the offset in it leaves it,
+-- and all else as it was
 abbrev pub with_space : ℕ → ℕ → ℕ → Endpoint → Endpoint
 with_space offset width value e = record e { space = space_written e.space offset width value }
 
@@ -76,8 +76,8 @@ may_change_devices _ = false
 
 -- ---- how a device begins
 
--- nothing of the endpoint is set: its windows, bus mastering, MSI-X and one-shot are off and its BARs 0, interrupt control
--- is off, its state is 0, and each vector is masked, has no address and no message, and isn't pending
+-- nothing of the endpoint is set: its windows, bus mastering, MSI-X and one-shot are off and its BARs 0, interrupt
+-- control is off, its state is 0, and each vector is masked, has no address and no message, and isn't pending
 pub record IsFresh (e : Endpoint) : Type 0 where
   pub memory : e.space.memory ≡ false
   pub bus_master : e.space.bus_master ≡ false

@@ -1,5 +1,5 @@
 -- How a cell met the request to shut down, and the note of a change.
-use Rattle.std.specs.Prelude.{◌≡◌, ◌≢◌, ◌^◌, ◌-◌, ℕ, ℤ, true, false, ◌==◌, min, List, count_by, All, Contains, Some, None}
+use Rattle.std.specs.Prelude.{◌≡◌, ◌≢◌, ◌^◌, ◌-◌, ℕ, true, false, ◌==◌, min, List, count_by, All, Contains, Some, None}
 use Rattle.jh_cellcfg.specs.declared.config.CellConfig.{CellConfig}
 use Rattle.jh_cellcfg.specs.Cells.{is_passive}
 use Rattle.jh_shape.specs.Lives.{configs_of}
@@ -8,13 +8,12 @@ use Rattle.jh_call.specs.declared.call.Call.{Call}
 use Rattle.jh_script.specs.declared.image.Image.{Image}
 use Rattle.jh_history.specs.declared.call.OpenCall.{OpenCall}
 use Rattle.jh_history.specs.declared.call.Phase.{Phase}
-use Rattle.jh_history.specs.declared.call.Phase.TheVariants.{ToSettle, ToNoted}
 use Rattle.jh_history.specs.declared.entry.Entry.{Entry}
 use Rattle.jh_history.specs.declared.entry.Settled.{Settled}
 use Rattle.jh_history.specs.declared.entry.Settled.TheVariants.{Agreed, Denied, Timeout}
 use Rattle.jh_history.specs.declared.entry.Heard.{Heard}
 use Rattle.jh_history.specs.declared.entry.Heard.TheVariants.{Received, Down, Other, Timeout as Unheard}
-use Rattle.jh_history.specs.declared.entry.Act.TheVariants.{Decide, Note}
+use Rattle.jh_history.specs.declared.entry.Act.TheVariants.{Decide}
 use Rattle.jh_history.specs.Facts.{Facts}
 use Rattle.jh_history.specs.Calls.{is_named}
 use Rattle.jh_history.specs.Phases.{state_word, reply_word, is_down}

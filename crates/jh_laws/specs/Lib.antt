@@ -24,3 +24,4 @@ pub mod Words
 pub mod Notes
 pub mod Devices
 pub mod Creates
+pub mod Programs

@@ -17,8 +17,8 @@ CommitsChangeOf m about = ((config : CellConfig) × (config.id ≡ about) × Cre
 abbrev pub hears_of : ℕ → CellConfig → Bool
 hears_of about config = not (config.id == about) && not (is_passive config)
 
--- the ids of the cells that are told of the change, in order of creation, of those that live besides root just before the
--- entry
+-- the ids of the cells that are told of the change, in order of creation, of those that live besides root just before
+-- the entry
 abbrev pub told_ids : AdmittedMoment → ℕ → List ℕ
 told_ids m about = map (λ (c : CellConfig). c.id) (filter (hears_of about) (cells_before m))
 

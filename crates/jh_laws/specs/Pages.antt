@@ -43,8 +43,8 @@ pub record HasNewMessage (message : ℕ) (before behind : ℕ → ℕ) : Type 0 
   pub reply : HasWord behind 16 0
   pub others : KeepsAllBut 12 20 before behind
 
--- the page begins with the bytes of `JHCOMM` and revision 1; then come the state, no message, no reply and no flags, the
--- 32 bytes of the cell's console, and in eight bytes, the lowest first, where the ECAM window begins; all else is 0
+-- the page begins with the bytes of `JHCOMM` and revision 1; then come the state, no message, no reply and no flags,
+-- the 32 bytes of the cell's console, and in eight bytes, the lowest first, where the ECAM window begins; all else is 0
 pub record IsFreshPage (config : CellConfig) (ecam state : ℕ) (page : ℕ → ℕ) : Type 0 where
   pub name : (page 0 ≡ 74) × (page 1 ≡ 72) × (page 2 ≡ 67) × (page 3 ≡ 79) × (page 4 ≡ 77) × (page 5 ≡ 77)
   pub revision : (page 6 ≡ 1) × (page 7 ≡ 0)
@@ -72,8 +72,8 @@ pub record IsCallOnCell (m : AdmittedMoment) (config : CellConfig) : Type 0 wher
   pub about : IsCallAbout call config.id
   pub lives : Contains (cells_before m) config
 
--- the entry asks the cell with the id to shut down: it is the Decide of a call about it that goes on, and the cell isn't
--- passive
+-- the entry asks the cell with the id to shut down: it is the Decide of a call about it that goes on, and the cell
+-- isn't passive
 pub record AsksToShutDown (m : AdmittedMoment) (id : ℕ) : Type 0 where
   pub config : CellConfig
   pub named : config.id ≡ id
@@ -126,8 +126,8 @@ pub record Starts (m : AdmittedMoment) (config : CellConfig) : Type 0 where
   pub commits : m.entry.act ≡ Commit
   pub lives : Contains (cells_before m) config
 
--- the entry gives the cell of the configuration a fresh page with the state: 2, SHUT_DOWN, where the cell is created, and 0,
--- RUNNING, where it is started
+-- the entry gives the cell of the configuration a fresh page with the state: 2, SHUT_DOWN, where the cell is created,
+-- and 0, RUNNING, where it is started
 abbrev pub RenewsPage : AdmittedMoment → CellConfig → ℕ → Type 0
 RenewsPage m config state = (Creates m config × (state ≡ 2)) ⊎ (Starts m config × (state ≡ 0))
 

@@ -15,8 +15,9 @@ pub record IsPreloaded (image : Image) (place byte : ℕ) : Type 0 where
   pub there : place ≡ preload.at + index
   pub byte_is : byte ≡ slice_index preload.bytes index
 
--- the place is in the word that an ivshmem device of root has in its state table: the table is the region of root with the
--- number that the device says, and the word is the four bytes from 4 times the device's own number among its peers on
+-- the place is in the word that an ivshmem device of root has in its state table: the table is the region of root with
+-- the number that the device says, and the word is the four bytes from 4 times the device's own number among its peers
+-- on
 pub record IsInStateWord (image : Image) (place : ℕ) : Type 0 where
   pub number : ℕ
   pub device : PciDevice

@@ -51,8 +51,8 @@ pub record HasSettled (call : Call) (before behind : Cpu) : Type 0 where
   pub foreign : is_named call before.owner ≡ false → behind ≡ before
   pub rests : before.mode ≢ Running → behind ≡ before
 
--- by its Commit a create lends its cell's CPUs to it, where they rest; a start has the cell's CPUs begin, a set loadable
--- has them rest, and a destroy gives them back to root; every other CPU stays as it is
+-- by its Commit a create lends its cell's CPUs to it, where they rest; a start has the cell's CPUs begin, a set
+-- loadable has them rest, and a destroy gives them back to root; every other CPU stays as it is
 abbrev pub HasCommitted : Image → List CellConfig → List CellConfig → Call → ℕ → Cpu → Cpu → Type 0
 HasCommitted image old new (Create at) i before behind =
     (config : CellConfig) × (new ≡ old ++ config ∷ [])

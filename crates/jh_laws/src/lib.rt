@@ -17,6 +17,7 @@ mod items;
 mod opening;
 mod order;
 mod pages;
+mod programs;
 mod root_alone;
 mod states;
 mod typed;
@@ -26,8 +27,8 @@ mod writes;
 
 pub use calls::{
     a_create_answers_the_new_cells_id, calls_are_decided_by_their_cause, calls_go_phase_by_phase,
-    cells_are_heard_by_their_words, one_call_is_open, other_cells_are_told_in_order, quiet_journals_have_no_open_call,
-    suspended_cpus_make_no_entry, waits_count_the_cells_entries,
+    cells_are_heard_by_their_words, one_call_is_open, other_cells_are_told_in_order,
+    quiet_journals_have_no_open_call, suspended_cpus_make_no_entry, waits_count_the_cells_entries,
 };
 pub use cells::{cpus_belong_to_live_cells, the_check_holds_of_live_cells};
 pub use commits::{cells_live_from_commit_to_commit, configurations_are_read_at_the_decide};
@@ -51,6 +52,7 @@ pub use order::{
     nothing_extends_a_quiet_journal,
 };
 pub use pages::pages_change_by_their_causes;
+pub use programs::cpus_go_on_in_roots_program;
 pub use root_alone::{
     accesses_of_root_alone_go_by_grants, bytes_of_root_alone_are_the_last_written,
     due_entries_of_root_alone_are_their_cpus_own, entries_of_root_alone_follow_the_program,

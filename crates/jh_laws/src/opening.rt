@@ -9,9 +9,9 @@ ghost use Rattle.jh_history.specs.Lives.{program_ops};
 ghost use Rattle.jh_laws.specs.Preloads.{IsPreloaded, IsInStateWord};
 ghost use Rattle.jh_laws.specs.RootAlone.{byte_at, cpu_at};
 
-/// At opening the word of each ivshmem device of root in its state table is 0, whatever a preload puts there. Any other byte
-/// of physical memory is the one that a preload puts there, and 0 where none puts one. Each byte of a communication page
-/// is 0.
+/// At opening the word of each ivshmem device of root in its state table is 0, whatever a preload puts there. Any other
+/// byte of physical memory is the one that a preload puts there, and 0 where none puts one. Each byte of a
+/// communication page is 0.
 pub fn memory_opens_with_the_preloads()
     ensures words { (image : TheImage) (place : ℕ) → IsInStateWord image place → byte_at image [] (Physical place) ≡ 0 }
     ensures put { (image : TheImage) (place byte : ℕ) → IsAdmitted image → (IsInStateWord image place → ⊥) →

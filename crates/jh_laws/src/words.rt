@@ -8,7 +8,8 @@ ghost use Rattle.jh_history.specs.Phases.{state_word, reply_word, is_down};
 ghost use Rattle.jh_laws.specs.Words.{number_in_page};
 
 /// The codes of hypercalls are those of Jailhouse: 1 to 4 create, start, set loadable and destroy a cell, 5 asks for
-/// information about the hypervisor, 6 for the state of a cell and 7 for information about a CPU. Every other is unknown.
+/// information about the hypervisor, 6 for the state of a cell and 7 for information about a CPU. Every other is
+/// unknown.
 pub fn codes_mean_calls()
     ensures create { (a b : ℕ) → decoded 1 a b ≡ CreateAt a }
     ensures start { (a b : ℕ) → decoded 2 a b ≡ StartOf a }
