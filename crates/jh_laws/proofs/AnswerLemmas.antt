@@ -71,7 +71,7 @@ noted_id (Noted id how) = id
 noted_id _ = 0
 
 -- a note is one of its phase
-note_phase : (phase : Phase) (id : ℕ) → Expects phase (Note id) → (about : ℕ) × (answer : ℤ) × (phase ≡ ToNote id about answer)
+pub note_phase : (phase : Phase) (id : ℕ) → Expects phase (Note id) → (about : ℕ) × (answer : ℤ) × (phase ≡ ToNote id about answer)
 note_phase ToDecide id h = absurd (not_same is_note (Note id) (Decide h.0) refl refl h.1)
 note_phase (ToSettle waited) id h = absurd (not_same is_note (Note id) (Settle h.0) refl refl h.1)
 note_phase (ToCreate config) id h = absurd (not_same is_note (Note id) Commit refl refl h)
@@ -127,7 +127,7 @@ own_act image f o entry act sound is due own act_is =
     (entry_of_call image f o entry sound is due)
 
 -- the call behind a Decide that goes on, and behind a note
-decided_call : (image : Image) (f : Facts) (entry : Entry) (o : OpenCall) (call : Call) → f.call ≡ Some o → o.caller ≡ entry.cpu → o.call ≡ call → entry.act ≡ Decide None
+pub decided_call : (image : Image) (f : Facts) (entry : Entry) (o : OpenCall) (call : Call) → f.call ≡ Some o → o.caller ≡ entry.cpu → o.call ≡ call → entry.act ≡ Decide None
     → (after image f entry).call ≡ Some (record { caller = entry.cpu; call = call; phase = after_decide call (coming_by image f call) None })
 decided_call image f entry o call opens caller same act =
     after_call image f entry
@@ -136,7 +136,7 @@ decided_call image f entry o call opens caller same act =
     ∙ ap (λ (k : Call). Some (record { caller = o.caller; call = k; phase = after_decide k (coming_by image f k) None })) same
     ∙ ap (λ (k : ℕ). Some (record { caller = k; call = call; phase = after_decide call (coming_by image f call) None })) caller
 
-noted_call : (image : Image) (f : Facts) (entry : Entry) (o : OpenCall) (id about : ℕ) (answer : ℤ) → f.call ≡ Some o → o.caller ≡ entry.cpu → o.phase ≡ ToNote id about answer → entry.act ≡ Note id
+pub noted_call : (image : Image) (f : Facts) (entry : Entry) (o : OpenCall) (id about : ℕ) (answer : ℤ) → f.call ≡ Some o → o.caller ≡ entry.cpu → o.phase ≡ ToNote id about answer → entry.act ≡ Note id
     → (after image f entry).call ≡ Some (record { caller = entry.cpu; call = o.call; phase = ToNoted id about answer 0 })
 noted_call image f entry o id about answer opens caller phase act =
     after_call image f entry

@@ -8,7 +8,6 @@ use Rattle.std.proofs.lemmas.List.{get_or_default}
 use Rattle.jh_cellcfg.specs.declared.live.Live.{Live}
 use Rattle.jh_cellcfg.specs.Cells.{name_of}
 use Rattle.jh_ivshmem.specs.declared.endpoint.Endpoint.{Endpoint}
-use Rattle.jh_ivshmem.specs.declared.spec.EndpointSpec.{EndpointSpec}
 use Rattle.jh_ivshmem.specs.Links.{endpoint_at}
 use Rattle.jh_script.specs.declared.image.Image.{Image}
 use Rattle.jh_script.specs.declared.image.Preload.{Preload}
@@ -21,7 +20,6 @@ use Rattle.jh_history.specs.declared.entry.Act.TheVariants.{Write}
 use Rattle.jh_history.specs.Facts.{Facts}
 use Rattle.jh_history.specs.Bytes.{byte_written, preloaded, loaded_byte}
 use Rattle.jh_history.specs.Devices.{specs_of}
-use Rattle.jh_history.specs.Endpoints.{with_words}
 use Rattle.jh_history.specs.History.{after, facts}
 use Rattle.jh_history.specs.Due.{IsLegal, IsLegalFrom}
 use Rattle.jh_history.specs.Admitted.{IsAdmitted, has_byte_at, IsOtherPreload}
@@ -31,12 +29,11 @@ use Rattle.jh_laws.specs.Preloads.{IsPreloaded}
 use Rattle.jh_laws.specs.Writes.{WritesByteAlone, WritesNot}
 use Rattle.jh_laws.specs.Written.{IsByteBy}
 use Rattle.jh_laws.specs.Ends.{IsAnsweredByRegister}
-use Rattle.jh_laws.specs.RootAlone.{HasNoShmemDevice}
 use Rattle.jh_laws.proofs.RootLemmas.{op_well_formed}
 use Rattle.jh_laws.proofs.EndsLemmas.{IsSmallAct, op_small_holds}
-use Rattle.jh_laws.proofs.WordLemmas.{words_page}
+use Rattle.jh_laws.proofs.WordLemmas.{AreApart, IsInWords, words_kept, words_page, words_put}
 use Rattle.jh_laws.proofs.WrittenLemmas.{write_puts, write_kept}
-use Rattle.jh_laws.proofs.MadeLemmas.{IsSilent, by_root, IsNext, AllRoots, no_specs_of_root, next_made, roots_after, roots_at, made_at}
+use Rattle.jh_laws.proofs.MadeLemmas.{IsSilent, by_root, IsNext, AllRoots, next_made, roots_after, roots_at, made_at}
 use Rattle.jh_laws.proofs.OutcomeLemmas.{roots_sound}
 use Rattle.jh_laws.proofs.AloneLemmas.{byte_after_roots}
 use Rattle.jh_laws.proofs.FactsLemmas.{byte_after_holds, facts_append}
@@ -163,49 +160,58 @@ opened_put f (p ∷ ps) place zero d lt has apart =
     ∙ ap (λ (b : Bool). cond b (slice_index p.bytes (place - p.at)) (f place)) has
 opened_put f (p ∷ ps) place (suc i) d lt has apart = opened_put (preloaded f p) ps place i d (omega arith) has (apart_later p ps apart)
 
--- the bytes at opening, where root has no device
-opening_is : (image : Image) (q : Place) → HasNoShmemDevice image → (facts image []).byte q ≡ loaded_byte image q
-opening_is image q bare =
-    ap (λ (f : Facts). f.byte q) (facts_nil image)
-    ∙ ap (λ (specs : List EndpointSpec). with_words specs (loaded_byte image) q) (no_specs_of_root image bare)
+-- the bytes at opening, apart from the words of root's devices
+abbrev pub IsApartAtOpening : Image → ℕ → Type 0
+IsApartAtOpening image place = AreApart (specs_of image.system.root) (Physical place)
+
+opening_is : (image : Image) (place : ℕ) → IsApartAtOpening image place → (facts image []).byte (Physical place) ≡ loaded_byte image (Physical place)
+opening_is image place apart =
+    ap (λ (f : Facts). f.byte (Physical place)) (facts_nil image)
+    ∙ words_kept (specs_of image.system.root) (loaded_byte image) (Physical place) apart
+
+-- and in these words
+pub opening_word : (image : Image) (place : ℕ) → IsInWords (specs_of image.system.root) (Physical place) → (facts image []).byte (Physical place) ≡ 0
+opening_word image place h =
+    ap (λ (f : Facts). f.byte (Physical place)) (facts_nil image)
+    ∙ words_put (specs_of image.system.root) (loaded_byte image) h.spec (Physical place) h.index h.among h.there
 
 -- no word of a state table is in a page
 pub opening_page : (image : Image) (cell offset : ℕ) → (facts image []).byte (Page cell offset) ≡ 0
 opening_page image cell offset = ap (λ (f : Facts). f.byte (Page cell offset)) (facts_nil image) ∙ words_page (specs_of image.system.root) (loaded_byte image) cell offset
 
 -- what a preload puts stands there at opening
-opening_put : (image : Image) (place : ℕ) (p : Preload) → IsAdmitted image → HasNoShmemDevice image → Contains image.preloads p → IsTrue (has_byte_at p place) → (facts image []).byte (Physical place) ≡ slice_index p.bytes (place - p.at)
-opening_put image place p admitted bare held has =
+opening_put : (image : Image) (place : ℕ) (p : Preload) → IsAdmitted image → IsApartAtOpening image place → Contains image.preloads p → IsTrue (has_byte_at p place) → (facts image []).byte (Physical place) ≡ slice_index p.bytes (place - p.at)
+opening_put image place p admitted apart held has =
     let same : get_or image.preloads held.0 p ≡ p = held.2 in
-    opening_is image (Physical place) bare
+    opening_is image place apart
     ∙ opened_put (λ _. 0) image.preloads place held.0 p held.1 (ap (λ (q : Preload). has_byte_at q place) same ∙ has) admitted.apart
     ∙ ap (λ (q : Preload). slice_index q.bytes (place - q.at)) same
 
 -- and 0 elsewhere
-opening_none : (image : Image) (place : ℕ) → HasNoShmemDevice image → ((p : Preload) → Contains image.preloads p → IsTrue (has_byte_at p place) → ⊥) → (facts image []).byte (Physical place) ≡ 0
-opening_none image place bare none =
+opening_none : (image : Image) (place : ℕ) → IsApartAtOpening image place → ((p : Preload) → Contains image.preloads p → IsTrue (has_byte_at p place) → ⊥) → (facts image []).byte (Physical place) ≡ 0
+opening_none image place apart none =
     let each : NoneAt image.preloads place = λ k d lt. elim (cases_Bool (has_byte_at (get_or image.preloads k d) place)) [
       | inl has ↦ absurd (none (get_or image.preloads k d) (k, lt, get_or_default image.preloads k (get_or image.preloads k d) d lt) has)
       | inr absent ↦ absent
     ] in
-    opening_is image (Physical place) bare ∙ opened_none (λ _. 0) image.preloads place each
+    opening_is image place apart ∙ opened_none (λ _. 0) image.preloads place each
 
 -- both by the place's number in the preload
 has_byte_there : (p : Preload) (k : ℕ) → k < length p.bytes → has_byte_at p (p.at + k) ≡ true
 has_byte_there p k lt = and_from (leb p.at (p.at + k)) (ltb (p.at + k) (p.at + length p.bytes)) (le-leb p.at (p.at + k) (omega arith)) (lt-ltb (p.at + k) (p.at + length p.bytes) (omega arith))
 
-byte_put : (image : Image) (p : Preload) (k : ℕ) → IsAdmitted image → HasNoShmemDevice image → Contains image.preloads p → k < length p.bytes → (facts image []).byte (Physical (p.at + k)) ≡ slice_index p.bytes k
-byte_put image p k admitted bare held lt =
+byte_put : (image : Image) (p : Preload) (k : ℕ) → IsAdmitted image → IsApartAtOpening image (p.at + k) → Contains image.preloads p → k < length p.bytes → (facts image []).byte (Physical (p.at + k)) ≡ slice_index p.bytes k
+byte_put image p k admitted apart held lt =
     let same : (p.at + k) - p.at ≡ k = omega arith in
-    opening_put image (p.at + k) p admitted bare held (has_byte_there p k lt) ∙ ap (slice_index p.bytes) same
+    opening_put image (p.at + k) p admitted apart held (has_byte_there p k lt) ∙ ap (slice_index p.bytes) same
 
-pub opening_byte : (image : Image) (place byte : ℕ) → IsAdmitted image → HasNoShmemDevice image → IsPreloaded image place byte → (facts image []).byte (Physical place) ≡ byte
-opening_byte image place byte admitted bare by =
-    ap (λ (q : ℕ). (facts image []).byte (Physical q)) by.there ∙ byte_put image by.preload by.index admitted bare by.among by.within ∙ sym by.byte_is
+pub opening_byte : (image : Image) (place byte : ℕ) → IsAdmitted image → IsApartAtOpening image place → IsPreloaded image place byte → (facts image []).byte (Physical place) ≡ byte
+opening_byte image place byte admitted apart by =
+    ap (λ (q : ℕ). (facts image []).byte (Physical q)) by.there ∙ byte_put image by.preload by.index admitted (subst (IsApartAtOpening image) by.there apart) by.among by.within ∙ sym by.byte_is
 
-pub opening_zero : (image : Image) (place : ℕ) → HasNoShmemDevice image → ((byte : ℕ) → IsPreloaded image place byte → ⊥) → (facts image []).byte (Physical place) ≡ 0
-opening_zero image place bare none =
-    opening_none image place bare (λ p held has.
+pub opening_zero : (image : Image) (place : ℕ) → IsApartAtOpening image place → ((byte : ℕ) → IsPreloaded image place byte → ⊥) → (facts image []).byte (Physical place) ≡ 0
+opening_zero image place apart none =
+    opening_none image place apart (λ p held has.
     let parts = and_parts (leb p.at place) (ltb place (p.at + length p.bytes)) has in
     let first : p.at ≤ place = leb-true p.at place parts.0 in
     let last : place < p.at + length p.bytes = ltb-true place (p.at + length p.bytes) parts.1 in

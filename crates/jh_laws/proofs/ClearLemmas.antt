@@ -200,7 +200,7 @@ live_of : (image : Image) (configs : List CellConfig) (config : CellConfig) → 
 live_of image configs config held = ⊎_elim (λ (root : image.system.root ≡ config). inl (sym root)) (λ (later : Contains configs config). inr later) (Contains_cases image.system.root configs config held)
 
 -- an endpoint of the cell is that of one of its devices
-among_specs : (image : Image) (f : Facts) (entry : Entry) (e : Endpoint) (h : IsClear image f entry) → IsSound image f → Contains f.endpoints e → e.spec.cell ≡ h.id → Contains (specs_of h.config) e.spec
+pub among_specs : (image : Image) (f : Facts) (entry : Entry) (e : Endpoint) (h : IsClear image f entry) → IsSound image f → Contains f.endpoints e → e.spec.cell ≡ h.id → Contains (specs_of h.config) e.spec
 among_specs image f entry e h sound held cell =
     let own = owner_of image f e sound held in
     let id : own.0.id ≡ h.config.id = sym (spec_cell own.0 e.spec own.2) ∙ cell ∙ sym h.named in

@@ -433,10 +433,10 @@ named_of cells (Loadable id) config h = let live = live_found cells id (find (ha
 named_of cells (Destroy id) config h = let live = live_found cells id (find (has_id id) cells) config refl h in (live.0, eq-eqb id config.id (sym live.1))
 named_of cells _ config h = absurd (none-some config h)
 
-live_by_id : (image : Image) (cells : List Live) (config : CellConfig) (id : ℕ) → AreSoundCells image.system (configs_of cells) → Contains (configs_of cells) config → config.id ≡ id → live_in cells id ≡ Some config
+pub live_by_id : (image : Image) (cells : List Live) (config : CellConfig) (id : ℕ) → AreSoundCells image.system (configs_of cells) → Contains (configs_of cells) config → config.id ≡ id → live_in cells id ≡ Some config
 live_by_id image cells config id sound held is = let P : ℕ → Type 0 = λ k. live_in cells k ≡ Some config in subst P is (found_by_id image cells config sound held)
 
-of_named : (image : Image) (cells : List Live) (call : Call) (config : CellConfig) → AreSoundCells image.system (configs_of cells) → Contains (configs_of cells) config → is_named call config.id ≡ true → named_cell cells call ≡ Some config
+pub of_named : (image : Image) (cells : List Live) (call : Call) (config : CellConfig) → AreSoundCells image.system (configs_of cells) → Contains (configs_of cells) config → is_named call config.id ≡ true → named_cell cells call ≡ Some config
 of_named image cells (Start id) config sound held named = live_by_id image cells config id sound held (sym (eqb-true id config.id named))
 of_named image cells (Loadable id) config sound held named = live_by_id image cells config id sound held (sym (eqb-true id config.id named))
 of_named image cells (Destroy id) config sound held named = live_by_id image cells config id sound held (sym (eqb-true id config.id named))

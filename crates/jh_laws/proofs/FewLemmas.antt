@@ -1,5 +1,5 @@
 -- What is written are bytes, and what is read of bytes keeps to its types. Cells with a CPU each are few.
-use Rattle.std.proofs.Common.{◌≡◌, ◌≢◌, ℕ, zero, suc, ◌+◌, ◌-◌, ◌/◌, ◌%◌, ◌^◌, ◌<◌, ◌≤◌, List, [], ◌∷◌, ◌&&◌, eqb, length, get_or, take, drop, map, replicate, Option, Some, None, All, refl, sym, ap, subst, ◌∙◌, mod-lt, arith}
+use Rattle.std.proofs.Common.{◌≡◌, ◌≢◌, ℕ, zero, suc, ◌+◌, ◌-◌, ◌/◌, ◌%◌, ◌^◌, ◌<◌, ◌≤◌, List, [], ◌∷◌, ◌&&◌, eqb, length, length-take, min, get_or, take, drop, map, replicate, Option, Some, None, All, refl, sym, ap, subst, ◌∙◌, mod-lt, arith}
 use Rattle.std.specs.Prelude.{AllPairs, Contains, nat_lt, nat_le}
 use Rattle.std.specs.List.{fold}
 use Rattle.std.specs.Int.{byte_at, bytes_low_first, to_le_bytes, from_le_bytes, w16, w32, w64}
@@ -164,6 +164,7 @@ pub record IsTyped (config : CellConfig) : Type 0 where
   pub id : config.id < 2 ^ 32
   pub set : AreBytes config.cpu_set
   pub console : AreBytes config.console
+  pub few : length config.console ≤ 32
 
 word_small : (bytes : List ℕ) → AreBytes bytes → from_le_bytes w32 bytes < 2 ^ 32
 word_small bytes all =
@@ -181,6 +182,7 @@ body_typed body all =
       id = word_small (take 4 (drop 32 body)) (All-take P 4 (drop 32 body) (All-drop P 32 body all));
       set = All-take P _ (drop 124 body) (All-drop P 124 body all);
       console = All-take P 32 (drop 92 body) (All-drop P 92 body all);
+      few = let shorter : length (take 32 (drop 92 body)) ≡ min 32 (length (drop 92 body)) = length-take 32 (drop 92 body) in omega arith;
     }
 
 pub config_typed : (bytes : List ℕ) → AreBytes bytes → IsTyped (config_of bytes)

@@ -74,7 +74,7 @@ state_by image f cell id sound = record {
       rw (eq-eqb cell image.system.root.id own, ne_eqb id image.system.root.id other, nothing) refl;
 }
 
-not_failed : (mode : Mode) → mode ≢ Failed → is_failed mode ≡ false
+pub not_failed : (mode : Mode) → mode ≢ Failed → is_failed mode ≡ false
 not_failed Running other = refl
 not_failed Parked other = refl
 not_failed Failed other = absurd (other refl)

@@ -44,4 +44,16 @@ mod AnswerLemmas
 mod ExchangeLemmas
 mod FailedLemmas
 mod NewIdLemmas
+mod RootProgramLemmas
+mod CreateLemmas
+mod OwnDeviceLemmas
+mod FreshLemmas
+mod ToldLemmas
+mod NoteLemmas
+mod OpeningLemmas
+mod WaitLemmas
+mod PlaceWordLemmas
+mod PageLemmas
+mod PageCauseLemmas
+mod PageLawLemmas
 pub mod Public

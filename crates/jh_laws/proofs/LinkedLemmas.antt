@@ -18,6 +18,7 @@ use Rattle.jh_ivshmem.proofs.Public.{raised_spec, cleared_spec, closed_control, 
 use Rattle.jh_history.specs.declared.device_change.DeviceChange.{DeviceChange}
 use Rattle.jh_history.specs.declared.device_change.DeviceChange.TheVariants.{Join, Reset, Leave}
 use Rattle.jh_history.specs.Endpoints.{endpoint_changed, endpoints_changed}
+use Rattle.jh_laws.specs.Devices.{IsFresh}
 use Rattle.jh_laws.proofs.FindLemmas.{find_agree}
 
 -- ---- one change of those that are meant
@@ -118,17 +119,18 @@ none_cleared Join e list id n none = none
 none_cleared Reset e list id n none = none_changed id n (is_device e.spec.cell e.spec.device) cleared (told_of e 0 list) cleared_spec (none_told e 0 list id n none)
 none_cleared Leave e list id n none = none_filtered id n (λ (x : Endpoint). not (is_device e.spec.cell e.spec.device x.spec)) (told_of e 0 list) (none_told e 0 list id n none)
 
--- the endpoint of the device, if it is there, raises nothing and has nothing pending
+-- the endpoint of the device, if it is there, is as after a reset: it raises nothing and has nothing pending
 pub record IsQuiet (e : Endpoint) : Type 0 where
   pub control : e.control ≡ false
   pub pending : (v : ℕ) → (vector_at e v).pending ≡ false
+  pub as_new : IsFresh e
 
 abbrev pub IsQuietAt : ℕ → ℕ → List Endpoint → Type 0
 IsQuietAt id n list = (o : Endpoint) → endpoint_at id n list ≡ Some o → IsQuiet o
 
 cleared_quiet : (e : Endpoint) → IsQuiet (cleared e)
 unfolding cleared
-cleared_quiet e = record { control = refl; pending = λ v. ap (λ (x : Vector). x.pending) (fresh_at v) }
+cleared_quiet e = record { control = refl; pending = λ v. ap (λ (x : Vector). x.pending) (fresh_at v); as_new = record { memory = refl; bus_master = refl; interrupts_off = refl; bar0 = refl; bar1 = refl; one_shot = refl; masked = refl; enabled = refl; control = refl; state = refl; vectors = fresh_at } }
   where
     fresh_at : (v : ℕ) → get_or fresh_vectors v fresh_vector ≡ fresh_vector
     fresh_at v = grind (arith, common_steps)
@@ -338,7 +340,7 @@ joined_all (s ∷ specs) list id n others =
 
 -- one that joins has nothing pending
 fresh_quiet : (s : EndpointSpec) → IsQuiet (fresh s)
-fresh_quiet s = record { control = refl; pending = λ v. ap (λ (x : Vector). x.pending) (fresh_at v) }
+fresh_quiet s = record { control = refl; pending = λ v. ap (λ (x : Vector). x.pending) (fresh_at v); as_new = record { memory = refl; bus_master = refl; interrupts_off = refl; bar0 = refl; bar1 = refl; one_shot = refl; masked = refl; enabled = refl; control = refl; state = refl; vectors = fresh_at } }
   where
     fresh_at : (v : ℕ) → get_or fresh_vectors v fresh_vector ≡ fresh_vector
     fresh_at v = grind (arith, common_steps)

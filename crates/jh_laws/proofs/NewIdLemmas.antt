@@ -134,7 +134,7 @@ finish_is image f entry answer a sound will due act =
     (λ (beside : IsBeside image f o entry). absurd (both_ways (is_of_call entry.act) beside.act (ap is_of_call act)))
     (entry_of_call image f o entry sound will.1 due)
 
-cells_behind : (image : Image) (before : List Entry) (entry : Entry) → (facts image (before ++ entry ∷ [])).cells ≡ cells_by (facts image before).call (facts image before).cells entry.act
+pub cells_behind : (image : Image) (before : List Entry) (entry : Entry) → (facts image (before ++ entry ∷ [])).cells ≡ cells_by (facts image before).call (facts image before).cells entry.act
 unfolding after
 cells_behind image before entry = ap (λ (f : Facts). f.cells) (facts_push image before entry)
 

@@ -480,7 +480,7 @@ written_state x bar at value list apart is =
     ap (λ (b : Bool). cond b (rung x.spec.bdf (value / 2 ^ 16) (value % 2 ^ 16) list) (cond (eqb bar 0 && eqb at 0x10) (state_written x value list) (changed (is_device x.spec.cell x.spec.device) (register_written bar at value) list))) apart
     ∙ ap (λ (b : Bool). cond b (state_written x value list) (changed (is_device x.spec.cell x.spec.device) (register_written bar at value) list)) is
 
-written_other : (x : Endpoint) (bar at value : ℕ) (list : List Endpoint) → (eqb bar 0 && eqb at 0x0c) ≡ false → (eqb bar 0 && eqb at 0x10) ≡ false → written x bar at value list ≡ changed (is_device x.spec.cell x.spec.device) (register_written bar at value) list
+pub written_other : (x : Endpoint) (bar at value : ℕ) (list : List Endpoint) → (eqb bar 0 && eqb at 0x0c) ≡ false → (eqb bar 0 && eqb at 0x10) ≡ false → written x bar at value list ≡ changed (is_device x.spec.cell x.spec.device) (register_written bar at value) list
 unfolding written
 written_other x bar at value list apart none =
     ap (λ (b : Bool). cond b (rung x.spec.bdf (value / 2 ^ 16) (value % 2 ^ 16) list) (cond (eqb bar 0 && eqb at 0x10) (state_written x value list) (changed (is_device x.spec.cell x.spec.device) (register_written bar at value) list))) apart

@@ -2,7 +2,7 @@
 use Rattle.std.proofs.Common.{◌≡◌, ◌≢◌, ℕ, ◌+◌, ◌-◌, ◌^◌, ◌<◌, ◌≤◌, min, List, [], ◌∷◌, ◌++◌, ℤ, Bool, true, false, cond, not, ◌&&◌, eqb, length, Option, Some, None, is_some, refl, sym, ap, subst, ◌∙◌, arith}
 use Rattle.std.specs.Prelude.{slice_get}
 use Rattle.std.specs.Option.{option_map_or}
-use Rattle.std.proofs.lemmas.Bool.{both_ways, and_left, and_right, eq-eqb, ne_eqb, false≢true}
+use Rattle.std.proofs.lemmas.Bool.{both_ways, and_left, and_right, cond_both, eq-eqb, ne_eqb, false≢true}
 use Rattle.std.proofs.lemmas.Option.{none-some, slice_get_within}
 use Rattle.jh_cellcfg.specs.declared.config.CellConfig.{CellConfig}
 use Rattle.jh_cellcfg.specs.declared.live.Live.{Live}
@@ -10,7 +10,7 @@ use Rattle.jh_cellcfg.specs.Cells.{name_of}
 use Rattle.jh_cpu.specs.declared.cpu.Cpu.{Cpu}
 use Rattle.jh_cpu.specs.declared.cpu.Mode.{Mode}
 use Rattle.jh_cpu.specs.declared.cpu.Mode.TheVariants.{Running, Parked, Failed}
-use Rattle.jh_cpu.specs.Changes.{asked_of, stopped_of, resumed, moved, failed, lent, parked, restarted, returned}
+use Rattle.jh_cpu.specs.Changes.{is_failed, asked_of, stopped_of, resumed, moved, failed, lent, parked, restarted, returned}
 use Rattle.jh_call.specs.declared.call.Call.{Call}
 use Rattle.jh_call.specs.declared.call.Call.TheVariants.{Create, Start, Loadable, Destroy}
 use Rattle.jh_call.specs.Calls.{is_management}
@@ -23,7 +23,7 @@ use Rattle.jh_history.specs.declared.call.Phase.TheVariants.{ToDecide, ToSettle,
 use Rattle.jh_history.specs.declared.change.Change.{Change}
 use Rattle.jh_history.specs.declared.change.Change.TheVariants.{Stay, Step, Fail, Stop as Halt}
 use Rattle.jh_history.specs.declared.entry.Entry.{Entry}
-use Rattle.jh_history.specs.declared.entry.Settled.TheVariants.{Agreed, Timeout}
+use Rattle.jh_history.specs.declared.entry.Settled.TheVariants.{Agreed, Denied, Timeout}
 use Rattle.jh_history.specs.declared.entry.Act.{Act}
 use Rattle.jh_history.specs.declared.entry.Act.TheVariants.{Read, Write, Fetch, Await, Irq, Hvc, Begin, Stop, Decide, Settle, Commit, Note, Noted, Finish}
 use Rattle.jh_history.specs.Facts.{Facts}
@@ -38,11 +38,12 @@ use Rattle.jh_history.specs.Due.{is_idle_but, IsLegal}
 use Rattle.jh_history.proofs.Public.{facts_push, due_split, IsLegal_begin, configs_joined, legal_sound, after_cells, call_open, few_operations}
 use Rattle.jh_history.specs.Sound.{IsCaller, IsInPhase}
 use Rattle.jh_laws.specs.Ways.{is_phase, is_undenied_settle, begun_call}
-use Rattle.jh_laws.specs.Moves.{stepped, ended}
+use Rattle.jh_laws.specs.Moves.{stepped, ended, IsLentTo, IsGivenBack}
 use Rattle.jh_laws.specs.Outcomes.{is_violation}
-use Rattle.jh_laws.specs.States.{changes_others, is_stop_act, HasBegun, HasSettled, HasCommitted, HasFinished}
+use Rattle.jh_laws.specs.States.{changes_others, changes_none, is_stop_act, HasBegun, HasSettled, HasCommitted, HasFinished}
 use Rattle.jh_laws.proofs.CallLemmas.{Expects, phase_expects, phase_of_due, same_call, not_same, IsMadeBy, Stopping, Running as Runs, Calling, made_by, phase_call}
 use Rattle.jh_laws.proofs.FactsLemmas.{cpu_after_holds}
+use Rattle.jh_laws.proofs.HvcLemmas.{not_failed}
 
 -- CPU i behind an entry
 pub behind_cpu : (image : Image) (before : List Entry) (entry : Entry) (i : ℕ) → (facts image (before ++ entry ∷ [])).cpu i ≡ acted image (facts image before).call entry.act entry.cpu i ((facts image before).cpu i)
@@ -150,6 +151,25 @@ others_by image call _ own i cpu a other = absurd (false≢true (sym a))
 pub others_kept : (image : Image) (before : List Entry) (entry : Entry) (i : ℕ) → changes_others entry.act ≡ false → i ≢ entry.cpu → (facts image (before ++ entry ∷ [])).cpu i ≡ (facts image before).cpu i
 others_kept image before entry i a other = behind_cpu image before entry i ∙ others_by image (facts image before).call entry.act entry.cpu i ((facts image before).cpu i) a other
 
+-- ---- what changes no CPU
+
+stay_own : (own i : ℕ) (cpu : Cpu) → cond (eqb i own) (changed Stay cpu) cpu ≡ cpu
+stay_own own i cpu = let P : Cpu → Type 0 = λ c. c ≡ cpu in cond_both (eqb i own) cpu cpu P (λ _. refl) (λ _. refl)
+
+denied_stay : (call : Option OpenCall) (cpu : Cpu) → option_map_or (λ (o : OpenCall). cpu_by_settle false o.call cpu) call cpu ≡ cpu
+denied_stay None cpu = refl
+denied_stay (Some o) cpu = refl
+
+stay_by : (image : Image) (call : Option OpenCall) (act : Act) (own i : ℕ) (cpu : Cpu) → changes_none act ≡ true → acted image call act own i cpu ≡ cpu
+stay_by image call (Decide refused) own i cpu h = stay_own own i cpu
+stay_by image call (Settle Denied) own i cpu h = denied_stay call cpu
+stay_by image call (Note id) own i cpu h = stay_own own i cpu
+stay_by image call (Noted id how) own i cpu h = stay_own own i cpu
+stay_by image call _ own i cpu h = absurd (false≢true h)
+
+pub cpus_stay : (image : Image) (before : List Entry) (entry : Entry) (i : ℕ) → changes_none entry.act ≡ true → (facts image (before ++ entry ∷ [])).cpu i ≡ (facts image before).cpu i
+cpus_stay image before entry i h = behind_cpu image before entry i ∙ stay_by image (facts image before).call entry.act entry.cpu i ((facts image before).cpu i) h
+
 -- ---- the beginning and the end of a call
 
 not_running : (mode : Mode) → mode ≢ Running → is_running mode ≡ false
@@ -234,7 +254,7 @@ pub record IsPhaseBegun (image : Image) (before : List Entry) (entry : Entry) (c
   pub holds : IsInPhase image (configs_of (facts image before).cells) (facts image before).cpu entry.cpu call phase
   pub manages : is_management call ≡ true
 
-phase_begun : (image : Image) (before rest : List Entry) (entry : Entry) (call : Call) → IsAdmitted image → IsLegal image (before ++ entry ∷ rest) → begun_call before ≡ Some call → is_phase entry.act ≡ true → IsPhaseBegun image before entry call
+pub phase_begun : (image : Image) (before rest : List Entry) (entry : Entry) (call : Call) → IsAdmitted image → IsLegal image (before ++ entry ∷ rest) → begun_call before ≡ Some call → is_phase entry.act ≡ true → IsPhaseBegun image before entry call
 phase_begun image before rest entry call admitted legal is phase =
     let f : Facts = facts image before in
     let sound = legal_sound image before admitted (IsLegal_begin image before (entry ∷ rest) legal) in
@@ -272,6 +292,30 @@ settle_cpus image before rest entry call i admitted legal is agreed =
     let P : Cpu → Type 0 = HasSettled call (f.cpu i) in
     subst P (sym (behind_cpu image before entry i)) (settle_by image f.call (record { caller = entry.cpu; call = call; phase = of.phase }) entry.act entry.cpu i (f.cpu i) of.opens agreed)
 
+is_lent : (id : ℕ) (cpu : Cpu) → IsLentTo id cpu (lent id cpu)
+is_lent id cpu = record {
+  owner = refl;
+  mode = refl;
+  asked = refl;
+  stopped = refl;
+  position = refl;
+  root_position = refl;
+  failed = λ is. ap is_failed is;
+  unfailed = λ other. not_failed cpu.mode other;
+}
+
+is_given_back : (root end : ℕ) (cpu : Cpu) → IsGivenBack root end cpu (returned root end cpu)
+is_given_back root end cpu = record {
+  owner = refl;
+  mode = refl;
+  asked = refl;
+  stopped = refl;
+  ended = λ is. ap (λ (b : Bool). cond b end cpu.root_position) is;
+  position = λ is. ap (λ (b : Bool). cond b end cpu.root_position) is;
+  root_position = refl;
+  failed = refl;
+}
+
 created_cpus : (image : Image) (cells made : List Live) (cpu : ℕ → Cpu) (caller at i : ℕ) (phase : Phase) → Expects phase Commit → IsInPhase image (configs_of cells) cpu caller (Create at) phase → made ≡ committed_cells (Create at) phase cells
     → HasCommitted image (configs_of cells) (configs_of made) (Create at) i (cpu i) (cpu_by_commit image (Create at) phase i (cpu i))
 created_cpus image cells made cpu caller at i ToDecide e h is = absurd (not_same is_commit Commit (Decide e.0) refl refl e.1)
@@ -279,7 +323,7 @@ created_cpus image cells made cpu caller at i (ToSettle waited) e h is = absurd 
 created_cpus image cells made cpu caller at i (ToCreate config) e h is = (
   config,
   ap configs_of is ∙ configs_joined cells config,
-  λ set. ap (λ (b : Bool). cond b (lent config.id (cpu i)) (cpu i)) set,
+  λ set. (let P : Cpu → Type 0 = IsLentTo config.id (cpu i) in subst P (sym (ap (λ (b : Bool). cond b (lent config.id (cpu i)) (cpu i)) set)) (is_lent config.id (cpu i))),
   λ none. ap (λ (b : Bool). cond b (lent config.id (cpu i)) (cpu i)) none,
 )
 created_cpus image cells made cpu caller at i ToCommit e h is = absurd (both_ways false refl h.2)
@@ -299,7 +343,12 @@ commit_by : (image : Image) (cells made : List Live) (cpu : ℕ → Cpu) (caller
 commit_by image cells made cpu caller i (Create at) phase manages e h is = created_cpus image cells made cpu caller at i phase e h is
 commit_by image cells made cpu caller i (Start id) phase manages e h is = owner_changed restarted id (cpu i)
 commit_by image cells made cpu caller i (Loadable id) phase manages e h is = owner_changed parked id (cpu i)
-commit_by image cells made cpu caller i (Destroy id) phase manages e h is = owner_changed (returned image.system.root.id (length (program_ops image (name_of image.system.root) i))) id (cpu i)
+commit_by image cells made cpu caller i (Destroy id) phase manages e h is =
+    let root : ℕ = image.system.root.id in
+    let end : ℕ = length (program_ops image (name_of image.system.root) i) in
+    let back = owner_changed (returned root end) id (cpu i) in
+    let P : Cpu → Type 0 = IsGivenBack root end (cpu i) in
+    (λ own. subst P (sym (back.0 own)) (is_given_back root end (cpu i)), back.1)
 commit_by image cells made cpu caller i _ phase manages e h is = both_ways false refl manages
 
 pub commit_cpus : (image : Image) (before rest : List Entry) (entry : Entry) (call : Call) (i : ℕ) → IsAdmitted image → IsLegal image (before ++ entry ∷ rest) → begun_call before ≡ Some call → entry.act ≡ Commit

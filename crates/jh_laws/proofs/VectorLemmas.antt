@@ -80,10 +80,10 @@ none_acted image f cell (Irq device vector) id n none = none_changed id n (is_de
 none_acted image f cell _ id n none = none
 
 -- behind an entry that is no Commit stands what its act leaves
-after_acted : (image : Image) (f : Facts) (entry : Entry) → is_commit entry.act ≡ false → endpoints_after image f entry ≡ endpoints_acted image f entry.cell entry.act
+pub after_acted : (image : Image) (f : Facts) (entry : Entry) → is_commit entry.act ≡ false → endpoints_after image f entry ≡ endpoints_acted image f entry.cell entry.act
 after_acted image f entry other = ap (λ (specs : List EndpointSpec). endpoints_changed (change_by f.call) specs (endpoints_acted image f entry.cell entry.act)) (specs_none f entry.act other)
 
-quiet_none : (id n : ℕ) (list : List Endpoint) → endpoint_at id n list ≡ None → IsQuietAt id n list
+pub quiet_none : (id n : ℕ) (list : List Endpoint) → endpoint_at id n list ≡ None → IsQuietAt id n list
 quiet_none id n list none o there = absurd (none-some o (sym none ∙ there))
 
 none_quiet : (image : Image) (f : Facts) (entry : Entry) (id n : ℕ) → IsSound image f → due_at image f entry.cpu ≡ Some entry → endpoint_at id n f.endpoints ≡ None → IsQuietAt id n (endpoints_after image f entry)
@@ -113,7 +113,7 @@ entry_now image f entry id n e sound due small there =
     inl (record { endpoint = now.endpoint; there = ap (endpoint_at id n) (after_acted image f entry other) ∙ now.there; become = now.become }))
     (commit_or entry.act)
 
-endpoints_behind : (image : Image) (before : List Entry) (entry : Entry) → (facts image (before ++ entry ∷ [])).endpoints ≡ endpoints_after image (facts image before) entry
+pub endpoints_behind : (image : Image) (before : List Entry) (entry : Entry) → (facts image (before ++ entry ∷ [])).endpoints ≡ endpoints_after image (facts image before) entry
 unfolding after
 endpoints_behind image before entry = ap (λ (f : Facts). f.endpoints) (facts_push image before entry)
 

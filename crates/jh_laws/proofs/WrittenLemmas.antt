@@ -245,7 +245,7 @@ word_by image f entry place byte sound small h =
     h.writes
 
 -- an entry that changes a page writes nothing itself
-quiet_act : (image : Image) (f : Facts) (entry : Entry) (act : Act) (write : PageWrite) → page_write_by image f entry act ≡ Some write → byte_written image f entry.cell act ≡ f.byte
+pub quiet_act : (image : Image) (f : Facts) (entry : Entry) (act : Act) (write : PageWrite) → page_write_by image f entry act ≡ Some write → byte_written image f entry.cell act ≡ f.byte
 quiet_act image f entry (Write width at value true) write is = absurd (none-some write is)
 quiet_act image f entry _ write is = refl
 
@@ -254,7 +254,7 @@ page_puts byte write offset within =
     ap (λ (b : Bool). cond b (page_after write.change (λ k. byte (Page write.cell k)) offset) (byte (Page write.cell offset)))
     (and_from (eqb write.cell write.cell) (nat_lt offset 4096) (same_number write.cell) (lt-ltb offset 4096 within))
 
-paged_by : (image : Image) (f : Facts) (entry : Entry) (place : Place) (byte : ℕ) (write : PageWrite) → page_write_by image f entry entry.act ≡ Some write → IsByteOfPage f write place byte → byte_after image f entry place ≡ byte
+pub paged_by : (image : Image) (f : Facts) (entry : Entry) (place : Place) (byte : ℕ) (write : PageWrite) → page_write_by image f entry entry.act ≡ Some write → IsByteOfPage f write place byte → byte_after image f entry place ≡ byte
 paged_by image f entry place byte write is h =
     let words : Place → ℕ = with_words (specs_changing f entry.act) f.byte in
     ap (λ (w : Option PageWrite). with_page_write w (with_words (specs_changing f entry.act) (byte_written image f entry.cell entry.act)) place) is
@@ -326,7 +326,7 @@ kept_act image f id (Write width at value true) place sound small none apart =
     write_kept image f id at width value place sound small.1 (λ byte h. none byte (refl, h)) (λ n e by other. apart value e (refl, refl, (n, by)) other)
 kept_act image f id _ place sound small none apart = refl
 
-page_keeps : (byte : Place → ℕ) (write : Option PageWrite) (place : Place) → ((w : PageWrite) (offset : ℕ) → write ≡ Some w → offset < 4096 → place ≡ Page w.cell offset → ⊥) → with_page_write write byte place ≡ byte place
+pub page_keeps : (byte : Place → ℕ) (write : Option PageWrite) (place : Place) → ((w : PageWrite) (offset : ℕ) → write ≡ Some w → offset < 4096 → place ≡ Page w.cell offset → ⊥) → with_page_write write byte place ≡ byte place
 page_keeps byte None place none = refl
 page_keeps byte (Some write) (Physical p) none = refl
 page_keeps byte (Some write) (Page cell offset) none =

@@ -1,20 +1,24 @@
 -- How a cell met the request to shut down, and the note of a change.
-use Rattle.std.specs.Prelude.{◌≡◌, ◌≢◌, ◌^◌, ◌-◌, ℕ, true, false, ◌==◌, min, List, count_by, Contains}
+use Rattle.std.specs.Prelude.{◌≡◌, ◌≢◌, ◌^◌, ◌-◌, ℕ, true, false, ◌==◌, min, List, count_by, All, Contains, Some, None}
 use Rattle.jh_cellcfg.specs.declared.config.CellConfig.{CellConfig}
 use Rattle.jh_cellcfg.specs.Cells.{is_passive}
 use Rattle.jh_shape.specs.Lives.{configs_of}
 use Rattle.jh_comm.specs.declared.words.TheConstants.{REPLY_REQUEST_APPROVED, REPLY_RECEIVED}
 use Rattle.jh_call.specs.declared.call.Call.{Call}
 use Rattle.jh_script.specs.declared.image.Image.{Image}
+use Rattle.jh_history.specs.declared.call.OpenCall.{OpenCall}
+use Rattle.jh_history.specs.declared.call.Phase.{Phase}
 use Rattle.jh_history.specs.declared.entry.Entry.{Entry}
 use Rattle.jh_history.specs.declared.entry.Settled.{Settled}
 use Rattle.jh_history.specs.declared.entry.Settled.TheVariants.{Agreed, Denied, Timeout}
 use Rattle.jh_history.specs.declared.entry.Heard.{Heard}
 use Rattle.jh_history.specs.declared.entry.Heard.TheVariants.{Received, Down, Other, Timeout as Unheard}
+use Rattle.jh_history.specs.declared.entry.Act.TheVariants.{Decide}
 use Rattle.jh_history.specs.Facts.{Facts}
 use Rattle.jh_history.specs.Calls.{is_named}
 use Rattle.jh_history.specs.Phases.{state_word, reply_word, is_down}
-use Rattle.jh_laws.specs.Moments.{AdmittedSpan, facts_before_last}
+use Rattle.jh_laws.specs.Moments.{AdmittedMoment, AdmittedSpan, call_before, facts_at_end, facts_before_last}
+use Rattle.jh_laws.specs.Pages.{IsCallAbout}
 use Rattle.jh_laws.specs.Ready.{IsTimeOver}
 
 -- how many of the entries were made by CPUs of the cell that the call is about, but at most the last number of 64 bits
@@ -55,3 +59,23 @@ pub record IsHeardAtLast (s : AdmittedSpan) (id : ℕ) (how : Heard) : Type 0 wh
   pub lives : Contains (configs_of (facts_before_last s).cells) config
   pub named : config.id ≡ id
   pub hears : IsHeardBy s.image (facts_before_last s) s.first.cpu config (made_by_cell id s.between) how
+
+-- ---- the count
+
+-- the CPU of the entry makes none of the rest
+abbrev pub RestsBehind : AdmittedMoment → Type 0
+RestsBehind m = All (λ (e : Entry). e.cpu ≢ m.entry.cpu) m.rest
+
+-- the entry asks the cell with the id to shut down, passive or not: it is the Decide of a call about it that goes on
+pub record IsAsked (m : AdmittedMoment) (id : ℕ) : Type 0 where
+  pub call : Call
+  pub begun : call_before m ≡ Some call
+  pub about : IsCallAbout call id
+  pub goes : m.entry.act ≡ Decide None
+
+-- after the whole journal the call of the entry's CPU is open, and in the phase
+pub record HasCallIn (m : AdmittedMoment) (phase : Phase) : Type 0 where
+  pub open_call : OpenCall
+  pub is : (facts_at_end m).call ≡ Some open_call
+  pub caller : open_call.caller ≡ m.entry.cpu
+  pub there : open_call.phase ≡ phase

@@ -19,3 +19,9 @@ pub mod Exchanges
 pub mod Typed
 pub mod Creations
 pub mod Preloads
+pub mod Pages
+pub mod Words
+pub mod Notes
+pub mod Devices
+pub mod Creates
+pub mod Programs

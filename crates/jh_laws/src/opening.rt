@@ -6,15 +6,17 @@ ghost use Rattle.jh_script.specs.declared.image.Program.{Program as TheProgram};
 ghost use Rattle.jh_history.specs.declared.place.Place.TheVariants.{Physical, Page};
 ghost use Rattle.jh_history.specs.Admitted.{IsAdmitted};
 ghost use Rattle.jh_history.specs.Lives.{program_ops};
-ghost use Rattle.jh_laws.specs.Preloads.{IsPreloaded};
-ghost use Rattle.jh_laws.specs.RootAlone.{HasNoShmemDevice, byte_at, cpu_at};
+ghost use Rattle.jh_laws.specs.Preloads.{IsPreloaded, IsInStateWord};
+ghost use Rattle.jh_laws.specs.RootAlone.{byte_at, cpu_at};
 
-/// Where root has no ivshmem device, a byte of physical memory is at opening the one that a preload puts there, and 0
-/// where none puts one. Each byte of a communication page is 0.
+/// At opening the word of each ivshmem device of root in its state table is 0, whatever a preload puts there. Any other
+/// byte of physical memory is the one that a preload puts there, and 0 where none puts one. Each byte of a
+/// communication page is 0.
 pub fn memory_opens_with_the_preloads()
-    ensures put { (image : TheImage) (place byte : ℕ) → IsAdmitted image → HasNoShmemDevice image →
+    ensures words { (image : TheImage) (place : ℕ) → IsInStateWord image place → byte_at image [] (Physical place) ≡ 0 }
+    ensures put { (image : TheImage) (place byte : ℕ) → IsAdmitted image → (IsInStateWord image place → ⊥) →
         IsPreloaded image place byte → byte_at image [] (Physical place) ≡ byte }
-    ensures zero { (image : TheImage) (place : ℕ) → IsAdmitted image → HasNoShmemDevice image →
+    ensures zero { (image : TheImage) (place : ℕ) →
         ((byte : ℕ) → IsPreloaded image place byte → ⊥) → byte_at image [] (Physical place) ≡ 0 }
     ensures pages { (image : TheImage) (cell offset : ℕ) → byte_at image [] (Page cell offset) ≡ 0 }
 {}

@@ -2,7 +2,6 @@
 ghost use Rattle.std.specs.Prelude.{◌≡◌, ◌≢◌, ◌↔◌, ℕ, ℤ, true, false, Some, IsSome};
 ghost use Rattle.jh_cellcfg.specs.declared.config.CellConfig.{CellConfig as TheConfig};
 ghost use Rattle.jh_cpu.specs.declared.cpu.Mode.TheVariants.{Running as Runs};
-ghost use Rattle.jh_cpu.specs.Changes.{stopped_of};
 ghost use Rattle.jh_call.specs.declared.call.Call.{Call as TheCall};
 ghost use Rattle.jh_script.specs.declared.op.Op.{Op as TheOp};
 ghost use Rattle.jh_history.specs.Lives.{is_on_board};
@@ -17,9 +16,9 @@ ghost use Rattle.jh_history.specs.Sound.{IsCalm};
 ghost use Rattle.jh_history.specs.Calls.{is_of_call};
 ghost use Rattle.jh_laws.specs.Held.{IsRootOrLive};
 ghost use Rattle.jh_laws.specs.Operations.{op_of_act, op_before};
-ghost use Rattle.jh_laws.specs.Moves.{stepped, ended};
+ghost use Rattle.jh_laws.specs.Moves.{stepped, ended, halted};
 ghost use Rattle.jh_laws.specs.Outcomes.{is_violation};
-ghost use Rattle.jh_laws.specs.States.{changes_others, is_stop_act, HasBegun, HasSettled, HasCommitted, HasFinished};
+ghost use Rattle.jh_laws.specs.States.{changes_others, changes_none, is_stop_act, HasBegun, HasSettled, HasCommitted, HasFinished};
 
 /// An entry of a program, but the beginning of a call, moves its CPU by one operation, and a violation fails it, too. A
 /// stop stops it. No other CPU changes, unless the entry begins or ends a call, or is a Settle or a Commit.
@@ -29,14 +28,14 @@ pub fn entries_change_their_cpu()
     ensures failed { (m : AdmittedMoment) → is_violation m.entry.act ≡ true →
         state_behind m m.entry.cpu ≡ ended (state_before m m.entry.cpu) }
     ensures stopped { (m : AdmittedMoment) → m.entry.act ≡ Stop →
-        state_behind m m.entry.cpu ≡ stopped_of (state_before m m.entry.cpu) }
+        state_behind m m.entry.cpu ≡ halted (state_before m m.entry.cpu) }
     ensures others { (m : AdmittedMoment) (cpu : ℕ) → changes_others m.entry.act ≡ false → cpu ≢ m.entry.cpu →
         state_behind m cpu ≡ state_before m cpu }
 {}
 
 /// A beginning asks root's other running CPUs to stop, and a Settle that isn't denied those of the cell. A Commit
 /// lends, starts, parks or gives back the cell's CPUs. By the end of a call root's CPUs go on, and the caller has
-/// done its operation. Every other CPU stays as it is.
+/// done its operation. Every other CPU stays as it is. A Decide, a denied Settle, a Note and a Noted change none.
 pub fn calls_change_cpus()
     ensures begin { (m : AdmittedMoment) (code a b cpu : ℕ) → m.entry.act ≡ Begin code a b →
         HasBegun m.image m.entry.cpu cpu (state_before m cpu) (state_behind m cpu) }
@@ -46,6 +45,7 @@ pub fn calls_change_cpus()
         HasCommitted m.image (cells_before m) (cells_behind m) call cpu (state_before m cpu) (state_behind m cpu) }
     ensures finish { (m : AdmittedMoment) (answer : ℤ) (cpu : ℕ) → m.entry.act ≡ Finish answer →
         HasFinished m.image m.entry.cpu cpu (state_before m cpu) (state_behind m cpu) }
+    ensures stay { (m : AdmittedMoment) (cpu : ℕ) → changes_none m.entry.act ≡ true → state_behind m cpu ≡ state_before m cpu }
 {}
 
 /// An entry is made by a CPU of the board in the name of its cell. But for a stop, the CPU runs, and is neither

@@ -1,5 +1,5 @@
 -- By the call that was begun.
-use Rattle.jh_laws.proofs.StatesLemmas.{begin_cpus, settle_cpus, commit_cpus, finish_cpus}
+use Rattle.jh_laws.proofs.StatesLemmas.{begin_cpus, settle_cpus, commit_cpus, finish_cpus, cpus_stay}
 use Rattle.jh_laws.proofs.states.calls_change_cpus.Goals as goal
 
 pub returns-clause-begin : goal.returns-clause-begin
@@ -13,3 +13,6 @@ returns-clause-commit c = λ m call cpu. commit_cpus m.image m.before m.rest m.e
 
 pub returns-clause-finish : goal.returns-clause-finish
 returns-clause-finish c = λ m answer cpu act. finish_cpus m.image m.before m.rest m.entry answer cpu m.admitted m.legal act
+
+pub returns-clause-stay : goal.returns-clause-stay
+returns-clause-stay c = λ m cpu none. cpus_stay m.image m.before m.entry cpu none
