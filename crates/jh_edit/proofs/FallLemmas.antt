@@ -48,13 +48,13 @@ emptied_lacks want Invalid = refl
 emptied_lacks want (Table next) = refl
 emptied_lacks want (Leaf o r v) = leaf_lacks want o r v (is_wrong_leaf want (Leaf o r v)) refl
 
-emptied_lacking : (much : ℕ) (want : Want) (d : Descriptor) → lacking much want (emptied want d) ≡ lacking much want d
+pub emptied_lacking : (much : ℕ) (want : Want) (d : Descriptor) → lacking much want (emptied want d) ≡ lacking much want d
 emptied_lacking much want Invalid = refl
 emptied_lacking much want (Table next) = refl
 emptied_lacking much want (Leaf o r v) = leaf_lacking much want o r v (is_wrong_leaf want (Leaf o r v))
 
 -- a table below counts as it did, so the slot does
-emptied_next : (f g : ℕ → ℕ) (want : Want) (d : Descriptor) → ((next : ℕ) → d ≡ Table next → f next ≡ g next) → by_next f (emptied want d) ≡ by_next g d
+pub emptied_next : (f g : ℕ → ℕ) (want : Want) (d : Descriptor) → ((next : ℕ) → d ≡ Table next → f next ≡ g next) → by_next f (emptied want d) ≡ by_next g d
 emptied_next f g want Invalid h = refl
 emptied_next f g want (Table next) h = h next refl
 emptied_next f g want (Leaf o r v) h = leaf_next f o r v (is_wrong_leaf want (Leaf o r v))
@@ -89,7 +89,7 @@ filled_lacks Nothing d = refl
 filled_lacks WantTable d = refl
 filled_lacks (WantLeaf o r v) d = ap not (leaf_self o r v)
 
-filled_lacking : (much : ℕ) (want : Want) (d : Descriptor) → lacking much want (filled want d) ≡ lacking much want d
+pub filled_lacking : (much : ℕ) (want : Want) (d : Descriptor) → lacking much want (filled want d) ≡ lacking much want d
 filled_lacking much Nothing d = refl
 filled_lacking much WantTable d = refl
 filled_lacking much (WantLeaf o r v) d = refl
@@ -99,7 +99,7 @@ none_next g Invalid none = refl
 none_next g (Leaf o r v) none = refl
 none_next g (Table next) none = absurd (none next refl)
 
-filled_next : (f g : ℕ → ℕ) (want : Want) (d : Descriptor) → (is_to_table want ≡ false → (next : ℕ) → d ≡ Table next → ⊥) → ((next : ℕ) → d ≡ Table next → f next ≡ g next) → by_next f (filled want d) ≡ by_next g d
+pub filled_next : (f g : ℕ → ℕ) (want : Want) (d : Descriptor) → (is_to_table want ≡ false → (next : ℕ) → d ≡ Table next → ⊥) → ((next : ℕ) → d ≡ Table next → f next ≡ g next) → by_next f (filled want d) ≡ by_next g d
 filled_next f g Nothing d none h = next_same f g d h
 filled_next f g WantTable d none h = next_same f g d h
 filled_next f g (WantLeaf o r v) d none h = none_next g d (none refl)

@@ -80,7 +80,7 @@ next_none f (Leaf out rights device) h = refl
 next_none f (Table next) h = h next
 
 -- below a table that goes nothing is lacked
-gone_lacks : (want : Wants) (word : ℕ → ℕ) (n table : ℕ) → count_from (staying want) (lack_at want) word n None table ≡ 0
+pub gone_lacks : (want : Wants) (word : ℕ → ℕ) (n table : ℕ) → count_from (staying want) (lack_at want) word n None table ≡ 0
 gone_lacks want word zero table = count_none (staying want) (lack_at want) word None table
 gone_lacks want word (suc n) table =
     let B = λ (i : ℕ). by_next (count_from (staying want) (lack_at want) word n None) (read_of (word (table + 8 * i)) (LAST_LEVEL - n)) in

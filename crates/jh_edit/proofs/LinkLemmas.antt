@@ -21,7 +21,7 @@ use Rattle.jh_edit.proofs.SumLemmas.{any_same, count_more}
 use Rattle.jh_edit.proofs.BoundLemmas.{gone_turns}
 
 -- a fact of all slots, from that of the one and those of the others
-each : (P : ℕ → Type 0) (k : ℕ) → P k → ((i : ℕ) → i < 512 → i ≢ k → P i) → (i : ℕ) → i < 512 → P i
+pub each : (P : ℕ → Type 0) (k : ℕ) → P k → ((i : ℕ) → i < 512 → i ≢ k → P i) → (i : ℕ) → i < 512 → P i
 each P k here others i lt = ⊎_elim (λ is. subst P (sym is) here) (λ apart. others i lt apart) (cases_eq i k)
 
 pub linked_falls : (want : Wants) (word word' : ℕ → ℕ) (n table start slot next : ℕ) → LinksTable want word word' n table start slot next → KeepsTurnsBelow want word word' n table start
@@ -63,7 +63,7 @@ none_lacked Nothing next = refl
 none_lacked WantTable next = refl
 none_lacked (WantLeaf out rights device) next = refl
 
-none_lacking : (much : ℕ) (want : Want) (d : Descriptor) → is_to_table want ≡ false → lacking much want d ≡ 0
+pub none_lacking : (much : ℕ) (want : Want) (d : Descriptor) → is_to_table want ≡ false → lacking much want d ≡ 0
 none_lacking much Nothing d e = refl
 none_lacking much WantTable d e = absurd (false≢true (sym e))
 none_lacking much (WantLeaf out rights device) d e = refl

@@ -24,7 +24,7 @@ no_lack Nothing d e = refl
 no_lack WantTable d e = refl
 no_lack (WantLeaf o r v) d e = ap (lacks_leaf (WantLeaf o r v)) e ∙ ap not (leaf_self o r v)
 
-no_next : (f : ℕ → ℕ) (want : Want) (d : Descriptor) → IsMade want d → by_next f d ≡ 0
+pub no_next : (f : ℕ → ℕ) (want : Want) (d : Descriptor) → IsMade want d → by_next f d ≡ 0
 no_next f Nothing d e = ap (by_next f) e
 no_next f WantTable d e = ap (by_next f) e
 no_next f (WantLeaf o r v) d e = ap (by_next f) e

@@ -23,7 +23,7 @@ use Rattle.jh_edit.proofs.SumLemmas.{any_same}
 
 -- ---- turns
 
-same_turns_at : (want : Wants) (word word' : ℕ → ℕ) (n page : ℕ) (state : Option ℕ) → ((i : ℕ) → i < 512 → word' (page + 8 * i) ≡ word (page + 8 * i)) → turns_at want state word' n page ≡ turns_at want state word n page
+pub same_turns_at : (want : Wants) (word word' : ℕ → ℕ) (n page : ℕ) (state : Option ℕ) → ((i : ℕ) → i < 512 → word' (page + 8 * i) ≡ word (page + 8 * i)) → turns_at want state word' n page ≡ turns_at want state word n page
 same_turns_at want word word' n page None e = refl
 same_turns_at want word word' n page (Some start) e =
     let W = λ (i : ℕ). want (LAST_LEVEL - n) (slot_start (LAST_LEVEL - n) start i) in
@@ -35,12 +35,12 @@ same_turns_at want word word' n page (Some start) e =
     let tables : sum_below 512 (K word') ≡ sum_below 512 (K word) = sum_same 512 (K word') (K word) (λ i lt. ap (λ w. lacking (2 * tables_under want n (slot_start (LAST_LEVEL - n) start i)) (W i) (read_of w (LAST_LEVEL - n))) (e i lt)) in
     omega arith
 
-same_weights : (want : Wants) (word word' : ℕ → ℕ) (n table : ℕ) → HaveSameTables word word' n table → HaveSameWeights (turns_at want) word word' n table
+pub same_weights : (want : Wants) (word word' : ℕ → ℕ) (n table : ℕ) → HaveSameTables word word' n table → HaveSameWeights (turns_at want) word word' n table
 same_weights want word word' n table same = λ state m page some. same_turns_at want word word' m page state (λ i lt. same.words page i some lt)
 
 -- ---- the page that is ahead
 
-same_reached : (step : Step) (word word' : ℕ → ℕ) (n : ℕ) (s : Option ℕ) (table left : ℕ) (there : Option ℕ) (page : ℕ) → HaveSameTables word word' n table → IsReachedAs step word n s table left there page → IsReachedAs step word' n s table left there page
+pub same_reached : (step : Step) (word word' : ℕ → ℕ) (n : ℕ) (s : Option ℕ) (table left : ℕ) (there : Option ℕ) (page : ℕ) → HaveSameTables word word' n table → IsReachedAs step word n s table left there page → IsReachedAs step word' n s table left there page
 same_reached step word word' zero s table left there page same reached = reached
 same_reached step word word' (suc n) s table left there page same (inl is) = inl is
 same_reached step word word' (suc n) s table left there page same (inr (i, next, (names, reached))) =
@@ -53,7 +53,7 @@ same_reached step word word' (suc n) s table left there page same (inr (i, next,
       ),
     )
 
-same_ahead : (want : Wants) (word word' : ℕ → ℕ) (table : ℕ) (ahead : Ahead) → HaveSameTables word word' levels table → times word' levels table ahead.page ≡ times word levels table ahead.page → HasSameWords word word' ahead.page → IsAhead want word table ahead → IsAhead want word' table ahead
+pub same_ahead : (want : Wants) (word word' : ℕ → ℕ) (table : ℕ) (ahead : Ahead) → HaveSameTables word word' levels table → times word' levels table ahead.page ≡ times word levels table ahead.page → HasSameWords word word' ahead.page → IsAhead want word table ahead → IsAhead want word' table ahead
 same_ahead want word word' table ahead same times_same words is =
     let slot = is.slot in
     let parent : word' (word_place slot) ≡ word (word_place slot) =
@@ -74,20 +74,20 @@ same_ahead want word word' table ahead same times_same words is =
 
 -- ---- the cursor
 
-done_on : (Before : Type 0) (on on' : ℕ → Type 0) (want : Want) (d d' : Descriptor) → d' ≡ d → ((next : ℕ) → d ≡ Table next → on next → on' next) → IsDoneSlot Before on want d → IsDoneSlot Before on' want d'
+pub done_on : (Before : Type 0) (on on' : ℕ → Type 0) (want : Want) (d d' : Descriptor) → d' ≡ d → ((next : ℕ) → want ≡ WantTable → d ≡ Table next → on next → on' next) → IsDoneSlot Before on want d → IsDoneSlot Before on' want d'
 done_on Before on on' Nothing d d' e more done = e ∙ done
 done_on Before on on' (WantLeaf out rights device) d d' e more done = e ∙ done
-done_on Before on on' WantTable d d' e more (inl (next, (leads, h))) = inl (next, (e ∙ leads, more next leads h))
+done_on Before on on' WantTable d d' e more (inl (next, (leads, h))) = inl (next, (e ∙ leads, more next refl leads h))
 done_on Before on on' WantTable d d' e more (inr (behind, is)) = inr (behind, e ∙ is)
 
-same_done : (want : Wants) (word word' : ℕ → ℕ) (cursor n table start : ℕ) → HaveSameTables word word' n table → IsDoneBelow want word cursor n table start → IsDoneBelow want word' cursor n table start
+pub same_done : (want : Wants) (word word' : ℕ → ℕ) (cursor n table start : ℕ) → HaveSameTables word word' n table → IsDoneBelow want word cursor n table start → IsDoneBelow want word' cursor n table start
 unfolding IsDoneBelow
 same_done want word word' cursor zero table start same done = tt
 same_done want word word' cursor (suc n) table start same done = λ begins i lt.
     let S = slot_start (LAST_LEVEL - n) start i in
     done_on (S < cursor) (λ next. IsDoneBelow want word cursor n next S) (λ next. IsDoneBelow want word' cursor n next S) (want (LAST_LEVEL - n) S) (read_of (word (table + 8 * i)) (LAST_LEVEL - n)) (read_of (word' (table + 8 * i)) (LAST_LEVEL - n))
     (ap (λ w. read_of w (LAST_LEVEL - n)) (same_here word word' n table i same lt))
-    (λ next leads h. same_done want word word' cursor n next S (same_below word word' n table i next same lt leads) h) (done begins i lt)
+    (λ next wanted leads h. same_done want word word' cursor n next S (same_below word word' n table i next same lt leads) h) (done begins i lt)
 
 -- ---- the plan
 

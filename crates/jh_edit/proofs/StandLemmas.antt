@@ -90,7 +90,7 @@ pub goes_is : (want : Wants) (word : ℕ → ℕ) (n table start i next : ℕ) �
     → by_next (count_from (staying want) (turns_at want) word n (staying want (Some start) n i)) (read_of (word (table + 8 * i)) (LAST_LEVEL - n)) ≡ count_from (staying want) (turns_at want) word n None next
 goes_is want word n table start i next wants leads = rw (leads, wants) refl
 
-stand_more : (want : Wants) (word : ℕ → ℕ) (n table start : ℕ) → ((i : ℕ) → i < 512 → IsAsWanted (λ next. Stands want word n next (slot_start (LAST_LEVEL - n) start i)) (want (LAST_LEVEL - n) (slot_start (LAST_LEVEL - n) start i)) (read_of (word (table + 8 * i)) (LAST_LEVEL - n))) → Stands want word (suc n) table start
+pub stand_more : (want : Wants) (word : ℕ → ℕ) (n table start : ℕ) → ((i : ℕ) → i < 512 → IsAsWanted (λ next. Stands want word n next (slot_start (LAST_LEVEL - n) start i)) (want (LAST_LEVEL - n) (slot_start (LAST_LEVEL - n) start i)) (read_of (word (table + 8 * i)) (LAST_LEVEL - n))) → Stands want word (suc n) table start
 unfolding Stands
 stand_more want word n table start h = h
 

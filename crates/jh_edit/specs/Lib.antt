@@ -1,4 +1,6 @@
 pub mod Trees
 pub mod Turns
 pub mod Plans
+pub mod Tables
+pub mod Moves
 pub mod Private

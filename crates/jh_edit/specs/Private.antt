@@ -1,3 +1,5 @@
 -- Definitions that mirror the code: clauses of private functions alone cite them, and no public clause rests on them.
 pub mod Slots
 pub mod Written
+pub mod Finding
+pub mod Steps

@@ -12,11 +12,14 @@ ghost use Rattle.jh_shape.specs.Shapes.{want_of};
 ghost use Rattle.jh_shape.specs.SoundClaims.{AreSoundClaims};
 ghost use Rattle.jh_shape.specs.Wanted.{Wants, slot_start, tables_under};
 ghost use Rattle.jh_edit.specs.Trees.{Stands, WantsItsTables, WantsPagesAtTheEnd, lack_of, walked};
+ghost use Rattle.jh_edit.specs.Tables.{WantsTablesBelowTables};
 ghost use Rattle.jh_edit.specs.declared.edit.Ahead.{Ahead};
 ghost use Rattle.jh_edit.specs.Plans.{EditView, HasSameWords, IsMadeTable, IsTakenOut, Plans};
 ghost use Rattle.jh_edit.specs.Turns.{has_lacking_leaf, has_wrong_leaf, turns_of, EmptiesTable, FillsTable, HasNoTableTooMany, KeepsTurnsBelow, LinksTable, PrunesTable};
 
-use jh_shape::{a_table_stands_where_no_leaf_serves, what_is_wanted_tells_grants};
+use jh_shape::{
+    a_table_stands_where_no_leaf_serves, tables_stand_below_tables, what_is_wanted_tells_grants,
+};
 use jh_walk::walks_read_their_pages;
 
 /// What is made from claims wants no table in place of a page.
@@ -24,6 +27,13 @@ pub fn claims_want_pages_at_the_end()
     ensures { (claims : Claims) → WantsPagesAtTheEnd (want_of claims) }
 {
     a_table_stands_where_no_leaf_serves();
+}
+
+/// What is made from claims wants tables below tables alone.
+pub fn claims_want_tables_below_tables()
+    ensures { (claims : Claims) → WantsTablesBelowTables (want_of claims) }
+{
+    tables_stand_below_tables();
 }
 
 /// Where no turn is left, the tables stand as they are wanted; and where they stand, no turn is left.

@@ -65,7 +65,7 @@ times_below word n page q i next lt is =
     let le : page_weight q word n page + slot_times word n page q i ≤ times word (suc n) page q = slot_times_le word n page q i lt in
     let e : slot_times word n page q i ≡ times word n next q = slot_times_is word n page q i next is in omega arith
 
-aligned_below : (word : ℕ → ℕ) (n page i next : ℕ) → i < 512 → read_of (word (page + 8 * i)) (LAST_LEVEL - n) ≡ Table next → AreAligned word (suc n) page → AreAligned word n next
+pub aligned_below : (word : ℕ → ℕ) (n page i next : ℕ) → i < 512 → read_of (word (page + 8 * i)) (LAST_LEVEL - n) ≡ Table next → AreAligned word (suc n) page → AreAligned word n next
 aligned_below word n page i next lt is all q some =
     let le : times word n next q ≤ times word (suc n) page q = times_below word n page q i next lt is in all q (omega arith)
 
