@@ -1,5 +1,5 @@
 -- The tables that lack after a turn: one less where one is linked, else as many.
-use Rattle.std.proofs.Common.{◌≡◌, ℕ, ◌+◌, ◌-◌, ◌*◌, ◌<◌, zero, suc, ap, ◌∙◌, sym, Bool, false, Option, Some, None, arith, refl}
+use Rattle.std.proofs.Common.{◌≡◌, ℕ, ◌+◌, ◌-◌, ◌*◌, ◌<◌, suc, ap, ◌∙◌, sym, Bool, false, Option, Some, None, arith, refl}
 use Rattle.std.proofs.lemmas.Bool.{false≢true}
 use Rattle.jh_num.specs.declared.level.TheConstants.{LAST_LEVEL}
 use Rattle.jh_num.specs.Below.{sum_below}

@@ -1,5 +1,5 @@
 -- How often each page is reached after a turn, and which pages are the edit's.
-use Rattle.std.proofs.Common.{◌≡◌, ℕ, ◌+◌, ◌-◌, ◌*◌, ◌<◌, ◌≤◌, ◌⊎◌, inl, inr, zero, suc, ap, ◌∙◌, subst, Bool, true, false, nat_eq, if◌then◌else◌, Option, Some, None, IfSome, arith, refl, ⊎_elim}
+use Rattle.std.proofs.Common.{◌≡◌, ℕ, ◌+◌, ◌-◌, ◌*◌, ◌<◌, ◌≤◌, zero, suc, ap, ◌∙◌, subst, Bool, true, false, nat_eq, if◌then◌else◌, Option, Some, None, IfSome, arith, refl, ⊎_elim}
 use Rattle.std.proofs.lemmas.Bool.{cases_lt, eqb-true}
 use Rattle.jh_num.specs.declared.level.TheConstants.{LAST_LEVEL}
 use Rattle.jh_num.specs.Below.{sum_below}

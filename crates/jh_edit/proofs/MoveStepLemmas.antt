@@ -1,5 +1,5 @@
 -- What the code of one turn does is one turn of the edit.
-use Rattle.std.proofs.Common.{◌≡◌, ℕ, ◌+◌, ◌-◌, ◌*◌, ◌<◌, ◌≤◌, ◌⊎◌, inl, inr, ap, ◌∙◌, sym, subst, Bool, true, false, not, length, List, map, if◌then◌else◌, arith, refl, ⊎_elim}
+use Rattle.std.proofs.Common.{◌≡◌, ℕ, ◌+◌, ◌-◌, ◌*◌, ◌<◌, ◌≤◌, ◌⊎◌, inl, inr, ap, ◌∙◌, sym, subst, Bool, true, false, List, map, if◌then◌else◌, arith, refl, ⊎_elim}
 use Rattle.std.proofs.lemmas.Bool.{cases_Bool, false≢true}
 use Rattle.jh_frames.specs.Memory.{FramesView}
 use Rattle.jh_pool.specs.Pages.{IsTakenPage, PoolView, is_free}
@@ -9,7 +9,7 @@ use Rattle.jh_walk.specs.Pages.{Grows}
 use Rattle.jh_walk.specs.Walks.{levels}
 use Rattle.jh_shape.specs.Wanted.{Wants}
 use Rattle.jh_edit.specs.Plans.{EditView, IsDoneBelow}
-use Rattle.jh_edit.specs.Tables.{IsPoolOf, words}
+use Rattle.jh_edit.specs.Tables.{words}
 use Rattle.jh_edit.specs.Moves.{IsPoolAfter, IsTurn, Move, Prune, Empty, Fill, Make, Link, TakeAway, End, is_flushed, is_given, is_taken}
 use Rattle.jh_edit.specs.Private.Steps.{IsStep}
 
