@@ -24,6 +24,3 @@ pub use turns::{
     turns_keep_the_tables_apart, turns_lead_where_it_is_wanted, turns_leave_right_words,
     turns_link_what_lacks, turns_write_their_own_pages,
 };
-
-#[cfg(test)]
-mod tests;
