@@ -19,7 +19,7 @@ use Rattle.jh_walk.proofs.Public.{count_none}
 use Rattle.jh_edit.specs.Trees.{lacking, staying}
 use Rattle.jh_edit.specs.Turns.{has_lacking_leaf, has_wrong_leaf, is_wrong_leaf, lacks_leaf, turn_if, turns_at, turns_of}
 use Rattle.jh_edit.specs.Private.Slots.{IsTableStart, lacks_at, slot_turns, want_at, wrong_at}
-use Rattle.jh_edit.proofs.SumLemmas.{any_same, count_more, sum_plus, under_more, under_none}
+use Rattle.jh_edit.proofs.SumLemmas.{any_same, count_more, sum_plus, under_more, under_none, under_some}
 use Rattle.jh_edit.proofs.BoundLemmas.{gone_turns, next_alike, pages_more, pages_none, slot_bounded, turns_bounded}
 
 -- ---- sums that loops make
@@ -124,6 +124,12 @@ under_few want (suc (suc (suc (suc n)))) start few = absurd (let wrong : ⊥ = o
 
 pub under_zero : (want : Wants) (n start : ℕ) → n ≡ 0 → 0 ≡ tables_under want n start
 under_zero want n start e = subst (λ m. 0 ≡ tables_under want m start) (sym e) (under_none want start)
+
+pub under_one : (want : Wants) (n start : ℕ) → n ≡ 1 → 1 ≡ tables_under want n start
+under_one want n start e =
+    let most : tables_under want 1 start ≤ 1 = under_1 want start in
+    let some : 0 < tables_under want 1 start = under_some want 0 start in
+    subst (λ m. 1 ≡ tables_under want m start) (sym e) (let one : 1 ≡ tables_under want 1 start = omega arith in one)
 
 -- ---- where slots begin
 

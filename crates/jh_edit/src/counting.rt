@@ -85,6 +85,10 @@ pub(crate) fn tables_from(t: &Target, left: u8, start: u64) -> u32
     if left == 0 {
         return 0;
     }
+    // slots of pages lead to no table, so what is wanted of them isn't asked
+    if left == 1 {
+        return 1;
+    }
     let level = LAST_LEVEL + 1 - left;
     let mut wants = [Want::Nothing; SLOTS];
     t.wants(level, start, &mut wants);

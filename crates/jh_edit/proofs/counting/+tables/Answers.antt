@@ -5,7 +5,7 @@ use Rattle.jh_shape.specs.Claims.{claims_of}
 use Rattle.jh_shape.specs.Shapes.{want_of}
 use Rattle.jh_shape.specs.Wanted.{if_table, tables_under}
 use Rattle.jh_edit.specs.Private.Slots.{want_at}
-use Rattle.jh_edit.proofs.CountingLemmas.{start_sum, more_sum, first_slot, next_start, tables_all, under_few, under_zero}
+use Rattle.jh_edit.proofs.CountingLemmas.{start_sum, more_sum, first_slot, next_start, tables_all, under_few, under_one, under_zero}
 use Rattle.jh_edit.proofs.counting.+tables.Goals as goal
 
 pub tables_at-returns-in-Table-clause-few : goal.tables_at-returns-in-Table-clause-few
@@ -15,6 +15,9 @@ tables_at-returns-in-Table-clause-few t c =
 
 pub tables_from-returns-then-left-eq0-clause-value : goal.tables_from-returns-then-left-eq0-clause-value
 tables_from-returns-then-left-eq0-clause-value t c = under_zero (want_of (claims_of c.args.t.now)) c.args.left c.args.start c.if-left-eq0.true
+
+pub tables_from-returns-then-left-eq1-clause-value : goal.tables_from-returns-then-left-eq1-clause-value
+tables_from-returns-then-left-eq1-clause-value t c = under_one (want_of (claims_of c.args.t.now)) c.args.left c.args.start c.if-left-eq1.true
 
 pub tables_from-wants-requires-clause-slot : goal.tables_from-wants-requires-clause-slot
 tables_from-wants-requires-clause-slot t c = let some = c.if-left-eq0.false in (first_slot c.args.left c.args.start (omega arith) c.requires.left c.requires.start).slot
