@@ -1,19 +1,16 @@
 -- Pins that are given, one index of a bitmap after another.
-use Rattle.std.proofs.Common.{◌≡◌, ℕ, ◌+◌, ◌-◌, ◌*◌, ◌/◌, ◌%◌, ◌<◌, ◌≤◌, Bool, true, false, cond, eqb, leb, ltb, not, ◌&&◌, ◌||◌, List, [], ◌∷◌, ◌++◌, length, get_or, take, refl, sym, ap, subst, ◌∙◌, ⊎_elim, arith}
+use Rattle.std.proofs.Common.{◌≡◌, ℕ, ◌+◌, ◌-◌, ◌/◌, ◌%◌, ◌<◌, ◌≤◌, Bool, true, false, eqb, leb, ltb, not, ◌&&◌, ◌||◌, List, length, get_or, take, refl, sym, ap, ◌∙◌, ⊎_elim, arith}
 use Rattle.std.specs.Prelude.{slice_index}
 use Rattle.std.specs.List.{list_any}
-use Rattle.std.proofs.lemmas.Bool.{and_from, and_left, and_parts, and_right, both_ways, cases_Bool, cases_eq, cases_lt, eq-eqb, eqb-true, le-leb, le-ltb, leb-true, lt-leb, lt-ltb, ltb-true, ne_eqb, or_from, or_left, or_right}
-use Rattle.std.proofs.lemmas.Bool.Decides.{nat_tests}
-use Rattle.std.proofs.Math.Bool.{or-false, or-true}
+use Rattle.std.proofs.lemmas.Bool.{and_left, and_right, cases_eq, cases_lt, eq-eqb, le-leb, le-ltb, lt-leb, lt-ltb, ne_eqb, or_from}
+use Rattle.std.proofs.Math.Bool.{or-false}
 use Rattle.std.proofs.lemmas.List.Folds.{list_any_more}
 use Rattle.jh_num.specs.Bits.{has_bit}
 use Rattle.jh_num.specs.declared.range.Range.{Range}
 use Rattle.jh_num.specs.Bytes.{in_range, has_byte}
 use Rattle.jh_num.proofs.Public.{or_assoc}
 use Rattle.jh_cellcfg.specs.declared.config.Irqchip.{Irqchip}
-use Rattle.jh_pins.specs.declared.pin.Pin.{Pin}
-use Rattle.jh_pins.specs.declared.claim.Claim.{Claim}
-use Rattle.jh_pins.specs.Pins.{is_set, is_given_by, is_named_by, IsPinOf}
+use Rattle.jh_pins.specs.Pins.{is_set, is_given_by}
 use Rattle.jh_pins.specs.Runs.{pin_of}
 
 -- ---- the bits below an index
@@ -83,12 +80,8 @@ one_more irqchip index number lt =
 pub given_more : (irqchip : Irqchip) (index number : ℕ) (had mid new : Bool) → index < 128 → mid ≡ (had || is_given_below irqchip index number) → new ≡ (mid || (is_set irqchip.pin_bitmap index && eqb number (irqchip.pin_base + index))) → new ≡ (had || is_given_below irqchip (index + 1) number)
 given_more irqchip index number had mid new lt so_far is =
     is ∙ ap (λ b. b || (is_set irqchip.pin_bitmap index && eqb number (irqchip.pin_base + index))) so_far
-    ∙ or_right_assoc had (is_given_below irqchip index number) (is_set irqchip.pin_bitmap index && eqb number (irqchip.pin_base + index))
+    ∙ sym (or_assoc had (is_given_below irqchip index number) (is_set irqchip.pin_bitmap index && eqb number (irqchip.pin_base + index)))
     ∙ ap (λ b. had || b) (sym (one_more irqchip index number lt))
-  where
-    or_right_assoc : (a b c : Bool) → ((a || b) || c) ≡ (a || (b || c))
-    or_right_assoc true b c = refl
-    or_right_assoc false b c = refl
 
 -- all indices
 pub given_all : (irqchip : Irqchip) (number : ℕ) → is_given_below irqchip 128 number ≡ is_given_by (pin_of irqchip.address number) irqchip
@@ -96,14 +89,15 @@ given_all irqchip number = sym (ap (λ b. b && is_given_below irqchip 128 number
 
 -- ---- one irqchip, and one cell, after another
 
--- one that is taken, or passed over
-pub any_more : {X : Type 0} (test : X → Bool) (xs : List X) (i : ℕ) (d : X) (had mid new : Bool) → i < length xs → mid ≡ (had || list_any test (take i xs)) → new ≡ (mid || test (get_or xs i d)) → new ≡ (had || list_any test (take (i + 1) xs))
-any_more {X} test xs i d had mid new lt so_far is =
-    is ∙ ap (λ b. b || test (get_or xs i d)) so_far ∙ or_right_assoc had (list_any test (take i xs)) (test (get_or xs i d)) ∙ ap (λ b. had || b) (sym (list_any_more test xs i d lt))
-  where
-    or_right_assoc : (a b c : Bool) → ((a || b) || c) ≡ (a || (b || c))
-    or_right_assoc true b c = refl
-    or_right_assoc false b c = refl
+-- the new numbers are the old ones, and those that one of the elements has
+abbrev pub AreMore : {X : Type 0} → (ℕ → X → Bool) → List X → List Range → List Range → Type 0
+AreMore {X} has xs old new = (n : ℕ) → has_byte new n ≡ (has_byte old n || list_any (has n) xs)
+
+pub those_of_one : {X : Type 0} (has : ℕ → X → Bool) (xs : List X) (i : ℕ) (d : X) (old mid new : List Range) → i < length xs → AreMore has (take i xs) old mid → ((n : ℕ) → has_byte new n ≡ (has_byte mid n || has n (get_or xs i d))) → AreMore has (take (i + 1) xs) old new
+those_of_one {X} has xs i d old mid new lt so_far is n =
+    is n ∙ ap (λ b. b || has n (get_or xs i d)) (so_far n)
+    ∙ sym (or_assoc (has_byte old n) (list_any (has n) (take i xs)) (has n (get_or xs i d)))
+    ∙ ap (λ b. has_byte old n || b) (sym (list_any_more (has n) xs i d lt))
 
 -- ---- numbers that are taken out
 

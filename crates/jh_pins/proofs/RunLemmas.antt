@@ -1,211 +1,25 @@
 -- The runs of a set of pins, chip by chip.
-use Rattle.std.proofs.Common.{◌≡◌, ℕ, suc, ◌+◌, ◌-◌, ◌<◌, ◌≤◌, Bool, true, false, cond, eqb, leb, ltb, not, ◌&&◌, ◌||◌, List, [], ◌∷◌, ◌++◌, length, get_or, map, take, Option, Some, None, refl, sym, ap, subst, ◌∙◌, ⊎_elim, ◌⊎◌, inl, inr, arith}
-use Rattle.std.specs.Prelude.{All, AllPairs, Contains}
+use Rattle.std.proofs.Common.{◌≡◌, ℕ, ◌+◌, ◌-◌, ◌<◌, ◌≤◌, Bool, true, false, cond, eqb, leb, ltb, not, ◌&&◌, ◌||◌, List, [], ◌∷◌, ◌++◌, length, get_or, map, take, Option, Some, None, refl, sym, ap, subst, ◌∙◌, append_assoc, ⊎_elim, ◌⊎◌, inl, inr, arith}
+use Rattle.std.specs.Prelude.{All}
 use Rattle.std.specs.List.{list_any}
-use Rattle.std.proofs.lemmas.Bool.{and_from, and_left, and_parts, and_right, both_ways, cases_Bool, cases_lt, cases_order, eq-eqb, eqb-true, false_from_ne_true, false≢true, le-leb, leb-false, leb-true, lt-leb, ltb-false, ltb-true, ne_eqb, or_cases, or_from, or_left, or_right}
-use Rattle.std.proofs.lemmas.Bool.Decides.{nat_tests}
-use Rattle.std.proofs.lemmas.List.{get_or-map, get_or_append_left, get_or-append_right, get_or_default, length-append, length-map, take_more}
-use Rattle.std.proofs.lemmas.List.Elements.{All-append, All-map, All-nil, All-push, All-weaker, Contains-append_left, Contains-append_right, Contains-get_or}
+use Rattle.std.proofs.lemmas.Bool.{and_from, and_left, and_parts, and_right, both_ways, cases_Bool, eq-eqb, eqb-true, false_from_ne_true, false≢true, le-leb, leb-false, leb-true, lt-leb, ltb-false, ltb-true, ne_eqb, or_cases, or_from, or_left, or_right}
+use Rattle.std.proofs.lemmas.List.{append-nil, take_more}
+use Rattle.std.proofs.lemmas.List.Elements.{All-nil, All-push, All-weaker, Contains-append_left, Contains-append_right}
+use Rattle.std.proofs.lemmas.List.Quantifiers.{all_pairs_push}
+use Rattle.std.proofs.Math.Bool.{or-false}
 use Rattle.jh_num.specs.declared.range.Range.{Range}
-use Rattle.jh_num.specs.Bytes.{in_range, has_byte, AreApart}
-use Rattle.jh_num.proofs.Public.{within_range, not_empty_at, ends_before, IsFound_from_list_any, list_any_from_Contains, Contains_map}
+use Rattle.jh_num.specs.Bytes.{in_range, has_byte, AreApart, AreApartFrom}
+use Rattle.jh_num.proofs.Public.{above_range, within_range, IsFound_from_list_any, Contains_head}
 use Rattle.jh_cellcfg.specs.declared.config.Irqchip.{Irqchip}
 use Rattle.jh_pins.specs.declared.pin.Pin.{Pin}
 use Rattle.jh_pins.specs.declared.pin.PinRun.{PinRun}
 use Rattle.jh_pins.specs.declared.claim.Claim.{Claim}
 use Rattle.jh_pins.specs.declared.runs.Share.{Share}
 use Rattle.jh_pins.specs.Pins.{is_set, is_given_by, is_named_by}
-use Rattle.jh_pins.specs.Runs.{pin_of, IsIn, IsRunOf, IsInRun, StandsBefore, AreRuns}
+use Rattle.jh_pins.specs.Runs.{pin_of, IsRunOf, IsInRun, StandsBefore, AreRuns}
 use Rattle.jh_pins.specs.Private.Shares.{is_before, is_done, nearer, is_meant, is_shared, run_on, IsNextChip}
 
--- ---- rows of numbers
-
-row_low : (x : Range) (n : ℕ) → in_range x n ≡ true → x.start ≤ n
-row_low x n h = grind (arith, nat_tests)
-
-row_high : (x : Range) (n : ℕ) → in_range x n ≡ true → n < x.end
-row_high x n h = grind (arith, nat_tests)
-
--- a row is one of those that are apart
-record IsOneOf (rows : List Range) (x : Range) : Type 0 where
-  some : x.start < x.end
-  each : (n : ℕ) → x.start ≤ n → n < x.end → has_byte rows n ≡ true
-  before : (n : ℕ) → n + 1 ≡ x.start → has_byte rows n ≡ false
-  behind : has_byte rows x.end ≡ false
-
--- a number that two rows have or touch is of one row alone
-touched : (rows : List Range) (k j : ℕ) (d : Range) (n : ℕ) → AreApart rows → k < length rows → j < length rows → (get_or rows k d).start ≤ n + 1 → n ≤ (get_or rows k d).end → (get_or rows j d).start ≤ n → n < (get_or rows j d).end → j ≡ k
-touched rows k j d n apart kl jl low high j_low j_high =
-    ⊎_elim (λ (e : j ≡ k). e)
-    (λ o. ⊎_elim
-    (λ (lt : j < k). let b = ends_before 0 rows j k d apart lt kl in absurd (omega arith))
-    (λ (gt : k < j). let b = ends_before 0 rows k j d apart gt jl in absurd (omega arith))
-    o)
-    (cases_order j k)
-
--- so one that a row touches and doesn't have is in none
-not_in : (rows : List Range) (k : ℕ) (d : Range) (n : ℕ) → AreApart rows → k < length rows → (get_or rows k d).start ≤ n + 1 → n ≤ (get_or rows k d).end → ((get_or rows k d).start ≤ n → n < (get_or rows k d).end → ⊥) → has_byte rows n ≡ false
-not_in rows k d n apart kl low high out = false_from_ne_true (has_byte rows n) (λ h.
-    let found = IsFound_from_list_any (λ (x : Range). in_range x n) rows h in
-    let y : Range = found.0 in
-    let place = found.1.among in
-    let j : ℕ = place.0 in
-    let is : get_or rows j d ≡ y = get_or_default rows j d y place.1 ∙ place.2 in
-    let P : Range → Type 0 = λ x. in_range x n ≡ true in
-    let there : in_range (get_or rows j d) n ≡ true = subst P (sym is) found.1.passes in
-    let j_low = row_low (get_or rows j d) n there in
-    let j_high = row_high (get_or rows j d) n there in
-    let same : j ≡ k = touched rows k j d n apart kl place.1 low high j_low j_high in
-    let Q : ℕ → Type 0 = λ m. in_range (get_or rows m d) n ≡ true in
-    let own : in_range (get_or rows k d) n ≡ true = subst Q same there in
-    out (row_low (get_or rows k d) n own) (row_high (get_or rows k d) n own))
-
-one_of : (rows : List Range) (k : ℕ) (d : Range) → AreApart rows → k < length rows → IsOneOf rows (get_or rows k d)
-one_of rows k d apart kl =
-    let some = not_empty_at 0 rows k d apart kl in
-    record {
-      some = some.1;
-      each = λ n low high. list_any_from_Contains (λ (x : Range). in_range x n) rows (get_or rows k d) (Contains-get_or rows k d kl) (within_range (get_or rows k d) n low high);
-      before = λ n e. not_in rows k d n apart kl (omega arith) (omega (arith, some.1)) (λ low high. absurd (omega arith));
-      behind = not_in rows k d (get_or rows k d).end apart kl (omega (arith, some.1)) (omega arith) (λ low high. absurd (omega arith));
-    }
-
--- ---- the pins of one chip
-
--- the pin is the chip's, and in the set
-abbrev pub is_on : ℕ → (Pin → Bool) → Pin → Bool
-is_on chip has pin = eqb pin.chip chip && has pin
-
--- the numbers are those of the chip's pins in the set
-abbrev pub AreNumbers : ℕ → (Pin → Bool) → List Range → Type 0
-AreNumbers chip has rows = (n : ℕ) → has_byte rows n ≡ has (pin_of chip n)
-
-on_is : (chip : ℕ) (has : Pin → Bool) (rows : List Range) (n : ℕ) (b : Bool) → AreNumbers chip has rows → has_byte rows n ≡ b → is_on chip has (pin_of chip n) ≡ b
-on_is chip has rows n b are is = ap (λ t. t && has (pin_of chip n)) (eq-eqb chip chip refl) ∙ sym (are n) ∙ is
-
-run_from : (chip : ℕ) (has : Pin → Bool) (rows : List Range) (x : Range) → AreNumbers chip has rows → IsOneOf rows x → IsRunOf (is_on chip has) (run_on chip x)
-run_from chip has rows x are is =
-    let some = is.some in
-    let back : (x.end - 1) + 1 ≡ x.end = omega arith in
-    let P : ℕ → Type 0 = λ n. is_on chip has (pin_of chip n) ≡ false in
-    record {
-      some = omega arith;
-      each = λ n low high. on_is chip has rows n true are (is.each n low (omega arith));
-      before = λ n e. on_is chip has rows n false are (is.before n e);
-      behind = subst P (sym back) (on_is chip has rows x.end false are is.behind);
-    }
-
-told : (chip : ℕ) (has : Pin → Bool) (rows : List Range) (pin : Pin) → AreNumbers chip has rows → is_on chip has pin ≡ true → IsInRun (map (run_on chip) rows) pin
-told chip has rows pin are is =
-    let parts = and_parts (eqb pin.chip chip) (has pin) is in
-    let same : pin.chip ≡ chip = eqb-true pin.chip chip parts.0 in
-    let there : has_byte rows pin.number ≡ true = are pin.number ∙ ap (λ c. has (pin_of c pin.number)) (sym same) ∙ parts.1 in
-    let found = IsFound_from_list_any (λ (x : Range). in_range x pin.number) rows there in
-    let x : Range = found.0 in
-    let low = row_low x pin.number found.1.passes in
-    let high = row_high x pin.number found.1.passes in
-    record { run = run_on chip x; among = Contains_map (run_on chip) rows x found.1.among; has = record { chip = same; first = low; last = omega arith } }
-
-pub on_chip : (chip : ℕ) (has : Pin → Bool) (rows : List Range) → AreApart rows → AreNumbers chip has rows → AreRuns (is_on chip has) (map (run_on chip) rows)
-on_chip chip has rows apart are = record {
-  own = All-map (IsRunOf (is_on chip has)) (run_on chip) rows (λ k d kl. run_from chip has rows (get_or rows k d) are (one_of rows k d apart kl));
-  whole = λ pin is. told chip has rows pin are is;
-  order = ordered;
-}
-  where
-    some_row : (xs : List Range) (k : ℕ) → k < length xs → Range
-    some_row [] k kl = absurd (omega arith)
-    some_row (x ∷ xs) k kl = x
-
-    in_order : (k m : ℕ) (d : Range) → k < m → m < length rows → StandsBefore (run_on chip (get_or rows k d)) (run_on chip (get_or rows m d))
-    in_order k m d lt ml =
-        let ends = ends_before 0 rows k m d apart lt ml in
-        let some = not_empty_at 0 rows k d apart (omega arith) in
-        inr (refl, omega (arith, some.1))
-
-    ordered : AllPairs StandsBefore (map (run_on chip) rows)
-    ordered i j e lt jl =
-        let n : length (map (run_on chip) rows) ≡ length rows = length-map rows (run_on chip) in
-        let jr : j < length rows = omega arith in
-        let d = some_row rows j jr in
-        let P : PinRun → Type 0 = λ x. StandsBefore x (get_or (map (run_on chip) rows) j e) in
-        let Q : PinRun → Type 0 = λ y. StandsBefore (run_on chip (get_or rows i d)) y in
-        subst P (sym (get_or-map (run_on chip) rows i d e (omega arith))) (subst Q (sym (get_or-map (run_on chip) rows j d e jr)) (in_order i j d lt jr))
-
--- ---- the pins of some chips, and those of a later one
-
--- each pin of the one set is of an earlier chip than each of the other
-abbrev Precedes : (Pin → Bool) → (Pin → Bool) → Type 0
-Precedes has more = (one other : Pin) → has one ≡ true → more other ≡ true → one.chip < other.chip
-
-first_in : (has : Pin → Bool) (run : PinRun) → IsRunOf has run → has (pin_of run.chip run.first) ≡ true
-first_in has run of = let some = of.some in of.each run.first (omega arith) some
-
-joined_left : (has more : Pin → Bool) (run : PinRun) → Precedes has more → IsRunOf has run → IsRunOf (λ pin. has pin || more pin) run
-joined_left has more run before of = record {
-  some = of.some;
-  each = λ n low high. or_left (has (pin_of run.chip n)) (more (pin_of run.chip n)) (of.each n low high);
-  before = λ n e. or_from (has (pin_of run.chip n)) (more (pin_of run.chip n)) (of.before n e) (none n);
-  behind = or_from (has (pin_of run.chip (run.last + 1))) (more (pin_of run.chip (run.last + 1))) of.behind (none (run.last + 1));
-}
-  where
-    none : (n : ℕ) → more (pin_of run.chip n) ≡ false
-    none n = false_from_ne_true (more (pin_of run.chip n)) (λ h. let lt = before (pin_of run.chip run.first) (pin_of run.chip n) (first_in has run of) h in absurd (omega arith))
-
-joined_right : (has more : Pin → Bool) (run : PinRun) → Precedes has more → IsRunOf more run → IsRunOf (λ pin. has pin || more pin) run
-joined_right has more run before of = record {
-  some = of.some;
-  each = λ n low high. or_right (has (pin_of run.chip n)) (more (pin_of run.chip n)) (of.each n low high);
-  before = λ n e. or_from (has (pin_of run.chip n)) (more (pin_of run.chip n)) (none n) (of.before n e);
-  behind = or_from (has (pin_of run.chip (run.last + 1))) (more (pin_of run.chip (run.last + 1))) (none (run.last + 1)) of.behind;
-}
-  where
-    none : (n : ℕ) → has (pin_of run.chip n) ≡ false
-    none n = false_from_ne_true (has (pin_of run.chip n)) (λ h. let lt = before (pin_of run.chip n) (pin_of run.chip run.first) h (first_in more run of) in absurd (omega arith))
-
-told_left : (rs ss : List PinRun) (pin : Pin) → IsInRun rs pin → IsInRun (rs ++ ss) pin
-told_left rs ss pin is = record { run = is.run; among = Contains-append_left rs ss is.run is.among; has = is.has }
-
-told_right : (rs ss : List PinRun) (pin : Pin) → IsInRun ss pin → IsInRun (rs ++ ss) pin
-told_right rs ss pin is = record { run = is.run; among = Contains-append_right rs ss is.run is.among; has = is.has }
-
--- the pairs of one list, those of another, and each of the one with each of the other
-all_pairs_append : {X : Type 0} (R : X → X → Type 0) (xs ys : List X) → AllPairs R xs → AllPairs R ys → ((i j : ℕ) (d : X) → i < length xs → j < length ys → R (get_or xs i d) (get_or ys j d)) → AllPairs R (xs ++ ys)
-all_pairs_append {X} R xs ys one other both i j d lt jl =
-    let n : length (xs ++ ys) ≡ length xs + length ys = length-append xs ys in
-    ⊎_elim
-    (λ (jx : j < length xs).
-    let P : X → Type 0 = λ x. R x (get_or (xs ++ ys) j d) in
-    let Q : X → Type 0 = λ y. R (get_or xs i d) y in
-    subst P (sym (get_or_append_left xs ys d i (omega arith))) (subst Q (sym (get_or_append_left xs ys d j jx)) (one i j d lt jx)))
-    (λ (jy : length xs ≤ j).
-    let Q : X → Type 0 = λ y. R (get_or (xs ++ ys) i d) y in
-    subst Q (sym (get_or-append_right xs ys (length xs) j d refl jy))
-    (⊎_elim
-    (λ (ix : i < length xs).
-    let P : X → Type 0 = λ x. R x (get_or ys (j - length xs) d) in
-    subst P (sym (get_or_append_left xs ys d i ix)) (both i (j - length xs) d ix (omega arith)))
-    (λ (iy : length xs ≤ i).
-    let P : X → Type 0 = λ x. R x (get_or ys (j - length xs) d) in
-    subst P (sym (get_or-append_right xs ys (length xs) i d refl iy)) (other (i - length xs) (j - length xs) d (omega arith) (omega arith)))
-    (cases_lt i (length xs))))
-    (cases_lt j (length xs))
-
-joined : (has more : Pin → Bool) (rs ss : List PinRun) → Precedes has more → AreRuns has rs → AreRuns more ss → AreRuns (λ pin. has pin || more pin) (rs ++ ss)
-joined has more rs ss before one other = record {
-  own = All-append (IsRunOf (λ pin. has pin || more pin)) rs ss
-      (All-weaker (IsRunOf has) (IsRunOf (λ pin. has pin || more pin)) (λ run of. joined_left has more run before of) rs one.own)
-      (All-weaker (IsRunOf more) (IsRunOf (λ pin. has pin || more pin)) (λ run of. joined_right has more run before of) ss other.own);
-  whole = λ pin is. ⊎_elim
-      (λ (low : has pin ≡ true). told_left rs ss pin (one.whole pin low))
-      (λ (high : more pin ≡ true). told_right rs ss pin (other.whole pin high))
-      (or_cases (has pin) (more pin) is);
-  order = all_pairs_append StandsBefore rs ss one.order other.order
-      (λ i j d il jl.
-      let low = one.own i d il in
-      let high = other.own j d jl in
-      inl (before (pin_of (get_or rs i d).chip (get_or rs i d).first) (pin_of (get_or ss j d).chip (get_or ss j d).first) (first_in has (get_or rs i d) low) (first_in more (get_or ss j d) high)));
-}
+-- ---- sets of pins
 
 -- two tests that agree have the same runs
 pub same_runs : (has other : Pin → Bool) (runs : List PinRun) → ((pin : Pin) → has pin ≡ other pin) → AreRuns has runs → AreRuns other runs
@@ -222,6 +36,126 @@ no_runs has none = record {
   order = λ i j d lt jl. absurd (omega arith);
 }
 
+-- ---- one row of numbers more
+
+-- the pin is of the chip, and has a number of the row
+abbrev is_in_row : ℕ → Range → Pin → Bool
+is_in_row chip row pin = eqb pin.chip chip && in_range row pin.number
+
+in_row : (chip : ℕ) (row : Range) (pin : Pin) → is_in_row chip row pin ≡ true → (pin.chip ≡ chip) × (row.start ≤ pin.number) × (pin.number < row.end)
+in_row chip row pin is =
+    let own = and_parts (eqb pin.chip chip) (in_range row pin.number) is in
+    let ends = and_parts (leb row.start pin.number) (ltb pin.number row.end) own.1 in
+    (eqb-true pin.chip chip own.0, leb-true row.start pin.number ends.0, ltb-true pin.number row.end ends.1)
+
+-- the pin is of the chip, and has a number of one of the rows
+abbrev is_in_rows : ℕ → List Range → Pin → Bool
+is_in_rows chip rows pin = eqb pin.chip chip && has_byte rows pin.number
+
+-- the pin is of an earlier chip, or of this one and not touched by a row from `low` on
+abbrev IsBelow : ℕ → ℕ → Pin → Type 0
+IsBelow chip low pin = (pin.chip < chip) ⊎ ((pin.chip ≡ chip) × (pin.number + 1 < low))
+
+-- so is each pin of the set
+abbrev AreBelow : ℕ → ℕ → (Pin → Bool) → Type 0
+AreBelow chip low has = (pin : Pin) → has pin ≡ true → IsBelow chip low pin
+
+below_more : (chip low high : ℕ) (pin : Pin) → low ≤ high → IsBelow chip low pin → IsBelow chip high pin
+below_more chip low high pin le (inl earlier) = inl earlier
+below_more chip low high pin le (inr same) = let lt = same.1 in inr (same.0, omega arith)
+
+-- the set has no pin of the chip that the row has or touches
+none_touched : (has : Pin → Bool) (chip low n : ℕ) → AreBelow chip low has → low ≤ n + 1 → has (pin_of chip n) ≡ false
+none_touched has chip low n below le = false_from_ne_true (has (pin_of chip n)) (λ is.
+    ⊎_elim (λ earlier. absurd (omega arith)) (λ same. let lt = same.1 in absurd (omega arith)) (below (pin_of chip n) is))
+
+last_in : (has : Pin → Bool) (run : PinRun) → IsRunOf has run → has (pin_of run.chip run.last) ≡ true
+last_in has run of = let some = of.some in of.each run.last some (omega arith)
+
+-- the row has no pin of a run's chip up to the one behind the run
+row_past : (chip : ℕ) (row : Range) (run : PinRun) (n : ℕ) → IsBelow chip row.start (pin_of run.chip run.last) → n ≤ run.last + 1 → is_in_row chip row (pin_of run.chip n) ≡ false
+row_past chip row run n below le = false_from_ne_true (is_in_row chip row (pin_of run.chip n)) (λ is.
+    let parts = in_row chip row (pin_of run.chip n) is in
+    let same = parts.0 in
+    let low = parts.1 in
+    ⊎_elim (λ earlier. absurd (omega arith)) (λ here. let lt = here.1 in absurd (omega arith)) below)
+
+-- a run of the set is one still
+kept_run : (has : Pin → Bool) (chip : ℕ) (row : Range) (run : PinRun) → AreBelow chip row.start has → IsRunOf has run → IsRunOf (λ pin. has pin || is_in_row chip row pin) run
+kept_run has chip row run below of =
+    let some = of.some in
+    let last = below (pin_of run.chip run.last) (last_in has run of) in
+    record {
+      some = some;
+      each = λ n low high. or_left (has (pin_of run.chip n)) (is_in_row chip row (pin_of run.chip n)) (of.each n low high);
+      before = λ n e. or_from (has (pin_of run.chip n)) (is_in_row chip row (pin_of run.chip n)) (of.before n e) (row_past chip row run n last (omega arith));
+      behind = or_from (has (pin_of run.chip (run.last + 1))) (is_in_row chip row (pin_of run.chip (run.last + 1))) of.behind (row_past chip row run (run.last + 1) last (omega arith));
+    }
+
+-- and the row is one more
+new_run : (has : Pin → Bool) (chip : ℕ) (row : Range) → row.start < row.end → AreBelow chip row.start has → IsRunOf (λ pin. has pin || is_in_row chip row pin) (run_on chip row)
+new_run has chip row some below = record {
+  some = omega arith;
+  each = λ n low high. or_right (has (pin_of chip n)) (is_in_row chip row (pin_of chip n)) (and_from (eqb chip chip) (in_range row n) (eq-eqb chip chip refl) (within_range row n low (omega arith)));
+  before = λ n e. or_from (has (pin_of chip n)) (is_in_row chip row (pin_of chip n)) (none_touched has chip row.start n below (omega arith))
+      (false_from_ne_true (is_in_row chip row (pin_of chip n)) (λ is. let parts = in_row chip row (pin_of chip n) is in let low = parts.1 in absurd (omega arith)));
+  behind = or_from (has (pin_of chip ((row.end - 1) + 1))) (is_in_row chip row (pin_of chip ((row.end - 1) + 1))) (none_touched has chip row.start ((row.end - 1) + 1) below (omega arith))
+      (and_right (eqb chip chip) (in_range row ((row.end - 1) + 1)) (above_range row ((row.end - 1) + 1) (omega arith)));
+}
+
+told : (has : Pin → Bool) (chip : ℕ) (row : Range) (runs : List PinRun) (pin : Pin) → AreRuns has runs → (has pin || is_in_row chip row pin) ≡ true → IsInRun (runs ++ run_on chip row ∷ []) pin
+told has chip row runs pin are is =
+    ⊎_elim
+    (λ (old : has pin ≡ true).
+    let at = are.whole pin old in
+    record { run = at.run; among = Contains-append_left runs (run_on chip row ∷ []) at.run at.among; has = at.has })
+    (λ (new : is_in_row chip row pin ≡ true).
+    let parts = in_row chip row pin new in
+    let high = parts.2 in
+    record { run = run_on chip row; among = Contains-append_right runs (run_on chip row ∷ []) (run_on chip row) (Contains_head (run_on chip row) []); has = record { chip = parts.0; first = parts.1; last = omega arith } })
+    (or_cases (has pin) (is_in_row chip row pin) is)
+
+row_more : (has : Pin → Bool) (chip : ℕ) (row : Range) (runs : List PinRun) → row.start < row.end → AreBelow chip row.start has → AreRuns has runs → AreRuns (λ pin. has pin || is_in_row chip row pin) (runs ++ run_on chip row ∷ [])
+row_more has chip row runs some below are = record {
+  own = All-push (IsRunOf more) runs (run_on chip row) (All-weaker (IsRunOf has) (IsRunOf more) (λ run of. kept_run has chip row run below of) runs are.own) (new_run has chip row some below);
+  whole = λ pin is. told has chip row runs pin are is;
+  order = all_pairs_push StandsBefore runs (run_on chip row) are.order (λ k d kl. behind (get_or runs k d) (are.own k d kl));
+}
+  where
+    more : Pin → Bool
+    more pin = has pin || is_in_row chip row pin
+
+    behind : (run : PinRun) → IsRunOf has run → StandsBefore run (run_on chip row)
+    behind run of = ⊎_elim (λ earlier. inl earlier) (λ same. let lt = same.1 in inr (same.0, omega arith)) (below (pin_of run.chip run.last) (last_in has run of))
+
+-- so one row after another
+rows_more : (has : Pin → Bool) (chip low : ℕ) (rows : List Range) (runs : List PinRun) → AreApartFrom low rows → AreBelow chip low has → AreRuns has runs → AreRuns (λ pin. has pin || is_in_rows chip rows pin) (runs ++ map (run_on chip) rows)
+rows_more has chip low [] runs apart below are =
+    subst (AreRuns (λ pin. has pin || is_in_rows chip [] pin)) (sym (append-nil runs))
+    (same_runs has (λ pin. has pin || is_in_rows chip [] pin) runs (λ pin. sym (ap (λ b. has pin || b) (and_right (eqb pin.chip chip) false refl) ∙ or-false (has pin))) are)
+rows_more has chip low (row ∷ rows) runs apart below are =
+    let first = apart.0 in
+    let some = apart.1 in
+    let all = rows_more more chip (row.end + 1) rows (runs ++ run_on chip row ∷ []) apart.2 (λ pin is. past pin first some (or_cases (has pin) (is_in_row chip row pin) is))
+    (row_more has chip row runs some (λ pin is. below_more chip low row.start pin first (below pin is)) are) in
+    subst (AreRuns (λ pin. has pin || is_in_rows chip (row ∷ rows) pin)) (append_assoc runs (run_on chip row ∷ []) (map (run_on chip) rows))
+    (same_runs (λ pin. more pin || is_in_rows chip rows pin) (λ pin. has pin || is_in_rows chip (row ∷ rows) pin) ((runs ++ run_on chip row ∷ []) ++ map (run_on chip) rows) (λ pin. spread (has pin) (eqb pin.chip chip) (in_range row pin.number) (has_byte rows pin.number)) all)
+  where
+    more : Pin → Bool
+    more pin = has pin || is_in_row chip row pin
+
+    past : (pin : Pin) → low ≤ row.start → row.start < row.end → (has pin ≡ true) ⊎ (is_in_row chip row pin ≡ true) → IsBelow chip (row.end + 1) pin
+    past pin first some (inl old) = below_more chip low (row.end + 1) pin (omega arith) (below pin old)
+    past pin first some (inr new) =
+        let parts = in_row chip row pin new in
+        let high = parts.2 in
+        inr (parts.0, omega arith)
+
+    spread : (has chip one others : Bool) → ((has || (chip && one)) || (chip && others)) ≡ (has || (chip && (one || others)))
+    spread true chip one others = refl
+    spread false true one others = refl
+    spread false false one others = refl
+
 -- ---- chip after chip
 
 -- the pin is of a chip that is done with, and in the set
@@ -231,6 +165,17 @@ is_upto last has pin = is_done last pin.chip && has pin
 -- the least chip that isn't done with, of those that the set's pins are of
 abbrev IsNextOf : (Pin → Bool) → Option ℕ → ℕ → Type 0
 IsNextOf has last chip = (is_done last chip ≡ false) × ((pin : Pin) → has pin ≡ true → is_done last pin.chip ≡ false → chip ≤ pin.chip)
+
+-- the numbers are those of the chip's pins in the set
+abbrev pub AreNumbers : ℕ → (Pin → Bool) → List Range → Type 0
+AreNumbers chip has rows = (n : ℕ) → has_byte rows n ≡ has (pin_of chip n)
+
+on_chip : (chip : ℕ) (has : Pin → Bool) (rows : List Range) (pin : Pin) → AreNumbers chip has rows → is_in_rows chip rows pin ≡ (eqb pin.chip chip && has pin)
+on_chip chip has rows pin are =
+    ⊎_elim
+    (λ (own : eqb pin.chip chip ≡ true). ap (λ b. eqb pin.chip chip && b) (are pin.number ∙ ap (λ c. has (pin_of c pin.number)) (sym (eqb-true pin.chip chip own))))
+    (λ (other : eqb pin.chip chip ≡ false). and_left (eqb pin.chip chip) (has_byte rows pin.number) other ∙ sym (and_left (eqb pin.chip chip) (has pin) other))
+    (cases_Bool (eqb pin.chip chip))
 
 done_below : (last : Option ℕ) (chip other : ℕ) → is_done last chip ≡ false → is_done last other ≡ true → other < chip
 done_below None chip other not_done is = absurd (false≢true is)
@@ -262,15 +207,11 @@ step_by true last chip other past least =
 
 next_by : (has : Pin → Bool) (last : Option ℕ) (chip : ℕ) (rows : List Range) (runs : List PinRun) → IsNextOf has last chip → AreApart rows → AreNumbers chip has rows → AreRuns (is_upto last has) runs → AreRuns (is_upto (Some chip) has) (runs ++ map (run_on chip) rows)
 next_by has last chip rows runs next apart are so_far =
-    same_runs (λ pin. is_upto last has pin || is_on chip has pin) (is_upto (Some chip) has) (runs ++ map (run_on chip) rows)
-    (λ pin. step_by (has pin) last chip pin.chip next.0 (next.1 pin))
-    (joined (is_upto last has) (is_on chip has) runs (map (run_on chip) rows)
-    (λ one other one_is other_is.
-    let done = (and_parts (is_done last one.chip) (has one) one_is).0 in
-    let same = eqb-true other.chip chip (and_parts (eqb other.chip chip) (has other) other_is).0 in
-    let lt = done_below last chip one.chip next.0 done in
-    omega arith)
-    so_far (on_chip chip has rows apart are))
+    same_runs (λ pin. is_upto last has pin || is_in_rows chip rows pin) (is_upto (Some chip) has) (runs ++ map (run_on chip) rows)
+    (λ pin. ap (λ b. is_upto last has pin || b) (on_chip chip has rows pin are) ∙ step_by (has pin) last chip pin.chip next.0 (next.1 pin))
+    (rows_more (is_upto last has) chip 0 rows runs apart
+    (λ pin is. inl (done_below last chip pin.chip next.0 (and_parts (is_done last pin.chip) (has pin) is).0))
+    so_far)
 
 -- ---- the share of a cell's pins
 

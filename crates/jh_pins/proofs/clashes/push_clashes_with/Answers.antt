@@ -1,5 +1,5 @@
 -- One cell more, and all of them.
-use Rattle.std.proofs.Common.{◌≡◌, ℕ, ◌+◌, ◌++◌, List, length, get_or, sym, subst, arith}
+use Rattle.std.proofs.Common.{◌≡◌, ℕ, ◌+◌, List, length, sym, subst, arith}
 use Rattle.jh_pins.specs.declared.pin.Clash.{Clash}
 use Rattle.jh_pins.specs.declared.claim.Claim.{Claim}
 use Rattle.jh_pins.specs.Clashes.{AreClashesOf}

@@ -1,5 +1,5 @@
 -- A row isn't empty.
-use Rattle.std.proofs.Common.{ℕ, ◌<◌, sym, subst, arith}
+use Rattle.std.proofs.Common.{◌<◌, sym, subst, arith}
 use Rattle.jh_num.specs.declared.range.Range.{Range}
 use Rattle.jh_num.proofs.Public.{not_empty_at}
 use Rattle.jh_pins.proofs.runs.push_runs.Goals as goal

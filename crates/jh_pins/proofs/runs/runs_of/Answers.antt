@@ -1,5 +1,5 @@
 -- No chip is done with, one more is, and all are.
-use Rattle.std.proofs.Common.{◌≡◌, ℕ, false, ◌+◌, ◌-◌, ◌^◌, ◌<◌, ◌++◌, List, map, Option, Some, None, refl, sym, ap, subst, ◌∙◌, arith}
+use Rattle.std.proofs.Common.{◌≡◌, ℕ, false, ◌+◌, ◌-◌, ◌^◌, ◌<◌, List, Option, Some, None, refl, sym, ap, subst, ◌∙◌, arith}
 use Rattle.std.specs.Option.{option_map_or}
 use Rattle.std.proofs.lemmas.Bool.{leb-false}
 use Rattle.jh_num.specs.declared.range.Range.{Range}
@@ -7,7 +7,7 @@ use Rattle.jh_num.specs.Bytes.{has_byte}
 use Rattle.jh_cellcfg.specs.declared.config.Irqchip.{Irqchip}
 use Rattle.jh_pins.specs.declared.pin.PinRun.{PinRun}
 use Rattle.jh_pins.specs.Runs.{AreRuns}
-use Rattle.jh_pins.specs.Private.Shares.{is_done, is_shared, run_on, IsNextChip}
+use Rattle.jh_pins.specs.Private.Shares.{is_done, is_shared, IsNextChip}
 use Rattle.jh_pins.proofs.RunLemmas.{AreNumbers, is_upto, no_runs, next_chip, all_done}
 use Rattle.jh_pins.proofs.runs.runs_of.Goals as goal
 

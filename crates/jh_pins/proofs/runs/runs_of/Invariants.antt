@@ -1,5 +1,5 @@
 -- The runs of the chips that are done with.
-use Rattle.std.proofs.Common.{ℕ, ◌-◌, ◌^◌, ◌+◌}
+use Rattle.std.proofs.Common.{◌-◌, ◌^◌, ◌+◌}
 use Rattle.std.specs.Option.{option_map_or}
 use Rattle.jh_pins.specs.Runs.{AreRuns}
 use Rattle.jh_pins.specs.Private.Shares.{is_shared}

@@ -1,5 +1,5 @@
 -- One index more, and all of them.
-use Rattle.std.proofs.Common.{◌≡◌, ℕ, ◌+◌, ◌≤◌, ◌&&◌, ◌||◌, Bool, eqb, ap, subst, ◌∙◌, arith}
+use Rattle.std.proofs.Common.{◌≡◌, ◌+◌, ◌&&◌, ◌||◌, eqb, ap, ◌∙◌, arith}
 use Rattle.jh_num.specs.Bytes.{has_byte}
 use Rattle.jh_pins.specs.Pins.{is_set}
 use Rattle.jh_pins.proofs.PinLemmas.{is_given_below, given_none, given_more, given_all}

@@ -1,5 +1,5 @@
 -- The next one names it, or doesn't, or there is none.
-use Rattle.std.proofs.Common.{◌≡◌, ℕ, true, false, length, get_or, drop, Some, sym, ap, ◌∙◌, arith}
+use Rattle.std.proofs.Common.{◌≡◌, true, false, length, get_or, drop, Some, sym, ap, ◌∙◌, arith}
 use Rattle.std.specs.Prelude.{find, option_map}
 use Rattle.jh_pins.specs.declared.claim.Claim.{Claim}
 use Rattle.jh_pins.specs.Pins.{is_named_by}

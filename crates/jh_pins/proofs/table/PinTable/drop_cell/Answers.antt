@@ -1,10 +1,10 @@
 -- The claim of the id, if there is one, is taken out.
-use Rattle.std.proofs.Common.{◌≡◌, ◌<◌, ℕ, suc, ◌∷◌, List, length, remove, Some, None, sym, ap, subst, ◌∙◌, arith}
-use Rattle.std.specs.Prelude.{filter, position}
+use Rattle.std.proofs.Common.{◌≡◌, suc, ◌∷◌, List, Some, None, sym, ap, subst, ◌∙◌, arith}
+use Rattle.std.specs.Prelude.{position}
 use Rattle.std.proofs.lemmas.List.Quantifiers.{all_pairs_remove}
 use Rattle.jh_pins.specs.declared.claim.Claim.{Claim}
 use Rattle.jh_pins.specs.TableView.{TableView, AreTwoCells, HaveOwnIds}
-use Rattle.jh_pins.specs.Holders.{has_id, is_other}
+use Rattle.jh_pins.specs.Holders.{has_id}
 use Rattle.jh_pins.proofs.HolderLemmas.{dropped, none_other, nowhere, somewhere}
 use Rattle.jh_pins.proofs.table.PinTable.drop_cell.Goals as goal
 

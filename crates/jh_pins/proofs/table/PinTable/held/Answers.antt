@@ -1,7 +1,6 @@
 -- Root's, which no cell names; a cell's, which no earlier one names; none where no cell has the id.
 use Rattle.std.proofs.Common.{◌≡◌, List, None, Some, get_or, take, sym, ap, subst, ◌∙◌}
 use Rattle.std.specs.Prelude.{position}
-use Rattle.jh_pins.specs.declared.pin.Pin.{Pin}
 use Rattle.jh_pins.specs.declared.pin.PinRun.{PinRun}
 use Rattle.jh_pins.specs.declared.claim.Claim.{Claim}
 use Rattle.jh_pins.specs.declared.runs.Share.TheVariants.{Own}

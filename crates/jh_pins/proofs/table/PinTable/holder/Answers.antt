@@ -1,5 +1,5 @@
 -- The first cell that names it, else root.
-use Rattle.std.proofs.Common.{◌≡◌, true, false, List, Some, None, sym, ap, ◌∙◌}
+use Rattle.std.proofs.Common.{true, false, List, sym, ap, ◌∙◌}
 use Rattle.std.specs.Prelude.{find, option_map}
 use Rattle.jh_pins.specs.declared.claim.Claim.{Claim}
 use Rattle.jh_pins.specs.Pins.{is_named_by}
