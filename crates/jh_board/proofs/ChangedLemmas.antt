@@ -1,7 +1,7 @@
 -- A communication page that the hypervisor writes: that of a cell, or one that was just taken and is written whole.
 use Rattle.std.proofs.Common.{◌≡◌, ◌⊎◌, inl, inr, ℕ, zero, suc, ◌+◌, ◌-◌, ◌<◌, ◌≤◌, true, false, cond, List, [], ◌∷◌, length, map, Option, Some, None, nat_lt, refl, sym, ap, subst, ◌∙◌, arith}
 use Rattle.std.specs.Prelude.{IsSome, slice_index}
-use Rattle.std.proofs.lemmas.Bool.{cases_eq, cases_lt, false_from_ne_true, lt-ltb, ltb-true}
+use Rattle.std.proofs.lemmas.Bool.{false≢true, cases_eq, cases_lt, false_from_ne_true, lt-ltb, ltb-true}
 use Rattle.jh_num.specs.Memory.{stored}
 use Rattle.jh_num.proofs.Public.{stored_before, stored_behind, stored_in}
 use Rattle.jh_frames.specs.Memory.{FramesView, byte_at, holds}
@@ -27,7 +27,7 @@ in_same_pool old new page base size inside =
 
 -- the pool has a page for a cell that comes, and the seats room for one
 pub room_by : (seats : SeatsView) (write : PageWrite) → MayChangePage seats write → comm_of seats write.cell ≡ None → (length seats.list < seats.pool.size) × (length seats.list < 16)
-room_by seats write (inl seated) none = let P : Option ℕ → Type 0 = IsSome in absurd (subst P none seated)
+room_by seats write (inl seated) none = let P : Option ℕ → Type 0 = IsSome in absurd (false≢true (subst P none seated))
 room_by seats write (inr coming) none = (coming.pages, coming.few)
 
 -- all other cells have the pages that they had
@@ -65,7 +65,7 @@ fresh_alike (Fresh state console window) f g k is = refl
 fresh_alike change f g k is = absurd is
 
 some_by : (o : Option ℕ) → IsSome o → (page : ℕ) × (o ≡ Some page)
-some_by None there = absurd there
+some_by None there = absurd (false≢true there)
 some_by (Some page) there = (page, refl)
 
 after_by : (old : MemoryView) (write : PageWrite) (page : ℕ) (before : List ℕ) (k : ℕ) → MayChangePage old.seats write → ((own : ℕ) → comm_of old.seats write.cell ≡ Some own → page ≡ own) → length before ≡ 4096 → ((j : ℕ) → j < 4096 → slice_index before j ≡ byte_at old.frames (page + j))
@@ -109,7 +109,7 @@ written_back old seats frames write page before after may base size list own kep
 -- what was held is held
 seated_by : (old new : SeatsView) (cell page id : ℕ) → comm_of new cell ≡ Some page → ((n : ℕ) → (n ≡ cell → ⊥) → comm_of new n ≡ comm_of old n) → IsSeated old id → IsSeated new id
 seated_by old new cell page id own others h = elim (cases_eq id cell) [
-  | inl same ↦ let P : ℕ → Type 0 = λ n. IsSome (comm_of new n) in let Q : Option ℕ → Type 0 = IsSome in subst P (sym same) (subst Q (sym own) tt)
+  | inl same ↦ let P : ℕ → Type 0 = λ n. IsSome (comm_of new n) in let Q : Option ℕ → Type 0 = IsSome in subst P (sym same) (subst Q (sym own) refl)
   | inr other ↦ let Q : Option ℕ → Type 0 = IsSome in subst Q (sym (others id other)) h
 ]
 

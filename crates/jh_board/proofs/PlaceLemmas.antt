@@ -1,6 +1,6 @@
 -- What a change of physical memory tells at places, where it is one beside the hypervisor's memory, or one of a communication page.
-use Rattle.std.proofs.Common.{◌≡◌, ◌⊎◌, inl, inr, ℕ, zero, suc, ◌+◌, ◌*◌, ◌<◌, ◌≤◌, Bool, true, false, ◌&&◌, ◌||◌, cond, eqb, List, [], ◌∷◌, length, take, Option, Some, None, nat_le, nat_lt, refl, sym, ap, subst, ◌∙◌, arith}
-use Rattle.std.specs.Prelude.{IsSome, filter, find, option_map}
+use Rattle.std.proofs.Common.{◌≡◌, ◌⊎◌, inl, inr, ℕ, zero, suc, ◌+◌, ◌*◌, ◌<◌, ◌≤◌, Bool, true, false, ◌&&◌, ◌||◌, cond, eqb, List, [], ◌∷◌, length, take, Option, Some, None, refl, sym, ap, subst, ◌∙◌, arith}
+use Rattle.std.specs.Prelude.{IsSome, filter, nat_le, nat_lt}
 use Rattle.std.proofs.lemmas.Bool.{true≢false, cases_eq, cases_lt, eq-eqb, ne_eqb, eqb-true, ltb-true, lt-ltb}
 use Rattle.jh_num.proofs.Public.{within_both}
 use Rattle.jh_frames.specs.Memory.{FramesView, byte_at, holds, is_own}
@@ -12,8 +12,7 @@ use Rattle.jh_history.specs.Pages.{page_after, with_page}
 use Rattle.jh_history.specs.Places.{with_byte}
 use Rattle.jh_pool.specs.Pages.{PoolView}
 use Rattle.jh_board.specs.Pages.{MemoryView, HoldsPlace, byte_in, byte_of, comm_byte}
-use Rattle.jh_board.specs.declared.seats.Seat.{Seat}
-use Rattle.jh_board.specs.Seats.{SeatsView, comm_of, is_of_pool, is_other_seat, is_seat_of, IsInPool}
+use Rattle.jh_board.specs.Seats.{SeatsView, comm_of, is_of_pool, is_other_seat, IsInPool}
 use Rattle.jh_board.specs.Private.Pages.{IsOtherPlace, IsPoolsMemory}
 use Rattle.jh_board.proofs.SeatsLemmas.{comm_left}
 
@@ -187,35 +186,6 @@ page_changed old new write page h (Physical place) =
     ap (λ b. cond b 0 (byte_at new.frames place)) (pool_same old.seats.pool new.seats.pool place h.base h.size)
     ∙ physical_kept old.seats.pool old.frames new.frames page place h.inside h.kept
 page_changed old new write page h (Page id k) = change_by (eqb id write.cell) old new id write.cell page k write.change refl h
-
--- ---- one byte that is read
-
-pub read_comm : (memory : MemoryView) (cell page k byte : ℕ) → comm_of memory.seats cell ≡ Some page → k < 4096 → byte ≡ byte_at memory.frames (page + k) → byte ≡ byte_of memory (Page cell k)
-read_comm memory cell page k byte own lt is =
-    is ∙ sym (ap (λ (o : Option ℕ). comm_byte memory.frames o k) own ∙ ap (λ b. cond b (byte_at memory.frames (page + k)) 0) (lt-ltb k 4096 lt))
-
-pub read_past : (memory : MemoryView) (cell k : ℕ) → nat_lt k 4096 ≡ false → 0 ≡ byte_of memory (Page cell k)
-read_past memory cell k past = sym (past_by (comm_of memory.seats cell) memory.frames k past)
-
-pub read_none : (memory : MemoryView) (cell k : ℕ) → comm_of memory.seats cell ≡ None → 0 ≡ byte_of memory (Page cell k)
-read_none memory cell k none = sym (ap (λ (o : Option ℕ). comm_byte memory.frames o k) none)
-
-pub read_own : (memory : MemoryView) (place : ℕ) → is_of_pool memory.seats.pool place ≡ true → 0 ≡ byte_of memory (Physical place)
-read_own memory place own = sym (ap (λ b. cond b 0 (byte_at memory.frames place)) own)
-
-pub read_beside : (memory : MemoryView) (place byte : ℕ) → is_of_pool memory.seats.pool place ≡ false → byte ≡ byte_at memory.frames place → byte ≡ byte_of memory (Physical place)
-read_beside memory place byte beside is = is ∙ sym (ap (λ b. cond b 0 (byte_at memory.frames place)) beside)
-
--- ---- memory of zeros
-
-zero_by : (b : Bool) (byte : ℕ) → byte ≡ 0 → cond b 0 byte ≡ 0
-zero_by true byte is = refl
-zero_by false byte is = is
-
-pub zero_bytes : (memory : MemoryView) → memory.seats.list ≡ [] → ((a : ℕ) → byte_at memory.frames a ≡ 0) → (q : Place) → byte_of memory q ≡ 0
-zero_bytes memory alone zero (Physical a) = zero_by (is_of_pool memory.seats.pool a) (byte_at memory.frames a) (zero a)
-zero_bytes memory alone zero (Page cell k) =
-    ap (λ (list : List Seat). comm_byte memory.frames (option_map (λ (seat : Seat). seat.comm) (find (is_seat_of cell) list)) k) alone
 
 -- ---- a cell that has no page any more
 

@@ -2,7 +2,7 @@
 use Rattle.std.proofs.Common.{◌≡◌, ◌⊎◌, inl, inr, ⊎_elim, ℕ, Bool, true, false, not, cond, List, [], ◌∷◌, ◌++◌, map, Option, Some, None, refl, sym, ap, subst, ◌∙◌}
 use Rattle.std.specs.Prelude.{Contains, IsSome, filter, find, option_map, option_and_then}
 use Rattle.std.specs.List.{list_any}
-use Rattle.std.proofs.lemmas.Bool.{true≢false, eq-eqb, ne_eqb}
+use Rattle.std.proofs.lemmas.Bool.{true≢false, false≢true, eq-eqb, ne_eqb}
 use Rattle.std.proofs.lemmas.Option.{none-some, same_Some}
 use Rattle.std.proofs.lemmas.List.{map-append}
 use Rattle.jh_num.proofs.Public.{Contains_map, Contains_from_map, Contains_tail, IsFound_from_find, IsFound_from_filter, find_nothing, list_any_false}
@@ -63,7 +63,7 @@ ids_others id (live ∷ rest) =
 -- ---- a write into a page
 
 seated_same : (o : Option ℕ) (id : ℕ) (ids : List ℕ) → IsSome o → ids_joined o id ids ≡ ids
-seated_same None id ids there = absurd there
+seated_same None id ids there = absurd (false≢true there)
 seated_same (Some page) id ids there = refl
 
 -- one into the page of a cell that has a page seats none

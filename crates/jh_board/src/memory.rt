@@ -193,9 +193,10 @@ impl Memory {
         requires { number_of first + count < 2 ^ 64 }
         ensures { OnOk result (bytes.new.items ≡ bytes.old.items ++ map (byte_of self.now) (places_in_row first count)) }
     {
+        let len = usize::from(count);
         if let Place::Physical(at) = first {
             if self.seats.is_beside(at, u64::from(count)) {
-                return self.frames.append(bytes, at, usize::from(count));
+                return self.frames.append(bytes, at, len);
             }
         }
         self.append_bytes(bytes, first, count)
