@@ -122,8 +122,8 @@ seated_push pool [] new h taken two = (taken, (λ other there. absurd (let lt = 
 seated_push pool (s ∷ rest) new h taken two = (
   h.0,
   (λ other there.
-  let P : Seat → Type 0 = AreTwoSeats s in
-  ⊎_elim (λ (held : Contains rest other). h.1 other held) (λ (own : new ≡ other). subst P own (two s (Contains_head s rest))) (Contains-push_cases rest new other there)),
+      let P : Seat → Type 0 = AreTwoSeats s in
+      ⊎_elim (λ (held : Contains rest other). h.1 other held) (λ (own : new ≡ other). subst P own (two s (Contains_head s rest))) (Contains-push_cases rest new other there)),
   seated_push pool rest new h.2 taken (λ seat there. two seat (Contains_tail s rest seat there)),
 )
 

@@ -30,7 +30,6 @@ pub struct Memory {
 
 impl Model for Memory {
     ghost use Rattle.jh_board.specs.Pages.{MemoryView};
-
     ghost use Rattle.jh_board.specs.Private.Pages.{IsPoolsMemory};
 
     ghost Value = { MemoryView };
