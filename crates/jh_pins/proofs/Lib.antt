@@ -1,0 +1,5 @@
+mod PinLemmas
+mod RunLemmas
+mod HolderLemmas
+mod ClashLemmas
+mod LawLemmas

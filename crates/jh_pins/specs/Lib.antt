@@ -1,0 +1,6 @@
+pub mod Pins
+pub mod TableView
+pub mod Holders
+pub mod Runs
+pub mod Clashes
+pub mod Private

@@ -1,0 +1,2 @@
+-- Definitions that mirror the code: clauses of private functions alone cite them, and no public clause rests on them.
+pub mod Shares

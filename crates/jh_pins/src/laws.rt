@@ -1,0 +1,49 @@
+//! What a table tells. The functions do nothing; their contracts are the laws.
+ghost use Rattle.std.specs.Prelude.{◌≡◌, ◌≢◌, ◌↔◌, ℕ, ◌++◌, [], ◌∷◌, List, Contains, All, AllPairs, Some, None, true, false, find, option_map};
+ghost use Rattle.jh_cellcfg.specs.declared.config.Irqchip.{Irqchip as TheIrqchip};
+ghost use Rattle.jh_pins.specs.declared.pin.Pin.{Pin as ThePin};
+ghost use Rattle.jh_pins.specs.declared.pin.PinRun.{PinRun as TheRun};
+ghost use Rattle.jh_pins.specs.declared.claim.Claim.{Claim as TheClaim};
+ghost use Rattle.jh_pins.specs.Pins.{is_given_by, is_named_by, IsPinOf};
+ghost use Rattle.jh_pins.specs.TableView.{TableView, HaveOwnIds};
+ghost use Rattle.jh_pins.specs.Holders.{claimants, id_of, holder, is_held_by, without};
+ghost use Rattle.jh_pins.specs.Runs.{AreRuns, IsInRun};
+
+/// An irqchip gives exactly the pins of the bits that are set: bit b of word w is the pin with the number
+/// `pin_base + 32 w + b`.
+pub fn an_irqchip_gives_its_set_bits()
+    ensures { (irqchip : TheIrqchip) (pin : ThePin) → (is_given_by pin irqchip ≡ true) ↔ IsPinOf irqchip pin }
+{}
+
+/// No pin is among those that two cells hold.
+pub fn a_pin_has_one_holder()
+    ensures { (table : TableView) (one other : ℕ) (runs more : List TheRun) (pin : ThePin) → AreRuns (is_held_by table one) runs →
+        AreRuns (is_held_by table other) more → IsInRun runs pin → IsInRun more pin → one ≡ other }
+{}
+
+/// A pin that a cell names has a holder, and a holder names its pin.
+pub fn each_named_pin_is_held()
+    ensures held { (table : TableView) (pin : ThePin) (claim : TheClaim) → Contains (claimants table) claim → is_named_by pin claim ≡ true →
+        (id : ℕ) × (holder table pin ≡ Some id) }
+    ensures named { (table : TableView) (pin : ThePin) (id : ℕ) → holder table pin ≡ Some id →
+        (claim : TheClaim) × Contains (claimants table) claim × (claim.id ≡ id) × (is_named_by pin claim ≡ true) }
+{}
+
+/// A pin goes to the first cell, in order of creation, that names it. Root holds the pins that it names and no cell
+/// besides it does.
+pub fn root_holds_what_no_cell_names()
+    ensures first { (table : TableView) (before behind : List TheClaim) (own : TheClaim) (pin : ThePin) → table.cells ≡ before ++ own ∷ behind →
+        All (λ (claim : TheClaim). is_named_by pin claim ≡ false) before → is_named_by pin own ≡ true → holder table pin ≡ Some own.id }
+    ensures root { (table : TableView) (pin : ThePin) → All (λ (claim : TheClaim). is_named_by pin claim ≡ false) table.cells →
+        is_named_by pin table.root ≡ true → holder table pin ≡ Some table.root.id }
+{}
+
+/// When a cell goes, a pin that it held goes to the first of the later cells that names it, else to root if root names
+/// it, else to none. Every other pin stays with its holder.
+pub fn pins_go_to_the_next()
+    ensures next { (table : TableView) (before behind : List TheClaim) (own : TheClaim) (pin : ThePin) → HaveOwnIds table.root table.cells →
+        table.cells ≡ before ++ own ∷ behind → holder table pin ≡ Some own.id →
+        holder (without own.id table) pin ≡ option_map id_of (find (is_named_by pin) (behind ++ table.root ∷ [])) }
+    ensures others { (table : TableView) (id other : ℕ) (pin : ThePin) → holder table pin ≡ Some other → other ≢ id →
+        holder (without id table) pin ≡ Some other }
+{}

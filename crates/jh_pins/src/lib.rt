@@ -1,0 +1,18 @@
+//! Interrupt pins: which a cell names by its irqchips, who holds one, and which two cells both name.
+#![tactic(auto)]
+
+mod claim;
+mod clashes;
+mod laws;
+mod pin;
+mod runs;
+mod sets;
+mod table;
+
+pub use claim::Claim;
+pub use laws::{
+    a_pin_has_one_holder, an_irqchip_gives_its_set_bits, each_named_pin_is_held,
+    pins_go_to_the_next, root_holds_what_no_cell_names,
+};
+pub use pin::{Clash, Pin, PinRun};
+pub use table::PinTable;
