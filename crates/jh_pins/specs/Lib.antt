@@ -3,4 +3,5 @@ pub mod TableView
 pub mod Holders
 pub mod Runs
 pub mod Clashes
+pub mod After
 pub mod Private

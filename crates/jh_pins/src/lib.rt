@@ -4,6 +4,7 @@
 mod claim;
 mod clashes;
 mod laws;
+mod live;
 mod pin;
 mod runs;
 mod sets;
@@ -14,5 +15,6 @@ pub use laws::{
     a_pin_has_one_holder, an_irqchip_gives_its_set_bits, each_named_pin_is_held,
     pins_go_to_the_next, root_holds_what_no_cell_names,
 };
+pub use live::pins_after;
 pub use pin::{Clash, Pin, PinRun};
 pub use table::PinTable;
