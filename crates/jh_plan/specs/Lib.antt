@@ -1,0 +1,4 @@
+pub mod Demands
+pub mod FaultText
+pub mod Limits
+pub mod Private

@@ -1,0 +1,40 @@
+//! Why a text has no demands.
+ghost use Rattle.std.specs.Prelude.{◌≡◌};
+ghost use Rattle.jh_plan.specs.declared.fault.DemandsFault.TheVariants.{NoMemory as NoMemoryForDemands};
+
+use jh_num::NoMemory;
+use std::fmt;
+
+/// The first fault of a text of demands, or want of memory. Lines count from 1; from line 2^32 - 1 on the number
+/// stays.
+#[derive(Clone, Copy, PartialEq, Eq, Debug)]
+pub enum DemandsFault {
+    /// The line is no demand, no comment and not blank, or has a byte above 0x7f.
+    Line { number: u32 },
+    /// There is a line of a demand behind the last that a text may have.
+    TooMany,
+    NoMemory,
+}
+
+impl From<NoMemory> for DemandsFault {
+    ghost from_gives = { λ _ fault. fault ≡ NoMemoryForDemands };
+
+    fn from(_: NoMemory) -> DemandsFault {
+        DemandsFault::NoMemory
+    }
+}
+
+impl fmt::Display for DemandsFault {
+    ghost use Rattle.std.specs.Prelude.{Some};
+    ghost use Rattle.jh_plan.specs.FaultText.{demands_fault_text};
+
+    ghost output = { λ fault. Some (demands_fault_text fault) };
+
+    fn fmt<W: fmt::Write>(&self, f: &mut fmt::Formatter<W>) -> fmt::Result {
+        match self {
+            DemandsFault::Line { number } => write!(f, "line {number}: syntax"),
+            DemandsFault::TooMany => f.write_str("demands too many"),
+            DemandsFault::NoMemory => f.write_str("want of memory"),
+        }
+    }
+}
