@@ -1,2 +1,5 @@
+mod CpuLemmas
+mod FitLemmas
 mod LineLemmas
+mod PlaceLemmas
 mod ReadLemmas

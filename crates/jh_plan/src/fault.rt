@@ -1,4 +1,4 @@
-//! Why a text has no demands.
+//! Why a text has no demands, and why demands are not met.
 ghost use Rattle.std.specs.Prelude.{◌≡◌};
 ghost use Rattle.jh_plan.specs.declared.fault.DemandsFault.TheVariants.{NoMemory as NoMemoryForDemands};
 
@@ -14,6 +14,19 @@ pub enum DemandsFault {
     /// There is a line of a demand behind the last that a text may have.
     TooMany,
     NoMemory,
+}
+
+/// Why a demand isn't met after those before it: the first of these that holds.
+#[derive(Clone, Copy, PartialEq, Eq, Debug)]
+pub enum Why {
+    /// Root or an earlier cell has its name or its id.
+    Taken,
+    /// Fewer CPUs are spare: of root's those but the lowest that no earlier cell has.
+    Cpus,
+    /// No place is free for its memory, or its communication region would end past the addresses.
+    Place,
+    /// The hypervisor's memory has fewer pages than root, the earlier cells and this one take.
+    Pages,
 }
 
 impl From<NoMemory> for DemandsFault {
