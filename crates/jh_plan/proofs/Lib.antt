@@ -2,4 +2,5 @@ mod CpuLemmas
 mod FitLemmas
 mod LineLemmas
 mod PlaceLemmas
+mod PlanLemmas
 mod ReadLemmas

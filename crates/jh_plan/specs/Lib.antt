@@ -4,4 +4,5 @@ pub mod FaultText
 pub mod Fits
 pub mod Limits
 pub mod Places
+pub mod Plans
 pub mod Private

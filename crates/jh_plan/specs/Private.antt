@@ -3,3 +3,4 @@
 pub mod Lines
 pub mod Searches
 pub mod Seats
+pub mod Unmet

@@ -8,10 +8,12 @@ mod fault;
 mod laws;
 mod line;
 mod place;
+mod planning;
 mod read;
 
 pub use demand::{Demand, MAX_DEMANDS};
-pub use fault::{DemandsFault, Why};
+pub use fault::{DemandsFault, PlanFault, Why};
 pub use laws::cells_that_fit_are_apart;
 pub use place::LARGE;
+pub use planning::{Planned, plan};
 pub use read::read_demands;
