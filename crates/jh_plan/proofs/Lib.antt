@@ -1,2 +1,7 @@
+mod CpuLemmas
+mod FitLemmas
 mod LineLemmas
+mod PlaceLemmas
+mod PlanLemmas
 mod ReadLemmas
+mod UniqueLemmas

@@ -1,11 +1,19 @@
-//! Configurations of cells from demands: the reader of a text of demands.
+//! Configurations of cells from demands: a text of demands, and the cells that meet them beside root.
 #![tactic(auto)]
 
+mod cell;
+mod cpus;
 mod demand;
 mod fault;
+mod laws;
 mod line;
+mod place;
+mod planning;
 mod read;
 
 pub use demand::{Demand, MAX_DEMANDS};
-pub use fault::DemandsFault;
+pub use fault::{DemandsFault, PlanFault, Why};
+pub use laws::{cells_that_fit_are_apart, demands_have_one_answer};
+pub use place::LARGE;
+pub use planning::{Planned, plan};
 pub use read::read_demands;

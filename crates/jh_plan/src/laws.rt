@@ -1,0 +1,31 @@
+//! What a cell that fits has for itself, and that demands have one answer. The functions do nothing; their contracts
+//! are the laws.
+ghost use Rattle.std.specs.Prelude.{◌≡◌, ℕ, true, false, List, Contains};
+ghost use Rattle.jh_num.specs.Below.{any_below};
+ghost use Rattle.jh_cellcfg.specs.declared.config.CellConfig.{CellConfig as TheCell};
+ghost use Rattle.jh_cellcfg.specs.declared.region.Region.{Region as TheRegion};
+ghost use Rattle.jh_cellcfg.specs.Cells.{is_cpu_set};
+ghost use Rattle.jh_cellcfg.specs.Regions.{is_comm, phys_meet};
+ghost use Rattle.jh_plan.specs.declared.demand.Demand.{Demand as TheDemand};
+ghost use Rattle.jh_plan.specs.declared.fault.Why.{Why as TheWhy};
+ghost use Rattle.jh_plan.specs.declared.planning.Planned.{Planned as ThePlanned};
+ghost use Rattle.jh_plan.specs.Fits.{Fits};
+ghost use Rattle.jh_plan.specs.Plans.{IsFirstUnmet, IsPlan};
+
+use crate::demand::Demand;
+use jh_cellcfg::{CellConfig, SystemConfig};
+
+/// A cell that fits has CPUs of root's, but not root's lowest, and none of an earlier cell's; and its memory meets none
+/// of an earlier cell's.
+pub fn cells_that_fit_are_apart(_root: &CellConfig)
+    ensures root { (earlier : List TheCell) (demand : TheDemand) (cell : TheCell) → Fits _root.now earlier demand cell → (cpu : ℕ) → is_cpu_set cell.cpu_set cpu ≡ true → is_cpu_set _root.now.cpu_set cpu ≡ true }
+    ensures lowest { (earlier : List TheCell) (demand : TheDemand) (cell : TheCell) → Fits _root.now earlier demand cell → (cpu : ℕ) → is_cpu_set cell.cpu_set cpu ≡ true → any_below (is_cpu_set _root.now.cpu_set) cpu ≡ true }
+    ensures cpus { (earlier : List TheCell) (demand : TheDemand) (cell : TheCell) → Fits _root.now earlier demand cell → (other : TheCell) → Contains earlier other → (cpu : ℕ) → is_cpu_set cell.cpu_set cpu ≡ true → is_cpu_set other.cpu_set cpu ≡ false }
+    ensures places { (earlier : List TheCell) (demand : TheDemand) (cell : TheCell) → Fits _root.now earlier demand cell → (other : TheCell) → Contains earlier other → (x y : TheRegion) → Contains cell.memory_regions x → is_comm x ≡ false → Contains other.memory_regions y → is_comm y ≡ false → phys_meet y x ≡ false }
+{}
+
+/// At most one plan meets demands, and where one does, no demand is the first that isn't met.
+pub fn demands_have_one_answer(_system: &SystemConfig, _demands: &[Demand])
+    ensures plan { (one other : ThePlanned) → IsPlan _system.now _demands.now one → IsPlan _system.now _demands.now other → one ≡ other }
+    ensures no_fault { (planned : ThePlanned) (number : ℕ) (why : TheWhy) → IsPlan _system.now _demands.now planned → IsFirstUnmet _system.now _demands.now number why → ⊥ }
+{}
