@@ -65,13 +65,13 @@ count_more : (test : ℕ → Bool) (n m : ℕ) → m ≡ suc n → test n ≡ tr
 unfolding count_below
 count_more test n m e passes = ap (count_below test) e ∙ ap (λ (b : Bool). count_below test n + cond b 1 0) passes
 
-count_same : (test : ℕ → Bool) (n m : ℕ) → m ≡ suc n → test n ≡ false → count_below test m ≡ count_below test n
+pub count_same : (test : ℕ → Bool) (n m : ℕ) → m ≡ suc n → test n ≡ false → count_below test m ≡ count_below test n
 unfolding count_below
 count_same test n m e fails =
     let none : count_below test n + 0 ≡ count_below test n = omega arith in
     ap (count_below test) e ∙ ap (λ (b : Bool). count_below test n + cond b 1 0) fails ∙ none
 
-count_nothing : (test : ℕ → Bool) (n : ℕ) → n ≡ 0 → count_below test n ≡ 0
+pub count_nothing : (test : ℕ → Bool) (n : ℕ) → n ≡ 0 → count_below test n ≡ 0
 unfolding count_below
 count_nothing test n e = ap (count_below test) e
 

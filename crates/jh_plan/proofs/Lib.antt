@@ -1,7 +1,9 @@
+mod CleanLemmas
 mod CpuLemmas
 mod FitLemmas
 mod LineLemmas
 mod PlaceLemmas
 mod PlanLemmas
 mod ReadLemmas
+mod StandLemmas
 mod UniqueLemmas

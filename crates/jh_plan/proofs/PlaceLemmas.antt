@@ -16,11 +16,11 @@ use Rattle.jh_plan.specs.Private.Searches.{greater, EndsWithin, IsAtMost, IsHigh
 -- ---- what is met
 
 -- two regions meet where each begins before the other ends, and both have a size
-record Meets (x y : Region) : Type 0 where
-  some : 0 < x.size
-  other : 0 < y.size
-  begins : x.phys_start < phys_end y
-  ends : y.phys_start < phys_end x
+pub record Meets (x y : Region) : Type 0 where
+  pub some : 0 < x.size
+  pub other : 0 < y.size
+  pub begins : x.phys_start < phys_end y
+  pub ends : y.phys_start < phys_end x
 
 meets_to : (x y : Region) → phys_meet x y ≡ true → Meets x y
 meets_to x y e =
@@ -34,7 +34,7 @@ meets_to x y e =
       ends = ltb-true y.phys_start (phys_end x) l.1;
     }
 
-meets_from : (x y : Region) → Meets x y → phys_meet x y ≡ true
+pub meets_from : (x y : Region) → Meets x y → phys_meet x y ≡ true
 meets_from x y m =
     let sizes = and_from (has_size x) (has_size y) (lt-ltb 0 x.size m.some) (lt-ltb 0 y.size m.other) in
     let ends = and_from (nat_lt x.phys_start (phys_end y)) (nat_lt y.phys_start (phys_end x)) (lt-ltb x.phys_start (phys_end y) m.begins) (lt-ltb y.phys_start (phys_end x) m.ends) in

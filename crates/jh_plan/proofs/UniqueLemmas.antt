@@ -32,7 +32,7 @@ one_bit a i some =
     let one : bit_at a i ≡ 1 = omega (arith, some, bit_at-lt a i) in
     ap (λ n. n == 1) one
 
-same_bit : (a b i : ℕ) → has_bit a i ≡ has_bit b i → bit_at a i ≡ bit_at b i
+pub same_bit : (a b i : ℕ) → has_bit a i ≡ has_bit b i → bit_at a i ≡ bit_at b i
 same_bit a b i same =
     elim (cases_lt (bit_at a i) 1) [
       | inl none ↦ elim (cases_lt (bit_at b i) 1) [
@@ -46,7 +46,7 @@ same_bit a b i same =
     ]
 
 -- the bit of a byte tells of a CPU
-bit_told : (set : List ℕ) (k i : ℕ) → i < 8 → is_cpu_set set (k * 8 + i) ≡ has_bit (get_or set k 0) i
+pub bit_told : (set : List ℕ) (k i : ℕ) → i < 8 → is_cpu_set set (k * 8 + i) ≡ has_bit (get_or set k 0) i
 bit_told set k i small =
     let byte : (k * 8 + i) / 8 ≡ k = omega (arith, small) in
     let bit : (k * 8 + i) % 8 ≡ i = omega (arith, small) in

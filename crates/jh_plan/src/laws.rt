@@ -1,14 +1,18 @@
-//! What a cell that fits has for itself, and that demands have one answer. The functions do nothing; their contracts
-//! are the laws.
-ghost use Rattle.std.specs.Prelude.{◌≡◌, ℕ, true, false, List, Contains};
+//! What a cell that fits has for itself, that demands have one answer, and what the cells of a plan are together. The
+//! functions do nothing; their contracts are the laws.
+ghost use Rattle.std.specs.Prelude.{◌≡◌, ℕ, true, false, List, [], All, Contains};
 ghost use Rattle.jh_num.specs.Below.{any_below};
 ghost use Rattle.jh_cellcfg.specs.declared.config.CellConfig.{CellConfig as TheCell};
 ghost use Rattle.jh_cellcfg.specs.declared.region.Region.{Region as TheRegion};
 ghost use Rattle.jh_cellcfg.specs.Cells.{is_cpu_set};
 ghost use Rattle.jh_cellcfg.specs.Regions.{is_comm, phys_meet};
+ghost use Rattle.jh_check.specs.Findings.{findings};
+ghost use Rattle.jh_check.specs.Laws.{EachTwoItems, EachTwoOthers, SharesNoPlace};
+ghost use Rattle.jh_history.specs.Admitted.{IsAdmittedSystem};
 ghost use Rattle.jh_plan.specs.declared.demand.Demand.{Demand as TheDemand};
 ghost use Rattle.jh_plan.specs.declared.fault.Why.{Why as TheWhy};
 ghost use Rattle.jh_plan.specs.declared.planning.Planned.{Planned as ThePlanned};
+ghost use Rattle.jh_plan.specs.Demands.{IsDemand};
 ghost use Rattle.jh_plan.specs.Fits.{Fits};
 ghost use Rattle.jh_plan.specs.Plans.{IsFirstUnmet, IsPlan};
 
@@ -28,4 +32,15 @@ pub fn cells_that_fit_are_apart(_root: &CellConfig)
 pub fn demands_have_one_answer(_system: &SystemConfig, _demands: &[Demand])
     ensures plan { (one other : ThePlanned) → IsPlan _system.now _demands.now one → IsPlan _system.now _demands.now other → one ≡ other }
     ensures no_fault { (planned : ThePlanned) (number : ℕ) (why : TheWhy) → IsPlan _system.now _demands.now planned → IsFirstUnmet _system.now _demands.now number why → ⊥ }
+{}
+
+/// No CPU is one of two cells of a plan, and no place is in memory of two of them.
+pub fn planned_cells_are_apart(_system: &SystemConfig, _demands: &[Demand])
+    ensures cpus { (planned : ThePlanned) → IsPlan _system.now _demands.now planned → EachTwoOthers _system.now planned.cells (λ one other. (cpu : ℕ) → is_cpu_set one.cpu_set cpu ≡ true → is_cpu_set other.cpu_set cpu ≡ false) }
+    ensures places { (planned : ThePlanned) → IsPlan _system.now _demands.now planned → EachTwoOthers _system.now planned.cells (λ one other. EachTwoItems one other (λ r s x y. is_comm x ≡ false → is_comm y ≡ false → SharesNoPlace x y)) }
+{}
+
+/// Nothing is found in an admitted system with the cells of a plan.
+pub fn plans_are_clean(_system: &SystemConfig, _demands: &[Demand])
+    ensures { (planned : ThePlanned) → IsAdmittedSystem _system.now → All IsDemand _demands.now → IsPlan _system.now _demands.now planned → findings _system.now planned.cells ≡ [] }
 {}

@@ -13,7 +13,9 @@ mod read;
 
 pub use demand::{Demand, MAX_DEMANDS};
 pub use fault::{DemandsFault, PlanFault, Why};
-pub use laws::{cells_that_fit_are_apart, demands_have_one_answer};
+pub use laws::{
+    cells_that_fit_are_apart, demands_have_one_answer, planned_cells_are_apart, plans_are_clean,
+};
 pub use place::LARGE;
 pub use planning::{Planned, plan};
 pub use read::read_demands;
