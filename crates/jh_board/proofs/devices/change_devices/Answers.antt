@@ -7,6 +7,7 @@ use Rattle.jh_ivshmem.specs.declared.spec.EndpointSpec.{EndpointSpec}
 use Rattle.jh_ivshmem.specs.Specs.{IsInItsLimits}
 use Rattle.jh_history.specs.declared.device_change.DeviceChange.{DeviceChange}
 use Rattle.jh_history.specs.declared.device_change.DeviceChange.TheVariants.{Join}
+use Rattle.jh_history.specs.declared.place.Place.TheVariants.{Physical}
 use Rattle.jh_history.specs.Devices.{specs_at}
 use Rattle.jh_history.specs.Endpoints.{endpoints_changed, with_words, MayJoinThem, MayChange}
 use Rattle.jh_board.specs.Pages.{byte_of, HoldsWordOf}
