@@ -1,5 +1,5 @@
 -- Bytes of memory at places.
-use Rattle.std.proofs.Common.{◌≡◌, ℕ, zero, suc, ◌+◌, ◌-◌, ◌/◌, ◌%◌, ◌<◌, true, false, cond, nat_lt, Option, Some, None, List, [], ◌++◌, refl, sym, ◌∙◌, ap, subst, arith}
+use Rattle.std.proofs.Common.{◌≡◌, ℕ, zero, suc, ◌+◌, ◌-◌, ◌/◌, ◌%◌, ◌<◌, true, false, List, [], ◌++◌, sym, ◌∙◌, ap, subst, arith}
 use Rattle.std.specs.Prelude.{All}
 use Rattle.std.specs.List.{AllByRecursion}
 use Rattle.std.proofs.lemmas.List.{append-nil}
@@ -9,10 +9,9 @@ use Rattle.jh_history.specs.declared.place.Place.TheVariants.{Physical, Page}
 use Rattle.jh_history.specs.Places.{further, places_in_row, with_byte, written, overlaid}
 use Rattle.jh_history.proofs.Public.{further_none, further_next, row_next, written_over}
 use Rattle.jh_num.specs.declared.address.TheConstants.{ADDRESS_END}
-use Rattle.jh_num.specs.Pages.{paged_byte}
-use Rattle.jh_frames.specs.Memory.{FramesView, OwnView, byte_at, holds, is_own, own_byte}
-use Rattle.jh_board.specs.Pages.{byte_of, comm_byte, HoldsPlace, MemoryView}
-use Rattle.jh_board.specs.Seats.{SeatsView, comm_of, is_of_pool, IsSeated}
+use Rattle.jh_frames.specs.Memory.{holds}
+use Rattle.jh_board.specs.Pages.{byte_of, HoldsPlace, MemoryView}
+use Rattle.jh_board.specs.Seats.{SeatsView, is_of_pool, IsSeated}
 use Rattle.jh_board.specs.Private.Pages.{MayHold}
 
 pub MayHold_same : (old new : MemoryView) → new.seats ≡ old.seats → (q : Place) → MayHold old q → MayHold new q
@@ -20,17 +19,6 @@ MayHold_same old new same (Physical a) h =
     let P : SeatsView → Type 0 = λ s. (a < ADDRESS_END) × (is_of_pool s.pool a ≡ false) in subst P (sym same) h
 MayHold_same old new same (Page cell offset) h =
     let P : SeatsView → Type 0 = λ s. IsSeated s cell × (offset < 4096) in subst P (sym same) h
-
-comm_same : (old new : FramesView) (o : Option ℕ) (k : ℕ) → ((a : ℕ) → byte_at new a ≡ byte_at old a) → comm_byte new o k ≡ comm_byte old o k
-comm_same old new None k same = refl
-comm_same old new (Some page) k same = ap (λ (b : ℕ). cond (nat_lt k 4096) b 0) (same (page + k))
-
--- bytes stay where physical memory and seats do
-pub bytes_same : (old new : MemoryView) → new.seats ≡ old.seats → ((a : ℕ) → byte_at new.frames a ≡ byte_at old.frames a) → (q : Place) → byte_of new q ≡ byte_of old q
-bytes_same old new seats same (Physical a) =
-    ap (λ (s : SeatsView). cond (is_of_pool s.pool a) 0 (byte_at new.frames a)) seats ∙ ap (λ (b : ℕ). cond (is_of_pool old.seats.pool a) 0 b) (same a)
-bytes_same old new seats same (Page cell offset) =
-    ap (λ (s : SeatsView). comm_byte new.frames (comm_of s cell) offset) seats ∙ comm_same old.frames new.frames (comm_of old.seats cell) offset same
 
 -- what is held stays so where the pages of physical memory do
 pub holds_same : (old new : MemoryView) → new.seats ≡ old.seats → ((a : ℕ) → holds old.frames a ≡ true → holds new.frames a ≡ true) → (q : Place) → HoldsPlace old q → HoldsPlace new q
@@ -79,8 +67,3 @@ pub written_rows : (old middle new : MemoryView) (low high places : List Place) 
 written_rows old middle new low high places value rest last q is first second =
     second [] ∙ first (high ++ []) ∙ ap (λ (ps : List Place). overlaid (low ++ ps) value q (byte_of old q)) (append-nil high)
     ∙ ap (λ (ps : List Place). overlaid ps value q (byte_of old q)) (sym is) ∙ sym (written_over (byte_of old) places value q)
-
--- physical memory has the same bytes where the hypervisor's and the pages of guests are the same
-pub unchanged : (old new : FramesView) → new.own ≡ old.own → new.guest.pages ≡ old.guest.pages → (a : ℕ) → byte_at new a ≡ byte_at old a
-unchanged old new own pages a =
-    ap (λ (o : OwnView). cond (is_own o a) (own_byte o a) (paged_byte new.guest.pages a)) own ∙ ap (λ (ps : List (ℕ × List ℕ)). cond (is_own old.own a) (own_byte old.own a) (paged_byte ps a)) pages

@@ -1,5 +1,5 @@
 -- A communication page that the hypervisor writes: that of a cell, or one that was just taken and is written whole.
-use Rattle.std.proofs.Common.{◌≡◌, ◌⊎◌, inl, inr, ℕ, zero, suc, ◌+◌, ◌-◌, ◌<◌, ◌≤◌, true, false, cond, List, [], ◌∷◌, length, map, Option, Some, None, nat_lt, refl, sym, ap, subst, ◌∙◌, arith}
+use Rattle.std.proofs.Common.{◌≡◌, ◌⊎◌, inl, inr, ℕ, zero, suc, ◌+◌, ◌-◌, ◌<◌, ◌≤◌, true, false, cond, List, [], ◌∷◌, length, Option, Some, None, nat_lt, refl, sym, ap, subst, ◌∙◌, arith}
 use Rattle.std.specs.Prelude.{IsSome, slice_index}
 use Rattle.std.proofs.lemmas.Bool.{false≢true, cases_eq, cases_lt, false_from_ne_true, lt-ltb, ltb-true}
 use Rattle.jh_num.specs.Memory.{stored}
@@ -14,10 +14,10 @@ use Rattle.jh_history.specs.Pages.{page_after}
 use Rattle.jh_pool.specs.Pages.{PoolView}
 use Rattle.jh_board.specs.declared.seats.Seat.{Seat}
 use Rattle.jh_board.specs.Pages.{HoldsPlace, MemoryView, byte_of, comm_byte}
-use Rattle.jh_board.specs.Seats.{SeatsView, comm_of, ids_of, joined_seats, IsInPool, IsSeated}
-use Rattle.jh_board.specs.Private.Pages.{IsFresh, MayChangePage, ids_joined}
+use Rattle.jh_board.specs.Seats.{SeatsView, comm_of, joined_seats, IsInPool, IsSeated}
+use Rattle.jh_board.specs.Private.Pages.{IsFresh, MayChangePage}
 use Rattle.jh_board.proofs.PlaceLemmas.{IsChanged, pool_same}
-use Rattle.jh_board.proofs.SeatsLemmas.{comm_pushed, ids_pushed}
+use Rattle.jh_board.proofs.SeatsLemmas.{comm_pushed}
 
 in_same_pool : (old new : PoolView) (page : ℕ) → new.base ≡ old.base → new.size ≡ old.size → IsInPool new page → IsInPool old page
 in_same_pool old new page base size inside =
@@ -35,14 +35,6 @@ joined_others : (old new : SeatsView) (o : Option ℕ) (id cell page : ℕ) → 
 joined_others old new None id cell page none list other = comm_pushed old new cell id page other list
 joined_others old new (Some own) id cell page some list other =
     let P : List Seat → Type 0 = λ l. comm_of (record { pool = new.pool; list = l }) id ≡ comm_of old id in subst P (sym list) refl
-
--- and all ids
-joined_ids : (old new : SeatsView) (o : Option ℕ) (cell page : ℕ) → new.list ≡ joined_seats o cell page old.list → ids_of new ≡ ids_joined o cell (ids_of old)
-joined_ids old new None cell page list = ap (λ (l : List Seat). map (λ (seat : Seat). seat.id) l) list ∙ ids_pushed old.list (record { id = cell; comm = page })
-joined_ids old new (Some own) cell page list = ap (λ (l : List Seat). map (λ (seat : Seat). seat.id) l) list
-
-pub ids_after : (old new : SeatsView) (cell page : ℕ) → new.list ≡ joined_seats (comm_of old cell) cell page old.list → ids_of new ≡ ids_joined (comm_of old cell) cell (ids_of old)
-ids_after old new cell page list = joined_ids old new (comm_of old cell) cell page list
 
 index_past : (xs : List ℕ) (k : ℕ) → length xs ≤ k → slice_index xs k ≡ 0
 index_past [] k le = refl

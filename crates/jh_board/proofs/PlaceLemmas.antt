@@ -1,9 +1,9 @@
 -- What a change of physical memory tells at places, where it is one beside the hypervisor's memory, or one of a communication page.
-use Rattle.std.proofs.Common.{◌≡◌, ◌⊎◌, inl, inr, ℕ, zero, suc, ◌+◌, ◌*◌, ◌<◌, ◌≤◌, Bool, true, false, ◌&&◌, ◌||◌, cond, eqb, List, [], ◌∷◌, length, take, Option, Some, None, refl, sym, ap, subst, ◌∙◌, arith}
+use Rattle.std.proofs.Common.{◌≡◌, ◌⊎◌, inl, inr, ℕ, ◌+◌, ◌*◌, ◌<◌, ◌≤◌, Bool, true, false, ◌&&◌, cond, eqb, Option, Some, None, refl, sym, ap, subst, ◌∙◌, arith}
 use Rattle.std.specs.Prelude.{IsSome, filter, nat_le, nat_lt}
-use Rattle.std.proofs.lemmas.Bool.{true≢false, cases_eq, cases_lt, eq-eqb, ne_eqb, eqb-true, ltb-true, lt-ltb}
+use Rattle.std.proofs.lemmas.Bool.{true≢false, cases_lt, eq-eqb, ne_eqb, eqb-true, ltb-true, lt-ltb}
 use Rattle.jh_num.proofs.Public.{within_both}
-use Rattle.jh_frames.specs.Memory.{FramesView, byte_at, holds, is_own}
+use Rattle.jh_frames.specs.Memory.{FramesView, byte_at, holds}
 use Rattle.jh_history.specs.declared.comm.PageChange.{PageChange}
 use Rattle.jh_history.specs.declared.comm.PageWrite.{PageWrite}
 use Rattle.jh_history.specs.declared.place.Place.{Place}
@@ -13,16 +13,10 @@ use Rattle.jh_history.specs.Places.{with_byte}
 use Rattle.jh_pool.specs.Pages.{PoolView}
 use Rattle.jh_board.specs.Pages.{MemoryView, HoldsPlace, byte_in, byte_of, comm_byte}
 use Rattle.jh_board.specs.Seats.{SeatsView, comm_of, is_of_pool, is_other_seat, IsInPool}
-use Rattle.jh_board.specs.Private.Pages.{IsOtherPlace, IsPoolsMemory}
+use Rattle.jh_board.specs.Private.Pages.{IsOtherPlace}
 use Rattle.jh_board.proofs.SeatsLemmas.{comm_left}
 
 -- ---- the hypervisor's memory
-
--- the pool's range is the hypervisor's
-pub own_is : (memory : MemoryView) (place : ℕ) → IsPoolsMemory memory → is_own memory.frames.own place ≡ is_of_pool memory.seats.pool place
-own_is memory place own =
-    ap (λ (base : ℕ). nat_le base place && nat_lt place (base + length memory.frames.own.bytes)) own.base
-    ∙ ap (λ (size : ℕ). nat_le memory.seats.pool.base place && nat_lt place (memory.seats.pool.base + size)) own.size
 
 pub pool_same : (old new : PoolView) (place : ℕ) → new.base ≡ old.base → new.size ≡ old.size → is_of_pool new place ≡ is_of_pool old place
 pool_same old new place base size =
@@ -35,10 +29,6 @@ page_of_pool pool page k inside lt =
     let above = inside.above in
     let below = inside.below in
     within_both pool.base (pool.base + 4096 * pool.size) (page + k) (omega arith) (omega arith)
-
--- and so are held
-pub page_held : (memory : MemoryView) (page k : ℕ) → IsPoolsMemory memory → IsInPool memory.seats.pool page → k < 4096 → holds memory.frames (page + k) ≡ true
-page_held memory page k own inside lt = rw (own_is memory (page + k) own, page_of_pool memory.seats.pool page k inside lt) refl
 
 -- a place beside the pool is none of the page
 pub beside_page : (pool : PoolView) (page place : ℕ) → IsInPool pool page → is_of_pool pool place ≡ false → (place < page) ⊎ (page + 4096 ≤ place)

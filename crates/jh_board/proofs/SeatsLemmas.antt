@@ -1,14 +1,13 @@
 -- The seats of cells: whose page is whose, where the pages lie, one seat more, and one less.
-use Rattle.std.proofs.Common.{◌≡◌, ◌≢◌, ◌⊎◌, inl, inr, ⊎_elim, ℕ, suc, ◌+◌, ◌*◌, ◌%◌, ◌<◌, ◌≤◌, Bool, true, false, not, cond, eqb, List, [], ◌∷◌, ◌++◌, length, map, Option, Some, None, refl, sym, ap, subst, ◌∙◌, arith}
+use Rattle.std.proofs.Common.{◌≡◌, ◌≢◌, ◌⊎◌, inl, inr, ⊎_elim, ℕ, suc, ◌+◌, ◌*◌, ◌%◌, ◌≤◌, Bool, true, false, not, cond, eqb, List, [], ◌∷◌, ◌++◌, length, map, Option, Some, None, refl, sym, ap, subst, ◌∙◌, arith}
 use Rattle.std.specs.Prelude.{filter, find, Contains, option_map}
-use Rattle.std.proofs.lemmas.Bool.{true≢false, cases_eq, cases_lt, eqb-true, eq-eqb, ne_eqb}
+use Rattle.std.proofs.lemmas.Bool.{true≢false, cases_lt, eqb-true, eq-eqb, ne_eqb}
 use Rattle.std.proofs.lemmas.Option.{none-some, same_Some}
-use Rattle.std.proofs.lemmas.List.{map-append}
 use Rattle.std.proofs.lemmas.List.Elements.{Contains-push_cases}
 use Rattle.jh_num.specs.declared.address.TheConstants.{ADDRESS_END}
 use Rattle.jh_num.proofs.Public.{Contains_head, Contains_tail, Contains_cases, IsFound_from_find, IsFound_from_filter, filter_all, find_None, find_kept}
 use Rattle.jh_pool.specs.Pages.{PoolView, IsTakenPage, is_free}
-use Rattle.jh_board.specs.Seats.{SeatsView, comm_of, ids_of, is_other_seat, is_seat_of, IsInPool}
+use Rattle.jh_board.specs.Seats.{SeatsView, comm_of, is_other_seat, is_seat_of, IsInPool}
 use Rattle.jh_board.specs.Private.Pages.{ids_but}
 use Rattle.jh_board.specs.Private.Seated.{AreSeated, AreTwoSeats}
 use Rattle.jh_board.specs.declared.seats.Seat.{Seat}
@@ -245,9 +244,6 @@ ids_filter id [] = refl
 ids_filter id (s ∷ rest) =
     ids_if (is_other_seat id s) s (filter (is_other_seat id) rest)
     ∙ ap (λ (ids : List ℕ). cond (is_other_seat id s) (s.id ∷ ids) ids) (ids_filter id rest)
-
-pub ids_pushed : (list : List Seat) (seat : Seat) → map (λ (s : Seat). s.id) (list ++ seat ∷ []) ≡ map (λ (s : Seat). s.id) list ++ seat.id ∷ []
-ids_pushed list seat = map-append (λ (s : Seat). s.id) list (seat ∷ [])
 
 -- those that are left have their pages
 find_left : (list : List Seat) (id cell : ℕ) → (cell ≡ id → ⊥) → find (is_seat_of cell) (filter (is_other_seat id) list) ≡ find (is_seat_of cell) list
