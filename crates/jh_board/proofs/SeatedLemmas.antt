@@ -1,7 +1,6 @@
 -- Which cells have a communication page after an entry: those that live then.
-use Rattle.std.proofs.Common.{◌≡◌, ◌⊎◌, inl, inr, ⊎_elim, ℕ, Bool, true, false, not, cond, List, [], ◌∷◌, ◌++◌, map, Option, Some, None, refl, sym, ap, subst, ◌∙◌}
+use Rattle.std.proofs.Common.{◌≡◌, ◌⊎◌, ⊎_elim, ℕ, Bool, true, false, not, cond, List, [], ◌∷◌, ◌++◌, map, Option, Some, None, refl, sym, ap, subst, ◌∙◌}
 use Rattle.std.specs.Prelude.{Contains, IsSome, filter, find, option_map, option_and_then}
-use Rattle.std.specs.List.{list_any}
 use Rattle.std.proofs.lemmas.Bool.{true≢false, false≢true, eq-eqb, ne_eqb}
 use Rattle.std.proofs.lemmas.Option.{none-some, same_Some}
 use Rattle.std.proofs.lemmas.List.{map-append}
@@ -9,7 +8,7 @@ use Rattle.jh_num.proofs.Public.{Contains_map, Contains_from_map, Contains_tail,
 use Rattle.jh_cellcfg.specs.declared.config.CellConfig.{CellConfig}
 use Rattle.jh_cellcfg.specs.declared.live.Live.{Live}
 use Rattle.jh_cellcfg.specs.Lives.{has_id, id_of}
-use Rattle.jh_check.specs.Refusals.{is_known, is_namesake}
+use Rattle.jh_check.specs.Refusals.{is_namesake}
 use Rattle.jh_call.specs.declared.call.Call.{Call}
 use Rattle.jh_call.specs.declared.call.Call.TheVariants.{Create, Start, Loadable, Destroy}
 use Rattle.jh_comm.specs.declared.words.TheConstants.{STATE_RUNNING, STATE_SHUT_DOWN}
@@ -26,7 +25,7 @@ use Rattle.jh_history.specs.declared.entry.Act.TheVariants.{Commit}
 use Rattle.jh_history.specs.declared.entry.Entry.{Entry}
 use Rattle.jh_history.specs.declared.place.Place.{Place}
 use Rattle.jh_history.specs.declared.place.Place.TheVariants.{Physical, Page}
-use Rattle.jh_history.specs.Commits.{is_other, is_commit, committed_cells, cells_by, created, created_at, created_by}
+use Rattle.jh_history.specs.Commits.{is_other, is_commit, committed_cells, cells_by, created, created_by}
 use Rattle.jh_history.specs.DueFacts.{IsLive, HasPage, IsCreated, IsOfBoard, MayLive}
 use Rattle.jh_history.specs.Facts.{Facts}
 use Rattle.jh_history.specs.Lives.{live_in}
@@ -34,7 +33,7 @@ use Rattle.jh_history.specs.Pages.{committing, on_page, page_write_by}
 use Rattle.jh_history.proofs.Public.{two_ids}
 use Rattle.jh_board.specs.declared.seats.Seat.{Seat}
 use Rattle.jh_board.specs.declared.steps.CellsChange.{CellsChange}
-use Rattle.jh_board.specs.declared.steps.CellsChange.TheVariants.{Keep, Remove}
+use Rattle.jh_board.specs.declared.steps.CellsChange.TheVariants.{Remove}
 use Rattle.jh_board.specs.Seats.{SeatsView, comm_of, ids_of, is_seat_of, IsSeated}
 use Rattle.jh_board.specs.Private.Pages.{Stays, ids_but, ids_joined, ids_left, ids_written}
 use Rattle.jh_board.specs.Private.Steps.{change_of_call, change_of_cells}

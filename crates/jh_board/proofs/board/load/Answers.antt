@@ -1,6 +1,6 @@
 -- Zeros at first, and all preloads at the end.
-use Rattle.std.proofs.Common.{◌≡◌, ℕ, ◌+◌, ◌<◌, List, get_or, length, ap, sym, subst, ◌∙◌}
-use Rattle.std.specs.Prelude.{All, fold}
+use Rattle.std.proofs.Common.{ℕ, List, ap, sym, subst, ◌∙◌}
+use Rattle.std.specs.Prelude.{fold}
 use Rattle.std.proofs.lemmas.List.{take_all}
 use Rattle.jh_script.specs.declared.image.Preload.{Preload}
 use Rattle.jh_history.specs.Admitted.{IsSoundPreload}

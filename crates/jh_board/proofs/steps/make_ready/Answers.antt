@@ -1,5 +1,5 @@
 -- Room, the regions of the cell that comes, and pages that are held change nothing that the facts tell.
-use Rattle.std.proofs.Common.{◌∙◌, Some, ap, refl}
+use Rattle.std.proofs.Common.{Some, ap, refl}
 use Rattle.jh_history.specs.declared.place.Place.TheVariants.{Physical}
 use Rattle.jh_board.specs.declared.held.Held.{Held}
 use Rattle.jh_board.proofs.KeptLemmas.{Means_kept}

@@ -1,6 +1,5 @@
 -- One byte more.
 use Rattle.std.proofs.Common.{ℕ, ◌++◌, [], ◌∷◌, ap, ◌∙◌}
-use Rattle.jh_history.specs.declared.place.Place.{Place}
 use Rattle.jh_board.specs.Pages.{byte_of}
 use Rattle.jh_board.proofs.RowLemmas.{row_last, row_none}
 use Rattle.jh_board.proofs.memory.Memory.append_bytes.Goals as goal

@@ -1,5 +1,5 @@
 -- The page is written back, and no other byte changes.
-use Rattle.std.proofs.Common.{◌≡◌, ℕ, ◌+◌, sym, subst, arith}
+use Rattle.std.proofs.Common.{◌≡◌, ℕ, sym, subst, arith}
 use Rattle.jh_frames.specs.Memory.{AreOwnBytes}
 use Rattle.jh_frames.specs.Lending.{with_page, PageGivenBack}
 use Rattle.jh_history.specs.declared.comm.PageWrite.{PageWrite}

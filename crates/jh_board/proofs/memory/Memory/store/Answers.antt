@@ -1,5 +1,5 @@
 -- The bytes are stored beside the hypervisor's memory.
-use Rattle.std.proofs.Common.{◌≡◌, ℕ, length, false, refl, sym, subst}
+use Rattle.std.proofs.Common.{◌≡◌, ℕ, length, refl, sym, subst}
 use Rattle.jh_num.specs.Memory.{stored}
 use Rattle.jh_frames.specs.Memory.{byte_at}
 use Rattle.jh_history.specs.declared.place.Place.TheVariants.{Physical, Page}

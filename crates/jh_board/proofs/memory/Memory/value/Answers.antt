@@ -1,5 +1,5 @@
 -- The bytes of a piece, of memory beside the hypervisor's or of a communication page, are those of its places.
-use Rattle.std.proofs.Common.{◌≡◌, ℕ, ◌+◌, ◌<◌, false, ap, sym, subst, ◌∙◌}
+use Rattle.std.proofs.Common.{ℕ, ap, sym, subst, ◌∙◌}
 use Rattle.jh_num.specs.Memory.{spelled}
 use Rattle.jh_history.specs.declared.place.Place.TheVariants.{Physical, Page}
 use Rattle.jh_board.specs.Pages.{MemoryView}

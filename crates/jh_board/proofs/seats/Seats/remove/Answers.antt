@@ -1,5 +1,5 @@
 -- The seats of all other cells stay.
-use Rattle.std.proofs.Common.{◌≡◌, List, Some, None, rules, refl, sym, ap, subst, ◌∙◌, arith}
+use Rattle.std.proofs.Common.{◌≡◌, List, Some, rules, sym, ap, subst, ◌∙◌, arith}
 use Rattle.std.specs.Prelude.{filter}
 use Rattle.std.proofs.lemmas.Fn.{filter_same}
 use Rattle.jh_board.specs.Seats.{SeatsView, comm_of, is_other_seat}
