@@ -1,5 +1,5 @@
 -- What contracts see of the seats of cells: which page of the hypervisor's memory is whose communication page.
-use Rattle.std.specs.Prelude.{◌≡◌, ℕ, ◌+◌, ◌*◌, ◌≤◌, Bool, ◌&&◌, not, nat_le, nat_lt, ◌==◌, List, [], ◌∷◌, ◌++◌, map, find, Option, Some, None, option_map, IsSome}
+use Rattle.std.specs.Prelude.{ℕ, ◌+◌, ◌*◌, ◌≤◌, Bool, ◌&&◌, not, nat_le, nat_lt, ◌==◌, List, [], ◌∷◌, ◌++◌, map, find, Option, Some, None, option_map, IsSome}
 use Rattle.jh_num.specs.declared.address.TheConstants.{ADDRESS_END}
 use Rattle.jh_pool.specs.Pages.{PoolView}
 use Rattle.jh_board.specs.declared.seats.Seat.{Seat}

@@ -3,7 +3,6 @@ use Rattle.std.proofs.Common.{◌≡◌, ℕ, ◌++◌, List, map, ap, subst, sy
 use Rattle.std.specs.Prelude.{OnOk}
 use Rattle.jh_frames.specs.Memory.{byte_at}
 use Rattle.jh_history.specs.declared.place.Place.{Place}
-use Rattle.jh_history.specs.declared.place.Place.TheVariants.{Physical}
 use Rattle.jh_history.specs.Places.{places_in_row}
 use Rattle.jh_board.specs.Pages.{byte_of, MemoryView}
 use Rattle.jh_board.specs.Private.Pages.{bytes_from}
