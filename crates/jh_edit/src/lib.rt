@@ -7,6 +7,7 @@ mod edit;
 mod finding;
 mod laws;
 mod mending;
+mod stage;
 mod turns;
 mod writing;
 
@@ -19,6 +20,7 @@ pub use laws::{
     standing_tables_lack_the_difference, standing_tables_walk_as_wanted, walked_tells_grants,
     where_nothing_is_left_tables_stand,
 };
+pub use stage::{CellPart, Editing, Seat, Stage2, Tree, left_of};
 pub use turns::{
     turns_account_for_pages, turns_break_before_they_make, turns_keep_the_plan,
     turns_keep_the_tables_apart, turns_lead_where_it_is_wanted, turns_leave_right_words,
