@@ -26,5 +26,7 @@ mod MoveSpotLemmas
 mod MoveSlotLemmas
 mod MoveStepLemmas
 mod FindingLemmas
+mod ForestLemmas
+mod ForestEditLemmas
 mod StepLemmas
 mod DeedLemmas
