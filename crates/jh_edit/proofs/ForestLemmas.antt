@@ -155,8 +155,8 @@ written_forest claims stage after forest writes =
       taken = λ page. let P : ℕ → Type 0 = λ n. IsTakenPage stage.pool page ↔ (0 < n) in subst P (sym (used page)) (forest.taken page);
       trees = forest.trees;
       stands = λ seat tree sits has still. same_stands (want_of (claims seat)) (words stage.frames) (words after) levels tree.table 0 (same seat tree sits has) (forest.stands seat tree sits has still);
-      outside = λ seat tree sits has at hit found.
-          kept_out stage after writes seat at hit (forest.outside seat tree sits has at hit (sym (walk_same (words stage.frames) (words after) levels tree.table at (same seat tree sits has)) ∙ found));
+      outside = λ seat tree sits has at hit low found.
+          kept_out stage after writes seat at hit (forest.outside seat tree sits has at hit low (sym (walk_same (words stage.frames) (words after) levels tree.table at (same seat tree sits has)) ∙ found));
       cached = λ cpu translation held.
           let is : IsTrueTranslation stage translation = forest.cached cpu translation held in
           record {
@@ -169,5 +169,5 @@ written_forest claims stage after forest writes =
             aligned = is.aligned;
             found = walk_same (words stage.frames) (words after) levels is.tree.table translation.page (same is.seat is.tree is.sits is.has) ∙ is.found;
           };
-      tags = forest.tags;
+      apart = forest.apart;
     }

@@ -6,6 +6,7 @@ mod LackLemmas
 mod BoundLemmas
 mod GrantLemmas
 mod PlanLemmas
+mod EndLemmas
 mod CountingLemmas
 mod WritingLemmas
 mod MadeLemmas

@@ -1,6 +1,7 @@
 -- The tables of all cells in one memory: whose each page of the pool is, and what stands, what is led to and what is cached,
 -- also while an edit goes on.
 use Rattle.std.specs.Prelude.{◌≡◌, ◌≢◌, ℕ, ◌+◌, ◌-◌, ◌*◌, ◌%◌, ◌<◌, ◌≤◌, ◌↔◌, ◌⊎◌, Bool, true, false, ◌&&◌, ◌||◌, not, nat_eq, nat_le, nat_lt, Contains, AllPairs, length, List, sum_by, Option, Some, None, IfSome, IsSome, is_some, if◌then◌else◌}
+use Rattle.jh_num.specs.declared.address.TheConstants.{ADDRESS_END}
 use Rattle.jh_desc.specs.declared.descriptor.Hit.{Hit}
 use Rattle.jh_frames.specs.Memory.{FramesView, OwnView, byte_at, is_own}
 use Rattle.jh_pool.specs.Pages.{IsTakenPage, PoolView, used_of}
@@ -122,7 +123,7 @@ pub record LeadsToComm (seat : Seat) (hit : Hit) : Type 0 where
 
 -- what a walk of the seat's tables finds leads outside the hypervisor's memory, but for its own communication page
 abbrev pub IsKeptOut : Stage2 → Seat → Tree → Type 0
-IsKeptOut stage seat tree = (at : ℕ) (hit : Hit) → walk_of (words stage.frames) levels tree.table at ≡ Some hit → LeadsOutside stage.frames at hit ⊎ LeadsToComm seat hit
+IsKeptOut stage seat tree = (at : ℕ) (hit : Hit) → at < ADDRESS_END → walk_of (words stage.frames) levels tree.table at ≡ Some hit → LeadsOutside stage.frames at hit ⊎ LeadsToComm seat hit
 
 -- the translation is what a walk finds now in the tables of a cell that lives
 pub record IsTrueTranslation (stage : Stage2) (translation : Translation) : Type 0 where
@@ -135,9 +136,11 @@ pub record IsTrueTranslation (stage : Stage2) (translation : Translation) : Type
   pub aligned : translation.page % 4096 ≡ 0
   pub found : walk_of (words stage.frames) levels tree.table translation.page ≡ Some translation.hit
 
--- two seats' tables have not the same tag
-abbrev pub DifferInTag : Seat → Seat → Type 0
-DifferInTag seat other = (tree tree' : Tree) → seat.tree ≡ Some tree → other.tree ≡ Some tree' → tree.tag ≢ tree'.tag
+-- of a seat and a later one: their ids differ, and the tags of their tables; and the later one isn't root
+pub record AreApart (seat other : Seat) : Type 0 where
+  pub ids : seat.id ≢ other.id
+  pub tags : (tree tree' : Tree) → seat.tree ≡ Some tree → other.tree ≡ Some tree' → tree.tag ≢ tree'.tag
+  pub cell : is_root other ≡ false
 
 -- ---- the forest
 
@@ -151,7 +154,7 @@ pub record IsForest (claims : Seat → Claims) (stage : Stage2) : Type 0 where
   pub stands : (seat : Seat) (tree : Tree) → HasSeat stage seat → seat.tree ≡ Some tree → is_edited stage.editing seat ≡ false → Stands (want_of (claims seat)) (words stage.frames) levels tree.table 0
   pub outside : (seat : Seat) (tree : Tree) → HasSeat stage seat → seat.tree ≡ Some tree → IsKeptOut stage seat tree
   pub cached : (cpu : ℕ) (translation : Translation) → Contains (translations_of stage.cache cpu) translation → IsTrueTranslation stage translation
-  pub tags : AllPairs DifferInTag stage.seats.items
+  pub apart : AllPairs AreApart stage.seats.items
 
 -- ---- the edit of a call
 

@@ -9,12 +9,14 @@ mod forest;
 mod laws;
 mod mending;
 mod stage;
+mod standing;
 mod turns;
 mod writing;
 
 pub use edit::{Ahead, Edit};
 pub use forest::a_write_outside_tables_keeps_the_forest;
 pub use laws::{
+    a_finished_edit_stands,
     a_filled_table_takes_a_turn_less, a_linked_table_takes_two_turns_less,
     a_pruned_table_takes_a_turn_less, a_table_taken_out_is_one_turn_less, an_edit_is_bounded,
     an_emptied_table_takes_a_turn_less, claims_want_pages_at_the_end,
