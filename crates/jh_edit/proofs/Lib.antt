@@ -27,6 +27,7 @@ mod MoveSpotLemmas
 mod MoveSlotLemmas
 mod MoveStepLemmas
 mod FindingLemmas
+mod StandingLemmas
 mod ForestLemmas
 mod ForestEditLemmas
 mod StepLemmas
