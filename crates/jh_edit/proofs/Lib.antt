@@ -28,6 +28,7 @@ mod MoveSlotLemmas
 mod MoveStepLemmas
 mod FindingLemmas
 mod StandingLemmas
+mod BlankLemmas
 mod ForestLemmas
 mod ForestEditLemmas
 mod StepLemmas
