@@ -29,6 +29,7 @@ mod MoveStepLemmas
 mod FindingLemmas
 mod StandingLemmas
 mod BlankLemmas
+mod LoneLemmas
 mod ForestLemmas
 mod ForestEditLemmas
 mod StepLemmas

@@ -1,6 +1,6 @@
 -- The tables of all cells in one memory: whose each page of the pool is, and what stands, what is led to and what is cached,
 -- also while an edit goes on.
-use Rattle.std.specs.Prelude.{◌≡◌, ◌≢◌, ℕ, ◌+◌, ◌-◌, ◌*◌, ◌%◌, ◌<◌, ◌≤◌, ◌↔◌, ◌⊎◌, Bool, true, false, ◌&&◌, ◌||◌, not, nat_eq, nat_le, nat_lt, Contains, AllPairs, length, List, sum_by, Option, Some, None, IfSome, IsSome, is_some, if◌then◌else◌}
+use Rattle.std.specs.Prelude.{◌≡◌, ◌≢◌, ℕ, ◌+◌, ◌-◌, ◌*◌, ◌%◌, ◌<◌, ◌≤◌, ◌↔◌, ◌⊎◌, Bool, true, false, ◌&&◌, ◌||◌, not, nat_eq, nat_le, nat_lt, Contains, AllPairs, length, List, [], ◌∷◌, sum_by, Option, Some, None, IfSome, IsSome, is_some, if◌then◌else◌}
 use Rattle.jh_num.specs.declared.address.TheConstants.{ADDRESS_END}
 use Rattle.jh_desc.specs.declared.descriptor.Hit.{Hit}
 use Rattle.jh_frames.specs.Memory.{FramesView, OwnView, byte_at, is_own}
@@ -9,7 +9,9 @@ use Rattle.jh_cache.specs.declared.translation.Translation.{Translation}
 use Rattle.jh_cache.specs.Translations.{translations_of}
 use Rattle.jh_walk.specs.Pages.{pages_reached, times}
 use Rattle.jh_walk.specs.Walks.{levels, walk_of}
+use Rattle.jh_num.specs.declared.rights.Rights.{Rights}
 use Rattle.jh_shape.specs.Claims.{Claims}
+use Rattle.jh_shape.specs.Grants.{IsGranted}
 use Rattle.jh_shape.specs.Pages.{tables_of}
 use Rattle.jh_shape.specs.Shapes.{want_of}
 use Rattle.jh_edit.specs.declared.stage.CellPart.{CellPart}
@@ -237,3 +239,15 @@ pub record WritesNoTable (stage : Stage2) (after : FramesView) : Type 0 where
 -- the same tables with that memory
 abbrev pub with_frames : Stage2 → FramesView → Stage2
 with_frames stage after = record stage { frames = after }
+
+-- ---- opening
+
+-- the claims grant no place of those bytes
+pub record GrantsNothingOf (claims : Claims) (base size : ℕ) : Type 0 where
+  pub apart : (at place : ℕ) (rights : Rights) (device : Bool) → at < ADDRESS_END → IsGranted claims at place rights device → base ≤ place → place < base + size → ⊥
+
+-- root has its tables, with the tag 0, and no other cell has a seat; no edit is under way
+pub record IsLoneRoot (stage : Stage2) : Type 0 where
+  pub table : ℕ
+  pub seats : stage.seats.items ≡ record { id = 0; comm = None; tree = Some (record { table = table; tag = 0 }) } ∷ []
+  pub still : stage.editing ≡ None
