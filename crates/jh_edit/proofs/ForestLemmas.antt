@@ -136,9 +136,9 @@ same_own stage after writes place =
     ap (λ base. nat_le base place && nat_lt place (base + length after.own.bytes)) writes.base
     ∙ ap (λ size. nat_le stage.frames.own.base place && nat_lt place (stage.frames.own.base + size)) writes.size
 
-kept_out : (stage : Stage2) (after : FramesView) → WritesNoTable stage after → (seat : Seat) (at : ℕ) (hit : Hit) → LeadsOutside stage.frames at hit ⊎ LeadsToComm seat hit → LeadsOutside after at hit ⊎ LeadsToComm seat hit
-kept_out stage after writes seat at hit (inl out) = inl (record { outside = λ place low high. same_own stage after writes place ∙ out.outside place low high })
-kept_out stage after writes seat at hit (inr comm) = inr comm
+kept_out : (stage : Stage2) (after : FramesView) → WritesNoTable stage after → (seat : Seat) (hit : Hit) → LeadsOutside stage.frames hit ⊎ LeadsToComm seat hit → LeadsOutside after hit ⊎ LeadsToComm seat hit
+kept_out stage after writes seat hit (inl out) = inl (same_own stage after writes hit.out ∙ out)
+kept_out stage after writes seat hit (inr comm) = inr comm
 
 pub written_forest : (claims : Seat → Claims) (stage : Stage2) (after : FramesView) → IsForest claims stage → WritesNoTable stage after → IsForest claims (with_frames stage after)
 written_forest claims stage after forest writes =
@@ -156,7 +156,7 @@ written_forest claims stage after forest writes =
       trees = forest.trees;
       stands = λ seat tree sits has still. same_stands (want_of (claims seat)) (words stage.frames) (words after) levels tree.table 0 (same seat tree sits has) (forest.stands seat tree sits has still);
       outside = λ seat tree sits has at hit low found.
-          kept_out stage after writes seat at hit (forest.outside seat tree sits has at hit low (sym (walk_same (words stage.frames) (words after) levels tree.table at (same seat tree sits has)) ∙ found));
+          kept_out stage after writes seat hit (forest.outside seat tree sits has at hit low (sym (walk_same (words stage.frames) (words after) levels tree.table at (same seat tree sits has)) ∙ found));
       cached = λ cpu translation held.
           let is : IsTrueTranslation stage translation = forest.cached cpu translation held in
           record {

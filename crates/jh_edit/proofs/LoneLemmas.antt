@@ -1,11 +1,12 @@
 -- Where root alone has a seat, its tables are all that is used.
-use Rattle.std.proofs.Common.{◌≡◌, ℕ, ◌+◌, ◌-◌, ◌*◌, ◌/◌, ◌%◌, ◌<◌, ◌≤◌, ◌↔◌, ◌⊎◌, ◌^◌, inl, ⊎_elim, IsSome, if◌then◌else◌, ap, ◌∙◌, sym, subst, arith, refl, false, List, [], ◌∷◌, Contains, sum_by, Option, Some, None, length}
+use Rattle.std.proofs.Common.{◌≡◌, ℕ, ◌+◌, ◌-◌, ◌*◌, ◌/◌, ◌%◌, ◌<◌, ◌≤◌, ◌↔◌, ◌⊎◌, ◌^◌, inl, ⊎_elim, IsSome, if◌then◌else◌, nat_le, nat_lt, ap, ◌∙◌, sym, subst, arith, refl, false, List, [], ◌∷◌, Contains, sum_by, Option, Some, None, length}
 use Rattle.std.proofs.lemmas.List.Sums.{sum_by-cons}
+use Rattle.std.proofs.lemmas.Bool.{and_parts, cases_Bool, leb-true, ltb-true}
 use Rattle.jh_num.proofs.Public.{Contains_cases}
 use Rattle.jh_cache.specs.declared.translation.Translation.{Translation}
 use Rattle.jh_cache.specs.Translations.{translations_of}
 use Rattle.jh_desc.specs.declared.descriptor.Hit.{Hit}
-use Rattle.jh_frames.specs.Memory.{FramesView}
+use Rattle.jh_frames.specs.Memory.{OwnView, is_own}
 use Rattle.jh_pool.specs.Pages.{IsTakenPage}
 use Rattle.jh_walk.specs.Pages.{times}
 use Rattle.jh_walk.specs.Walks.{levels, walk_of}
@@ -19,6 +20,13 @@ use Rattle.jh_edit.specs.Forest.{HasSeat, IsForest, IsKeptOut, IsLoneRoot, Leads
 use Rattle.jh_edit.specs.Tables.{AreTables, IsPoolOf, words}
 use Rattle.jh_edit.specs.Trees.{Stands}
 
+-- a place is outside that can't be inside
+pub out_by : (own : OwnView) (place : ℕ) → (own.base ≤ place → place < own.base + length own.bytes → ⊥) → is_own own place ≡ false
+out_by own place none =
+    ⊎_elim
+    (λ yes. let p = and_parts (nat_le own.base place) (nat_lt place (own.base + length own.bytes)) yes in absurd (none (leb-true own.base place p.0) (ltb-true place (own.base + length own.bytes) p.1)))
+    (λ no. no) (cases_Bool (is_own own place))
+
 -- what stands after opening
 pub record IsOpened (claims : Claims) (stage : Stage2) : Type 0 where
   pub lone : IsLoneRoot stage
@@ -27,7 +35,7 @@ pub record IsOpened (claims : Claims) (stage : Stage2) : Type 0 where
   pub tables : AreTables stage.frames lone.table
   pub taken : (page : ℕ) → IsTakenPage stage.pool page ↔ (0 < times (words stage.frames) levels lone.table page)
   pub empty : (cpu : ℕ) → translations_of stage.cache cpu ≡ []
-  pub outside : (at : ℕ) (hit : Hit) → at < 2 ^ 48 → walk_of (words stage.frames) levels lone.table at ≡ Some hit → LeadsOutside stage.frames at hit
+  pub outside : (at : ℕ) (hit : Hit) → at < 2 ^ 48 → walk_of (words stage.frames) levels lone.table at ≡ Some hit → LeadsOutside stage.frames hit
 
 abbrev pub lone_tree : ℕ → Tree
 lone_tree table = record { table = table; tag = 0 }

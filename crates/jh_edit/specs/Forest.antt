@@ -114,18 +114,18 @@ uses stage page = table_uses stage page + (comm_uses stage page + ahead_uses sta
 
 -- ---- what walks find
 
--- all places that the leaf gives, of which the hit is one, lie outside the hypervisor's memory: the leaf is of `span` bytes
-pub record LeadsOutside (frames : FramesView) (at : ℕ) (hit : Hit) : Type 0 where
-  pub outside : (place : ℕ) → hit.out - at % hit.span ≤ place → place < hit.out - at % hit.span + hit.span → is_own frames.own place ≡ false
+-- the place lies outside the hypervisor's memory
+abbrev pub LeadsOutside : FramesView → Hit → Type 0
+LeadsOutside frames hit = is_own frames.own hit.out ≡ false
 
--- the hit lies in the seat's own communication page, and the leaf is of one page
-pub record LeadsToComm (seat : Seat) (hit : Hit) : Type 0 where
-  pub comm : seat.comm ≡ Some (hit.out - hit.out % 4096)
-  pub span : hit.span ≡ 4096
+-- the place lies in the seat's own communication page
+abbrev pub LeadsToComm : Seat → Hit → Type 0
+LeadsToComm seat hit = seat.comm ≡ Some (hit.out - hit.out % 4096)
 
--- what a walk of the seat's tables finds leads outside the hypervisor's memory, but for its own communication page
+-- whatever address a walk of the seat's tables finds, it leads outside the hypervisor's memory, or into the cell's own
+-- communication page
 abbrev pub IsKeptOut : Stage2 → Seat → Tree → Type 0
-IsKeptOut stage seat tree = (at : ℕ) (hit : Hit) → at < ADDRESS_END → walk_of (words stage.frames) levels tree.table at ≡ Some hit → LeadsOutside stage.frames at hit ⊎ LeadsToComm seat hit
+IsKeptOut stage seat tree = (at : ℕ) (hit : Hit) → at < ADDRESS_END → walk_of (words stage.frames) levels tree.table at ≡ Some hit → LeadsOutside stage.frames hit ⊎ LeadsToComm seat hit
 
 -- the translation is what a walk finds now in the tables of a cell that lives
 pub record IsTrueTranslation (stage : Stage2) (translation : Translation) : Type 0 where

@@ -14,7 +14,6 @@ use jh_frames::Frames;
 use jh_num::{NoMemory, PAGE_SIZE};
 use jh_pool::Pool;
 use jh_shape::Target;
-use jh_walk::a_hit_covers_its_slot;
 use std::alloc::Global;
 
 /// How many cells there can be, root among them.
@@ -105,7 +104,6 @@ impl Stage2 {
     {
         standing_tables_walk_as_wanted();
         walked_tells_grants();
-        a_hit_covers_its_slot();
         let mut frames = Frames::open(alloc, base, PAGE_SIZE * u64::from(pages))?;
         let mut pool = Pool::open(alloc, base, pages)?;
         let mut cache = Cache::open(alloc, cpus)?;

@@ -29,6 +29,7 @@ pub(crate) fn finish(mut edit: Edit, t: &Target, f: &mut Frames, p: &mut Pool, c
     ensures pool { IsPoolOf p.new f.new }
     ensures taken { (page : ℕ) → IsTakenPage p.new page ↔ (0 < times (words f.new) levels edit.table page) }
     ensures empty { (cpu : ℕ) → translations_of c.new cpu ≡ [] }
+    ensures cpus { length c.new ≡ length c.old }
     ensures base { f.new.own.base ≡ f.old.own.base }
     ensures size { length f.new.own.bytes ≡ length f.old.own.bytes }
 {
@@ -50,6 +51,7 @@ pub(crate) fn root_table(root: &Target, f: &mut Frames, p: &mut Pool, c: &mut Ca
     ensures pool { IsPoolOf p.new f.new }
     ensures taken { (page : ℕ) → IsTakenPage p.new page ↔ (0 < times (words f.new) levels result page) }
     ensures empty { (cpu : ℕ) → translations_of c.new cpu ≡ [] }
+    ensures cpus { length c.new ≡ length c.old }
     ensures base { f.new.own.base ≡ f.old.own.base }
     ensures size { length f.new.own.bytes ≡ length f.old.own.bytes }
 {

@@ -1,7 +1,8 @@
 -- After a turn the edit's pages alone are taken again; where none is left, the tables stand.
 use Rattle.std.proofs.Common.{◌≡◌, ℕ, ◌+◌, ◌-◌, ◌*◌, ◌<◌, ◌≤◌, ◌&&◌, Bool, false, true, nat_eq, inl, inr, ⊎_elim, ap, ◌∙◌, sym, subst, arith, length}
 use Rattle.std.proofs.lemmas.Bool.{false≢true}
-use Rattle.jh_cache.specs.Translations.{translations_of}
+use Rattle.std.proofs.lemmas.List.{length-map}
+use Rattle.jh_cache.specs.Translations.{flushed, translations_of}
 use Rattle.jh_shape.specs.Claims.{claims_of}
 use Rattle.jh_shape.specs.Shapes.{want_of}
 use Rattle.jh_walk.specs.Walks.{levels}
@@ -35,13 +36,14 @@ loop-edit-preserved c =
             );
         enough = omega arith;
         empty = λ cpu. ⊎_elim
-            (λ flushed. ap (λ lists. translations_of lists cpu) flushed ∙ flushed_none c.args.tag c.loop-edit.c alone.empty cpu)
+            (λ gone. ap (λ lists. translations_of lists cpu) gone ∙ flushed_none c.args.tag c.loop-edit.c alone.empty cpu)
             (λ kept. ap (λ lists. translations_of lists cpu) kept.0 ∙ alone.empty cpu)
             turn.cache;
       },
       turn.table ∙ c.loop-edit.invariant.1,
       turn.base ∙ c.loop-edit.invariant.2,
       turn.size ∙ c.loop-edit.invariant.3,
+      ⊎_elim (λ gone. ap length gone ∙ length-map c.loop-edit.c (flushed c.args.tag)) (λ kept. ap length kept.0) turn.cache ∙ c.loop-edit.invariant.4,
     )
 
 pub returns-clause-stands : goal.returns-clause-stands
