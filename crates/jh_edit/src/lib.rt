@@ -14,7 +14,10 @@ mod turns;
 mod writing;
 
 pub use edit::{Ahead, Edit};
-pub use forest::a_write_outside_tables_keeps_the_forest;
+pub use forest::{
+    a_write_outside_tables_keeps_the_forest, each_cell_has_tables_of_its_own,
+    forests_take_their_pages,
+};
 pub use laws::{
     a_finished_edit_stands,
     a_filled_table_takes_a_turn_less, a_linked_table_takes_two_turns_less,
