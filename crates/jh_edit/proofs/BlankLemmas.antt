@@ -1,13 +1,12 @@
 -- In memory that is all zeros a table names none, and lacks all tables that are wanted below it.
-use Rattle.std.proofs.Common.{◌≡◌, ◌≢◌, ℕ, ◌+◌, ◌-◌, ◌*◌, ◌%◌, ◌<◌, ◌≤◌, ◌↔◌, ◌&&◌, ◌||◌, ap, ◌∙◌, sym, subst, arith, refl, Bool, true, false, nat_eq, nat_lt, ⊎_elim, Option, Some, None, List, [], if◌then◌else◌, length, suc}
+use Rattle.std.proofs.Common.{◌≡◌, ◌≢◌, ℕ, ◌+◌, ◌-◌, ◌*◌, ◌%◌, ◌<◌, ◌≤◌, ◌&&◌, ◌||◌, ap, ◌∙◌, sym, subst, arith, refl, Bool, true, false, nat_eq, nat_lt, ⊎_elim, Option, Some, None, List, if◌then◌else◌, suc}
 use Rattle.std.proofs.lemmas.Bool.{eqb-true, false≢true, lt-ltb, ltb-true, cases_Bool}
 use Rattle.jh_num.specs.declared.level.TheConstants.{LAST_LEVEL}
 use Rattle.jh_num.specs.Below.{sum_below}
 use Rattle.jh_num.proofs.Public.{same_number, sum_same}
-use Rattle.jh_desc.specs.declared.descriptor.Descriptor.{Descriptor}
 use Rattle.jh_desc.specs.declared.descriptor.Descriptor.TheVariants.{Invalid}
 use Rattle.jh_desc.specs.Descriptors.{read_of}
-use Rattle.jh_frames.specs.Memory.{AreOwnBytes, FramesView, byte_at, word_in}
+use Rattle.jh_frames.specs.Memory.{AreOwnBytes, FramesView, byte_at}
 use Rattle.jh_pool.specs.Pages.{IsPageOf, IsTakenPage, PoolView, is_free, used_of}
 use Rattle.jh_walk.specs.Counts.{Step, StateWeight, by_next, count_from, unmoved}
 use Rattle.jh_walk.specs.Pages.{page_weight, times}
@@ -16,7 +15,7 @@ use Rattle.jh_shape.specs.Wanted.{Wants, if_table, slot_start, tables_under}
 use Rattle.jh_cache.specs.declared.translation.Translation.{Translation}
 use Rattle.jh_edit.specs.Plans.{EditView, Plans}
 use Rattle.jh_edit.specs.Private.Standing.{IsAlone, IsBlank}
-use Rattle.jh_edit.specs.Tables.{AreTables, IsPoolOf, is_ahead, is_mine, words}
+use Rattle.jh_edit.specs.Tables.{IsPoolOf, is_ahead, is_mine, words}
 use Rattle.jh_edit.specs.Trees.{lack_at, lack_of, lacking, staying}
 use Rattle.jh_edit.proofs.LackLemmas.{lack_whole}
 use Rattle.jh_edit.proofs.MoveTableLemmas.{taken_own}
@@ -79,11 +78,11 @@ first_taken p p' table free base size others q taken =
     ⊎_elim
     (λ same. eqb-true q table same)
     (λ other.
-        let apart : q ≢ table = λ e. false≢true (sym other ∙ (ap (λ z. nat_eq z table) e ∙ same_number table)) in
-        let above : p'.base ≤ q = taken.in_range.above in
-        let below : q < p'.base + 4096 * p'.size = taken.in_range.below in
-        let page : IsPageOf p q = record { aligned = taken.in_range.aligned; above = omega arith; below = omega arith } in
-        absurd (false≢true (sym taken.taken ∙ (others q apart ∙ free q page))))
+    let apart : q ≢ table = λ e. false≢true (sym other ∙ (ap (λ z. nat_eq z table) e ∙ same_number table)) in
+    let above : p'.base ≤ q = taken.in_range.above in
+    let below : q < p'.base + 4096 * p'.size = taken.in_range.below in
+    let page : IsPageOf p q = record { aligned = taken.in_range.aligned; above = omega arith; below = omega arith } in
+    absurd (false≢true (sym taken.taken ∙ (others q apart ∙ free q page))))
     (cases_Bool (nat_eq q table))
 
 -- the edit to a target that begins at the page that was taken first
@@ -115,9 +114,9 @@ plain_true false e = e
 only_mine : (edit : EditView) (word : ℕ → ℕ) (table page : ℕ) → edit.removing ≡ false → edit.table ≡ table → edit.ahead ≡ None → is_mine edit word page ≡ true → 0 < times word levels table page
 only_mine edit word table page aim is none mine =
     let plain : is_mine edit word page ≡ (nat_lt 0 (times word levels table page) || false) =
-        ap (λ b. if b && nat_eq edit.left 0 then false else nat_lt 0 (times word levels edit.table page) || is_ahead edit.ahead page) aim
-        ∙ ap (λ a. nat_lt 0 (times word levels edit.table page) || is_ahead a page) none
-        ∙ ap (λ t. nat_lt 0 (times word levels t page) || false) is
+    ap (λ b. if b && nat_eq edit.left 0 then false else nat_lt 0 (times word levels edit.table page) || is_ahead edit.ahead page) aim
+    ∙ ap (λ a. nat_lt 0 (times word levels edit.table page) || is_ahead a page) none
+    ∙ ap (λ t. nat_lt 0 (times word levels t page) || false) is
     in
     ltb-true 0 (times word levels table page) (plain_true (nat_lt 0 (times word levels table page)) (sym plain ∙ mine))
 
@@ -133,7 +132,7 @@ begun_alone want edit first f p p' c blank is =
       end = let end = blank.pool.end in omega arith;
     } in
     let reached : (page : ℕ) → 0 < times (words f) levels edit.table page → first ≡ page = λ page some.
-        blank_reached (words f) first page zero (subst (λ t. 0 < times (words f) levels t page) is.table some) in
+    blank_reached (words f) first page zero (subst (λ t. 0 < times (words f) levels t page) is.table some) in
     let lack : lack_of want (words f) levels edit.table 0 + 1 ≡ tables_under want levels 0 = blank_lack want (words f) edit.table zero in
     let used : used_of p' ≡ used_of p + 1 = is.used in
     let none : used_of p ≡ 0 = blank.used in
@@ -147,12 +146,11 @@ begun_alone want edit first f p p' c blank is =
         own = λ page some. let P : ℕ → Type 0 = λ q. AreOwnBytes f.own q 4096 in subst P (reached page some) (taken_own p' f first of is.taken);
       };
       pool = of;
-      taken = λ page.
-          (
-            λ taken. mine_if edit (words f) first page is.aim is.table
-                (let P : ℕ → Type 0 = λ q. times (words f) levels first q ≡ 1 in subst P (sym (first_taken p p' first blank.free base size is.others page taken)) (blank_self (words f) first zero)),
-            λ mine. let P : ℕ → Type 0 = λ q. IsTakenPage p' q in subst P (blank_reached (words f) first page zero (only_mine edit (words f) first page is.aim is.table is.ahead mine)) is.taken,
-          );
+      taken = λ page. (
+        λ taken. mine_if edit (words f) first page is.aim is.table
+            (let P : ℕ → Type 0 = λ q. times (words f) levels first q ≡ 1 in subst P (sym (first_taken p p' first blank.free base size is.others page taken)) (blank_self (words f) first zero)),
+        λ mine. let P : ℕ → Type 0 = λ q. IsTakenPage p' q in subst P (blank_reached (words f) first page zero (only_mine edit (words f) first page is.aim is.table is.ahead mine)) is.taken,
+      );
       enough = omega arith;
       empty = blank.empty;
     }

@@ -1,5 +1,5 @@
 -- The edit of a call stays while the words of the tables do that it is about, and those of the page that is ahead.
-use Rattle.std.proofs.Common.{◌≡◌, ℕ, ◌+◌, ◌*◌, ◌<◌, ◌≤◌, ap, ◌∙◌, sym, subst, arith, refl, Bool, true, Option, Some, None, IfSome, if◌then◌else◌}
+use Rattle.std.proofs.Common.{◌≡◌, ℕ, ◌+◌, ◌≤◌, ap, ◌∙◌, sym, subst, arith, refl, true, Option, Some, None, IfSome, if◌then◌else◌}
 use Rattle.jh_num.proofs.Public.{same_number}
 use Rattle.jh_frames.specs.Memory.{FramesView}
 use Rattle.jh_walk.specs.Counts.{unmoved}
@@ -15,7 +15,7 @@ use Rattle.jh_edit.specs.declared.stage.CellPart.TheVariants.{Unchanged, Fresh, 
 use Rattle.jh_edit.specs.declared.stage.Editing.{Editing}
 use Rattle.jh_edit.specs.declared.stage.Seat.{Seat}
 use Rattle.jh_edit.specs.declared.stage.Stage2.{Stage2}
-use Rattle.jh_edit.specs.Forest.{IsBuildPart, IsCellPart, IsEdit, IsEditOf, IsForest, IsPartLack, WritesNoTable, ahead_times, ahead_uses, comm_uses, part_ahead_times, uses, with_frames}
+use Rattle.jh_edit.specs.Forest.{IsCellPart, IsEdit, IsEditOf, IsForest, IsPartLack, WritesNoTable, ahead_times, ahead_uses, part_ahead_times, uses, with_frames}
 use Rattle.jh_edit.specs.Plans.{EditView, HasSameWords, Plans}
 use Rattle.jh_edit.specs.Tables.{is_ahead, words}
 use Rattle.jh_edit.specs.Trees.{lack_at, lack_of, staying}
@@ -45,10 +45,10 @@ edit_ahead : (claims : Seat → Claims) (stage : Stage2) (after : FramesView) �
 edit_ahead claims stage after w edit counted =
     ahead_words (HasSameWords (words stage.frames) (words after)) edit.ahead
     (λ page is slot few.
-        let one : ahead_times page edit ≡ 1 = ap (λ b. if b then 1 else 0) is in
-        let some : ahead_times page edit ≤ ahead_uses stage.editing page = counted page in
-        let once : uses stage page ≤ 1 = w.forest.once page in
-        written_apart stage after w.writes page (used_page claims stage w.forest page (omega arith)) (omega arith) slot few)
+    let one : ahead_times page edit ≡ 1 = ap (λ b. if b then 1 else 0) is in
+    let some : ahead_times page edit ≤ ahead_uses stage.editing page = counted page in
+    let once : uses stage page ≤ 1 = w.forest.once page in
+    written_apart stage after w.writes page (used_page claims stage w.forest page (omega arith)) (omega arith) slot few)
 
 plan_written : (claims : Seat → Claims) (stage : Stage2) (after : FramesView) → Written claims stage after → (want : Wants) (edit : EditView) (seat : Seat) → IsEditOf stage edit seat → IsCounted stage edit → Plans edit want (words stage.frames) → Plans edit want (words after)
 plan_written claims stage after w want edit seat of counted plan =

@@ -1,5 +1,5 @@
 -- The tables of all cells stay while the words of each table do.
-use Rattle.std.proofs.Common.{◌≡◌, ℕ, ◌+◌, ◌-◌, ◌*◌, ◌%◌, ◌<◌, ◌≤◌, ◌↔◌, ◌⊎◌, zero, suc, ap, ◌∙◌, sym, subst, arith, refl, inl, inr, Bool, true, false, ◌&&◌, nat_le, nat_lt, List, [], ◌∷◌, length, sum_by, Contains, Option, Some, None, if◌then◌else◌}
+use Rattle.std.proofs.Common.{◌≡◌, ℕ, ◌+◌, ◌-◌, ◌*◌, ◌%◌, ◌<◌, ◌≤◌, ◌↔◌, ◌⊎◌, zero, suc, ap, ◌∙◌, sym, subst, arith, refl, inl, inr, ◌&&◌, nat_le, nat_lt, List, [], ◌∷◌, length, sum_by, Contains, Option, Some, None}
 use Rattle.std.proofs.lemmas.List.Sums.{get_or-le-sum_by, sum_by-cons}
 use Rattle.std.proofs.lemmas.Bool.{le-leb, lt-ltb, and_from}
 use Rattle.jh_num.specs.declared.level.TheConstants.{LAST_LEVEL}
@@ -10,22 +10,20 @@ use Rattle.jh_desc.specs.Descriptors.{read_of}
 use Rattle.jh_desc.specs.declared.descriptor.Hit.{Hit}
 use Rattle.jh_frames.specs.Memory.{FramesView, AreOwnBytes, byte_at, is_own}
 use Rattle.jh_pool.specs.Pages.{IsTakenPage}
-use Rattle.jh_cache.specs.declared.translation.Translation.{Translation}
 use Rattle.jh_walk.specs.Counts.{unmoved}
 use Rattle.jh_walk.specs.Pages.{HaveSameTables, page_weight, times}
-use Rattle.jh_walk.specs.Walks.{levels, walk_of}
+use Rattle.jh_walk.specs.Walks.{levels}
 use Rattle.jh_walk.proofs.Public.{counts_same, same_below, same_here, walk_same}
 use Rattle.jh_shape.specs.declared.want.Want.{Want}
 use Rattle.jh_shape.specs.declared.want.Want.TheVariants.{Nothing, Table as WantTable, Leaf as WantLeaf}
 use Rattle.jh_shape.specs.Claims.{Claims}
 use Rattle.jh_shape.specs.Shapes.{want_of}
 use Rattle.jh_shape.specs.Wanted.{Wants, slot_start}
-use Rattle.jh_edit.specs.declared.stage.Editing.{Editing}
 use Rattle.jh_edit.specs.declared.stage.Seat.{Seat}
 use Rattle.jh_edit.specs.declared.stage.Stage2.{Stage2}
 use Rattle.jh_edit.specs.declared.stage.Tree.{Tree}
-use Rattle.jh_edit.specs.Forest.{HasSeat, IsForest, LeadsOutside, LeadsToComm, IsTrueTranslation, WritesNoTable, ahead_uses, comm_uses, is_edited, is_gone, comm_times, table_uses, tree_times, uses, with_frames}
-use Rattle.jh_edit.specs.Tables.{AreTables, IsPoolOf, words}
+use Rattle.jh_edit.specs.Forest.{HasSeat, IsForest, LeadsOutside, LeadsToComm, IsTrueTranslation, WritesNoTable, ahead_uses, comm_uses, table_uses, tree_times, uses, with_frames}
+use Rattle.jh_edit.specs.Tables.{AreTables, words}
 use Rattle.jh_edit.specs.Trees.{IsAsWanted, Stands}
 use Rattle.jh_edit.proofs.MoveTableLemmas.{taken_own}
 use Rattle.jh_edit.proofs.StepLemmas.{word_alike}
@@ -100,14 +98,14 @@ pub written_apart : (stage : Stage2) (after : FramesView) → WritesNoTable stag
 written_apart stage after writes page is none slot few =
     word_alike (byte_at stage.frames) (byte_at after) (page + 8 * slot)
     (λ r from below.
-        let begins : page % 4096 ≡ 0 = is.aligned in
-        let above : stage.frames.own.base ≤ page = is.own.above in
-        let end : page + 4096 ≤ stage.frames.own.base + length stage.frames.own.bytes = is.own.below in
-        let low : stage.frames.own.base ≤ r = omega arith in
-        let high : r < stage.frames.own.base + length stage.frames.own.bytes = omega arith in
-        let at : page ≡ r - r % 4096 = omega arith in
-        let P : ℕ → Type 0 = λ q. comm_uses stage q ≡ 0 in
-        writes.bytes r (and_from _ _ (le-leb _ _ low) (lt-ltb _ _ high)) (subst P at none))
+    let begins : page % 4096 ≡ 0 = is.aligned in
+    let above : stage.frames.own.base ≤ page = is.own.above in
+    let end : page + 4096 ≤ stage.frames.own.base + length stage.frames.own.bytes = is.own.below in
+    let low : stage.frames.own.base ≤ r = omega arith in
+    let high : r < stage.frames.own.base + length stage.frames.own.bytes = omega arith in
+    let at : page ≡ r - r % 4096 = omega arith in
+    let P : ℕ → Type 0 = λ q. comm_uses stage q ≡ 0 in
+    writes.bytes r (and_from _ _ (le-leb _ _ low) (lt-ltb _ _ high)) (subst P at none))
 
 -- so are those of each table of a seat
 pub written_tables : (claims : Seat → Claims) (stage : Stage2) (after : FramesView) → IsForest claims stage → WritesNoTable stage after → (seat : Seat) (tree : Tree) → HasSeat stage seat → seat.tree ≡ Some tree
@@ -126,8 +124,8 @@ same_tree word word' page (Some tree) same = same_times word word' levels tree.t
 pub written_uses : (claims : Seat → Claims) (stage : Stage2) (after : FramesView) → IsForest claims stage → WritesNoTable stage after → (page : ℕ) → uses (with_frames stage after) page ≡ uses stage page
 written_uses claims stage after forest writes page =
     let tables : table_uses (with_frames stage after) page ≡ table_uses stage page =
-        sum_alike (λ (seat : Seat). tree_times (words after) page seat.tree) (λ (seat : Seat). tree_times (words stage.frames) page seat.tree) stage.seats.items
-        (λ seat sits. same_tree (words stage.frames) (words after) page seat.tree (λ tree has. written_tables claims stage after forest writes seat tree sits has))
+    sum_alike (λ (seat : Seat). tree_times (words after) page seat.tree) (λ (seat : Seat). tree_times (words stage.frames) page seat.tree) stage.seats.items
+    (λ seat sits. same_tree (words stage.frames) (words after) page seat.tree (λ tree has. written_tables claims stage after forest writes seat tree sits has))
     in
     ap (λ n. n + (comm_uses stage page + ahead_uses stage.editing page)) tables
 

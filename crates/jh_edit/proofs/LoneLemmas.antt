@@ -1,5 +1,5 @@
 -- Where root alone has a seat, its tables are all that is used.
-use Rattle.std.proofs.Common.{◌≡◌, ℕ, ◌+◌, ◌-◌, ◌*◌, ◌/◌, ◌%◌, ◌<◌, ◌≤◌, ◌↔◌, ◌⊎◌, ◌^◌, inl, ⊎_elim, IsSome, if◌then◌else◌, nat_le, nat_lt, ap, ◌∙◌, sym, subst, arith, refl, false, List, [], ◌∷◌, Contains, sum_by, Option, Some, None, length}
+use Rattle.std.proofs.Common.{◌≡◌, ℕ, ◌+◌, ◌<◌, ◌≤◌, ◌↔◌, ◌^◌, inl, ⊎_elim, IsSome, if◌then◌else◌, nat_le, nat_lt, ap, ◌∙◌, sym, subst, arith, refl, false, List, [], ◌∷◌, Contains, sum_by, Option, Some, None, length}
 use Rattle.std.proofs.lemmas.List.Sums.{sum_by-cons}
 use Rattle.std.proofs.lemmas.Bool.{and_parts, cases_Bool, leb-true, ltb-true}
 use Rattle.jh_num.proofs.Public.{Contains_cases}
@@ -12,11 +12,10 @@ use Rattle.jh_walk.specs.Pages.{times}
 use Rattle.jh_walk.specs.Walks.{levels, walk_of}
 use Rattle.jh_shape.specs.Claims.{Claims}
 use Rattle.jh_shape.specs.Shapes.{want_of}
-use Rattle.jh_edit.specs.declared.stage.Editing.{Editing}
 use Rattle.jh_edit.specs.declared.stage.Seat.{Seat}
 use Rattle.jh_edit.specs.declared.stage.Stage2.{Stage2}
 use Rattle.jh_edit.specs.declared.stage.Tree.{Tree}
-use Rattle.jh_edit.specs.Forest.{HasSeat, IsForest, IsKeptOut, IsLoneRoot, LeadsOutside, ahead_uses, comm_times, comm_uses, is_gone, table_uses, tree_times, uses}
+use Rattle.jh_edit.specs.Forest.{HasSeat, IsForest, IsLoneRoot, LeadsOutside, ahead_uses, comm_times, comm_uses, is_gone, table_uses, tree_times, uses}
 use Rattle.jh_edit.specs.Tables.{AreTables, IsPoolOf, words}
 use Rattle.jh_edit.specs.Trees.{Stands}
 
@@ -67,7 +66,7 @@ lone_uses claims stage is page =
     let tables : table_uses stage page ≡ times (words stage.frames) levels is.lone.table page = lone_sum (λ (seat : Seat). tree_times (words stage.frames) page seat.tree) stage is.lone.table is.lone.seats in
     let gone : is_gone stage.editing (lone_seat is.lone.table) ≡ false = ap (λ e. is_gone e (lone_seat is.lone.table)) is.lone.still in
     let comms : comm_uses stage page ≡ 0 =
-        lone_sum (λ (seat : Seat). if is_gone stage.editing seat then 0 else comm_times page seat.comm) stage is.lone.table is.lone.seats ∙ ap (λ b. if b then 0 else 0) gone
+    lone_sum (λ (seat : Seat). if is_gone stage.editing seat then 0 else comm_times page seat.comm) stage is.lone.table is.lone.seats ∙ ap (λ b. if b then 0 else 0) gone
     in
     let ahead : ahead_uses stage.editing page ≡ 0 = ap (λ e. ahead_uses e page) is.lone.still in
     omega arith

@@ -1,5 +1,5 @@
 -- Where nothing is cached, nothing is after a flush.
-use Rattle.std.proofs.Common.{◌≡◌, ℕ, zero, suc, ap, refl, List, [], ◌∷◌, map}
+use Rattle.std.proofs.Common.{◌≡◌, ℕ, zero, suc, ap, List, [], ◌∷◌, map}
 use Rattle.jh_cache.specs.declared.translation.Translation.{Translation}
 use Rattle.jh_cache.specs.Translations.{flushed, translations_of}
 

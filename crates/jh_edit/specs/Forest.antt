@@ -1,10 +1,10 @@
 -- The tables of all cells in one memory: whose each page of the pool is, and what stands, what is led to and what is cached,
 -- also while an edit goes on.
-use Rattle.std.specs.Prelude.{◌≡◌, ◌≢◌, ℕ, ◌+◌, ◌-◌, ◌*◌, ◌%◌, ◌<◌, ◌≤◌, ◌↔◌, ◌⊎◌, Bool, true, false, ◌&&◌, ◌||◌, not, nat_eq, nat_le, nat_lt, Contains, AllPairs, length, List, [], ◌∷◌, sum_by, Option, Some, None, IfSome, IsSome, is_some, if◌then◌else◌}
+use Rattle.std.specs.Prelude.{◌≡◌, ◌≢◌, ℕ, ◌+◌, ◌-◌, ◌*◌, ◌%◌, ◌<◌, ◌≤◌, ◌↔◌, ◌⊎◌, Bool, true, false, ◌&&◌, ◌||◌, not, nat_eq, Contains, AllPairs, length, [], ◌∷◌, sum_by, Option, Some, None, IsSome, is_some, if◌then◌else◌}
 use Rattle.jh_num.specs.declared.address.TheConstants.{ADDRESS_END}
 use Rattle.jh_desc.specs.declared.descriptor.Hit.{Hit}
-use Rattle.jh_frames.specs.Memory.{FramesView, OwnView, byte_at, is_own}
-use Rattle.jh_pool.specs.Pages.{IsTakenPage, PoolView, used_of}
+use Rattle.jh_frames.specs.Memory.{FramesView, byte_at, is_own}
+use Rattle.jh_pool.specs.Pages.{IsTakenPage, used_of}
 use Rattle.jh_cache.specs.declared.translation.Translation.{Translation}
 use Rattle.jh_cache.specs.Translations.{translations_of}
 use Rattle.jh_walk.specs.Pages.{pages_reached, times}

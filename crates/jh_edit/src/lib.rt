@@ -19,8 +19,7 @@ pub use forest::{
     forests_take_their_pages,
 };
 pub use laws::{
-    a_finished_edit_stands,
-    a_filled_table_takes_a_turn_less, a_linked_table_takes_two_turns_less,
+    a_filled_table_takes_a_turn_less, a_finished_edit_stands, a_linked_table_takes_two_turns_less,
     a_pruned_table_takes_a_turn_less, a_table_taken_out_is_one_turn_less, an_edit_is_bounded,
     an_emptied_table_takes_a_turn_less, claims_want_pages_at_the_end,
     claims_want_tables_below_tables, made_tables_lack_tables_alone, plans_stay,

@@ -89,7 +89,13 @@ pub fn left_of(editing: &Editing) -> u64
 impl Stage2 {
     /// Memory of so many pages from `base` on, in which root's tables stand as the target wants them. The pool has a page for
     /// each of them, and they lead to no place of it. Only opening takes memory for cells: there is room for all.
-    pub fn open(alloc: Global, base: u64, pages: u32, cpus: u8, root: &Target) -> Result<Self, NoMemory>
+    pub fn open(
+        alloc: Global,
+        base: u64,
+        pages: u32,
+        cpus: u8,
+        root: &Target,
+    ) -> Result<Self, NoMemory>
         requires aligned { base % 4096 ≡ 0 }
         requires place { base + 4096 * pages ≤ ADDRESS_END }
         requires cells { length root.now.cells.now ≤ 15 }

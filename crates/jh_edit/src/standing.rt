@@ -20,7 +20,14 @@ use jh_pool::Pool;
 use jh_shape::{Target, tables_are_counted_from_the_top};
 
 /// Does all turns of an edit whose pages alone are taken of the pool.
-pub(crate) fn finish(mut edit: Edit, t: &Target, f: &mut Frames, p: &mut Pool, c: &mut Cache, tag: u8)
+pub(crate) fn finish(
+    mut edit: Edit,
+    t: &Target,
+    f: &mut Frames,
+    p: &mut Pool,
+    c: &mut Cache,
+    tag: u8,
+)
     requires cells { length t.now.cells.now ≤ 15 }
     requires sound { AreSoundClaims (claims_of t.now) }
     requires alone { IsAlone (want_of (claims_of t.now)) edit f.old p.old c.old }

@@ -1,6 +1,6 @@
 -- Each taken page has one use, and no other page has any.
-use Rattle.std.proofs.Common.{◌≡◌, ℕ, ◌≤◌, ◌<◌, ◌↔◌, sum_by, subst}
-use Rattle.jh_pool.specs.Pages.{AreHadOnce, PoolView, page_addresses, used_of}
+use Rattle.std.proofs.Common.{subst}
+use Rattle.jh_pool.specs.Pages.{AreHadOnce, PoolView}
 use Rattle.jh_edit.specs.Forest.{uses}
 use Rattle.jh_edit.proofs.forest.forests_take_their_pages.Goals as goal
 

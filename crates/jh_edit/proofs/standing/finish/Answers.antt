@@ -1,5 +1,5 @@
 -- After a turn the edit's pages alone are taken again; where none is left, the tables stand.
-use Rattle.std.proofs.Common.{◌≡◌, ℕ, ◌+◌, ◌-◌, ◌*◌, ◌<◌, ◌≤◌, ◌&&◌, Bool, false, true, nat_eq, inl, inr, ⊎_elim, ap, ◌∙◌, sym, subst, arith, length}
+use Rattle.std.proofs.Common.{◌≡◌, ◌*◌, ◌&&◌, false, nat_eq, inr, ⊎_elim, ap, ◌∙◌, sym, subst, arith, length}
 use Rattle.std.proofs.lemmas.Bool.{false≢true}
 use Rattle.std.proofs.lemmas.List.{length-map}
 use Rattle.jh_cache.specs.Translations.{flushed, translations_of}
@@ -22,18 +22,16 @@ loop-edit-preserved c =
     let enough = alone.enough in
     let before : 4096 * c.loop-edit.p.size ≡ length c.loop-edit.f.own.bytes = alone.pool.size in
     let after : 4096 * c.turn.new.p.size ≡ length c.turn.new.f.own.bytes = turn.pool.size in
-    let size : length c.turn.new.f.own.bytes ≡ length c.loop-edit.f.own.bytes = turn.size in
-    (
+    let size : length c.turn.new.f.own.bytes ≡ length c.loop-edit.f.own.bytes = turn.size in (
       record {
         aim = turn.aim ∙ alone.aim;
         plan = turn.plan over;
         tables = turn.tables;
         pool = turn.pool;
-        taken = λ page.
-            (
-              λ taken. ⊎_elim (λ h. absurd (false≢true (sym h.1 ∙ (alone.taken page).0 h.0))) (λ mine. mine) ((turn.pages page).0 taken),
-              λ mine. (turn.pages page).1 (inr mine),
-            );
+        taken = λ page. (
+          λ taken. ⊎_elim (λ h. absurd (false≢true (sym h.1 ∙ (alone.taken page).0 h.0))) (λ mine. mine) ((turn.pages page).0 taken),
+          λ mine. (turn.pages page).1 (inr mine),
+        );
         enough = omega arith;
         empty = λ cpu. ⊎_elim
             (λ gone. ap (λ lists. translations_of lists cpu) gone ∙ flushed_none c.args.tag c.loop-edit.c alone.empty cpu)

@@ -1,5 +1,5 @@
 -- Each turn leaves one less, and the edit is alone again.
-use Rattle.std.proofs.Common.{◌≡◌, ℕ, length}
+use Rattle.std.proofs.Common.{◌≡◌, length}
 use Rattle.jh_shape.specs.Claims.{claims_of}
 use Rattle.jh_shape.specs.Shapes.{want_of}
 use Rattle.jh_edit.specs.Private.Standing.{IsAlone}

@@ -1,18 +1,10 @@
 -- The first page that is taken is root's first table, and names no other yet.
-use Rattle.std.proofs.Common.{◌≡◌, ℕ, ◌+◌, ◌-◌, ◌*◌, ◌%◌, ◌<◌, ◌≤◌, ◌||◌, Bool, true, false, nat_eq, nat_lt, ap, ◌∙◌, sym, subst, arith, refl, length, if◌then◌else◌, Option, None}
-use Rattle.std.proofs.lemmas.Bool.{lt-ltb}
-use Rattle.jh_frames.specs.Memory.{AreOwnBytes}
-use Rattle.jh_pool.specs.Pages.{IsTakenPage, used_of}
+use Rattle.std.proofs.Common.{◌≡◌, ◌<◌, arith, refl}
+use Rattle.jh_pool.specs.Pages.{used_of}
 use Rattle.jh_shape.specs.Claims.{claims_of}
 use Rattle.jh_shape.specs.Pages.{tables_of}
 use Rattle.jh_shape.specs.Shapes.{want_of}
 use Rattle.jh_shape.specs.Wanted.{tables_under}
-use Rattle.jh_walk.specs.Pages.{times}
-use Rattle.jh_walk.specs.Walks.{levels}
-use Rattle.jh_edit.specs.Plans.{EditView, Plans, ahead_count}
-use Rattle.jh_edit.specs.Private.Standing.{IsAlone}
-use Rattle.jh_edit.specs.Tables.{IsPoolOf, is_mine, words}
-use Rattle.jh_edit.specs.Trees.{lack_of}
 use Rattle.jh_edit.proofs.BlankLemmas.{begun_alone}
 use Rattle.jh_edit.proofs.SumLemmas.{under_some}
 use Rattle.jh_edit.proofs.standing.root_table.Goals as goal
