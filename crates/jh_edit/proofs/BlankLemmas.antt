@@ -18,6 +18,7 @@ use Rattle.jh_edit.specs.Private.Standing.{IsAlone, IsBlank}
 use Rattle.jh_edit.specs.Tables.{IsPoolOf, is_ahead, is_mine, words}
 use Rattle.jh_edit.specs.Trees.{lack_at, lack_of, lacking, staying}
 use Rattle.jh_edit.proofs.LackLemmas.{lack_whole}
+use Rattle.jh_edit.proofs.MovePageLemmas.{few_if, if_some}
 use Rattle.jh_edit.proofs.MoveTableLemmas.{taken_own}
 use Rattle.jh_edit.proofs.StepLemmas.{word_alike}
 use Rattle.jh_edit.proofs.SumLemmas.{count_more, sum_none, under_more}
@@ -50,26 +51,18 @@ blank_lack want word table zero =
     let under : tables_under want levels 0 ≡ 1 + sum_below 512 T = under_more want 3 0 in
     omega arith
 
-once : (b : Bool) → (if b then 1 else 0) ≤ 1
-once true = omega arith
-once false = omega arith
-
-counted : (b : Bool) → 0 < (if b then 1 else 0) → b ≡ true
-counted true some = refl
-counted false some = absurd (let no : ⊥ = omega arith in no)
-
 -- only the table itself is reached
 pub blank_reached : (word : ℕ → ℕ) (table page : ℕ) → ((at : ℕ) → word at ≡ 0) → 0 < times word levels table page → table ≡ page
 blank_reached word table page zero some =
     let is = blank_times word table page zero in
     let here : 0 < (if nat_eq table page then 1 else 0) = omega arith in
-    eqb-true table page (counted (nat_eq table page) here)
+    eqb-true table page (if_some (nat_eq table page) here)
 
 pub blank_self : (word : ℕ → ℕ) (table : ℕ) → ((at : ℕ) → word at ≡ 0) → times word levels table table ≡ 1
 blank_self word table zero = blank_times word table table zero ∙ ap (λ b. if b then 1 else 0) (same_number table)
 
 pub blank_once : (word : ℕ → ℕ) (table page : ℕ) → ((at : ℕ) → word at ≡ 0) → times word levels table page ≤ 1
-blank_once word table page zero = let is = blank_times word table page zero in let one = once (nat_eq table page) in omega arith
+blank_once word table page zero = let is = blank_times word table page zero in let one = few_if (nat_eq table page) in omega arith
 
 -- the page that was taken first is the only one that is taken
 pub first_taken : (p p' : PoolView) (table : ℕ) → ((page : ℕ) → IsPageOf p page → is_free p page ≡ true) → p'.base ≡ p.base → p'.size ≡ p.size → ((q : ℕ) → q ≢ table → is_free p' q ≡ is_free p q)
