@@ -1,5 +1,5 @@
 -- Bytes of memory at places.
-use Rattle.std.proofs.Common.{◌≡◌, ℕ, zero, suc, ◌+◌, ◌-◌, ◌/◌, ◌%◌, ◌<◌, List, [], ◌++◌, sym, ◌∙◌, ap, subst, arith}
+use Rattle.std.proofs.Common.{◌≡◌, ℕ, zero, suc, ◌+◌, ◌-◌, ◌/◌, ◌%◌, ◌<◌, true, false, List, [], ◌++◌, sym, ◌∙◌, ap, subst, arith}
 use Rattle.std.specs.Prelude.{All}
 use Rattle.std.specs.List.{AllByRecursion}
 use Rattle.std.proofs.lemmas.List.{append-nil}
@@ -8,23 +8,37 @@ use Rattle.jh_history.specs.declared.place.Place.{Place}
 use Rattle.jh_history.specs.declared.place.Place.TheVariants.{Physical, Page}
 use Rattle.jh_history.specs.Places.{further, places_in_row, with_byte, written, overlaid}
 use Rattle.jh_history.proofs.Public.{further_none, further_next, row_next, written_over}
+use Rattle.jh_num.specs.declared.address.TheConstants.{ADDRESS_END}
+use Rattle.jh_frames.specs.Memory.{holds}
 use Rattle.jh_board.specs.Pages.{byte_of, HoldsPlace, MemoryView}
+use Rattle.jh_board.specs.Seats.{SeatsView, is_of_pool, IsSeated}
 use Rattle.jh_board.specs.Private.Pages.{MayHold}
 
-pub MayHold_same : (old new : MemoryView) → ((q : Place) → HoldsPlace old q → HoldsPlace new q) → (q : Place) → MayHold old q → MayHold new q
-MayHold_same old new same (Physical a) h = h
-MayHold_same old new same (Page cell offset) h = same (Page cell offset) h
+pub MayHold_same : (old new : MemoryView) → new.seats ≡ old.seats → (q : Place) → MayHold old q → MayHold new q
+MayHold_same old new same (Physical a) h =
+    let P : SeatsView → Type 0 = λ s. (a < ADDRESS_END) × (is_of_pool s.pool a ≡ false) in subst P (sym same) h
+MayHold_same old new same (Page cell offset) h =
+    let P : SeatsView → Type 0 = λ s. IsSeated s cell × (offset < 4096) in subst P (sym same) h
 
-each_held : (pages : MemoryView) (p : Place) (count : ℕ) → ((k : ℕ) → k < count → HoldsPlace pages (further p k)) → AllByRecursion (HoldsPlace pages) (places_in_row p count)
-each_held pages p zero each = tt
-each_held pages p (suc count) each = (
-  subst (HoldsPlace pages) (further_none p) (each 0 (omega arith)),
-  each_held pages (further p 1) count (λ k lt. subst (HoldsPlace pages) (sym (further_next p k)) (each (k + 1) (omega arith))),
+-- what is held stays so where the pages of physical memory do
+pub holds_same : (old new : MemoryView) → new.seats ≡ old.seats → ((a : ℕ) → holds old.frames a ≡ true → holds new.frames a ≡ true) → (q : Place) → HoldsPlace old q → HoldsPlace new q
+holds_same old new seats same (Physical a) h = let P : SeatsView → Type 0 = λ s. is_of_pool s.pool a ≡ false in (h.0, same a h.1, subst P (sym seats) h.2)
+holds_same old new seats same (Page cell offset) h = let P : SeatsView → Type 0 = λ s. IsSeated s cell × (offset < 4096) in subst P (sym seats) h
+
+each_of : (Q : Place → Type 0) (p : Place) (count : ℕ) → ((k : ℕ) → k < count → Q (further p k)) → AllByRecursion Q (places_in_row p count)
+each_of Q p zero each = tt
+each_of Q p (suc count) each = (
+  subst Q (further_none p) (each 0 (omega arith)),
+  each_of Q (further p 1) count (λ k lt. subst Q (sym (further_next p k)) (each (k + 1) (omega arith))),
 )
+
+-- all of a row is so where each of its places is
+pub row_of : (Q : Place → Type 0) (p : Place) (count : ℕ) → ((k : ℕ) → k < count → Q (further p k)) → All Q (places_in_row p count)
+row_of Q p count each = All-from_recursion Q (places_in_row p count) (each_of Q p count each)
 
 -- so all of a row is held where each of its places is
 pub row_held : (pages : MemoryView) (p : Place) (count : ℕ) → ((k : ℕ) → k < count → HoldsPlace pages (further p k)) → All (HoldsPlace pages) (places_in_row p count)
-row_held pages p count each = All-from_recursion (HoldsPlace pages) (places_in_row p count) (each_held pages p count each)
+row_held pages p count each = row_of (HoldsPlace pages) p count each
 
 -- the k-th place of a row is one of its places
 at_place : (Q : Place → Type 0) (p : Place) (count k : ℕ) → k < count → AllByRecursion Q (places_in_row p count) → Q (further p k)
@@ -34,6 +48,10 @@ at_place Q p (suc count) (suc k) lt all = let e : k + 1 ≡ suc k = omega arith 
 
 pub All_at_place : (Q : Place → Type 0) (p : Place) (count k : ℕ) → k < count → All Q (places_in_row p count) → Q (further p k)
 All_at_place Q p count k lt all = at_place Q p count k lt (recursion_from_All Q (places_in_row p count) all)
+
+-- and so stays a row of physical memory where its pages do
+pub row_kept : (old new : MemoryView) (a count : ℕ) → ((p : ℕ) → HoldsPlace old (Physical p) → HoldsPlace new (Physical p)) → All (HoldsPlace old) (places_in_row (Physical a) count) → All (HoldsPlace new) (places_in_row (Physical a) count)
+row_kept old new a count kept all = row_held new (Physical a) count (λ k lt. kept (a + k) (All_at_place (HoldsPlace old) (Physical a) count k lt all))
 
 -- one byte of a write
 pub over_more : (old new : MemoryView) (p at : Place) (byte k n rest : ℕ) (places : List Place) (q : Place) → k < n → at ≡ further p k → byte ≡ rest % 256 → byte_of new q ≡ with_byte (byte_of old) at byte q

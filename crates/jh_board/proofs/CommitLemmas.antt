@@ -2,7 +2,7 @@
 use Rattle.std.proofs.Common.{◌≡◌, ◌⊎◌, ℕ, ◌+◌, ◌*◌, ◌^◌, ◌<◌, List, ◌∷◌, Option, Some, None, refl, sym, ◌∙◌, ap, subst, inl, inr, ⊎_elim, arith}
 use Rattle.std.specs.Prelude.{All, Contains, IfSome, option_map, find}
 use Rattle.std.proofs.lemmas.Option.{none-some, same_Some}
-use Rattle.std.proofs.lemmas.List.Elements.{All-contains, All-map, All-weaker}
+use Rattle.std.proofs.lemmas.List.Elements.{All-contains, All-map}
 use Rattle.jh_num.proofs.Public.{Contains_cases}
 use Rattle.jh_cellcfg.specs.declared.config.CellConfig.{CellConfig}
 use Rattle.jh_cellcfg.specs.declared.live.Live.{Live}
@@ -36,6 +36,7 @@ use Rattle.jh_board.specs.Pages.{MemoryView, HoldsPlace, HoldsEndpointWord, Hold
 use Rattle.jh_board.specs.Private.Steps.{devices_held, endpoint_word_after, MayPut, MayWriteEndpointWord, MayCommitDevices, MayCommit}
 use Rattle.jh_board.proofs.ActedLemmas.{word_acted}
 use Rattle.jh_board.proofs.AnswerLemmas.{if_some}
+use Rattle.jh_board.proofs.BytesLemmas.{row_kept}
 use Rattle.jh_board.proofs.ComingLemmas.{IsComing, created_phase, ready_coming}
 use Rattle.jh_board.proofs.KeptLemmas.{KeepsPages, words_kept}
 use Rattle.jh_board.proofs.ListLemmas.{All_from_find}
@@ -71,7 +72,7 @@ may_put image held memory f None means sound pages h = tt
 may_put image held memory f (Some word) means sound pages h =
     let there : HoldsWordOf held.memory h.endpoint.spec = word_held image held f h.endpoint means sound h.there in
     endpoint_word_held memory word h.endpoint.spec h.within h.is
-    (All-weaker (HoldsPlace held.memory) (HoldsPlace memory) pages (places_in_row (Physical (endpoint_word_of h.endpoint.spec 0).place) 4) there)
+    (row_kept held.memory memory (endpoint_word_of h.endpoint.spec 0).place 4 pages there)
 
 -- the devices of a cell by what is held are those by the facts
 pub same_devices : (image : Image) (held : Held) (f : Facts) (id : ℕ) → held.cells.lives ≡ f.cells → held.endpoints.list ≡ f.endpoints → devices_held image held id ≡ devices_of image f id

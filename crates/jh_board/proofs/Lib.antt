@@ -1,4 +1,7 @@
 mod ListLemmas
+mod SeatsLemmas
+mod PlaceLemmas
+mod ChangedLemmas
 mod BytesLemmas
 mod PieceLemmas
 mod MeansLemmas
@@ -13,6 +16,7 @@ mod MadeLemmas
 mod AnswerLemmas
 mod ComingLemmas
 mod WrittenLemmas
+mod SeatedLemmas
 mod EachCellLemmas
 mod AfterLemmas
 mod RootReadLemmas

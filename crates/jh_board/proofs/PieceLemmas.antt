@@ -1,26 +1,44 @@
 -- Bytes of memory in a row, and lists of bytes that are stored.
-use Rattle.std.proofs.Common.{◌≡◌, ℕ, zero, suc, ◌+◌, ◌-◌, ◌/◌, ◌%◌, ◌^◌, ◌<◌, ◌≤◌, List, [], ◌∷◌, length, take, map, cond, eqb, refl, sym, ◌∙◌, ap, inl, inr, arith}
+use Rattle.std.proofs.Common.{◌≡◌, ℕ, zero, suc, ◌+◌, ◌-◌, ◌/◌, ◌%◌, ◌^◌, ◌<◌, ◌≤◌, List, [], ◌∷◌, length, take, map, cond, eqb, true, false, Some, refl, sym, ◌∙◌, ap, subst, inl, inr, arith}
 use Rattle.std.specs.Prelude.{slice_index}
 use Rattle.std.specs.Int.{byte_at as byte_of_number, bytes_low_first}
-use Rattle.std.proofs.lemmas.Bool.{cases_eq, cases_lt, eq-eqb, ne_eqb}
+use Rattle.std.proofs.lemmas.Bool.{true≢false, cases_eq, cases_lt, eq-eqb, ne_eqb}
 use Rattle.std.proofs.Math.Nat.{div-div-eq-div-mul, div-one, pow-suc}
 use Rattle.jh_num.specs.Memory.{spelled, stored}
 use Rattle.jh_history.specs.declared.place.Place.{Place}
 use Rattle.jh_history.specs.declared.place.Place.TheVariants.{Physical, Page}
 use Rattle.jh_history.specs.Places.{places_in_row, with_byte, written}
 use Rattle.jh_history.proofs.Public.{row_length}
-use Rattle.jh_board.specs.Pages.{byte_of, byte_in, MemoryView}
+use Rattle.jh_pool.specs.Pages.{PoolView}
+use Rattle.jh_board.specs.Pages.{byte_of, comm_byte, MemoryView}
+use Rattle.jh_board.specs.Seats.{SeatsView, comm_of, is_of_pool, IsInPool}
 use Rattle.jh_board.specs.Private.Pages.{bytes_from}
 use Rattle.jh_frames.specs.Memory.{byte_at}
 use Rattle.jh_num.proofs.Public.{stored_before, stored_behind, stored_in}
+use Rattle.jh_board.proofs.PlaceLemmas.{page_beside}
 
-abbrev Pages : Type 0
-Pages = List (ℕ × List ℕ)
+-- so many bytes from the place on are beside the hypervisor's memory
+abbrev pub IsBeside : PoolView → ℕ → ℕ → Type 0
+IsBeside pool at count = (k : ℕ) → k < count → is_of_pool pool (at + k) ≡ false
 
--- the bytes at places of physical memory in a row
-pub row_of_memory : (memory : MemoryView) (a n : ℕ) → map (byte_of memory) (places_in_row (Physical a) n) ≡ bytes_from (byte_at memory.frames) a n
-row_of_memory memory a zero = refl
-row_of_memory memory a (suc n) = ap (λ (bs : List ℕ). byte_at memory.frames a ∷ bs) (row_of_memory memory (a + 1) n)
+-- the bytes at places of physical memory in a row beside the hypervisor's
+pub row_of_memory : (memory : MemoryView) (a n : ℕ) → IsBeside memory.seats.pool a n → map (byte_of memory) (places_in_row (Physical a) n) ≡ bytes_from (byte_at memory.frames) a n
+row_of_memory memory a zero beside = refl
+row_of_memory memory a (suc n) beside =
+    let first : a + 0 ≡ a = omega arith in
+    let own : is_of_pool memory.seats.pool a ≡ false = subst (λ (x : ℕ). is_of_pool memory.seats.pool x ≡ false) first (beside 0 (omega arith)) in
+    ap (λ b. cond b 0 (byte_at memory.frames a) ∷ map (byte_of memory) (places_in_row (Physical (a + 1)) n)) own
+    ∙ ap (λ (bs : List ℕ). byte_at memory.frames a ∷ bs) (row_of_memory memory (a + 1) n (λ k lt.
+    let next : a + suc k ≡ a + 1 + k = omega arith in
+    subst (λ (x : ℕ). is_of_pool memory.seats.pool x ≡ false) next (beside (suc k) (omega arith))))
+
+take_le : (n : ℕ) (xs : List ℕ) → length (take n xs) ≤ n
+take_le zero xs = omega arith
+take_le (suc n) [] = omega arith
+take_le (suc n) (x ∷ xs) = let rest = take_le n xs in omega arith
+
+take_few : (n : ℕ) (xs bytes : List ℕ) → bytes ≡ take n xs → length bytes ≤ n
+take_few n xs bytes is = subst (λ (bs : List ℕ). length bs ≤ n) (sym is) (take_le n xs)
 
 -- zeros spell nothing
 pub zeros_spell_nothing : (offset n : ℕ) → spelled (bytes_from (λ k. 0) offset n) ≡ 0
@@ -70,13 +88,63 @@ written_elsewhere : (byte : Place → ℕ) (a n v cell offset : ℕ) → written
 written_elsewhere byte a zero v cell offset = refl
 written_elsewhere byte a (suc n) v cell offset = written_elsewhere (with_byte byte (Physical a) (v % 256)) (a + 1) n (v / 256) cell offset
 
--- so it is where that list was put
-pub written_piece : (old new : MemoryView) (a n v : ℕ) (bytes : List ℕ) → n ≤ 8 → bytes ≡ take n (bytes_low_first 0 8 v) → ((q : ℕ) → byte_at new.frames q ≡ stored (byte_at old.frames) a bytes q) → new.comms ≡ old.comms
+-- bytes that are stored beside the hypervisor's memory, where no place tells one of the hypervisor's
+pub stored_beside : (pool : PoolView) (byte : ℕ → ℕ) (at : ℕ) (bytes : List ℕ) (q : ℕ) → IsBeside pool at (length bytes) → cond (is_of_pool pool q) 0 (stored byte at bytes q) ≡ stored (λ y. cond (is_of_pool pool y) 0 (byte y)) at bytes q
+stored_beside pool byte at bytes q beside = elim (cases_lt q at) [
+  | inl before ↦
+      ap (λ (b : ℕ). cond (is_of_pool pool q) 0 b) (stored_before byte at bytes q before)
+      ∙ sym (stored_before (λ y. cond (is_of_pool pool y) 0 (byte y)) at bytes q before)
+  | inr above ↦ elim (cases_lt q (at + length bytes)) [
+    | inl within ↦
+        let e : at + (q - at) ≡ q = omega arith in
+        let own : is_of_pool pool q ≡ false = subst (λ (x : ℕ). is_of_pool pool x ≡ false) e (beside (q - at) (omega arith)) in
+        ap (λ b. cond b 0 (stored byte at bytes q)) own ∙ stored_in byte at bytes q above within
+        ∙ sym (stored_in (λ y. cond (is_of_pool pool y) 0 (byte y)) at bytes q above within)
+    | inr behind ↦
+        ap (λ (b : ℕ). cond (is_of_pool pool q) 0 b) (stored_behind byte at bytes q behind)
+        ∙ sym (stored_behind (λ y. cond (is_of_pool pool y) 0 (byte y)) at bytes q behind)
+  ]
+]
+
+-- they change no byte of the hypervisor's
+pub stored_of_pool : (pool : PoolView) (byte : ℕ → ℕ) (at : ℕ) (bytes : List ℕ) (q : ℕ) → IsBeside pool at (length bytes) → is_of_pool pool q ≡ true → stored byte at bytes q ≡ byte q
+stored_of_pool pool byte at bytes q beside own = elim (cases_lt q at) [
+  | inl before ↦ stored_before byte at bytes q before
+  | inr above ↦ elim (cases_lt q (at + length bytes)) [
+    | inl within ↦
+        let e : at + (q - at) ≡ q = omega arith in
+        absurd (true≢false (sym own ∙ subst (λ (x : ℕ). is_of_pool pool x ≡ false) e (beside (q - at) (omega arith))))
+    | inr behind ↦ stored_behind byte at bytes q behind
+  ]
+]
+
+-- each place of physical memory, once they are stored
+pub physical_stored : (old new : MemoryView) (at : ℕ) (bytes : List ℕ) → new.seats ≡ old.seats → IsBeside old.seats.pool at (length bytes) → ((q : ℕ) → byte_at new.frames q ≡ stored (byte_at old.frames) at bytes q)
+    → (q : ℕ) → byte_of new (Physical q) ≡ stored (λ y. byte_of old (Physical y)) at bytes q
+physical_stored old new at bytes seats beside put q =
+    ap (λ (s : SeatsView). cond (is_of_pool s.pool q) 0 (byte_at new.frames q)) seats
+    ∙ ap (λ (b : ℕ). cond (is_of_pool old.seats.pool q) 0 b) (put q)
+    ∙ stored_beside old.seats.pool (byte_at old.frames) at bytes q beside
+
+-- and each of a communication page
+pub comm_stored : (old new : MemoryView) (at : ℕ) (bytes : List ℕ) → new.seats ≡ old.seats → IsBeside old.seats.pool at (length bytes) → ((id page : ℕ) → comm_of old.seats id ≡ Some page → IsInPool old.seats.pool page)
+    → ((q : ℕ) → byte_at new.frames q ≡ stored (byte_at old.frames) at bytes q) → (cell offset : ℕ) → byte_of new (Page cell offset) ≡ byte_of old (Page cell offset)
+comm_stored old new at bytes seats beside inside put cell offset =
+    ap (λ (s : SeatsView). comm_byte new.frames (comm_of s cell) offset) seats
+    ∙ page_beside old.seats.pool old.frames new.frames (comm_of old.seats cell) offset (inside cell) (λ q own. put q ∙ stored_of_pool old.seats.pool (byte_at old.frames) at bytes q beside own)
+
+-- so a value is written where the list of its bytes was put
+pub written_piece : (old new : MemoryView) (a n v : ℕ) (bytes : List ℕ) → n ≤ 8 → bytes ≡ take n (bytes_low_first 0 8 v) → IsBeside old.seats.pool a n → ((id page : ℕ) → comm_of old.seats id ≡ Some page → IsInPool old.seats.pool page)
+    → ((q : ℕ) → byte_at new.frames q ≡ stored (byte_at old.frames) a bytes q) → new.seats ≡ old.seats
     → (q : Place) → byte_of new q ≡ written (byte_of old) (places_in_row (Physical a) n) v q
-written_piece old new a n v bytes few is put same (Physical q) =
-    put q ∙ ap (λ (bs : List ℕ). stored (byte_at old.frames) a bs q) is ∙ sym (written_low_first (byte_of old) a n 0 8 v q few)
+written_piece old new a n v bytes few is beside inside put same (Physical q) =
+    let count : length bytes ≤ n = take_few n (bytes_low_first 0 8 v) bytes is in
+    physical_stored old new a bytes same (λ k lt. beside k (omega arith)) put q
+    ∙ ap (λ (bs : List ℕ). stored (λ y. byte_of old (Physical y)) a bs q) is ∙ sym (written_low_first (byte_of old) a n 0 8 v q few)
     ∙ ap (λ (x : ℕ). written (byte_of old) (places_in_row (Physical a) n) x (Physical q)) (div-one v)
-written_piece old new a n v bytes few is put same (Page cell offset) = ap (λ (pages : Pages). byte_in pages cell offset) same ∙ sym (written_elsewhere (byte_of old) a n v cell offset)
+written_piece old new a n v bytes few is beside inside put same (Page cell offset) =
+    let count : length bytes ≤ n = take_few n (bytes_low_first 0 8 v) bytes is in
+    comm_stored old new a bytes same (λ k lt. beside k (omega arith)) inside put cell offset ∙ sym (written_elsewhere (byte_of old) a n v cell offset)
 
 -- a number of so many bytes as a row has places
 pub fits_in_row : (v n : ℕ) (p : Place) (places : List Place) → places ≡ places_in_row p n → v < 256 ^ n → v < 256 ^ length places

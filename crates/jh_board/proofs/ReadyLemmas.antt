@@ -25,6 +25,7 @@ use Rattle.jh_history.specs.Calls.{telling, first_recipient, after_decide, after
 use Rattle.jh_board.specs.declared.held.Held.{Held}
 use Rattle.jh_board.specs.Means.{IsReadyIn, IsReadyToGoOn, IsReadyFor}
 use Rattle.jh_board.specs.Private.Steps.{decides_to_go_on, create_of}
+use Rattle.jh_board.proofs.ComingLemmas.{IsComing}
 
 -- ---- readiness
 
@@ -53,14 +54,25 @@ pub coming_is : (image : Image) (f : Facts) (o : OpenCall) (at : ℕ) (config : 
 coming_is image f o at config is create reads =
     ap (option_and_then (λ (p : OpenCall). coming_by image f p.call)) is ∙ ap (coming_by image f) create ∙ ap config_read reads
 
+-- the call goes on so
+goes_on_so : (image : Image) (f : Facts) (entry : Entry) (o : OpenCall) (at : ℕ) (config : CellConfig) → f.call ≡ Some o → coming_of image f ≡ Some config → entry.act ≡ Decide None
+    → call_after image f entry ≡ call_by f.cells (Some config) (Some o) entry (Decide None)
+goes_on_so image f entry o at config is coming act =
+    ap (λ (c : Option CellConfig). call_by f.cells c f.call entry entry.act) coming
+    ∙ ap (λ (k : Option OpenCall). call_by f.cells (Some config) k entry entry.act) is
+    ∙ ap (λ (a : Act). call_by f.cells (Some config) (Some o) entry a) act
+
+-- and waits for the cell
+pub coming_next : (image : Image) (f : Facts) (entry : Entry) (o : OpenCall) (at : ℕ) (config : CellConfig) → f.call ≡ Some o → o.call ≡ Create at → coming_of image f ≡ Some config → entry.act ≡ Decide None → IsComing (call_after image f entry) config
+coming_next image f entry o at config is create coming act =
+    let P : Option OpenCall → Type 0 = λ call. IsComing call config in
+    subst P (sym (goes_on_so image f entry o at config is coming act)) (record { begun = _; is = refl; phase = ap (λ (call : Call). after_decide call (Some config) None) create })
+
 -- it is ready for what comes
 pub ready_create : (held : Held) (image : Image) (f : Facts) (entry : Entry) (o : OpenCall) (at : ℕ) (config : CellConfig) → f.call ≡ Some o → o.call ≡ Create at → coming_of image f ≡ Some config → entry.act ≡ Decide None
     → IsReadyFor held config → IsReadyToGoOn held (call_after image f entry)
 ready_create held image f entry o at config is create coming act ready =
-    let e : call_after image f entry ≡ call_by f.cells (Some config) (Some o) entry (Decide None) =
-    ap (λ (c : Option CellConfig). call_by f.cells c f.call entry entry.act) coming
-    ∙ ap (λ (k : Option OpenCall). call_by f.cells (Some config) k entry entry.act) is
-    ∙ ap (λ (a : Act). call_by f.cells (Some config) (Some o) entry a) act in
+    let e = goes_on_so image f entry o at config is coming act in
     let P : Option OpenCall → Type 0 = IsReadyToGoOn held in
     let Q : Call → Type 0 = λ call. IsReadyIn held (after_decide call (Some config) None) in
     subst P (sym e) (subst Q (sym create) ready)

@@ -1,3 +1,4 @@
+pub mod Seats
 pub mod Pages
 pub mod LiveView
 pub mod Means

@@ -6,6 +6,7 @@ pub mod IsIndexed
 pub mod RootPrograms
 pub mod JudgedCreate
 pub mod KeptCells
+pub mod Seated
 pub mod Pages
 pub mod StateView
 pub mod Steps

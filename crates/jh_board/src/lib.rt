@@ -15,7 +15,7 @@ mod laws;
 mod memory;
 mod overview;
 mod page;
-mod page_map;
+mod seats;
 mod state;
 mod steps;
 mod turn;

@@ -1,37 +1,42 @@
-//! Bytes at places: those of physical memory, and those of communication pages.
-ghost use Rattle.std.specs.Prelude.{◌≡◌, ℕ, ◌+◌, ◌%◌, ◌<◌, ◌≤◌, ◌^◌, ◌++◌, IfOk, OnOk, OnErr, IfSome, length, map, List, All};
+//! Bytes at places: those of physical memory, and those of communication pages, which are pages of the hypervisor's.
+ghost use Rattle.std.specs.Prelude.{◌≡◌, ℕ, ◌+◌, ◌*◌, ◌%◌, ◌/◌, ◌<◌, ◌≤◌, ◌^◌, ◌++◌, [], true, false, filter, IfOk, OnOk, OnErr, IfSome, length, map, List, All, Some};
 ghost use Rattle.jh_num.specs.declared.address.TheConstants.{ADDRESS_END};
 ghost use Rattle.jh_num.specs.Memory.{spelled, stored};
 ghost use Rattle.jh_frames.specs.Memory.{byte_at};
 ghost use Rattle.jh_history.specs.declared.place.Place.{Place as ThePlace};
 ghost use Rattle.jh_history.specs.Access.{with_endpoint_word};
 ghost use Rattle.jh_history.specs.Pages.{with_page};
-ghost use Rattle.jh_history.specs.Places.{number_of, places_in_row, places_of_row, IsRow, with_byte, written, overlaid};
-ghost use Rattle.jh_board.specs.Pages.{byte_of, IsHeld, HoldsPlace, HoldsEndpointWord};
-ghost use Rattle.jh_board.specs.Private.Pages.{MayHold};
+ghost use Rattle.jh_history.specs.Places.{further, number_of, places_in_row, places_of_row, IsRow, with_byte, written, overlaid};
+ghost use Rattle.jh_board.specs.Pages.{byte_of, HoldsPlace, HoldsEndpointWord};
+ghost use Rattle.jh_board.specs.Seats.{ids_of, is_of_pool, is_other_seat};
+ghost use Rattle.jh_board.specs.Private.Pages.{ids_but, ids_written, IsOtherPlace, MayChangePage, MayHold, MayHoldEndpointWord};
 
-use crate::page_map::PageMap;
+use crate::page::change_words;
+use crate::seats::Seats;
 use byteorder::{ByteOrder, LittleEndian};
-use jh_frames::Frames;
+use jh_frames::{Frames, a_page_is_written_back};
 use jh_history::{Bytes, PageWrite, Place, Places, Row, endpoint_word_places, value_of};
 use jh_ivshmem::EndpointWord;
 use jh_num::{ADDRESS_END, NoMemory, PAGE_SIZE};
 use std::alloc::Global;
 use std::marker::Model;
 
-/// The memory of a board: physical memory, with the hypervisor's, and the communication pages of cells.
+/// The memory of a board: physical memory, and which of the hypervisor's pages are the communication pages of cells.
 #[derive(Drop)]
 pub struct Memory {
     frames: Frames,
-    comms: PageMap,
+    seats: Seats,
 }
 
 impl Model for Memory {
     ghost use Rattle.jh_board.specs.Pages.{MemoryView};
+    ghost use Rattle.jh_board.specs.Private.Pages.{IsPoolsMemory};
 
     ghost Value = { MemoryView };
 
-    ghost view = { λ m. record { frames = m.frames; comms = m.comms } };
+    ghost view = { λ m. record { frames = m.frames; seats = m.seats } };
+
+    ghost invariant = { λ m. IsPoolsMemory (record { frames = m.frames; seats = m.seats }) };
 }
 
 /// So many bytes of physical memory from the address on.
@@ -45,8 +50,8 @@ struct Piece {
 #[derive(Clone, Copy)]
 struct PagePiece {
     cell: u32,
-    offset: usize,
-    count: usize,
+    offset: u64,
+    count: u8,
 }
 
 /// The piece of physical memory that the places are, if they are one.
@@ -80,12 +85,11 @@ fn piece_of_page(places: &Places) -> Option<PagePiece>
     let (low, high) = places.rows();
     match low.first {
         Place::Page { cell, offset } => {
-            let count = usize::from(low.count);
-            if high.count == 0 && offset <= PAGE_SIZE - count as u64 {
+            if high.count == 0 && offset <= PAGE_SIZE - u64::from(low.count) {
                 Some(PagePiece {
                     cell,
-                    offset: offset as usize,
-                    count,
+                    offset,
+                    count: low.count,
                 })
             } else {
                 None
@@ -95,19 +99,65 @@ fn piece_of_page(places: &Places) -> Option<PagePiece>
     }
 }
 
+/// The place that lies so many places behind the first.
+fn place_behind(first: Place, count: u16) -> Place
+    requires { number_of first + count < 2 ^ 64 }
+    ensures { result ≡ further first count }
+{
+    match first {
+        Place::Physical(at) => Place::Physical(at + u64::from(count)),
+        Place::Page { cell, offset } => Place::Page {
+            cell,
+            offset: offset + u64::from(count),
+        },
+    }
+}
+
 impl Memory {
-    /// Memory of zeros, of which the hypervisor has `size` bytes from `base` on. No other page is held.
+    /// Memory of zeros, of which the hypervisor has `size` bytes from `base` on. No other page is held, and no cell has a
+    /// communication page.
     pub fn open(alloc: Global, base: u64, size: u64) -> Result<Self, NoMemory>
         requires aligned { base % 4096 ≡ 0 }
         requires whole { size % 4096 ≡ 0 }
+        requires few { size < 2 ^ 44 }
         requires below { base + size ≤ ADDRESS_END }
-        ensures { IfOk result (λ memory. (q : ThePlace) → byte_of memory q ≡ 0) }
+        ensures bytes { IfOk result (λ memory. (q : ThePlace) → byte_of memory q ≡ 0) }
+        ensures base { IfOk result (λ memory. memory.seats.pool.base ≡ base) }
+        ensures size { IfOk result (λ memory. memory.seats.pool.size ≡ size / 4096) }
+        ensures alone { IfOk result (λ memory. memory.seats.list ≡ []) }
     {
         let frames = Frames::open(alloc, base, size)?;
-        Ok(Memory {
-            frames,
-            comms: PageMap::new(alloc),
-        })
+        let seats = Seats::open(alloc, base, (size / PAGE_SIZE) as u32)?;
+        Ok(Memory { frames, seats })
+    }
+
+    /// The byte at the offset of the communication page of the cell, 0 where it has none and past the page's end.
+    fn comm_byte(&self, cell: u32, offset: u64) -> u8
+        ensures { result ≡ byte_of self.now (ThePlace.Page cell offset) }
+    {
+        match self.seats.comm(u64::from(cell)) {
+            Some(page) => {
+                if offset < PAGE_SIZE {
+                    self.frames.read(page + offset)
+                } else {
+                    0
+                }
+            }
+            None => 0,
+        }
+    }
+
+    /// The number that the bytes of the piece of a communication page spell, the lowest first.
+    fn comm_value(&self, piece: PagePiece) -> u64
+        requires within { piece.offset + piece.count ≤ 4096 }
+        requires few { piece.count ≤ 8 }
+        ensures value { result ≡ spelled (map (byte_of self.now) (places_in_row (ThePlace.Page piece.cell piece.offset) piece.count)) }
+        ensures fits { result < 256 ^ piece.count }
+    {
+        match self.seats.comm(u64::from(piece.cell)) {
+            Some(page) => self.frames.value(page + piece.offset, piece.count),
+            None => 0,
+        }
     }
 
     /// The number that the bytes at the places spell, the lowest first.
@@ -116,14 +166,25 @@ impl Memory {
         ensures fits { result < 256 ^ length places.now }
     {
         if let Some(piece) = piece_of(places) {
-            return self.frames.value(piece.at, piece.count);
+            if self.seats.is_beside(piece.at, u64::from(piece.count)) {
+                return self.frames.value(piece.at, piece.count);
+            }
         }
         match piece_of_page(places) {
-            Some(piece) => self
-                .comms
-                .value(u64::from(piece.cell), piece.offset, piece.count),
+            Some(piece) => self.comm_value(piece),
             None => value_of(self, places),
         }
+    }
+
+    /// Puts the bytes at so many places in a row behind those of the buffer, one by one.
+    fn append_bytes(&self, bytes: &mut Vec<u8>, first: Place, count: u16) -> Result<(), NoMemory>
+        requires { number_of first + count < 2 ^ 64 }
+        ensures { OnOk result (bytes.new.items ≡ bytes.old.items ++ map (byte_of self.now) (places_in_row first count)) }
+    {
+        for k in 0..count {
+            bytes.push(self.byte(place_behind(first, k)))?;
+        }
+        Ok(())
     }
 
     /// Puts the bytes at so many places in a row behind those of the buffer.
@@ -131,13 +192,13 @@ impl Memory {
         requires { number_of first + count < 2 ^ 64 }
         ensures { OnOk result (bytes.new.items ≡ bytes.old.items ++ map (byte_of self.now) (places_in_row first count)) }
     {
-        let count = usize::from(count);
-        match first {
-            Place::Physical(at) => self.frames.append(bytes, at, count),
-            Place::Page { cell, offset } => self
-                .comms
-                .append_page(bytes, u64::from(cell), offset, count),
+        let len = usize::from(count);
+        if let Place::Physical(at) = first {
+            if self.seats.is_beside(at, u64::from(count)) {
+                return self.frames.append(bytes, at, len);
+            }
         }
+        self.append_bytes(bytes, first, count)
     }
 
     /// Holds the page of the place.
@@ -146,6 +207,7 @@ impl Memory {
         ensures bytes { (q : ThePlace) → byte_of self.new q ≡ byte_of self.old q }
         ensures held { OnOk result (HoldsPlace self.new place) }
         ensures others { (q : ThePlace) → HoldsPlace self.old q → HoldsPlace self.new q }
+        ensures seats { self.new.seats ≡ self.old.seats }
     {
         match place {
             Place::Physical(address) => self.frames.hold(address),
@@ -160,6 +222,7 @@ impl Memory {
         ensures bytes { (q : ThePlace) → byte_of self.new q ≡ byte_of self.old q }
         ensures held { OnOk result (All (HoldsPlace self.new) (places_of_row row)) }
         ensures others { (q : ThePlace) → HoldsPlace self.old q → HoldsPlace self.new q }
+        ensures seats { self.new.seats ≡ self.old.seats }
     {
         for k in 0..row.count {
             self.hold_place(row.first.further(k))?;
@@ -173,6 +236,7 @@ impl Memory {
         ensures bytes { (q : ThePlace) → byte_of self.new q ≡ byte_of self.old q }
         ensures held { OnOk result (All (HoldsPlace self.new) places.now) }
         ensures others { (q : ThePlace) → HoldsPlace self.old q → HoldsPlace self.new q }
+        ensures seats { self.new.seats ≡ self.old.seats }
     {
         let (low, high) = places.rows();
         self.hold_row(low)?;
@@ -180,15 +244,42 @@ impl Memory {
         Ok(())
     }
 
+    /// Writes the byte at a place of physical memory that is held.
+    fn write_physical(&mut self, address: u64, byte: u8)
+        requires { HoldsPlace self.old (ThePlace.Physical address) }
+        ensures bytes { (q : ThePlace) → byte_of self.new q ≡ with_byte (byte_of self.old) (ThePlace.Physical address) byte q }
+        ensures held { (q : ThePlace) → HoldsPlace self.old q → HoldsPlace self.new q }
+        ensures seats { self.new.seats ≡ self.old.seats }
+    {
+        self.seats.pages_are_apart();
+        self.frames.set(address, byte);
+    }
+
+    /// Writes the byte at the offset of the communication page of a cell.
+    fn write_comm(&mut self, cell: u32, offset: u64, byte: u8)
+        requires { HoldsPlace self.old (ThePlace.Page cell offset) }
+        ensures bytes { (q : ThePlace) → byte_of self.new q ≡ with_byte (byte_of self.old) (ThePlace.Page cell offset) byte q }
+        ensures held { (q : ThePlace) → HoldsPlace self.old q → HoldsPlace self.new q }
+        ensures seats { self.new.seats ≡ self.old.seats }
+    {
+        self.seats.pages_are_apart();
+        match self.seats.comm(u64::from(cell)) {
+            Some(page) => self.frames.set(page + offset, byte),
+            // the cell has a page
+            None => unreachable!(),
+        }
+    }
+
     /// Writes the byte at a place that is held.
     fn write_place(&mut self, place: Place, byte: u8)
         requires { HoldsPlace self.old place }
         ensures bytes { (q : ThePlace) → byte_of self.new q ≡ with_byte (byte_of self.old) place byte q }
         ensures held { (q : ThePlace) → HoldsPlace self.old q → HoldsPlace self.new q }
+        ensures seats { self.new.seats ≡ self.old.seats }
     {
         match place {
-            Place::Physical(address) => self.frames.set(address, byte),
-            Place::Page { cell, offset } => self.comms.set(u64::from(cell), offset, byte),
+            Place::Physical(address) => self.write_physical(address, byte),
+            Place::Page { cell, offset } => self.write_comm(cell, offset, byte),
         }
     }
 
@@ -199,6 +290,7 @@ impl Memory {
         requires held { All (HoldsPlace self.old) (places_of_row row) }
         ensures bytes { (places : List ThePlace) (q : ThePlace) → overlaid places result q (byte_of self.new q) ≡ overlaid (places_of_row row ++ places) value q (byte_of self.old q) }
         ensures held { (q : ThePlace) → HoldsPlace self.old q → HoldsPlace self.new q }
+        ensures seats { self.new.seats ≡ self.old.seats }
     {
         let mut rest = value;
         for k in 0..row.count {
@@ -213,6 +305,7 @@ impl Memory {
         requires { All (HoldsPlace self.old) places.now }
         ensures bytes { (q : ThePlace) → byte_of self.new q ≡ written (byte_of self.old) places.now value q }
         ensures held { (q : ThePlace) → HoldsPlace self.old q → HoldsPlace self.new q }
+        ensures seats { self.new.seats ≡ self.old.seats }
     {
         let (low, high) = places.rows();
         let rest = self.write_row(low, value);
@@ -226,7 +319,9 @@ impl Memory {
         ensures ok { OnOk result ((q : ThePlace) → byte_of self.new q ≡ written (byte_of self.old) places.now value q) }
         ensures err { OnErr result ((q : ThePlace) → byte_of self.new q ≡ byte_of self.old q) }
         ensures held { (q : ThePlace) → HoldsPlace self.old q → HoldsPlace self.new q }
+        ensures seats { self.new.seats ≡ self.old.seats }
     {
+        self.seats.pages_are_apart();
         match piece_of(places) {
             Some(piece) => {
                 let mut bytes = [0; 8];
@@ -245,10 +340,12 @@ impl Memory {
 
     /// Holds the pages of the word of a state table. No byte changes.
     pub fn hold_endpoint_word(&mut self, word: &EndpointWord) -> Result<(), NoMemory>
-        requires { word.now.place + 4 ≤ ADDRESS_END }
+        requires place { word.now.place + 4 ≤ ADDRESS_END }
+        requires may { MayHoldEndpointWord self.old word.now }
         ensures bytes { (q : ThePlace) → byte_of self.new q ≡ byte_of self.old q }
         ensures held { OnOk result (HoldsEndpointWord self.new word.now) }
         ensures others { (q : ThePlace) → HoldsPlace self.old q → HoldsPlace self.new q }
+        ensures seats { self.new.seats ≡ self.old.seats }
     {
         self.hold_places(&endpoint_word_places(word))
     }
@@ -259,35 +356,48 @@ impl Memory {
         requires held { HoldsEndpointWord self.old word.now }
         ensures bytes { (q : ThePlace) → byte_of self.new q ≡ with_endpoint_word word.now (byte_of self.old) q }
         ensures held { (q : ThePlace) → HoldsPlace self.old q → HoldsPlace self.new q }
+        ensures seats { self.new.seats ≡ self.old.seats }
     {
         self.write_places(&endpoint_word_places(word), u64::from(word.value));
     }
 
-    /// Puts the bytes into physical memory from `at` on.
+    /// Puts the bytes into physical memory from `at` on, beside the hypervisor's.
     pub fn store(&mut self, at: u64, bytes: &[u8]) -> Result<(), NoMemory>
-        requires { at + length bytes.now ≤ ADDRESS_END }
-        ensures bytes { OnOk result ((q : ℕ) → byte_of self.new (Place.Physical q) ≡ stored (byte_at self.old.frames) at bytes.now q) }
-        ensures comms { self.new.comms ≡ self.old.comms }
+        requires below { at + length bytes.now ≤ ADDRESS_END }
+        requires beside { (k : ℕ) → k < length bytes.now → is_of_pool self.old.seats.pool (at + k) ≡ false }
+        ensures bytes { OnOk result ((q : ℕ) → byte_of self.new (Place.Physical q) ≡ stored (λ p. byte_of self.old (Place.Physical p)) at bytes.now q) }
+        ensures pages { OnOk result ((cell offset : ℕ) → byte_of self.new (Place.Page cell offset) ≡ byte_of self.old (Place.Page cell offset)) }
+        ensures seats { self.new.seats ≡ self.old.seats }
     {
+        self.seats.pages_are_apart();
         self.frames.write(at, bytes)
     }
 
-    /// Holds the communication page of the cell. No byte changes.
-    pub fn hold_comm(&mut self, cell: u32) -> Result<(), NoMemory>
-        ensures bytes { (q : ThePlace) → byte_of self.new q ≡ byte_of self.old q }
-        ensures held { OnOk result (IsHeld self.new.comms cell) }
-        ensures others { (q : ThePlace) → HoldsPlace self.old q → HoldsPlace self.new q }
-    {
-        self.comms.hold(u64::from(cell))
-    }
-
-    /// Makes the change to a communication page that is held.
+    /// Makes the change to the communication page of a cell. A cell that comes takes a page of the pool, which the change
+    /// writes whole.
     pub fn change_page(&mut self, write: &PageWrite)
-        requires { IsHeld self.old.comms write.now.cell }
+        requires { MayChangePage self.old.seats write.now }
         ensures bytes { (q : ThePlace) → byte_of self.new q ≡ with_page write.now (byte_of self.old) q }
         ensures held { (q : ThePlace) → HoldsPlace self.old q → HoldsPlace self.new q }
+        ensures ids { ids_of self.new.seats ≡ ids_written (Some write.now) self.old.seats }
+        ensures base { self.new.seats.pool.base ≡ self.old.seats.pool.base }
+        ensures size { self.new.seats.pool.size ≡ self.old.seats.pool.size }
     {
-        self.comms.change(u64::from(write.cell), &write.change)
+        let at = self.seats.page_for(write.cell);
+        self.seats.pages_are_apart();
+        change_words(self.frames.page_mut(at), &write.change);
+        a_page_is_written_back();
+    }
+
+    /// Gives back the communication page of the cell with the id.
+    pub fn leave(&mut self, id: u64)
+        ensures bytes { (q : ThePlace) → IsOtherPlace id q → byte_of self.new q ≡ byte_of self.old q }
+        ensures held { (q : ThePlace) → IsOtherPlace id q → HoldsPlace self.old q → HoldsPlace self.new q }
+        ensures ids { ids_of self.new.seats ≡ ids_but id (ids_of self.old.seats) }
+        ensures base { self.new.seats.pool.base ≡ self.old.seats.pool.base }
+        ensures size { self.new.seats.pool.size ≡ self.old.seats.pool.size }
+    {
+        self.seats.remove(id);
     }
 }
 
@@ -298,8 +408,14 @@ impl Bytes for Memory {
 
     fn byte(&self, place: Place) -> u8 {
         match place {
-            Place::Physical(address) => self.frames.read(address),
-            Place::Page { cell, offset } => self.comms.byte(u64::from(cell), offset),
+            Place::Physical(address) => {
+                if self.seats.has(address) {
+                    0
+                } else {
+                    self.frames.read(address)
+                }
+            }
+            Place::Page { cell, offset } => self.comm_byte(cell, offset),
         }
     }
 }

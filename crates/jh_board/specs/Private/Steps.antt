@@ -129,7 +129,7 @@ pub record MayCommitDevices (held : Held) (config : CellConfig) : Type 0 where
 abbrev pub MayCommit : Held → Act → Type 0
 MayCommit held act = IfSome (changing_by held.cells.lives held.call act) (MayCommitDevices held)
 
--- all but memory and endpoints stays, and the pages that are held stay held
+-- all but bytes and endpoints stays, and the pages that are held stay held
 pub record IsSameButDevices (old new : Held) : Type 0 where
   pub cpus : new.cpus ≡ old.cpus
   pub cells : new.cells ≡ old.cells
@@ -137,6 +137,7 @@ pub record IsSameButDevices (old new : Held) : Type 0 where
   pub call : new.call ≡ old.call
   pub coming_regions : new.coming_regions ≡ old.coming_regions
   pub pages : (q : Place) → HoldsPlace old.memory q → HoldsPlace new.memory q
+  pub seats : new.memory.seats ≡ old.memory.seats
 
 -- ---- the cell that comes
 

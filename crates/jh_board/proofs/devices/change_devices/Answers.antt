@@ -7,6 +7,7 @@ use Rattle.jh_ivshmem.specs.declared.spec.EndpointSpec.{EndpointSpec}
 use Rattle.jh_ivshmem.specs.Specs.{IsInItsLimits}
 use Rattle.jh_history.specs.declared.device_change.DeviceChange.{DeviceChange}
 use Rattle.jh_history.specs.declared.device_change.DeviceChange.TheVariants.{Join}
+use Rattle.jh_history.specs.declared.place.Place.TheVariants.{Physical}
 use Rattle.jh_history.specs.Devices.{specs_at}
 use Rattle.jh_history.specs.Endpoints.{endpoints_changed, with_words, MayJoinThem, MayChange}
 use Rattle.jh_board.specs.Pages.{byte_of, HoldsWordOf}
@@ -44,7 +45,7 @@ change_device-requires-clause-held c =
     let n = c.loop-number.number in
     let lt : n < length config.pci_devices = omega arith in
     let old = c.args.memory.now in
-    words_kept old c.loop-number.memory (specs_at config n) c.loop-number.invariant.held (all_at (HoldsWordOf old) config n lt c.requires.held)
+    words_kept old c.loop-number.memory (specs_at config n) (λ a. c.loop-number.invariant.held (Physical a)) (all_at (HoldsWordOf old) config n lt c.requires.held)
 
 pub loop-number-preserved : goal.loop-number-preserved
 loop-number-preserved c =
@@ -65,6 +66,7 @@ loop-number-preserved c =
       list = changed_more change before here list c.loop-number.endpoints.list c.change_device.new.endpoints.list known.list c.change_device.ensures.list ∙ ap (λ (specs : List EndpointSpec). endpoints_changed change specs list) (sym more);
       spare = omega arith;
       held = λ q h. c.change_device.ensures.held q (known.held q h);
+      seats = c.change_device.ensures.seats ∙ known.seats;
     }
 
 pub returns-clause-bytes : goal.returns-clause-bytes

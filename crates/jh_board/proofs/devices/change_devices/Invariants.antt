@@ -12,4 +12,5 @@ invariant-loop-number l = record {
   list : l.endpoints.list ≡ endpoints_changed l.change (specs_before l.config l.number) l.fn.endpoints.list;
   spare : l.fn.endpoints.spare ≤ l.endpoints.spare + length (specs_before l.config l.number);
   held : (q : Place) → HoldsPlace l.fn.memory q → HoldsPlace l.memory q;
+  seats : l.memory.seats ≡ l.fn.memory.seats;
 }

@@ -11,4 +11,5 @@ invariant-loop-number l = record {
   bytes : (q : Place) → byte_of l.memory q ≡ byte_of l.fn.memory q;
   held : All (HoldsWordOf l.memory) (specs_before l.config l.number);
   others : (q : Place) → HoldsPlace l.fn.memory q → HoldsPlace l.memory q;
+  seats : l.memory.seats ≡ l.fn.memory.seats;
 }

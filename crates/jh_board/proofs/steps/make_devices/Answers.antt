@@ -47,5 +47,5 @@ returns-in_default c =
       bytes = λ q. ap (λ (word : Option EndpointWord). with_endpoint_word_if word (byte_of held.memory) q) (sym none.0);
       list = sym none.1;
       spare = refl;
-      others = record { cpus = refl; cells = refl; programs = refl; call = refl; coming_regions = refl; pages = λ q h. h };
+      others = record { cpus = refl; cells = refl; programs = refl; call = refl; coming_regions = refl; pages = λ q h. h; seats = refl };
     }

@@ -1,7 +1,6 @@
 -- Where no cell comes or goes, programs stay where they are.
 use Rattle.std.proofs.Common.{◌∙◌, List, sym, subst}
 use Rattle.jh_cellcfg.specs.declared.live.Live.{Live}
-use Rattle.jh_history.specs.Commits.{is_commit}
 use Rattle.jh_history.proofs.Public.{uncommitted_cells}
 use Rattle.jh_board.specs.Indexed.{AreProgramIndices}
 use Rattle.jh_board.proofs.steps.renew_programs.Goals as goal

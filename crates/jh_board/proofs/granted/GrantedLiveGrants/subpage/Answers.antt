@@ -1,7 +1,6 @@
 -- The subpage region is that of the image and the cells.
 use Rattle.std.proofs.Common.{ap, ◌∙◌}
-use Rattle.std.specs.Prelude.{Option, find}
-use Rattle.jh_cellcfg.specs.declared.region.Region.{Region}
+use Rattle.std.specs.Prelude.{find}
 use Rattle.jh_mmio.specs.Dispatch.{takes_all}
 use Rattle.jh_history.specs.declared.place.Place.TheVariants.{Physical}
 use Rattle.jh_history.specs.Grants.{is_closed_to}

@@ -10,4 +10,5 @@ invariant-loop-k l = record {
   bytes : (q : Place) → byte_of l.self q ≡ byte_of l.fn.self q;
   held : (j : ℕ) → j < l.k → HoldsPlace l.self (further l.row.first j);
   others : (q : Place) → HoldsPlace l.fn.self q → HoldsPlace l.self q;
+  seats : l.self.seats ≡ l.fn.self.seats;
 }

@@ -1,28 +1,28 @@
--- The bytes of a piece, of memory or of a communication page, are those of its places.
-use Rattle.std.proofs.Common.{◌≡◌, ℕ, ap, sym, ◌∙◌}
+-- The bytes of a piece, of memory beside the hypervisor's or of a communication page, are those of its places.
+use Rattle.std.proofs.Common.{ℕ, ap, sym, subst, ◌∙◌}
 use Rattle.jh_num.specs.Memory.{spelled}
 use Rattle.jh_history.specs.declared.place.Place.TheVariants.{Physical, Page}
-use Rattle.jh_board.specs.Pages.{byte_in, MemoryView}
-use Rattle.jh_board.specs.Private.Pages.{bytes_from}
-use Rattle.jh_board.proofs.PieceLemmas.{row_of_memory, fits_in_row}
+use Rattle.jh_board.specs.Pages.{MemoryView}
+use Rattle.jh_board.proofs.PieceLemmas.{IsBeside, row_of_memory, fits_in_row}
 use Rattle.jh_board.proofs.memory.Memory.value.Goals as goal
-use Rattle.jh_board.proofs.RowLemmas.{row_of_comm}
 
-pub returns-in-Some-clause-value : goal.returns-in-Some-clause-value
-returns-in-Some-clause-value c =
-    let memory : MemoryView = record { frames = c.self.inside.frames; comms = c.self.inside.comms } in
-    rw (c.in-Some.ensures.places, ← c.self.view_is) (c.value.ensures.value ∙ ap spelled (sym (row_of_memory memory c.in-Some.piece.at c.in-Some.piece.count)))
+pub returns-then-is_beside-clause-value : goal.returns-then-is_beside-clause-value
+returns-then-is_beside-clause-value c =
+    let memory : MemoryView = record { frames = c.self.inside.frames; seats = c.self.inside.seats } in
+    let piece = c.in-Some.piece in
+    let P : ℕ → Type 0 = IsBeside memory.seats.pool piece.at in
+    let beside = subst P c.from.ensures (c.is_beside.ensures c.if-is_beside.true) in
+    rw (c.in-Some.ensures.places, ← c.self.view_is) (c.value.ensures.value ∙ ap spelled (sym (row_of_memory memory piece.at piece.count beside)))
 
-pub returns-in-Some-clause-fits : goal.returns-in-Some-clause-fits
-returns-in-Some-clause-fits c = fits_in_row c.value.result c.in-Some.piece.count (Physical c.in-Some.piece.at) c.args.places.now c.in-Some.ensures.places c.value.ensures.fits
+pub returns-then-is_beside-clause-fits : goal.returns-then-is_beside-clause-fits
+returns-then-is_beside-clause-fits c =
+    let piece = c.in-Some.piece in
+    fits_in_row c.value.result piece.count (Physical piece.at) c.args.places.now c.in-Some.ensures.places c.value.ensures.fits
 
 pub returns-in-Some-piece_of_page-clause-value : goal.returns-in-Some-piece_of_page-clause-value
-returns-in-Some-piece_of_page-clause-value c =
-    let memory : MemoryView = record { frames = c.self.inside.frames; comms = c.self.inside.comms } in
-    let piece = c.in-Some-piece_of_page.piece in
-    rw (c.in-Some-piece_of_page.ensures.places, ← c.self.view_is) (c.value-in-Some-piece_of_page.ensures.spells ∙ ap (λ (id : ℕ). spelled (bytes_from (byte_in c.self.inside.comms id) piece.offset piece.count)) c.from.ensures ∙ ap spelled (sym (row_of_comm memory piece.cell piece.offset piece.count)))
+returns-in-Some-piece_of_page-clause-value c = rw c.in-Some-piece_of_page.ensures.places c.comm_value.ensures.value
 
 pub returns-in-Some-piece_of_page-clause-fits : goal.returns-in-Some-piece_of_page-clause-fits
 returns-in-Some-piece_of_page-clause-fits c =
     let piece = c.in-Some-piece_of_page.piece in
-    fits_in_row c.value-in-Some-piece_of_page.result piece.count (Page piece.cell piece.offset) c.args.places.now c.in-Some-piece_of_page.ensures.places c.value-in-Some-piece_of_page.ensures.fits
+    fits_in_row c.comm_value.result piece.count (Page piece.cell piece.offset) c.args.places.now c.in-Some-piece_of_page.ensures.places c.comm_value.ensures.fits

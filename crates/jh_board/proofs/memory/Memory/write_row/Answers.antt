@@ -14,4 +14,5 @@ loop-k-preserved c = record {
       over_more c.loop-k.self c.write_place.new.self c.args.row.first c.further.result _ c.loop-k.k c.args.row.count c.loop-k.rest places q c.loop-k-test.true c.further.ensures refl (c.write_place.ensures.bytes q)
       ∙ c.loop-k.invariant.bytes places q;
   held = λ q h. c.write_place.ensures.held q (c.loop-k.invariant.held q h);
+  seats = c.write_place.ensures.seats ∙ c.loop-k.invariant.seats;
 }

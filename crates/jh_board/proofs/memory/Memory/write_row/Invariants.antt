@@ -10,4 +10,5 @@ invariant-loop-k l = record {
   bytes : (places : List Place) (q : Place)
       → overlaid (places_in_row (further l.row.first l.k) (l.row.count - l.k) ++ places) l.rest q (byte_of l.self q) ≡ overlaid (places_in_row l.row.first l.row.count ++ places) l.value q (byte_of l.fn.self q);
   held : (q : Place) → HoldsPlace l.fn.self q → HoldsPlace l.self q;
+  seats : l.self.seats ≡ l.fn.self.seats;
 }
