@@ -20,8 +20,7 @@ use Rattle.jh_cellcfg.specs.declared.live.Live.{Live}
 use Rattle.jh_cellcfg.specs.Regions.{has_place, is_unshared, is_loadable}
 use Rattle.jh_shape.specs.Claims.{Holder}
 use Rattle.jh_shape.specs.Shapes.{takes, holder_of_live}
-use Rattle.jh_life.specs.Lives.{is_loadable_at}
-use Rattle.jh_shape.specs.Lives.{configs_of}
+use Rattle.jh_shape.specs.Lives.{is_loadable_at, configs_of}
 use Rattle.jh_board.specs.Private.Closed.{is_taken, is_closed_by, all_regions, count_regions}
 
 abbrev end_of : Range → ℕ

@@ -4,7 +4,7 @@ ghost use Rattle.jh_num.specs.Bytes.{has_byte};
 ghost use Rattle.jh_cellcfg.specs.declared.live.Live.{Live};
 ghost use Rattle.jh_cellcfg.specs.Regions.{AreInRange};
 ghost use Rattle.jh_num.specs.Bits.{has_bit};
-ghost use Rattle.jh_life.specs.Lives.{is_loadable_at};
+ghost use Rattle.jh_shape.specs.Lives.{is_loadable_at};
 ghost use Rattle.jh_board.specs.Private.Closed.{is_taken, is_closed_by, all_regions, count_regions};
 
 use crate::cell_regions::CellRegions;

@@ -14,8 +14,7 @@ use Rattle.jh_cellcfg.specs.declared.live.Live.{Live}
 use Rattle.jh_cellcfg.specs.Cells.{name_of}
 use Rattle.jh_cellcfg.specs.Lives.{has_id}
 use Rattle.jh_check.specs.Refusals.{AreTwo}
-use Rattle.jh_life.specs.Lives.{marks_of}
-use Rattle.jh_shape.specs.Lives.{configs_of, marked, new_live}
+use Rattle.jh_shape.specs.Lives.{marks_of, configs_of, marked, new_live}
 use Rattle.jh_shape.proofs.Public.{config_marked}
 use Rattle.jh_life.specs.Changes.{CellChange, Created, Dropped, Marked, without, after, live_after, AreNew}
 

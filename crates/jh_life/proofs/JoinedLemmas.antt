@@ -12,8 +12,7 @@ use Rattle.std.proofs.lemmas.List.Quantifiers.{all_pairs_push, all_pairs_remove}
 use Rattle.jh_num.proofs.Public.{list_any_false, map_remove, read_again}
 use Rattle.jh_cellcfg.specs.declared.config.CellConfig.{CellConfig}
 use Rattle.jh_check.specs.Refusals.{is_namesake, is_known, AreTwo}
-use Rattle.jh_life.specs.Lives.{marks_of}
-use Rattle.jh_shape.specs.Lives.{with_marks}
+use Rattle.jh_shape.specs.Lives.{marks_of, with_marks}
 use Rattle.jh_life.specs.SoundRecords.{AreSoundRecords}
 use Rattle.jh_shape.specs.Pages.{own_pages}
 

@@ -4,8 +4,7 @@ use Rattle.std.specs.List.{find, list_any}
 use Rattle.jh_cellcfg.specs.declared.config.CellConfig.{CellConfig}
 use Rattle.jh_cellcfg.specs.declared.live.Live.{Live}
 use Rattle.jh_cellcfg.specs.Lives.{has_id}
-use Rattle.jh_shape.specs.Lives.{configs_of, marked, new_live}
-use Rattle.jh_life.specs.Lives.{marks_of}
+use Rattle.jh_shape.specs.Lives.{configs_of, marked, new_live, marks_of}
 
 -- a cell is created; the cell with the id is dropped; or it becomes loadable, or isn't so any longer
 pub data CellChange : Type 0 where

@@ -1,13 +1,8 @@
--- The cells that live: which they are, their numbers, and which of them are loadable.
-use Rattle.std.specs.Prelude.{ℕ, Bool, false, ◌==◌, List, Option, map, position, slice_index_or}
+-- The cells that live: which they are, and their numbers.
+use Rattle.std.specs.Prelude.{ℕ, Bool, ◌==◌, List, Option, position}
 use Rattle.jh_cellcfg.specs.declared.config.CellConfig.{CellConfig}
-use Rattle.jh_cellcfg.specs.declared.live.Live.{Live}
 use Rattle.jh_shape.specs.Lives.{all_cells}
 use Rattle.jh_life.specs.CellsView.{CellsView}
-
--- which of these live cells are loadable
-abbrev pub marks_of : List Live → List Bool
-marks_of lives = map (λ (live : Live). live.loadable) lives
 
 -- root and then the other live cells: a cell's number is its index here
 abbrev pub numbered_cells : CellsView → List CellConfig
@@ -20,7 +15,3 @@ has_config_id id config = config.id == id
 -- the number of the cell with the id
 abbrev pub number_with_id : CellsView → ℕ → Option ℕ
 number_with_id seen id = position (has_config_id id) (numbered_cells seen)
-
--- the cell at that index of the others is loadable
-abbrev pub is_loadable_at : List Live → ℕ → Bool
-is_loadable_at lives index = slice_index_or (marks_of lives) index false

@@ -4,8 +4,8 @@ ghost use Rattle.std.specs.Option.{option_copied};
 ghost use Rattle.jh_check.specs.Refusals.{is_known, AreTwo};
 ghost use Rattle.jh_num.specs.Bits.{has_bit};
 ghost use Rattle.jh_shape.specs.Pages.{pages_of};
-ghost use Rattle.jh_life.specs.Lives.{has_config_id, marks_of, numbered_cells, is_loadable_at, number_with_id};
-ghost use Rattle.jh_shape.specs.Lives.{configs_of, new_live};
+ghost use Rattle.jh_life.specs.Lives.{has_config_id, numbered_cells, number_with_id};
+ghost use Rattle.jh_shape.specs.Lives.{marks_of, is_loadable_at, configs_of, new_live};
 ghost use Rattle.jh_life.specs.Verdict.{verdict_of_create};
 
 use crate::copy::copy_of_system;

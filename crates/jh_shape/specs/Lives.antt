@@ -1,5 +1,5 @@
 -- The live cells' configurations and marks.
-use Rattle.std.specs.Prelude.{ℕ, Bool, false, List, [], ◌∷◌, map, if◌then◌else◌}
+use Rattle.std.specs.Prelude.{ℕ, Bool, false, List, [], ◌∷◌, map, slice_index_or, if◌then◌else◌}
 use Rattle.jh_cellcfg.specs.declared.config.CellConfig.{CellConfig}
 use Rattle.jh_cellcfg.specs.declared.live.Live.{Live}
 use Rattle.jh_cellcfg.specs.Lives.{has_id}
@@ -25,3 +25,11 @@ marked id loadable live = if has_id id live then record live { loadable = loadab
 -- the live cell of the configuration as it is just created: not loadable
 abbrev pub new_live : CellConfig → Live
 new_live config = record { config = config; loadable = false }
+
+-- which of these live cells are loadable
+abbrev pub marks_of : List Live → List Bool
+marks_of lives = map (λ (live : Live). live.loadable) lives
+
+-- the cell at that index of these is loadable
+abbrev pub is_loadable_at : List Live → ℕ → Bool
+is_loadable_at lives index = slice_index_or (marks_of lives) index false

@@ -3,7 +3,7 @@ use Rattle.std.proofs.Common.{◌≡◌, ℕ, ◌≤◌, List, length, take}
 use Rattle.jh_num.specs.Bytes.{has_byte}
 use Rattle.jh_cellcfg.specs.declared.live.Live.{Live}
 use Rattle.jh_num.specs.Bits.{has_bit}
-use Rattle.jh_life.specs.Lives.{is_loadable_at}
+use Rattle.jh_shape.specs.Lives.{is_loadable_at}
 use Rattle.jh_board.specs.Private.Closed.{is_closed_by, all_regions, count_regions}
 use Rattle.jh_board.proofs.closed.close_again.Given as goal
 
