@@ -17,7 +17,8 @@ use Rattle.jh_history.specs.Places.{places_in_row}
 use Rattle.jh_history.specs.Access.{places_from, place_of}
 use Rattle.jh_history.specs.Grants.{is_closed_to, unless, granted_in}
 use Rattle.jh_history.specs.Lives.{live_in, regions_in}
-use Rattle.jh_board.specs.Private.Closed.{is_closed_by, live_regions}
+use Rattle.jh_closed.specs.Closed.{is_closed_by}
+use Rattle.jh_board.specs.Private.Found.{live_regions}
 
 -- ---- which places root is kept from
 

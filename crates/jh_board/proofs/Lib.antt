@@ -7,7 +7,6 @@ mod PieceLemmas
 mod MeansLemmas
 mod IndexLemmas
 mod BehindLemmas
-mod ClosedLemmas
 mod CellsLemmas
 mod GrantedLemmas
 mod ReadyLemmas

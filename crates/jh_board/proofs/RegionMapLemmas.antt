@@ -29,7 +29,7 @@ use Rattle.jh_history.specs.Grants.{unless, granted_by}
 use Rattle.jh_history.specs.Lives.{cell_in, regions_in}
 use Rattle.jh_shape.specs.Lives.{configs_of}
 use Rattle.jh_history.proofs.Public.{numbered_cell, gives_from}
-use Rattle.jh_board.specs.Private.Closed.{is_closed_by}
+use Rattle.jh_closed.specs.Closed.{is_closed_by}
 use Rattle.jh_board.specs.Maps.{is_closed_at, is_mapped_at, place_of_run, grant_of_map}
 
 -- ---- regions of live cells

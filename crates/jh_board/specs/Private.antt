@@ -1,7 +1,6 @@
 -- Definitions that mirror the code: only clauses of private functions, and views and invariants of private types,
 -- cite them, and no public clause rests on them.
-pub mod Closed
-pub mod IsCellRegions
+pub mod Found
 pub mod IsIndexed
 pub mod RootPrograms
 pub mod JudgedCreate

@@ -11,11 +11,11 @@ ghost use Rattle.jh_mmio.specs.Index.{IsRegionAt};
 ghost use Rattle.jh_shape.specs.Lives.{all_cells, configs_of, marked, new_live};
 ghost use Rattle.jh_history.specs.Commits.{is_other};
 ghost use Rattle.jh_history.specs.Lives.{live_in};
-ghost use Rattle.jh_board.specs.Private.Closed.{is_closed_by, live_regions, IsIndexOf};
+ghost use Rattle.jh_closed.specs.Closed.{is_closed_by};
+ghost use Rattle.jh_board.specs.Private.Found.{live_regions, IsIndexOf};
 
-use crate::cell_regions::CellRegions;
-use crate::closed::{close_again, close_cell};
 use jh_cellcfg::{CellConfig, Region, SystemConfig};
+use jh_closed::{CellRegions, close_again, close_cell};
 use jh_life::{Cells, a_cell_is_dropped_by_its_id, a_cell_is_marked_by_its_id, live_cells_differ};
 use jh_num::{ByteSet, NoMemory, Range};
 use std::alloc::Global;

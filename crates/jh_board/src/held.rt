@@ -1,10 +1,10 @@
 //! What a board holds besides its image and its journal.
 
-use crate::cell_regions::CellRegions;
 use crate::cells::LiveCells;
 use crate::indexed::ProgramIndex;
 use crate::memory::Memory;
 use jh_cellcfg::MAX_CPUS;
+use jh_closed::CellRegions;
 use jh_cpu::Cpu;
 use jh_history::OpenCall;
 use jh_ivshmem::Endpoints;

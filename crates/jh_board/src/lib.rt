@@ -2,9 +2,7 @@
 #![tactic(auto)]
 
 mod board;
-mod cell_regions;
 mod cells;
-mod closed;
 mod creation;
 mod crossing;
 mod devices;

@@ -4,7 +4,7 @@ use Rattle.jh_cellcfg.specs.Regions.{AreInRange}
 use Rattle.jh_num.specs.Bytes.{has_byte}
 use Rattle.jh_shape.specs.Pages.{pages_of}
 use Rattle.jh_shape.specs.Lives.{configs_of}
-use Rattle.jh_board.specs.Private.Closed.{is_closed_by, all_regions, count_regions}
+use Rattle.jh_closed.specs.Closed.{is_closed_by, all_regions, count_regions}
 use Rattle.jh_board.specs.declared.cells.LiveCells.TheInside.{Inside}
 
 -- what is kept beside the live cells is theirs: their regions, each in range, and how many they are; what they close to

@@ -3,7 +3,7 @@ use Rattle.std.proofs.Common.{List, ℕ, ap, sym, ◌∙◌}
 use Rattle.std.specs.Prelude.{find}
 use Rattle.jh_cellcfg.specs.declared.region.Region.{Region}
 use Rattle.jh_mmio.specs.Dispatch.{takes_all}
-use Rattle.jh_board.specs.Private.Closed.{live_regions}
+use Rattle.jh_board.specs.Private.Found.{live_regions}
 use Rattle.jh_board.proofs.GrantedLemmas.{regions_root, regions_live}
 use Rattle.jh_board.proofs.granted.whole.Goals as goal
 

@@ -9,8 +9,8 @@ use Rattle.jh_cellcfg.specs.declared.region.Region.{Region}
 use Rattle.jh_cellcfg.specs.Regions.{AreInRange}
 use Rattle.jh_shape.specs.Lives.{configs_of, new_live}
 use Rattle.jh_board.specs.LiveView.{LiveView}
-use Rattle.jh_board.specs.Private.Closed.{is_closed_by, is_taken, all_regions, count_regions}
-use Rattle.jh_board.proofs.ClosedLemmas.{closed_added}
+use Rattle.jh_closed.specs.Closed.{is_closed_by, is_taken, all_regions, count_regions}
+use Rattle.jh_closed.proofs.Public.{closed_added}
 use Rattle.jh_board.proofs.CellsLemmas.{configs_added, regions_added}
 use Rattle.jh_board.proofs.cells.LiveCells.add.Goals as goal
 

@@ -4,7 +4,8 @@ use Rattle.std.specs.Prelude.{All}
 use Rattle.jh_cellcfg.specs.declared.region.Region.{Region}
 use Rattle.jh_cellcfg.specs.Regions.{AreInRange}
 use Rattle.jh_mmio.specs.Index.{IsRegionAt}
-use Rattle.jh_board.specs.Private.Closed.{IsIndexOf, all_regions}
+use Rattle.jh_closed.specs.Closed.{all_regions}
+use Rattle.jh_board.specs.Private.Found.{IsIndexOf}
 use Rattle.jh_board.proofs.CellsLemmas.{regions_some, regions_within}
 use Rattle.jh_board.proofs.cells.LiveCells.region.Goals as goal
 use Rattle.jh_board.proofs.cells.LiveCells.region.Goals.{After-at}

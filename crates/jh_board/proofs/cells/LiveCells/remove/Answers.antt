@@ -4,7 +4,7 @@ use Rattle.std.specs.Prelude.{All}
 use Rattle.jh_cellcfg.specs.declared.region.Region.{Region}
 use Rattle.jh_cellcfg.specs.Regions.{AreInRange}
 use Rattle.jh_life.specs.Changes.{without}
-use Rattle.jh_board.specs.Private.Closed.{all_regions, count_regions}
+use Rattle.jh_closed.specs.Closed.{all_regions, count_regions}
 use Rattle.jh_board.proofs.CellsLemmas.{cell_at, removed_none, lists_removed, lists_len, regions_left}
 use Rattle.jh_board.proofs.ListLemmas.{All_removed}
 use Rattle.jh_board.proofs.cells.LiveCells.remove.Goals as goal

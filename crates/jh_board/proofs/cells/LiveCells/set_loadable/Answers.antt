@@ -7,7 +7,7 @@ use Rattle.jh_cellcfg.specs.declared.region.Region.{Region}
 use Rattle.jh_cellcfg.specs.Regions.{AreInRange}
 use Rattle.jh_shape.specs.Pages.{pages_of}
 use Rattle.jh_shape.specs.Lives.{marks_of, configs_of, marked}
-use Rattle.jh_board.specs.Private.Closed.{all_regions, count_regions}
+use Rattle.jh_closed.specs.Closed.{all_regions, count_regions}
 use Rattle.jh_board.proofs.CellsLemmas.{cell_at, lists_len, marked_none}
 use Rattle.jh_board.proofs.cells.LiveCells.set_loadable.Goals as goal
 

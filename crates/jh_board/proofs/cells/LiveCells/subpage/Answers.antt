@@ -4,7 +4,8 @@ use Rattle.std.specs.Prelude.{All, find}
 use Rattle.jh_cellcfg.specs.declared.region.Region.{Region}
 use Rattle.jh_cellcfg.specs.Regions.{AreInRange}
 use Rattle.jh_mmio.specs.Dispatch.{takes_all, unless_closed}
-use Rattle.jh_board.specs.Private.Closed.{IsIndexOf, all_regions}
+use Rattle.jh_closed.specs.Closed.{all_regions}
+use Rattle.jh_board.specs.Private.Found.{IsIndexOf}
 use Rattle.jh_board.proofs.CellsLemmas.{regions_some, regions_within}
 use Rattle.jh_board.proofs.IndexLemmas.{sized_in_range}
 use Rattle.jh_board.proofs.cells.LiveCells.subpage.Goals as goal

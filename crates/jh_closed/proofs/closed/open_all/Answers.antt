@@ -3,8 +3,8 @@ use Rattle.std.proofs.Common.{List, sym, ◌∙◌, ap, arith}
 use Rattle.jh_num.specs.declared.range.Range.{Range}
 use Rattle.std.specs.Option.{option_copied}
 use Rattle.jh_num.specs.Bytes.{has_byte}
-use Rattle.jh_board.proofs.ClosedLemmas.{none_left}
-use Rattle.jh_board.proofs.closed.open_all.Goals as goal
+use Rattle.jh_closed.proofs.ClosedLemmas.{none_left}
+use Rattle.jh_closed.proofs.closed.open_all.Goals as goal
 
 pub unreachable-requires-in-Some : goal.unreachable-requires-in-Some
 unreachable-requires-in-Some c =

@@ -3,8 +3,8 @@ use Rattle.std.proofs.Common.{◌≡◌, List, length, get_or, ap, ◌∙◌, ar
 use Rattle.jh_num.specs.Bits.{has_bit}
 use Rattle.jh_num.specs.Bytes.{has_byte}
 use Rattle.jh_cellcfg.specs.declared.region.Region.{Region}
-use Rattle.jh_board.proofs.ClosedLemmas.{closed_step, closed_all, few_regions}
-use Rattle.jh_board.proofs.closed.close_again.Goals as goal
+use Rattle.jh_closed.proofs.ClosedLemmas.{closed_step, closed_all, few_regions}
+use Rattle.jh_closed.proofs.closed.close_again.Goals as goal
 
 pub loop-i-preserved : goal.loop-i-preserved
 loop-i-preserved c =

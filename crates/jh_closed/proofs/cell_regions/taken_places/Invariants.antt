@@ -2,8 +2,8 @@
 use Rattle.std.proofs.Common.{◌≡◌, ℕ, ◌≤◌, length, take}
 use Rattle.jh_cellcfg.specs.Regions.{AreInRange}
 use Rattle.jh_num.specs.Bytes.{has_byte}
-use Rattle.jh_board.specs.Private.Closed.{is_taken}
-use Rattle.jh_board.proofs.cell_regions.taken_places.Given as goal
+use Rattle.jh_closed.specs.Closed.{is_taken}
+use Rattle.jh_closed.proofs.cell_regions.taken_places.Given as goal
 
 abbrev pub invariant-loop-region : goal.invariant-loop-region
 invariant-loop-region l = record {

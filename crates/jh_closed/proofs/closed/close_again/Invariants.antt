@@ -4,8 +4,8 @@ use Rattle.jh_num.specs.Bytes.{has_byte}
 use Rattle.jh_cellcfg.specs.declared.live.Live.{Live}
 use Rattle.jh_num.specs.Bits.{has_bit}
 use Rattle.jh_shape.specs.Lives.{is_loadable_at}
-use Rattle.jh_board.specs.Private.Closed.{is_closed_by, all_regions, count_regions}
-use Rattle.jh_board.proofs.closed.close_again.Given as goal
+use Rattle.jh_closed.specs.Closed.{is_closed_by, all_regions, count_regions}
+use Rattle.jh_closed.proofs.closed.close_again.Given as goal
 
 abbrev pub invariant-loop-i : goal.invariant-loop-i
 invariant-loop-i l = record {

@@ -2,8 +2,8 @@
 use Rattle.std.proofs.Common.{arith}
 use Rattle.jh_num.specs.Bytes.{has_byte}
 use Rattle.jh_cellcfg.specs.declared.region.Region.{Region}
-use Rattle.jh_board.proofs.ClosedLemmas.{taken_more}
-use Rattle.jh_board.proofs.cell_regions.taken_places.Goals as goal
+use Rattle.jh_closed.proofs.ClosedLemmas.{taken_more}
+use Rattle.jh_closed.proofs.cell_regions.taken_places.Goals as goal
 
 pub loop-region-preserved : goal.loop-region-preserved
 loop-region-preserved c =

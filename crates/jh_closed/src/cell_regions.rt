@@ -5,7 +5,7 @@ ghost use Rattle.std.specs.List.{list_any};
 ghost use Rattle.jh_cellcfg.specs.declared.region.Region.{Region as TheRegion};
 ghost use Rattle.jh_cellcfg.specs.Regions.{is_unshared, is_loadable, SharesNoAddress, IsEmptyOrInRange, AreInRange};
 ghost use Rattle.jh_shape.specs.Shapes.{takes};
-ghost use Rattle.jh_board.specs.Private.Closed.{is_taken, AreTaken};
+ghost use Rattle.jh_closed.specs.Closed.{is_taken, AreTaken};
 
 use jh_cellcfg::Region;
 use jh_mmio::RegionIndex;
@@ -28,7 +28,7 @@ pub struct CellRegions {
 impl Model for CellRegions {
     ghost use Rattle.std.specs.Prelude.{List};
     ghost use Rattle.jh_cellcfg.specs.declared.region.Region.{Region as TheRegion};
-    ghost use Rattle.jh_board.specs.Private.IsCellRegions.{IsCellRegions};
+    ghost use Rattle.jh_closed.specs.Private.IsCellRegions.{IsCellRegions};
 
     ghost Value = { List TheRegion };
 

@@ -21,7 +21,8 @@ use Rattle.jh_cellcfg.specs.Regions.{has_place, is_unshared, is_loadable}
 use Rattle.jh_shape.specs.Claims.{Holder}
 use Rattle.jh_shape.specs.Shapes.{takes, holder_of_live}
 use Rattle.jh_shape.specs.Lives.{is_loadable_at, configs_of}
-use Rattle.jh_board.specs.Private.Closed.{is_taken, is_closed_by, all_regions, count_regions}
+use Rattle.jh_closed.specs.Closed.{is_taken, is_closed_by, all_regions, count_regions}
+use Rattle.jh_closed.proofs.Public.{takes_live, closed_lives}
 
 abbrev end_of : Range → ℕ
 end_of range = range.end
@@ -94,13 +95,6 @@ few_inserted xs ys r apart same =
     omega arith
 
 -- ---- what they close
--- a cell closes the places that it takes
-abbrev takes_live : ℕ → Live → Bool
-takes_live place live = is_taken live.loadable live.config.memory_regions place
-
-closed_lives : (lives : List Live) (place : ℕ) → is_closed_by lives place ≡ list_any (takes_live place) lives
-closed_lives lives place = list_any_map holder_of_live (λ (h : Holder). list_any (λ (r : Region). takes h.loadable r place) h.regions) lives
-
 -- one cell more, as at a step of a loop
 pub closed_more : (lives : List Live) (i : ℕ) (d : Live) (place : ℕ) → i < length lives
     → is_closed_by (take (i + 1) lives) place ≡ (is_closed_by (take i lives) place || is_taken (get_or lives i d).loadable (get_or lives i d).config.memory_regions place)
@@ -108,13 +102,6 @@ closed_more lives i d place lt =
     closed_lives (take (i + 1) lives) place
     ∙ list_any_more (takes_live place) lives i d lt
     ∙ ap (λ b. b || takes_live place (get_or lives i d)) (sym (closed_lives (take i lives) place))
-
-pub closed_added : (lives : List Live) (new : Live) (place : ℕ) → is_closed_by (lives ++ new ∷ []) place ≡ (is_closed_by lives place || is_taken new.loadable new.config.memory_regions place)
-closed_added lives new place =
-    closed_lives (lives ++ new ∷ []) place
-    ∙ list_any-append (takes_live place) lives (new ∷ [])
-    ∙ ap (λ b. list_any (takes_live place) lives || b) (or-false (takes_live place new))
-    ∙ ap (λ b. b || takes_live place new) (sym (closed_lives lives place))
 
 -- the cell at an index, by its regions and its mark
 record IsLiveAt (lives : List Live) (i : ℕ) (regions : List Region) (mark : Bool) (d : Live) : Type 0 where

@@ -5,7 +5,7 @@ ghost use Rattle.jh_cellcfg.specs.declared.live.Live.{Live};
 ghost use Rattle.jh_cellcfg.specs.Regions.{AreInRange};
 ghost use Rattle.jh_num.specs.Bits.{has_bit};
 ghost use Rattle.jh_shape.specs.Lives.{is_loadable_at};
-ghost use Rattle.jh_board.specs.Private.Closed.{is_taken, is_closed_by, all_regions, count_regions};
+ghost use Rattle.jh_closed.specs.Closed.{is_taken, is_closed_by, all_regions, count_regions};
 
 use crate::cell_regions::CellRegions;
 use jh_num::{ByteSet, Range, has_bit};

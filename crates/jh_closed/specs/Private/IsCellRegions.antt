@@ -1,7 +1,7 @@
 -- What is true of the regions of every cell.
 use Rattle.std.specs.Prelude.{◌≡◌, ℕ, true, false, IfSome, IfNone}
-use Rattle.jh_board.specs.Private.Closed.{is_taken, AreTaken}
-use Rattle.jh_board.specs.declared.cell_regions.CellRegions.TheInside.{Inside}
+use Rattle.jh_closed.specs.Closed.{is_taken, AreTaken}
+use Rattle.jh_closed.specs.declared.cell_regions.CellRegions.TheInside.{Inside}
 
 -- `taken` has the places that the cell takes from root while it isn't loadable, `withheld` those that it takes while it is;
 -- where there is no `withheld`, both are the same
