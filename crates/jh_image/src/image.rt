@@ -1,15 +1,16 @@
 //! From a board to the image that its files make.
 ghost use Rattle.std.specs.Prelude.{◌≡◌, ◌≤◌, ◌<◌, ◌∷◌, [], true, IfOk, IfErr, OnOk, All, AllPairs, length, map};
-ghost use Rattle.jh_image.specs.declared.board.Listing.{Listing as TheListing};
 ghost use Rattle.jh_history.specs.Admitted.{IsSoundPreload, IsOtherPreload, IsSoundProgram, IsOtherProgram, IsAdmittedSystem, IsAdmitted};
 ghost use Rattle.jh_image.specs.Boards.{are_distinct, named_cpu_of};
 ghost use Rattle.jh_image.specs.Preloads.{IsFaultless};
 ghost use Rattle.jh_image.specs.Files.{IsPreloadOf};
 ghost use Rattle.jh_outside.specs.Ask.{handed};
-ghost use Rattle.jh_outside.specs.Trail.{Asks, AsksAll, AsksUntil};
+ghost use Rattle.jh_outside.specs.Trail.{Asks, AsksAll};
 ghost use Rattle.jh_image.specs.Order.{last_ask, preload_name, program_name, AsksBoard, AsksBoardUntil};
-ghost use Rattle.jh_image.specs.Images.{with_listing, with_system, so_far_of, IsNextPreload, IsComplete, ReadsTo};
-ghost use Rattle.jh_image.specs.Causes.{IsCauseOf, OnRefused, IsImageAnswer, IsCounted};
+ghost use Rattle.jh_image.specs.Images.{with_listing, with_system, so_far_of, IsComplete, ReadsTo};
+ghost use Rattle.jh_image.specs.Causes.{HasCause, OnRefused, IsImageAnswer, IsCounted};
+ghost use Rattle.jh_image.specs.Private.Causes.{IsPreloadCause};
+ghost use Rattle.jh_image.specs.Private.Order.{AsksOnUntil};
 
 use crate::admission::check_system;
 use crate::board::{Listing, PreloadFile};
@@ -33,7 +34,7 @@ fn read_admitted<F: Files>(
     requires { ReadsTo (F.contents files.old) board.now (with_listing listing.now) }
     ensures ok { IfOk result (λ system. ReadsTo (F.contents files.old) board.now (with_system (so_far_of listing.now system [] []))) }
     ensures admitted { IfOk result IsAdmittedSystem }
-    ensures err { IfErr result (OnRefused (IsCauseOf (F.contents files.old) board.now)) }
+    ensures err { IfErr result (OnRefused (HasCause (F.contents files.old) board.now (with_listing listing.now))) }
     ensures counted { IfErr result (IsCounted (F.faults files.old) (F.faults files.new) (F.failed files.new)) }
     ensures never_falls { F.faults files.old ≤ F.faults files.new }
     ensures kept { F.contents files.new ≡ F.contents files.old }
@@ -54,12 +55,10 @@ fn next_preload<F: Files>(
     preloads: &[Preload],
     file: &PreloadFile,
 ) -> Result<Preload, ImageFault>
-    requires next { (listing : TheListing) × ReadsTo (F.contents files.old) board.now (with_system (so_far_of listing system.now preloads.now []))
-        × IsNextPreload (so_far_of listing system.now preloads.now []) file.now }
-    requires few { length preloads.now < 64 }
+    requires { length preloads.now < 64 }
     ensures ok { IfOk result (IsPreloadOf (F.contents files.old) file.now) }
     ensures faultless { IfOk result (IsFaultless system.now.platform.hypervisor_memory preloads.now) }
-    ensures err { IfErr result (OnRefused (IsCauseOf (F.contents files.old) board.now)) }
+    ensures err { IfErr result (OnRefused (IsPreloadCause (F.contents files.old) board.now system.now preloads.now file.now)) }
     ensures counted { IfErr result (IsCounted (F.faults files.old) (F.faults files.new) (F.failed files.new)) }
     ensures never_falls { F.faults files.old ≤ F.faults files.new }
     ensures kept { F.contents files.new ≡ F.contents files.old }
@@ -88,12 +87,11 @@ fn read_preloads<F: Files>(
     ensures all { IfOk result (λ preloads. length preloads ≡ length listing.now.preloads) }
     ensures sound { IfOk result (All (IsSoundPreload system.now.platform.hypervisor_memory)) }
     ensures apart { IfOk result (AllPairs IsOtherPreload) }
-    ensures err { IfErr result (OnRefused (IsCauseOf (F.contents files.old) board.now)) }
     ensures counted { IfErr result (IsCounted (F.faults files.old) (F.faults files.new) (F.failed files.new)) }
     ensures never_falls { F.faults files.old ≤ F.faults files.new }
     ensures kept { F.contents files.new ≡ F.contents files.old }
     ensures asked { OnOk result (AsksAll F.Files (map preload_name listing.now.preloads) files.old files.new) }
-    ensures asked_until { IfErr result (OnRefused (λ _ cause. AsksUntil F.Files (map preload_name listing.now.preloads) (last_ask cause) files.old files.new)) }
+    ensures asked_until { IfErr result (OnRefused (λ file cause. AsksOnUntil F.Files (F.contents files.old) board.now (board.now ∷ listing.now.system ∷ []) file cause files.old files.new)) }
 {
     let mut preloads = Seq::new(alloc);
     let items = listing.preloads.as_slice();
@@ -120,12 +118,11 @@ fn read_programs<F: Files>(
     ensures complete { IfOk result (λ programs. IsComplete (so_far_of listing.now system.now preloads.now programs)) }
     ensures sound { IfOk result (All IsSoundProgram) }
     ensures owned { IfOk result (AllPairs IsOtherProgram) }
-    ensures err { IfErr result (OnRefused (IsCauseOf (F.contents files.old) board.now)) }
     ensures counted { IfErr result (IsCounted (F.faults files.old) (F.faults files.new) (F.failed files.new)) }
     ensures never_falls { F.faults files.old ≤ F.faults files.new }
     ensures kept { F.contents files.new ≡ F.contents files.old }
     ensures asked { OnOk result (AsksAll F.Files (map program_name listing.now.programs) files.old files.new) }
-    ensures asked_until { IfErr result (OnRefused (λ _ cause. AsksUntil F.Files (map program_name listing.now.programs) (last_ask cause) files.old files.new)) }
+    ensures asked_until { IfErr result (OnRefused (λ file cause. AsksOnUntil F.Files (F.contents files.old) board.now (board.now ∷ listing.now.system ∷ map preload_name listing.now.preloads) file cause files.old files.new)) }
 {
     let mut programs = Seq::new(alloc);
     let items = listing.programs.as_slice();
@@ -146,7 +143,7 @@ pub fn read_image<F: Files>(alloc: Global, files: &mut F, name: &str) -> Result<
     ensures kept { F.contents files.new ≡ F.contents files.old }
     // the files are read in their order, each once, up to the one that stops the reading; only that one can have failed
     ensures asked { OnOk result (AsksBoard F.Files (F.contents files.old) name.now files.old files.new) }
-    ensures asked_until { IfErr result (OnRefused (λ _ cause. AsksBoardUntil F.Files (F.contents files.old) name.now cause files.old files.new)) }
+    ensures asked_until { IfErr result (OnRefused (λ file cause. AsksBoardUntil F.Files (F.contents files.old) name.now file cause files.old files.new)) }
 {
     let listing = read_listing(alloc, files, name)?;
     let system = read_admitted(alloc, files, name, &listing)?;

@@ -5,9 +5,9 @@ ghost use Rattle.jh_image.specs.Boards.{are_distinct, named_cpu_of};
 ghost use Rattle.jh_image.specs.Files.{HasBytes, Lists, SpellsSystem, IsPreloadOf, IsProgramOf};
 ghost use Rattle.jh_outside.specs.Ask.{handed};
 ghost use Rattle.jh_outside.specs.Trail.{Asks};
-ghost use Rattle.jh_image.specs.Images.{with_listing, ReadsTo};
+ghost use Rattle.jh_image.specs.Images.{nothing, with_listing};
 ghost use Rattle.jh_image.specs.Order.{last_ask};
-ghost use Rattle.jh_image.specs.Causes.{OnRefused, IsCounted, IsCauseOf};
+ghost use Rattle.jh_image.specs.Causes.{OnRefused, IsCounted, HasCause};
 ghost use Rattle.jh_image.specs.Private.Causes.{IsFileRefusal, IsProgramCause};
 
 use crate::board::{Listing, PreloadFile, ProgramFile, read_board};
@@ -58,7 +58,7 @@ pub(crate) fn read_listing<F: Files>(
     ensures ok { IfOk result (Lists (F.contents files.old) board.now) }
     ensures few { IfOk result (λ listing. length listing.preloads ≤ 64) }
     ensures distinct { IfOk result (λ listing. are_distinct (map named_cpu_of listing.programs) ≡ true) }
-    ensures err { IfErr result (OnRefused (IsCauseOf (F.contents files.old) board.now)) }
+    ensures err { IfErr result (OnRefused (HasCause (F.contents files.old) board.now nothing)) }
     ensures counted { IfErr result (IsCounted (F.faults files.old) (F.faults files.new) (F.failed files.new)) }
     ensures never_falls { F.faults files.old ≤ F.faults files.new }
     ensures kept { F.contents files.new ≡ F.contents files.old }
@@ -79,9 +79,8 @@ pub(crate) fn read_system_file<F: Files>(
     board: &str,
     listing: &Listing,
 ) -> Result<SystemConfig, ImageFault>
-    requires { ReadsTo (F.contents files.old) board.now (with_listing listing.now) }
     ensures ok { IfOk result (SpellsSystem (F.contents files.old) listing.now.system) }
-    ensures err { IfErr result (OnRefused (IsCauseOf (F.contents files.old) board.now)) }
+    ensures err { IfErr result (OnRefused (HasCause (F.contents files.old) board.now (with_listing listing.now))) }
     ensures counted { IfErr result (IsCounted (F.faults files.old) (F.faults files.new) (F.failed files.new)) }
     ensures never_falls { F.faults files.old ≤ F.faults files.new }
     ensures kept { F.contents files.new ≡ F.contents files.old }

@@ -15,11 +15,7 @@ module _ {S : Type 0} (files : Ghosts S) where
   abbrev pub AsksAll : List (List ℕ) → S → S → Type 0
   AsksAll names s t = Asks s (map handed names) t
 
-  -- the first ones of these files were read, one after another, each once, and no other; each handed out bytes but for
-  -- the last, of which `last` says what it answered
-  pub record AsksUntil (names : List (List ℕ)) (last : List ℕ → Ask) (s t : S) : Type 0 where
-    pub before : List (List ℕ)
-    pub name : List ℕ
-    pub rest : List (List ℕ)
-    pub split : names ≡ before ++ name ∷ rest
-    pub asked : Asks s (map handed before ++ last name ∷ []) t
+  -- these files were read, one after another, each once; each handed out bytes. Behind them came this last read, and no
+  -- other
+  abbrev pub AsksUpTo : List (List ℕ) → Ask → S → S → Type 0
+  AsksUpTo names last s t = Asks s (map handed names ++ last ∷ []) t

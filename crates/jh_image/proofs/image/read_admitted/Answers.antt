@@ -1,6 +1,7 @@
 -- The system is admitted, or isn't.
 use Rattle.jh_num.proofs.Public.{passed_up}
-use Rattle.jh_image.specs.Causes.{OnRefused, IsCauseOf}
+use Rattle.jh_image.specs.Causes.{OnRefused, HasCause}
+use Rattle.jh_image.specs.Images.{with_listing}
 use Rattle.jh_image.specs.Private.Causes.{IsUnadmitted}
 use Rattle.jh_image.proofs.StopLemmas.{on_refused, system_read, unsound_stops}
 use Rattle.jh_image.proofs.image.read_admitted.Goals as goal
@@ -11,9 +12,9 @@ returns-in_err-check_system-clause-err g c =
     let board = c.args.board.now in
     let listing = c.args.listing.now in
     let unsound = rw c.as_str.ensures at c.in_err-check_system.ensures.err in
-    passed_up c.from_residual-in_err-check_system.result c.in_err-check_system.field-0.0 (λ e. OnRefused (IsCauseOf contents board) e) c.from_residual-in_err-check_system.ensures.1
-    (on_refused (IsUnadmitted board listing.system c.in_ok-system.system) (IsCauseOf contents board) c.in_err-check_system.field-0.0
-    (unsound_stops contents board listing c.in_ok-system.system c.requires c.in_ok-system.ensures.ok) unsound)
+    passed_up c.from_residual-in_err-check_system.result c.in_err-check_system.field-0.0 (λ e. OnRefused (HasCause contents board (with_listing listing)) e) c.from_residual-in_err-check_system.ensures.1
+    (on_refused (IsUnadmitted board listing.system c.in_ok-system.system) (HasCause contents board (with_listing listing)) c.in_err-check_system.field-0.0
+    (unsound_stops contents board listing c.in_ok-system.system c.in_ok-system.ensures.ok) unsound)
 
 pub returns-clause-ok : goal.returns-clause-ok
 returns-clause-ok g c =

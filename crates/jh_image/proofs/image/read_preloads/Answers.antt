@@ -1,12 +1,17 @@
 -- The loop over the preloads' files.
-use Rattle.std.proofs.Common.{◌≡◌, ◌+◌, ◌<◌, length, get_or, refl, sym, subst, arith, ◌≤◌, map, [], ◌∷◌}
+use Rattle.std.proofs.Common.{◌≡◌, ℕ, ◌+◌, ◌<◌, ◌≤◌, List, [], ◌∷◌, length, get_or, take, map, refl, sym, subst, arith}
 use Rattle.std.proofs.lemmas.List.{take_all}
 use Rattle.jh_num.proofs.Public.{passed_up}
-use Rattle.jh_outside.specs.Trail.{Asks, no_ask, AsksAll, AsksUntil}
+use Rattle.jh_outside.specs.Trail.{Asks, no_ask, AsksAll}
 use Rattle.jh_image.specs.Order.{last_ask, preload_name}
-use Rattle.jh_outside.proofs.Public.{loop_more, loop_until}
+use Rattle.jh_outside.proofs.Public.{loop_more}
+use Rattle.jh_image.specs.declared.fault.ImageCause.{ImageCause}
+use Rattle.jh_image.specs.Images.{with_system, so_far_of, a_preload, IsNextPreload}
 use Rattle.jh_image.specs.Causes.{OnRefused}
-use Rattle.jh_image.proofs.StopLemmas.{on_refused}
+use Rattle.jh_image.specs.Private.Causes.{IsPreloadCause}
+use Rattle.jh_image.specs.Private.Order.{AsksOnUntil}
+use Rattle.jh_image.proofs.StopLemmas.{on_both, preload_stops}
+use Rattle.jh_image.proofs.OrderLemmas.{read_with_preloads, stops_on_at}
 use Rattle.jh_image.proofs.LoadLemmas.{LoadedSoFar, loaded_start, loaded_next, loaded_more, loaded_all}
 use Rattle.jh_image.proofs.image.read_preloads.Goals as goal
 
@@ -17,19 +22,6 @@ loop-file-init g c = record {
   asked = no_ask c.args.files.now;
   so_far = rw c.new-preloads.ensures (loaded_start (g.F.Files.contents c.args.files.now) c.args.board.now c.args.listing.now c.args.system.now c.requires.read);
 }
-
-pub next_preload-requires-clause-next : goal.next_preload-requires-clause-next
-next_preload-requires-clause-next g c =
-    let contents = g.F.Files.contents c.args.files.now in
-    let board = c.args.board.now in
-    let system = c.args.system.now in
-    let listing = c.args.listing.now in
-    let i = c.loop-file.file-index in
-    let file = c.file-item.result in
-    let lt : i < length listing.preloads = rw c.as_slice-items.ensures.value at c.loop-file-test.true in
-    let is : file ≡ get_or listing.preloads i file = rw c.as_slice-items.ensures.value at c.file-item.is in
-    let so_far = c.loop-file.invariant.so_far in
-    rw (c.loop-file.invariant.kept, c.as_slice.ensures.value) (listing, so_far.read, loaded_next contents board listing system i file c.loop-file.preloads lt is so_far)
 
 pub loop-file-preserved : goal.loop-file-preserved
 loop-file-preserved g c =
@@ -52,17 +44,30 @@ loop-file-preserved g c =
 
 pub returns-in_err-preload-clause-asked_until : goal.returns-in_err-preload-clause-asked_until
 returns-in_err-preload-clause-asked_until g c =
-    let files = c.args.listing.now.preloads in
+    let files = g.F.Files in
+    let contents = g.F.Files.contents c.args.files.now in
+    let board = c.args.board.now in
+    let system = c.args.system.now in
+    let listing = c.args.listing.now in
+    let preloads = c.loop-file.preloads in
+    let so_far = so_far_of listing system preloads [] in
     let i = c.loop-file.file-index in
     let file = c.file-item.result in
-    let lt : i < length files = rw c.as_slice-items.ensures.value at c.loop-file-test.true in
-    let is : file ≡ get_or files i file = rw c.as_slice-items.ensures.value at c.file-item.is in
+    let lt : i < length listing.preloads = rw c.as_slice-items.ensures.value at c.loop-file-test.true in
+    let is : file ≡ get_or listing.preloads i file = rw c.as_slice-items.ensures.value at c.file-item.is in
+    let loaded = c.loop-file.invariant.so_far in
+    let next : IsNextPreload so_far file = loaded_next contents board listing system i file preloads lt is loaded in
     let s = c.args.files.now in
     let t = c.loop-file.files in
     let u = c.next_preload.new.files in
-    passed_up c.from_residual.result c.in_err-preload.field-0.0 (λ e. OnRefused (λ _ cause. AsksUntil g.F.Files (map preload_name files) (last_ask cause) s u) e) c.from_residual.ensures.1
-    (on_refused (λ _ cause. Asks g.F.Files t (last_ask cause file.file ∷ []) u) (λ _ cause. AsksUntil g.F.Files (map preload_name files) (last_ask cause) s u) c.in_err-preload.field-0.0
-    (λ _ cause asked. loop_until preload_name g.F.Files s t u files i file (last_ask cause) lt is c.loop-file.invariant.asked asked) c.in_err-preload.ensures.asked_until)
+    let before = board ∷ listing.system ∷ [] in
+    let At : List ℕ → ImageCause → Type 0 = λ named cause. AsksOnUntil files contents board before named cause s u in
+    let unread : OnRefused (IsPreloadCause contents board system preloads file) c.in_err-preload.field-0.0 = rw (c.loop-file.invariant.kept, c.as_slice.ensures.value) at c.in_err-preload.ensures.err in
+    passed_up c.from_residual.result c.in_err-preload.field-0.0 (λ e. OnRefused At e) c.from_residual.ensures.1
+    (on_both (IsPreloadCause contents board system preloads file) (λ _ cause. Asks files t (last_ask cause file.file ∷ []) u) At c.in_err-preload.field-0.0
+    (λ named cause why asked. stops_on_at files contents board before (map preload_name (take i listing.preloads)) s t u (with_system so_far) file.file named cause loaded.read (a_preload so_far file next)
+    (read_with_preloads board listing system preloads i loaded.count_is) c.loop-file.invariant.asked (preload_stops contents board so_far file next named cause why) asked)
+    unread c.in_err-preload.ensures.asked_until)
 
 pub returns-clause-asked : goal.returns-clause-asked
 returns-clause-asked g c =

@@ -6,7 +6,7 @@ use Rattle.jh_outside.specs.Trail.{Asks}
 use Rattle.jh_image.specs.declared.fault.ImageCause.TheVariants.{System}
 use Rattle.jh_image.specs.Order.{last_ask}
 use Rattle.jh_image.specs.Images.{IsNextFile, with_listing, the_system}
-use Rattle.jh_image.specs.Causes.{OnRefused, IsCauseOf}
+use Rattle.jh_image.specs.Causes.{OnRefused, HasCause}
 use Rattle.jh_image.specs.Private.Causes.{IsFileRefusal, IsRefusal}
 use Rattle.jh_image.proofs.StopLemmas.{on_refusal, on_refused, unread_stops, system_stops}
 use Rattle.jh_image.proofs.read.read_system_file.Goals as goal
@@ -23,8 +23,8 @@ returns-in_err-bytes-clause-err g c =
     let board = c.args.board.now in
     let name = c.as_str-name.result.now in
     let next : IsNextFile board (with_listing c.args.listing.now) name = subst (λ n. IsNextFile board (with_listing c.args.listing.now) n) (sym c.as_str-name.ensures) (the_system c.args.listing.now) in
-    passed_up c.from_residual.result c.in_err-bytes.field-0.0 (λ e. OnRefused (IsCauseOf contents board) e) c.from_residual.ensures.1
-    (on_refused (IsFileRefusal contents name) (IsCauseOf contents board) c.in_err-bytes.field-0.0 (unread_stops contents board name (with_listing c.args.listing.now) c.requires next) c.in_err-bytes.ensures.err)
+    passed_up c.from_residual.result c.in_err-bytes.field-0.0 (λ e. OnRefused (HasCause contents board (with_listing c.args.listing.now)) e) c.from_residual.ensures.1
+    (on_refused (IsFileRefusal contents name) (HasCause contents board (with_listing c.args.listing.now)) c.in_err-bytes.field-0.0 (unread_stops contents board name (with_listing c.args.listing.now) next) c.in_err-bytes.ensures.err)
 
 pub returns-clause-err : goal.returns-clause-err
 returns-clause-err g c =
@@ -33,5 +33,5 @@ returns-clause-err g c =
     let listing = c.args.listing.now in
     let has = rw c.as_str-name.ensures at c.in_ok-bytes.ensures.ok in
     let refused = rw c.as_str-name.ensures at c.refused.ensures in
-    on_refused (IsRefusal listing.system (System c.in-Err.fault)) (IsCauseOf contents board) c.refused.result
-    (system_stops contents board _ listing c.in-Err.fault c.requires has (first_of (search rules, grind (arith, common_steps)))) refused
+    on_refused (IsRefusal listing.system (System c.in-Err.fault)) (HasCause contents board (with_listing c.args.listing.now)) c.refused.result
+    (system_stops contents board _ listing c.in-Err.fault has (first_of (search rules, grind (arith, common_steps)))) refused
