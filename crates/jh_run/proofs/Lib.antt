@@ -5,6 +5,7 @@ mod LegalTexts
 mod MapsLemmas
 mod TurnLemmas
 mod PortLemmas
+mod DriveLemmas
 mod WholeLemmas
 mod CallerLemmas
 mod SoakLemmas

@@ -1,9 +1,9 @@
 //! Turns at several ports, round by round.
 ghost use Rattle.std.specs.Prelude.{◌≡◌, ◌<◌, All, IfSome, length, None, Some};
 ghost use Rattle.std.specs.ControlFlow.{break_value};
-ghost use Rattle.jh_turn.specs.Ports.{IsPortOf, port_caller, opened_value};
+ghost use Rattle.jh_turn.specs.Ports.{IsPortOf, opened_value};
 ghost use Rattle.jh_turn.specs.PortSets.{IsSameSet};
-ghost use Rattle.jh_run.specs.Drives.{Shows, SomeShows};
+ghost use Rattle.jh_run.specs.Drives.{Shows, SomeShows, TookTurns, AllTookTurns};
 ghost use Rattle.jh_run.specs.Private.Driving.{end_after};
 ghost use Rattle.jh_run.specs.Running.{origin_of};
 
@@ -43,7 +43,7 @@ fn drive_port<R: Wait, G: Gate>(
 ) -> ControlFlow<Option<TurnFault>>
     requires { IsPortOf shared.now port.old }
     ensures port { IsPortOf shared.now port.new }
-    ensures caller { port_caller port.new ≡ port_caller port.old }
+    ensures turns { TookTurns (origin_of (opened_value shared.now)) port.old port.new }
     ensures shows { IfSome (break_value result) (λ refused. Shows (origin_of (opened_value shared.now)) refused port.new) }
 {
     gate.pass(port.caller(), round);
@@ -63,6 +63,7 @@ fn drive_round<R: Wait, G: Gate>(
 ) -> ControlFlow<Option<TurnFault>>
     requires { All (IsPortOf shared.now) ports.old }
     ensures same { IsSameSet shared.now ports.old ports.new }
+    ensures turns { AllTookTurns (origin_of (opened_value shared.now)) ports.old ports.new }
     ensures shows { IfSome (break_value result) (λ refused. SomeShows (origin_of (opened_value shared.now)) refused ports.new) }
 {
     let mut idle = true;
@@ -87,6 +88,7 @@ pub fn drive<R: Wait, G: Gate>(
     requires some { 0 < length ports.old }
     requires own { All (IsPortOf shared.now) ports.old }
     ensures same { IsSameSet shared.now ports.old ports.new }
+    ensures turns { AllTookTurns (origin_of (opened_value shared.now)) ports.old ports.new }
     ensures shows { SomeShows (origin_of (opened_value shared.now)) result ports.new }
 {
     let mut round: u64 = 0;

@@ -1,5 +1,5 @@
 //! Posts. A worker is at one at a time, or at none while it rests. Those that were left lie here.
-ghost use Rattle.std.specs.Prelude.{◌≡◌, Option, Some, None, Result, vec_len};
+ghost use Rattle.std.specs.Prelude.{◌≡◌, Option, Some, None, Result, vec_len, slice_get, slice_set};
 ghost use Rattle.std.specs.Option.{ForSome};
 ghost use Rattle.jh_history.specs.declared.entry.Entry.{Entry as TheEntry};
 ghost use Rattle.jh_board.specs.declared.turn.Turn.{Turn as TheTurn};
@@ -96,7 +96,10 @@ impl<H: Home> Left<H> {
     }
 
     /// The post of the caller, which is left no more.
-    fn take(&mut self, caller: u8) -> Option<Post<H>> {
+    fn take(&mut self, caller: u8) -> Option<Post<H>>
+        ensures taken { slice_get self.old.posts.items caller ≡ Some result }
+        ensures rest { self.new.posts.items ≡ slice_set self.old.posts.items caller None }
+    {
         self.posts[usize::from(caller)].take()
     }
 
@@ -111,7 +114,9 @@ impl<H: Home> Left<H> {
     }
 
     /// Leaves the post.
-    fn put(&mut self, post: Post<H>) {
+    fn put(&mut self, post: Post<H>)
+        ensures { self.new.posts.items ≡ slice_set self.old.posts.items (port_caller post.port) (Some post) }
+    {
         let caller = post.port.caller();
         self.posts[usize::from(caller)] = Some(post);
     }
