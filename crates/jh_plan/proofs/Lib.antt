@@ -1,9 +1,13 @@
+mod AmongLemmas
 mod CleanLemmas
 mod CpuLemmas
+mod CreateLemmas
 mod FitLemmas
 mod LineLemmas
 mod PlaceLemmas
 mod PlanLemmas
+mod ReadBackLemmas
 mod ReadLemmas
 mod StandLemmas
 mod UniqueLemmas
+mod WrittenLemmas
