@@ -32,12 +32,13 @@ own_id_too [] new own others = (λ other held. absurd (nothing_in other held), t
   where
     nothing_in : (x : CellConfig) → Contains [] x → ⊥
     nothing_in x (k, below, is) = omega (arith, below)
-own_id_too (c ∷ cs) new own others =
-    (λ other held. elim (Contains-push_cases cs new other held) [
-      | inl among ↦ own.0 other among
-      | inr is ↦ λ same. others c (Contains_head c cs) (sym same ∙ ap (λ (x : CellConfig). x.id) (sym is))
-    ],
-    own_id_too cs new own.1 (λ cell held. others cell (Contains_tail c cs cell held)))
+own_id_too (c ∷ cs) new own others = (
+  λ other held. elim (Contains-push_cases cs new other held) [
+    | inl among ↦ own.0 other among
+    | inr is ↦ λ same. others c (Contains_head c cs) (sym same ∙ ap (λ (x : CellConfig). x.id) (sym is))
+  ],
+  own_id_too cs new own.1 (λ cell held. others cell (Contains_tail c cs cell held)),
+)
 
 -- ---- sums over them
 

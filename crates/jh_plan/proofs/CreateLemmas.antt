@@ -215,11 +215,12 @@ clean_verdict system live new clean =
 
 own_ids : (cells : List CellConfig) → AllPairs AreTwo cells → HaveOwnIds cells
 own_ids [] two = tt
-own_ids (c ∷ cs) two =
-    (λ other (k, below, is).
-    let differ = two_ids c (get_or cs k other) (two 0 (suc k) other (omega arith) (omega (arith, below))) in
-    λ same. differ (sym same ∙ ap (λ (x : CellConfig). x.id) (sym is)),
-    own_ids cs (λ i j d less within. two (suc i) (suc j) d (omega (arith, less)) (omega (arith, within))))
+own_ids (c ∷ cs) two = (
+  λ other (k, below, is).
+      let differ = two_ids c (get_or cs k other) (two 0 (suc k) other (omega arith) (omega (arith, below))) in
+      λ same. differ (sym same ∙ ap (λ (x : CellConfig). x.id) (sym is)),
+  own_ids cs (λ i j d less within. two (suc i) (suc j) d (omega (arith, less)) (omega (arith, within))),
+)
 
 config_of_live : (lives : List Live) (cell : CellConfig) → Contains (configs_of lives) cell → (live : Live) × Contains lives live × (live.config ≡ cell)
 config_of_live lives cell held = Contains_from_map (λ (live : Live). live.config) lives cell held

@@ -6,8 +6,10 @@ mod FitLemmas
 mod LineLemmas
 mod PlaceLemmas
 mod PlanLemmas
+pub mod Public
 mod ReadBackLemmas
 mod ReadLemmas
 mod StandLemmas
+mod TextLemmas
 mod UniqueLemmas
 mod WrittenLemmas

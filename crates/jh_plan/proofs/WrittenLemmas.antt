@@ -20,9 +20,10 @@ byte_parts b good =
     let p = and_parts (low && high && quote) (not (b == 92)) good in
     let q = and_parts (low && high) quote p.0 in
     let r = and_parts low high q.0 in
-    let above = leb-true 0x21 b r.0 in
-    (and_from (nat_le 0x20 b) high (le-leb 0x20 b (omega (arith, above))) r.1,
-    false_from_ne_true (b == 0) (λ none. let is = eqb-true b 0 none in omega (arith, is, above)))
+    let above = leb-true 0x21 b r.0 in (
+      and_from (nat_le 0x20 b) high (le-leb 0x20 b (omega (arith, above))) r.1,
+      false_from_ne_true (b == 0) (λ none. let is = eqb-true b 0 none in omega (arith, is, above)),
+    )
 
 -- where the first zero stands
 first_zero : (name : List ℕ) (n : ℕ) → list_all is_name_byte name ≡ true → position_or_len (λ b. b == 0) (name ++ replicate n 0) ≡ length name
@@ -101,7 +102,8 @@ typed demand set place name id within room = record {
   console = length-replicate {A = ℕ} 32 0;
   memory_regions = (
     record { phys_start = omega (arith, within); virt_start = omega arith; size = omega (arith, within); flags = flags_fit demand.loadable },
-    (record { phys_start = omega arith; virt_start = omega (arith, room); size = omega arith; flags = omega arith }, tt));
+    (record { phys_start = omega arith; virt_start = omega (arith, room); size = omega arith; flags = omega arith }, tt),
+  );
   cache_regions = tt;
   irqchips = tt;
   pio_regions = tt;

@@ -7,3 +7,4 @@ pub mod Moments
 pub mod Places
 pub mod Plans
 pub mod Private
+pub mod SpecText

@@ -34,10 +34,12 @@ pub fn cells_that_fit_are_apart(_root: &CellConfig)
     ensures places { (earlier : List TheCell) (demand : TheDemand) (cell : TheCell) → Fits _root.now earlier demand cell → (other : TheCell) → Contains earlier other → (x y : TheRegion) → Contains cell.memory_regions x → is_comm x ≡ false → Contains other.memory_regions y → is_comm y ≡ false → phys_meet y x ≡ false }
 {}
 
-/// At most one plan meets demands, and where one does, no demand is the first that isn't met.
+/// At most one plan meets demands, and where one does, no demand is the first that isn't met. At most one demand is, for
+/// one cause.
 pub fn demands_have_one_answer(_system: &SystemConfig, _demands: &[Demand])
     ensures plan { (one other : ThePlanned) → IsPlan _system.now _demands.now one → IsPlan _system.now _demands.now other → one ≡ other }
     ensures no_fault { (planned : ThePlanned) (number : ℕ) (why : TheWhy) → IsPlan _system.now _demands.now planned → IsFirstUnmet _system.now _demands.now number why → ⊥ }
+    ensures fault { (number other : ℕ) (why also : TheWhy) → IsFirstUnmet _system.now _demands.now number why → IsFirstUnmet _system.now _demands.now other also → (number ≡ other) × (why ≡ also) }
 {}
 
 /// No CPU is one of two cells of a plan, and no place is in memory of two of them.

@@ -10,6 +10,7 @@ mod line;
 mod place;
 mod planning;
 mod read;
+mod text;
 
 pub use demand::{Demand, MAX_DEMANDS};
 pub use fault::{DemandsFault, PlanFault, Why};
@@ -20,3 +21,4 @@ pub use laws::{
 pub use place::LARGE;
 pub use planning::{Planned, plan};
 pub use read::read_demands;
+pub use text::plan_text;
