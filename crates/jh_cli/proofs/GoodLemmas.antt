@@ -33,18 +33,23 @@ use Rattle.jh_text.proofs.Public.{NoBadLine, NotLong}
 use Rattle.jh_audit.specs.declared.verdict.Verdict.{Verdict}
 use Rattle.jh_audit.specs.declared.verdict.Verdict.TheVariants.{Legal, Illegal}
 use Rattle.jh_image.specs.declared.fault.ImageCause.{ImageCause}
-use Rattle.jh_image.specs.declared.fault.ImageCause.TheVariants.{ReadFault as CantBeRead}
+use Rattle.jh_image.specs.declared.fault.ImageCause.TheVariants.{ReadFault as CantBeRead, Oversize, Json, Member, System, Findings, PoolSmall, Preload as BadPreload, Program as BadProgram}
 use Rattle.jh_image.specs.Causes.{IsCauseOf}
 use Rattle.jh_image.specs.Images.{IsImage}
 use Rattle.jh_image.specs.Laws.{AreKnown}
-use Rattle.jh_image.proofs.Public.{SpellingsAreFaultless}
+use Rattle.jh_image.proofs.Public.{OneSpelling, SpellingsAreFaultless}
 use Rattle.jh_run.specs.Maps.{IsMapsAnswer}
+use Rattle.jh_history.specs.Admitted.{IsAdmittedSystem}
+use Rattle.jh_plan.specs.declared.demand.Demand.{Demand}
+use Rattle.jh_plan.specs.Demands.{demands_of}
+use Rattle.jh_plan.specs.Plans.{IsPlan}
+use Rattle.jh_plan.proofs.Public.{no_fault}
 use Rattle.jh_run.specs.Soak.{soak_image}
 use Rattle.jh_cli.specs.declared.status.Status.{Status}
 use Rattle.jh_cli.specs.declared.status.Status.TheVariants.{Good, Found, ReadFault, WriteFault, NoMemory, Full}
 use Rattle.jh_cli.specs.Limits.{asked_of_a_file, asked_of_a_journal}
 use Rattle.jh_cli.specs.Lines.{exit_number, fault_line}
-use Rattle.jh_cli.specs.Words.{Request, CheckOf, PackOf, PlayOf, RunOf, MapOf, AuditOf, SoakOf}
+use Rattle.jh_cli.specs.Words.{Request, CheckOf, PackOf, PlayOf, RunOf, MapOf, AuditOf, SoakOf, PlanOf}
 use Rattle.jh_image.specs.Files.{Contents}
 use Rattle.jh_cli.specs.Reading.{Reply, FileKind, EndsAt, Reads, IsCountedFault}
 use Rattle.jh_cli.specs.Check.{IsCellFile, CellRefusal, IsSystemFile, SystemRefusal, system_file, EndsAmong, ChecksCells, Checks, checked_status}
@@ -54,9 +59,10 @@ use Rattle.jh_cli.specs.Play.{AreCpus, IsScheduleFile, ScheduleRefusal, schedule
 use Rattle.jh_cli.specs.Run.{Runs}
 use Rattle.jh_cli.specs.Map.{map_reply, IsMapped, MapsBy, Maps}
 use Rattle.jh_cli.specs.Soak.{AreRounds, Soaks}
+use Rattle.jh_cli.specs.Plan.{admitted_file, demands_file, AdmittedRefusal, AreDemands, DemandsRefusal, IsAdmittedSystemFile, IsPlanned, IsUnadmitted, Plans, PlansBy}
 use Rattle.jh_cli.specs.Audit.{IsJournalFile, JournalRefusal, journal_file, IsAudited, AuditsBy, Audits, verdict_status}
 use Rattle.jh_cli.specs.Outcome.{Outcome, Sent}
-use Rattle.jh_cli.specs.Complete.{IsKnownBoard, FileHolds, HoldCells, AreGoodToCheck, IsGoodToPack, AreGoodToPlay, AreGoodToRun, AreGoodToAudit, AreGood, MayEndWith}
+use Rattle.jh_cli.specs.Complete.{IsKnownBoard, FileHolds, HoldCells, AreGoodToCheck, IsGoodToPack, AreGoodToPlay, AreGoodToRun, AreGoodToAudit, AreGoodToPlan, AreGood, MayEndWith}
 use Rattle.jh_cli.proofs.StatusLemmas.{run_ends}
 use Rattle.jh_cli.proofs.KnownLemmas.{all_told, each_is_told, is_image, stops}
 
@@ -310,18 +316,63 @@ soak_unrefused : (word : List ℕ) (reply : Reply) (rounds : ℕ) → AreRounds 
 soak_unrefused word reply rounds are (inl none) = absurd (none.0 rounds are)
 soak_unrefused word reply rounds are (inr (n, others, soaked)) = inl (run_ends (soak_image n) soaked.entries reply.status soaked.run.ends)
 
+-- ---- plan
+
+-- a system that a board may have isn't one that none has
+pub admitted_or_not : (system : SystemConfig) (cause : ImageCause) → IsAdmittedSystem system → IsUnadmitted system cause → ⊥
+admitted_or_not system (Findings found) may is = is.0 may.clean
+admitted_or_not system (PoolSmall need have) may is = omega (arith, is.1, may.room)
+admitted_or_not system CantBeRead may is = is
+admitted_or_not system Oversize may is = is
+admitted_or_not system Json may is = is
+admitted_or_not system (Member name) may is = is
+admitted_or_not system (System fault) may is = is
+admitted_or_not system (BadPreload number) may is = is
+admitted_or_not system (BadProgram fault) may is = is
+
+-- two systems of the same bytes are one
+pub one_system_file : OneSpelling → (bytes : List ℕ) (a b : SystemConfig) → IsSystemFile bytes a → IsSystemFile bytes b → a ≡ b
+one_system_file one bytes a b h k = one a b h.is.typed k.is.typed h.is.limits k.is.limits (sym h.is.spelled ∙ k.is.spelled)
+
+pub admitted_sound : SpellingsAreFaultless → OneSpelling → (system : SystemConfig) → IsSound AdmittedRefusal IsAdmittedSystemFile system
+admitted_sound faultless one system bytes words form (inl no_system) = system_sound faultless system bytes words form.file no_system
+admitted_sound faultless one system bytes words form (inr bad) =
+    let same : bad.system ≡ system = one_system_file one bytes bad.system system bad.file form.file in
+    admitted_or_not system bad.cause form.admitted (subst (λ (s : SystemConfig). IsUnadmitted s bad.cause) same bad.is)
+
+pub demands_sound : (demands : List Demand) → IsSound DemandsRefusal AreDemands demands
+demands_sound demands bytes words form (inl over) = no_more asked_of_a_file bytes form.0 over.0
+demands_sound demands bytes words form (inr bad) = ok_err (demands_of bytes) demands bad.fault form.1 bad.first
+
+-- demands that a plan meets
+planned_unrefused : (contents : Contents) (system demands : List ℕ) (good : AreGoodToPlan contents system demands) (reply : Reply) → IsPlanned demands good.of_system good.of_demands reply → IsAnswered (λ status. status ≡ Good) reply
+planned_unrefused contents system demands good reply (inl tells) = inl (ap (λ (s : Reply). s.status) tells.told)
+planned_unrefused contents system demands good reply (inr tells) = absurd (no_fault good.of_system good.of_demands good.planned tells.number tells.why good.is tells.first)
+
+plan_unrefused : SpellingsAreFaultless → OneSpelling → (contents : Contents) (system demands : List ℕ) (reply : Reply) → AreGoodToPlan contents system demands → Plans contents system demands reply → IsAnswered (λ status. status ≡ Good) reply
+plan_unrefused faultless one contents system demands reply good h =
+    reads_unrefused (λ status. status ≡ Good) contents system admitted_file (PlansBy contents demands) good.of_system reply (admitted_sound faultless one good.of_system) (λ bytes form. form.file.within) good.system_held
+    (λ bytes other form form_other went.
+    let same : other ≡ good.of_system = one_system_file one bytes other good.of_system form_other.file form.file in
+    reads_unrefused (λ status. status ≡ Good) contents demands demands_file (IsPlanned demands good.of_system) good.of_demands reply (demands_sound good.of_demands) (λ text told. told.0) good.demands_held
+    (λ text more told told_more is.
+    let listed : more ≡ good.of_demands = ok_one (demands_of text) more good.of_demands told_more.1 told.1 in
+    planned_unrefused contents system demands good reply (subst (λ (ds : List Demand). IsPlanned demands good.of_system ds reply) listed is))
+    (subst (λ (s : SystemConfig). PlansBy contents demands s reply) same went)) h
+
 -- ---- all of them
 
-pub good_answered : CellsAreFaultless → SpellingsAreFaultless → NoBadLine → NotLong → OneImage → BoardsAreUnrefused
+pub good_answered : CellsAreFaultless → SpellingsAreFaultless → OneSpelling → NoBadLine → NotLong → OneImage → BoardsAreUnrefused
     → (contents : Contents) (request : Option Request) (reply : Reply) (good : AreGood contents request) → Outcome contents request reply → MayEndWith contents request good reply.status ⊎ (reply.status ≡ ReadFault)
-good_answered cells systems no_bad not_long one_image unrefused contents None reply good h = absurd good
-good_answered cells systems no_bad not_long one_image unrefused contents (Some (CheckOf system names)) reply good h = check_unrefused cells systems contents system names reply good h
-good_answered cells systems no_bad not_long one_image unrefused contents (Some (PackOf spec)) reply good h = pack_unrefused contents spec reply good h
-good_answered cells systems no_bad not_long one_image unrefused contents (Some (PlayOf board schedule)) reply good h = play_unrefused one_image unrefused contents board schedule reply good h
-good_answered cells systems no_bad not_long one_image unrefused contents (Some (RunOf board)) reply good h = run_unrefused unrefused contents board reply good h
-good_answered cells systems no_bad not_long one_image unrefused contents (Some (MapOf board schedule)) reply good h = map_unrefused one_image unrefused contents board schedule reply good h
-good_answered cells systems no_bad not_long one_image unrefused contents (Some (SoakOf rounds)) reply good h = soak_unrefused rounds reply good.0 good.1 h
-good_answered cells systems no_bad not_long one_image unrefused contents (Some (AuditOf board journal)) reply good h = audit_unrefused unrefused no_bad not_long contents board journal reply good h
+good_answered cells systems one_system no_bad not_long one_image unrefused contents None reply good h = absurd good
+good_answered cells systems one_system no_bad not_long one_image unrefused contents (Some (CheckOf system names)) reply good h = check_unrefused cells systems contents system names reply good h
+good_answered cells systems one_system no_bad not_long one_image unrefused contents (Some (PackOf spec)) reply good h = pack_unrefused contents spec reply good h
+good_answered cells systems one_system no_bad not_long one_image unrefused contents (Some (PlayOf board schedule)) reply good h = play_unrefused one_image unrefused contents board schedule reply good h
+good_answered cells systems one_system no_bad not_long one_image unrefused contents (Some (RunOf board)) reply good h = run_unrefused unrefused contents board reply good h
+good_answered cells systems one_system no_bad not_long one_image unrefused contents (Some (MapOf board schedule)) reply good h = map_unrefused one_image unrefused contents board schedule reply good h
+good_answered cells systems one_system no_bad not_long one_image unrefused contents (Some (SoakOf rounds)) reply good h = soak_unrefused rounds reply good.0 good.1 h
+good_answered cells systems one_system no_bad not_long one_image unrefused contents (Some (PlanOf system demands)) reply good h = plan_unrefused systems one_system contents system demands reply good h
+good_answered cells systems one_system no_bad not_long one_image unrefused contents (Some (AuditOf board journal)) reply good h = audit_unrefused unrefused no_bad not_long contents board journal reply good h
 
 -- ---- the status
 

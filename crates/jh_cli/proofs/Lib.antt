@@ -7,6 +7,7 @@ mod JournalLemmas
 mod OneLemmas
 mod OrderLemmas
 mod OutcomeLemmas
+mod PlanLemmas
 mod PlayedLemmas
 mod RoundsLemmas
 mod RunLemmas

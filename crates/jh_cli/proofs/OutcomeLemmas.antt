@@ -14,7 +14,7 @@ use Rattle.jh_text.specs.Faults.{max_entries}
 use Rattle.jh_text.proofs.Public.{OneJournal, NoBadLine, NotLong, NotBoth, OneLine}
 use Rattle.jh_cli.specs.declared.status.Status.TheVariants.{Good, ReadFault}
 use Rattle.jh_cli.specs.Limits.{asked_of_a_file, asked_of_a_journal}
-use Rattle.jh_cli.specs.Words.{Request, CheckOf, PackOf, PlayOf, RunOf, MapOf, AuditOf, SoakOf, IsSerial}
+use Rattle.jh_cli.specs.Words.{Request, CheckOf, PackOf, PlayOf, RunOf, MapOf, AuditOf, SoakOf, PlanOf, IsSerial}
 use Rattle.jh_image.specs.Files.{Contents}
 use Rattle.jh_cli.specs.Reading.{Reply}
 use Rattle.jh_cli.specs.Check.{IsSystemFile, SystemRefusal, ChecksCells}
@@ -28,6 +28,7 @@ use Rattle.jh_cli.specs.Complete.{IsKnownBoard, AreKnownFiles}
 use Rattle.jh_cli.proofs.GoodLemmas.{CellsAreFaultless, OneImage, BoardsAreUnrefused, IsAnswered, system_sound, spec_sound, schedule_sound, one_schedule, journal_sound, board_unrefused}
 use Rattle.jh_cli.proofs.KnownLemmas.{all_told, each_is_told, is_image, stops}
 use Rattle.jh_cli.proofs.OneLemmas.{OneCell, IsRead, one_reading, system_words, system_values, one_check, spec_words, spec_values, schedule_words, journal_words, one_audited}
+use Rattle.jh_cli.proofs.PlanLemmas.{one_plan_reply}
 
 -- ---- boards
 
@@ -92,6 +93,8 @@ one_outcome cells systems one_cell one_system no_bad not_long one_journal not_bo
     (IsPlayed image) one other (λ s x y r q. x.told ∙ sym y.told) a b read also) h k read also
 one_outcome cells systems one_cell one_system no_bad not_long one_journal not_both one_line one_image unrefused one_cause one_maps contents (Some (RunOf board)) one other serial told h k read also = absurd serial
 one_outcome cells systems one_cell one_system no_bad not_long one_journal not_both one_line one_image unrefused one_cause one_maps contents (Some (SoakOf rounds)) one other serial told h k read also = absurd serial
+one_outcome cells systems one_cell one_system no_bad not_long one_journal not_both one_line one_image unrefused one_cause one_maps contents (Some (PlanOf system demands)) one other serial told h k read also =
+    one_plan_reply systems one_system contents system demands one other told h k read also
 one_outcome cells systems one_cell one_system no_bad not_long one_journal not_both one_line one_image unrefused one_cause one_maps contents (Some (MapOf board schedule)) one other serial told h k read also =
     one_opening one_cause one_image unrefused contents board (MapsBy contents schedule) one other told.0
     (λ image a b. one_reading asked_of_a_file contents schedule told.1.0 (ScheduleRefusal image) (IsScheduleFile image) (schedule_words image) (one_schedule image) (λ bytes s words form why. schedule_sound image s bytes words form why)

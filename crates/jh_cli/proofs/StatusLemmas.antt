@@ -8,6 +8,7 @@ use Rattle.jh_image.specs.declared.fault.ImageCause.{ImageCause}
 use Rattle.jh_image.specs.declared.fault.ImageCause.TheVariants.{ReadFault as CantBeRead, Oversize, Json, Member, System, Findings, PoolSmall, Preload as BadPreload, Program as BadProgram}
 use Rattle.jh_spec.specs.declared.spec.Spec.{Spec}
 use Rattle.jh_run.specs.Soak.{soak_image}
+use Rattle.jh_plan.specs.declared.demand.Demand.{Demand}
 use Rattle.jh_audit.specs.declared.verdict.Verdict.{Verdict}
 use Rattle.jh_audit.specs.declared.verdict.Verdict.TheVariants.{Legal, Illegal}
 use Rattle.jh_check.specs.Lists.{is_any, capped}
@@ -16,7 +17,7 @@ use Rattle.jh_text.specs.Faults.{max_entries}
 use Rattle.jh_cli.specs.declared.status.Status.{Status}
 use Rattle.jh_cli.specs.declared.status.Status.TheVariants.{Good, Found, Usage, Refused, ReadFault, WriteFault, NoMemory, Full}
 use Rattle.jh_cli.specs.Lines.{exit_number}
-use Rattle.jh_cli.specs.Words.{Request, CheckOf, PackOf, PlayOf, RunOf, MapOf, AuditOf, SoakOf}
+use Rattle.jh_cli.specs.Words.{Request, CheckOf, PackOf, PlayOf, RunOf, MapOf, AuditOf, SoakOf, PlanOf}
 use Rattle.jh_image.specs.Files.{Contents}
 use Rattle.jh_cli.specs.Reading.{Reply, FileKind, EndsAt, Reads}
 use Rattle.jh_cli.specs.Check.{system_file, CellRefusal, ChecksCells, checked_status}
@@ -27,6 +28,7 @@ use Rattle.jh_cli.specs.Run.{EndsRun, IsToldRun}
 use Rattle.jh_cli.specs.Map.{IsMapped, map_reply, MapsBy}
 use Rattle.jh_cli.specs.Audit.{journal_file, IsAudited, AuditsBy, verdict_status}
 use Rattle.jh_cli.specs.Soak.{Soaks}
+use Rattle.jh_cli.specs.Plan.{admitted_file, demands_file, IsPlanned, PlansBy}
 use Rattle.jh_cli.specs.Limits.{asked_of_a_file}
 use Rattle.jh_cli.specs.Outcome.{Outcome}
 
@@ -96,6 +98,10 @@ audited_other (Illegal line expected) = omega arith
 audit_ends_other : (image : Image) (entries : List Entry) (reply : Reply) → IsAudited image entries reply → IsOther reply
 audit_ends_other image entries reply is = other reply (verdict_status is.verdict) (ap (λ (s : Reply). s.status) is.told) (audited_other is.verdict)
 
+planned_other : (name : List ℕ) (system : SystemConfig) (demands : List Demand) (reply : Reply) → IsPlanned name system demands reply → IsOther reply
+planned_other name system demands reply (inl tells) = other reply Good (ap (λ (s : Reply). s.status) tells.told) (omega arith)
+planned_other name system demands reply (inr tells) = other reply Refused (ap (λ (s : Reply). s.status) tells.told) (omega arith)
+
 cause_other : (file : List ℕ) (cause : ImageCause) → exit_number (stopped file cause).status ≢ 5
 cause_other file CantBeRead = omega arith
 cause_other file Oversize = omega arith
@@ -127,6 +133,9 @@ outcome_other contents (Some (MapOf board schedule)) reply h =
     opens_other contents board (MapsBy contents schedule) reply
     (λ image reads. reads_other contents schedule (schedule_file image) (IsMapped image) reply (λ cpus is. map_ends_other image cpus reply is) reads) h
 outcome_other contents (Some (SoakOf rounds)) reply h = soak_other rounds reply h
+outcome_other contents (Some (PlanOf system demands)) reply h =
+    reads_other contents system admitted_file (PlansBy contents demands) reply
+    (λ s reads. reads_other contents demands demands_file (IsPlanned demands s) reply (λ ds is. planned_other demands s ds reply is) reads) h
 outcome_other contents (Some (AuditOf board journal)) reply h =
     opens_other contents board (AuditsBy contents journal) reply
     (λ image reads. reads_other contents journal journal_file (IsAudited image) reply (λ entries is. audit_ends_other image entries reply is) reads) h

@@ -8,17 +8,21 @@ use Rattle.jh_script.specs.declared.image.Image.{Image}
 use Rattle.jh_history.specs.declared.entry.Entry.{Entry}
 use Rattle.jh_history.specs.Items.{items, played}
 use Rattle.jh_spec.specs.declared.spec.Spec.{Spec}
+use Rattle.jh_plan.specs.declared.demand.Demand.{Demand}
+use Rattle.jh_plan.specs.declared.planning.Planned.{Planned}
+use Rattle.jh_plan.specs.Plans.{IsPlan}
 use Rattle.jh_image.specs.declared.board.Listing.{Listing}
 use Rattle.jh_image.specs.Files.{Contents, Lists}
 use Rattle.jh_image.specs.Images.{IsImage}
 use Rattle.jh_image.specs.Order.{board_files}
 use Rattle.jh_text.specs.Faults.{max_entries}
-use Rattle.jh_cli.specs.Words.{Request, CheckOf, PackOf, PlayOf, RunOf, MapOf, AuditOf, SoakOf}
+use Rattle.jh_cli.specs.Words.{Request, CheckOf, PackOf, PlayOf, RunOf, MapOf, AuditOf, SoakOf, PlanOf}
 use Rattle.jh_cli.specs.Check.{IsCellFile, IsSystemFile}
 use Rattle.jh_cli.specs.Pack.{IsSpecFile}
 use Rattle.jh_cli.specs.Play.{IsScheduleFile, played_status}
 use Rattle.jh_cli.specs.Audit.{IsJournalFile}
 use Rattle.jh_cli.specs.Soak.{AreRounds}
+use Rattle.jh_cli.specs.Plan.{AreDemands, IsAdmittedSystemFile}
 use Rattle.jh_cli.specs.declared.status.Status.{Status}
 use Rattle.jh_cli.specs.declared.status.Status.TheVariants.{Good, Found, Full}
 
@@ -54,6 +58,7 @@ AreKnownFiles contents (Some (RunOf board)) = IsKnownBoard contents board
 AreKnownFiles contents (Some (MapOf board schedule)) = IsKnownBoard contents board × AreKnownNames contents (schedule ∷ [])
 AreKnownFiles contents (Some (AuditOf board journal)) = IsKnownBoard contents board × AreKnownNames contents (journal ∷ [])
 AreKnownFiles contents (Some (SoakOf rounds)) = ⊤
+AreKnownFiles contents (Some (PlanOf system demands)) = AreKnownNames contents (system ∷ demands ∷ [])
 
 -- the first file of a check holds a system and each other one a cell, whatever the check finds in them
 pub record AreGoodToCheck (contents : Contents) (system : List ℕ) (cells : List (List ℕ)) : Type 0 where
@@ -90,6 +95,15 @@ pub record AreGoodToAudit (contents : Contents) (board journal : List ℕ) : Typ
   pub entries : List Entry
   pub spells : FileHolds contents journal IsJournalFile entries
 
+-- the first file of a plan holds a system that a board may have, and the other demands that a plan meets beside it
+pub record AreGoodToPlan (contents : Contents) (system demands : List ℕ) : Type 0 where
+  pub of_system : SystemConfig
+  pub system_held : FileHolds contents system IsAdmittedSystemFile of_system
+  pub of_demands : List Demand
+  pub demands_held : FileHolds contents demands AreDemands of_demands
+  pub planned : Planned
+  pub is : IsPlan of_system of_demands planned
+
 -- the words have a command, and its files are good for it
 abbrev pub AreGood : Contents → Option Request → Type 0
 AreGood contents None = ⊥
@@ -100,8 +114,10 @@ AreGood contents (Some (RunOf board)) = AreGoodToRun contents board
 AreGood contents (Some (MapOf board schedule)) = AreGoodToPlay contents board schedule
 AreGood contents (Some (AuditOf board journal)) = AreGoodToAudit contents board journal
 AreGood contents (Some (SoakOf rounds)) = (n : ℕ) × AreRounds rounds n
+AreGood contents (Some (PlanOf system demands)) = AreGoodToPlan contents system demands
 
--- what a call with good words and files ends with: a check or an audit with `Good` or `Found`, a pack with `Good`, a play
+-- what a call with good words and files ends with: a check or an audit with `Good` or `Found`, a pack or a plan with
+-- `Good`, a play
 -- with whether the journal stopped at its limit, a map with whether that of the schedule's items alone did, a run or a
 -- soak with `Good` or `Full`; where there are two, it is left to the outcome which of them it is
 abbrev pub MayEndWith : (contents : Contents) (request : Option Request) → AreGood contents request → Status → Type 0
@@ -113,3 +129,4 @@ MayEndWith contents (Some (RunOf board)) good status = (status ≡ Good) ⊎ (st
 MayEndWith contents (Some (MapOf board schedule)) good status = status ≡ played_status (items good.image max_entries good.items []).full
 MayEndWith contents (Some (AuditOf board journal)) good status = (status ≡ Good) ⊎ (status ≡ Found)
 MayEndWith contents (Some (SoakOf rounds)) good status = (status ≡ Good) ⊎ (status ≡ Full)
+MayEndWith contents (Some (PlanOf system demands)) good status = status ≡ Good

@@ -10,6 +10,7 @@ pub mod Run
 pub mod Map
 pub mod Audit
 pub mod Soak
+pub mod Plan
 pub mod Order
 pub mod Outcome
 pub mod Complete

@@ -3,7 +3,7 @@ use Rattle.std.specs.Prelude.{ℕ, Bool, true, not, ◌==◌, nat_le, if◌then�
 use Rattle.std.specs.List.{list_all}
 use Rattle.std.specs.Cmp.Lexicographic.{pointwise}
 use Rattle.jh_cli.specs.declared.command.Command.{Command}
-use Rattle.jh_cli.specs.declared.command.Command.TheVariants.{Check, Pack, Play, Run, Map, Audit, Soak}
+use Rattle.jh_cli.specs.declared.command.Command.TheVariants.{Check, Pack, Play, Run, Map, Audit, Soak, Plan}
 
 -- a command with its operands: the names of its files, or the word that tells how many rounds are run
 pub data Request : Type 0 where
@@ -14,6 +14,7 @@ pub data Request : Type 0 where
   MapOf : List ℕ → List ℕ → Request
   AuditOf : List ℕ → List ℕ → Request
   SoakOf : List ℕ → Request
+  PlanOf : List ℕ → List ℕ → Request
 
 -- the word is an operand: it doesn't begin with `-`
 abbrev pub is_operand : List ℕ → Bool
@@ -43,7 +44,8 @@ of_two request (first ∷ second ∷ []) = Some (request first second)
 of_two request (first ∷ second ∷ other ∷ more) = None
 
 -- the command of this word with these operands: `pack` has a SPEC; `play` a board and a schedule; `run` a board; `map`
--- a board and a schedule; `audit` a board and a journal; `soak` a number of rounds; `tables` is none
+-- a board and a schedule; `audit` a board and a journal; `soak` a number of rounds; `plan` a system and demands; `tables`
+-- is none
 abbrev pub command_for : List ℕ → List (List ℕ) → Option Request
 command_for word operands =
     if is_word word (codes "check") then check_command operands
@@ -53,7 +55,8 @@ command_for word operands =
     else (if is_word word (codes "map") then of_two MapOf operands
     else (if is_word word (codes "audit") then of_two AuditOf operands
     else (if is_word word (codes "soak") then of_one SoakOf operands
-    else None))))))
+    else (if is_word word (codes "plan") then of_two PlanOf operands
+    else None)))))))
 
 -- the command of the words: the program's name, the command's word letter for letter, and its operands
 abbrev pub command_of : List (List ℕ) → Option Request
@@ -70,6 +73,7 @@ request_by (Run board) = RunOf board.now
 request_by (Map board schedule) = MapOf board.now schedule.now
 request_by (Audit board journal) = AuditOf board.now journal.now
 request_by (Soak rounds) = SoakOf rounds.now
+request_by (Plan system demands) = PlanOf system.now demands.now
 
 -- the words have no command, or one that starts no thread and waits for none
 abbrev pub IsSerial : Option Request → Type 0

@@ -18,7 +18,7 @@ use jh_script::Image;
 use std::alloc::Global;
 
 /// The call ends since the file can't be read, or is refused for this cause.
-fn stopped_for(alloc: Global, file: &[u8], cause: &ImageCause) -> CallFault
+pub fn stopped_for(alloc: Global, file: &[u8], cause: &ImageCause) -> CallFault
     ensures { OnEnded result (λ reply. reply ≡ stopped file.now cause.now) }
 {
     match cause {

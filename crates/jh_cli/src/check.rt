@@ -48,7 +48,7 @@ fn cell<F: Files>(alloc: Global, files: &mut F, name: &str) -> Result<CellConfig
 }
 
 /// The system in the file of this name.
-fn system<F: Files>(alloc: Global, files: &mut F, name: &str) -> Result<SystemConfig, CallFault>
+pub fn system<F: Files>(alloc: Global, files: &mut F, name: &str) -> Result<SystemConfig, CallFault>
     ensures ok { IfOk result (Spells (F.contents files.old) name.now IsSystemFile) }
     ensures err { IfErr result (λ stop. OnEnded stop (EndsAtFile (F.contents files.old) name.now SystemRefusal)) }
     ensures counted { IfErr result (λ stop. OnEnded stop (IsCountedFault (F.faults files.old) (F.faults files.new) (F.failed files.new))) }

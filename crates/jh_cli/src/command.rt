@@ -42,6 +42,11 @@ pub enum Command<'a> {
     Soak {
         rounds: &'a str,
     },
+    /// Plans cells that meet demands beside a system.
+    Plan {
+        system: &'a str,
+        demands: &'a str,
+    },
 }
 
 /// Whether the word may be an operand: it doesn't begin with `-`. An empty word may.
@@ -120,6 +125,9 @@ fn command_for<'a>(word: &str, operands: &'a [String]) -> Option<Command<'a>>
     } else if word == "soak" {
         let rounds = one_operand(operands)?;
         Some(Command::Soak { rounds })
+    } else if word == "plan" {
+        let (system, demands) = two_operands(operands)?;
+        Some(Command::Plan { system, demands })
     } else {
         None
     }

@@ -23,6 +23,7 @@ pub fn good_inputs_are_answered()
 {
     spelling_has_no_fault();
     system_has_no_fault();
+    one_system_spelling();
     one_answer();
     boards_make_one_image();
     boards_that_make_an_image_are_not_refused();

@@ -97,7 +97,7 @@ aligned_by false place e =
 
 -- ---- a cell for itself
 
-record IsSoundCell (system : SystemConfig) (cell : CellConfig) : Type 0 where
+pub record IsSoundCell (system : SystemConfig) (cell : CellConfig) : Type 0 where
   addresses : EachTwoItems cell cell (λ r s x y. MeetAtAddressOnlyIf x y (r ≡ s))
   places : EachTwoItems cell cell (λ r s x y. is_comm x ≡ false → is_comm y ≡ false → MeetAtPlaceOnlyIf x y (r ≡ s))
   hypervisor : EachItem cell (λ r x. is_comm x ≡ false → SharesNoPlace x system.platform.hypervisor_memory)
@@ -231,7 +231,7 @@ sound_cell system before demand cell clean good fits =
 
 -- ---- all cells of a plan
 
-abbrev AreSound : SystemConfig → List CellConfig → Type 0
+abbrev pub AreSound : SystemConfig → List CellConfig → Type 0
 AreSound system cells = (n : ℕ) (cell : CellConfig) → slice_get cells n ≡ Some cell → IsSoundCell system cell
 
 each_cell : (system : SystemConfig) (cells : List CellConfig) (P : CellConfig → Type 0) → AreSound system cells → EachCell system [] P → ((cell : CellConfig) → IsSoundCell system cell → P cell) → EachCell system cells P
@@ -276,11 +276,13 @@ no_cpu system demands cells planned (suc a) (suc b) one other some less is also 
     false_from_ne_true (is_cpu_set other.cpu_set cpu) (λ mine.
     both_ways (is_cpu_set one.cpu_set cpu) (cpu_alone system.root later.before later.demand other later.fits one among cpu mine) has)
 
-clean_plan : (system : SystemConfig) (demands : List Demand) (cells : List CellConfig) → IsClean system [] → All IsDemand demands → ArePlanned system [] demands cells → IsClean system cells
-clean_plan system demands cells clean good planned =
-    let sound : AreSound system cells = λ n cell at.
-    let s = stands_at system [] demands cells planned n cell at in
-    sound_cell system s.before s.demand cell clean (demand_good demands s.demand good s.wanted) s.fits in
+-- no two of the cells besides root have a place together
+abbrev pub AreApart : SystemConfig → List CellConfig → Type 0
+AreApart system cells = (a b : ℕ) (one other : CellConfig) → 0 < a → a < b → IsNumbered system cells a one → IsNumbered system cells b other → EachTwoItems one other (λ r s x y. is_comm x ≡ false → is_comm y ≡ false → SharesNoPlace x y)
+
+-- cells that are sound for themselves and apart
+pub clean_cells : (system : SystemConfig) (cells : List CellConfig) → IsClean system [] → AreSound system cells → AreApart system cells → IsClean system cells
+clean_cells system cells clean sound apart =
     record {
       addresses = each_cell system cells (λ cell. EachTwoItems cell cell (λ r s x y. MeetAtAddressOnlyIf x y (r ≡ s))) sound clean.addresses (λ cell s. s.addresses);
       places = each_cell system cells (λ cell. EachTwoItems cell cell (λ r s x y. is_comm x ≡ false → is_comm y ≡ false → MeetAtPlaceOnlyIf x y (r ≡ s))) sound clean.places (λ cell s. s.places);
@@ -292,13 +294,22 @@ clean_plan system demands cells clean good planned =
       comms = other_cell system cells (λ cell. EachItem cell (λ r x. 0 < x.size → is_comm x ≡ true → IsCommPage cell r x)) sound (λ cell s. s.comms);
       readable = each_cell system cells (λ cell. EachItem cell (λ r x. 0 < x.size → IsReadIfExecuted x)) sound clean.readable (λ cell s r x ix some. s.readable r x ix);
       pages = other_cell system cells (λ cell. EachTwoItems cell system.root (λ r s x y. is_unshared x ≡ true → is_page_mapped x ≡ false → is_page_mapped y ≡ true → SharesNoPlace x y)) sound (λ cell s r t x y ix iy unshared unmarked marked. absurd (both_ways (is_page_mapped x) unmarked (s.whole r x ix unshared)));
-      together = λ a b one other some less is also r s x y ix iy plain unmarked at p q. absurd (no_place system demands cells planned a b one other some less is also r s x y ix iy plain unmarked at p q);
+      together = λ a b one other some less is also r s x y ix iy plain unmarked at p q. absurd (apart a b one other some less is also r s x y ix iy plain unmarked at p q);
       devices = each_cell system cells (λ cell. EachDevice cell (λ device. IsShmem device → IsGoodDevice cell device)) sound clean.devices (λ cell s n device at shmem. absurd (s.no_device n device at));
       single = each_cell system cells (λ cell. EachTwoDevices cell cell (λ m n d e. AreLinked d e → m ≡ n)) sound clean.single (λ cell s m n d e md ne linked. absurd (s.no_device m d md));
       links = no_links system cells sound;
       cpus = each_cell system cells (λ cell. IsSoundBitmap cell.cpu_set) sound clean.cpus (λ cell s. s.cpus);
       aligned = each_cell system cells (λ cell. EachItem cell (λ r x. 0 < x.size → IsAligned x)) sound clean.aligned (λ cell s r x ix some. s.aligned r x ix);
     }
+
+-- each cell of a plan is sound
+pub sound_plan : (system : SystemConfig) (demands : List Demand) (cells : List CellConfig) → IsClean system [] → All IsDemand demands → ArePlanned system [] demands cells → AreSound system cells
+sound_plan system demands cells clean good planned n cell at =
+    let s = stands_at system [] demands cells planned n cell at in
+    sound_cell system s.before s.demand cell clean (demand_good demands s.demand good s.wanted) s.fits
+
+clean_plan : (system : SystemConfig) (demands : List Demand) (cells : List CellConfig) → IsClean system [] → All IsDemand demands → ArePlanned system [] demands cells → IsClean system cells
+clean_plan system demands cells clean good planned = clean_cells system cells clean (sound_plan system demands cells clean good planned) (no_place system demands cells planned)
 
 pub nothing_found : (system : SystemConfig) (demands : List Demand) (planned : Planned) → IsAdmittedSystem system → All IsDemand demands → IsPlan system demands planned → findings system planned.cells ≡ []
 nothing_found system demands planned admitted good plan =

@@ -182,9 +182,9 @@ best_of_all root cells size number (Some best) all free below = record {
 
 -- ---- where regions end
 
--- a free place ends within the places
-pub free_within : (root : CellConfig) (cells : List CellConfig) (size place : ℕ) → 0 < size → All EndsWithin root.memory_regions → IsFreePlace root cells size place → size ≤ ADDRESS_END
-free_within root cells size place some within free =
+-- memory at a free place ends within the places
+pub free_ends : (root : CellConfig) (cells : List CellConfig) (size place : ℕ) → 0 < size → All EndsWithin root.memory_regions → IsFreePlace root cells size place → place + size ≤ ADDRESS_END
+free_ends root cells size place some within free =
     let region = free.region in
     let at = get_or_from_slice_get root.memory_regions free.number region region free.item in
     let End : Region → Type 0 = λ r. EndsWithin r in
@@ -193,3 +193,7 @@ free_within root cells size place some within free =
     let fits = free.free.ends in
     let end = ends (let some_size : 0 < region.size = omega arith in some_size) in
     omega arith
+
+-- and so does its size
+pub free_within : (root : CellConfig) (cells : List CellConfig) (size place : ℕ) → 0 < size → All EndsWithin root.memory_regions → IsFreePlace root cells size place → size ≤ ADDRESS_END
+free_within root cells size place some within free = omega (arith, free_ends root cells size place some within free)

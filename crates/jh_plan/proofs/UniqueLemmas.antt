@@ -1,6 +1,6 @@
 -- What demands are answered is one: one cell fits after the same earlier ones, so one plan meets demands, and demands
 -- that are met have no first that isn't.
-use Rattle.std.proofs.Common.{◌≡◌, ℕ, ◌+◌, ◌*◌, ◌/◌, ◌%◌, ◌^◌, ◌<◌, ◌≤◌, ◌==◌, true, false, List, [], ◌∷◌, ◌++◌, length, get_or, refl, sym, ap, subst, ◌∙◌, inl, inr, arith, append_assoc}
+use Rattle.std.proofs.Common.{◌≡◌, ℕ, ◌+◌, ◌*◌, ◌/◌, ◌%◌, ◌^◌, ◌<◌, ◌≤◌, ◌==◌, true, false, List, [], ◌∷◌, ◌++◌, length, get_or, drop, refl, sym, ap, subst, ◌∙◌, inl, inr, arith, append_assoc}
 use Rattle.std.specs.Int.{bit_at}
 use Rattle.std.specs.List.{All}
 use Rattle.std.proofs.lemmas.Bool.{cases_lt, both_ways}
@@ -86,13 +86,16 @@ one_plan system demands one other plan also =
 
 -- ---- a demand that is met, and one that isn't
 
+no_place_fits : (system : SystemConfig) (earlier : List CellConfig) (demand : Demand) (cell : CellConfig) → WhyNot system earlier demand Place → Fits system.root earlier demand cell → ⊥
+no_place_fits system earlier demand cell unmet fits = elim unmet.1 [
+  | inl none ↦ none fits.place fits.highest.free
+  | inr past ↦ omega (arith, past, fits.room)
+]
+
 unmet_not_met : (system : SystemConfig) (earlier : List CellConfig) (demand : Demand) (cell : CellConfig) (why : Why) → WhyNot system earlier demand why → Plans system earlier demand cell → ⊥
 unmet_not_met system earlier demand cell Taken unmet met = both_ways (is_taken system.root earlier demand) met.fits.unknown unmet
 unmet_not_met system earlier demand cell Cpus unmet met = omega (arith, unmet.1, met.fits.cpus.enough)
-unmet_not_met system earlier demand cell Place unmet met = elim unmet.1 [
-  | inl none ↦ none met.fits.place met.fits.highest.free
-  | inr past ↦ omega (arith, past, met.fits.room)
-]
+unmet_not_met system earlier demand cell Place unmet met = no_place_fits system earlier demand cell unmet met.fits
 unmet_not_met system earlier demand cell Pages unmet met =
     let same : unmet.0 ≡ cell = same_fit system.root earlier demand unmet.0 cell unmet.1 met.fits in
     let over : pool_pages system < pages_with system (earlier ++ cell ∷ []) = subst (λ (c : CellConfig). pool_pages system < pages_with system (earlier ++ c ∷ [])) same unmet.2 in
@@ -123,3 +126,76 @@ no_fault system demands planned number why plan first =
     let same : p.front ≡ first.cells = same_cells system [] first.before p.front first.cells p.planned first.planned in
     let After : List CellConfig → Type 0 = λ e. Plans system e first.demand p.cell in
     unmet_not_met system first.cells first.demand p.cell why first.unmet (subst After same p.met)
+
+-- ---- the first that isn't met
+
+one_cause : (system : SystemConfig) (earlier : List CellConfig) (demand : Demand) (why also : Why) → WhyNot system earlier demand why → WhyNot system earlier demand also → why ≡ also
+one_cause system earlier demand Taken Taken one other = refl
+one_cause system earlier demand Taken Cpus one other = absurd (both_ways (is_taken system.root earlier demand) other.0 one)
+one_cause system earlier demand Taken Place one other = absurd (both_ways (is_taken system.root earlier demand) other.0.unknown one)
+one_cause system earlier demand Taken Pages one other = absurd (both_ways (is_taken system.root earlier demand) other.1.unknown one)
+one_cause system earlier demand Cpus Taken one other = absurd (both_ways (is_taken system.root earlier demand) one.0 other)
+one_cause system earlier demand Cpus Cpus one other = refl
+one_cause system earlier demand Cpus Place one other = absurd (omega (arith, one.1, other.0.enough))
+one_cause system earlier demand Cpus Pages one other = absurd (omega (arith, one.1, other.1.cpus.enough))
+one_cause system earlier demand Place Taken one other = absurd (both_ways (is_taken system.root earlier demand) one.0.unknown other)
+one_cause system earlier demand Place Cpus one other = absurd (omega (arith, other.1, one.0.enough))
+one_cause system earlier demand Place Place one other = refl
+one_cause system earlier demand Place Pages one other = absurd (no_place_fits system earlier demand other.0 one other.1)
+one_cause system earlier demand Pages Taken one other = absurd (both_ways (is_taken system.root earlier demand) one.1.unknown other)
+one_cause system earlier demand Pages Cpus one other = absurd (omega (arith, other.1, one.1.cpus.enough))
+one_cause system earlier demand Pages Place one other = absurd (no_place_fits system earlier demand one.0 other one.1)
+one_cause system earlier demand Pages Pages one other = refl
+
+-- two places in one list of demands: they are the same, or the one stands before the other
+data Places (a : List Demand) (x : Demand) (b : List Demand) (y : Demand) : Type 0 where
+  same : a ≡ b → x ≡ y → Places a x b y
+  earlier : (between : List Demand) → b ≡ a ++ x ∷ between → Places a x b y
+  later : (between : List Demand) → a ≡ b ++ y ∷ between → Places a x b y
+
+abbrev first_of : Demand → List Demand → Demand
+first_of d xs = get_or xs 0 d
+
+behind_first : (c d : Demand) (a b : List Demand) (x y : Demand) → c ≡ d → Places a x b y → Places (c ∷ a) x (d ∷ b) y
+behind_first c d a b x y is (same lists demands) = same (ap (λ z. z ∷ a) is ∙ ap (λ zs. d ∷ zs) lists) demands
+behind_first c d a b x y is (earlier between at) = earlier between (ap (λ zs. d ∷ zs) at ∙ ap (λ z. z ∷ (a ++ x ∷ between)) (sym is))
+behind_first c d a b x y is (later between at) = later between (ap (λ zs. c ∷ zs) at ∙ ap (λ z. z ∷ (b ++ y ∷ between)) is)
+
+places_of : (a b : List Demand) (x y : Demand) (r s : List Demand) → a ++ x ∷ r ≡ b ++ y ∷ s → Places a x b y
+places_of [] [] x y r s is = same refl (ap (first_of x) is)
+places_of [] (d ∷ b) x y r s is = earlier b (ap (λ z. z ∷ b) (sym (ap (first_of x) is)))
+places_of (c ∷ a) [] x y r s is = later a (ap (λ z. z ∷ a) (ap (first_of c) is))
+places_of (c ∷ a) (d ∷ b) x y r s is = behind_first c d a b x y (ap (first_of c) is) (places_of a b x y r s (ap (drop 1) is))
+
+-- a demand that is met isn't the first that isn't
+not_before : (system : SystemConfig) (demands : List Demand) (before : List Demand) (cells : List CellConfig) (between : List Demand) (number : ℕ) (why : Why) (first : IsFirstUnmet system demands number why) → before ≡ first.before ++ first.demand ∷ between → ArePlanned system [] before cells → ⊥
+not_before system demands before cells between number why first at planned =
+    let Are : List Demand → Type 0 = λ ds. ArePlanned system [] ds cells in
+    let p = parted system [] first.before first.demand between cells (subst Are at planned) in
+    let same : p.front ≡ first.cells = same_cells system [] first.before p.front first.cells p.planned first.planned in
+    let After : List CellConfig → Type 0 = λ e. Plans system e first.demand p.cell in
+    unmet_not_met system first.cells first.demand p.cell why first.unmet (subst After same p.met)
+
+-- the number and the cause of a first demand that isn't met
+record SameFault (number other : ℕ) (why also : Why) : Type 0 where
+  numbers : number ≡ other
+  causes : why ≡ also
+
+fault_by : (system : SystemConfig) (demands : List Demand) (number other : ℕ) (why also : Why) (first : IsFirstUnmet system demands number why) (second : IsFirstUnmet system demands other also)
+    → Places first.before first.demand second.before second.demand → SameFault number other why also
+fault_by system demands number other why also first second (same lists demand) =
+    let Are : List Demand → Type 0 = λ ds. ArePlanned system [] ds first.cells in
+    let cells : first.cells ≡ second.cells = same_cells system [] second.before first.cells second.cells (subst Are lists first.planned) second.planned in
+    let Unmet : List CellConfig → Demand → Type 0 = λ e d. WhyNot system e d why in
+    record {
+      numbers = first.number_is ∙ ap (λ ds. length ds + 1) lists ∙ sym second.number_is;
+      causes = one_cause system second.cells second.demand why also (subst (Unmet second.cells) demand (subst (λ e. Unmet e first.demand) cells first.unmet)) second.unmet;
+    }
+fault_by system demands number other why also first second (earlier between at) = absurd (not_before system demands second.before second.cells between number why first at second.planned)
+fault_by system demands number other why also first second (later between at) = absurd (not_before system demands first.before first.cells between other also second at first.planned)
+
+pub one_fault : (system : SystemConfig) (demands : List Demand) (number other : ℕ) (why also : Why) → IsFirstUnmet system demands number why → IsFirstUnmet system demands other also → (number ≡ other) × (why ≡ also)
+one_fault system demands number other why also first second =
+    let f = fault_by system demands number other why also first second
+    (places_of first.before second.before first.demand second.demand first.rest second.rest (sym first.demands_are ∙ second.demands_are)) in
+    (f.numbers, f.causes)

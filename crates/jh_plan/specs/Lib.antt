@@ -3,6 +3,8 @@ pub mod Demands
 pub mod FaultText
 pub mod Fits
 pub mod Limits
+pub mod Moments
 pub mod Places
 pub mod Plans
 pub mod Private
+pub mod SpecText

@@ -10,12 +10,15 @@ mod line;
 mod place;
 mod planning;
 mod read;
+mod text;
 
 pub use demand::{Demand, MAX_DEMANDS};
 pub use fault::{DemandsFault, PlanFault, Why};
 pub use laws::{
-    cells_that_fit_are_apart, demands_have_one_answer, planned_cells_are_apart, plans_are_clean,
+    cells_that_fit_are_apart, demands_have_one_answer, planned_cells_are_apart,
+    planned_cells_can_be_written, planned_cells_may_be_created, plans_are_clean,
 };
 pub use place::LARGE;
 pub use planning::{Planned, plan};
 pub use read::read_demands;
+pub use text::plan_text;

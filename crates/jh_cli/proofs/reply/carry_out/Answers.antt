@@ -30,3 +30,9 @@ returns-in-Map-clause-ends g c = rw c.in-Map.is c.map.ensures.ends
 
 pub returns-in-Map-clause-asked : goal.returns-in-Map-clause-asked
 returns-in-Map-clause-asked g c = rw c.in-Map.is c.map.ensures.asked
+
+pub returns-in-Plan-clause-ends : goal.returns-in-Plan-clause-ends
+returns-in-Plan-clause-ends g c = rw c.in-Plan.is c.plan.ensures.ends
+
+pub returns-in-Plan-clause-asked : goal.returns-in-Plan-clause-asked
+returns-in-Plan-clause-asked g c = rw c.in-Plan.is c.plan.ensures.asked
