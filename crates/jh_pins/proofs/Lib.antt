@@ -3,3 +3,4 @@ mod RunLemmas
 mod HolderLemmas
 mod ClashLemmas
 mod LawLemmas
+mod AlikeLemmas

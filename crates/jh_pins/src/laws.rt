@@ -1,13 +1,15 @@
 //! What a table tells. The functions do nothing; their contracts are the laws.
-ghost use Rattle.std.specs.Prelude.{◌≡◌, ◌≢◌, ◌↔◌, ℕ, ◌++◌, [], ◌∷◌, List, Contains, All, AllPairs, Some, None, true, false, find, option_map};
+ghost use Rattle.std.specs.Prelude.{◌≡◌, ◌≢◌, ◌↔◌, ℕ, ◌++◌, [], ◌∷◌, Bool, List, Contains, All, AllPairs, Some, None, true, false, find, option_map};
 ghost use Rattle.jh_cellcfg.specs.declared.config.Irqchip.{Irqchip as TheIrqchip};
 ghost use Rattle.jh_pins.specs.declared.pin.Pin.{Pin as ThePin};
 ghost use Rattle.jh_pins.specs.declared.pin.PinRun.{PinRun as TheRun};
+ghost use Rattle.jh_pins.specs.declared.pin.Clash.{Clash as TheClash};
 ghost use Rattle.jh_pins.specs.declared.claim.Claim.{Claim as TheClaim};
 ghost use Rattle.jh_pins.specs.Pins.{is_given_by, is_named_by, IsPinOf};
 ghost use Rattle.jh_pins.specs.TableView.{TableView, HaveOwnIds};
 ghost use Rattle.jh_pins.specs.Holders.{claimants, id_of, holder, is_held_by, without};
 ghost use Rattle.jh_pins.specs.Runs.{AreRuns, IsInRun};
+ghost use Rattle.jh_pins.specs.Clashes.{AreClashes};
 
 /// An irqchip gives exactly the pins of the bits that are set: bit b of word w is the pin with the number
 /// `pin_base + 32 w + b`.
@@ -46,4 +48,10 @@ pub fn pins_go_to_the_next()
         holder (without own.id table) pin ≡ option_map id_of (find (is_named_by pin) (behind ++ table.root ∷ [])) }
     ensures others { (table : TableView) (id other : ℕ) (pin : ThePin) → holder table pin ≡ Some other → other ≢ id →
         holder (without id table) pin ≡ Some other }
+{}
+
+/// A set of pins has one list of runs, and cells have one list of clashes.
+pub fn runs_and_clashes_are_told_in_one_way()
+    ensures runs { (has : ThePin → Bool) (one other : List TheRun) → AreRuns has one → AreRuns has other → one ≡ other }
+    ensures clashes { (cells : List TheClaim) (one other : List TheClash) → AreClashes cells one → AreClashes cells other → one ≡ other }
 {}

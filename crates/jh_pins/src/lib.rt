@@ -12,7 +12,7 @@ mod table;
 pub use claim::Claim;
 pub use laws::{
     a_pin_has_one_holder, an_irqchip_gives_its_set_bits, each_named_pin_is_held,
-    pins_go_to_the_next, root_holds_what_no_cell_names,
+    pins_go_to_the_next, root_holds_what_no_cell_names, runs_and_clashes_are_told_in_one_way,
 };
 pub use pin::{Clash, Pin, PinRun};
 pub use table::PinTable;
