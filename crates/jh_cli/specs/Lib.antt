@@ -10,6 +10,7 @@ pub mod Run
 pub mod Map
 pub mod Audit
 pub mod Soak
+pub mod Pins
 pub mod Order
 pub mod Outcome
 pub mod Complete

@@ -7,7 +7,7 @@ use Rattle.jh_image.specs.declared.board.Listing.{Listing}
 use Rattle.jh_image.specs.Files.{Contents, Lists}
 use Rattle.jh_image.specs.Order.{board_files}
 use Rattle.jh_cli.specs.Reading.{Reply}
-use Rattle.jh_cli.specs.Words.{Request, CheckOf, PackOf, PlayOf, RunOf, MapOf, AuditOf, SoakOf}
+use Rattle.jh_cli.specs.Words.{Request, CheckOf, PackOf, PlayOf, RunOf, MapOf, AuditOf, SoakOf, PinsOf}
 use Rattle.jh_cli.specs.declared.status.Status.{Status}
 use Rattle.jh_cli.specs.declared.status.Status.TheVariants.{Refused, ReadFault}
 
@@ -51,3 +51,4 @@ module _ {S : Type 0} (files : Ghosts S) (s t : S) where
   AsksFor contents (Some (MapOf board schedule)) = AsksBoardAnd contents board (schedule ∷ [])
   AsksFor contents (Some (AuditOf board journal)) = AsksBoardAnd contents board (journal ∷ [])
   AsksFor contents (Some (SoakOf rounds)) = AsksNone
+  AsksFor contents (Some (PinsOf board schedule)) = AsksBoardAnd contents board (schedule ∷ [])

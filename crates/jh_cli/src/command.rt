@@ -42,6 +42,11 @@ pub enum Command<'a> {
     Soak {
         rounds: &'a str,
     },
+    /// Tells which pins a board's cells hold after a schedule.
+    Pins {
+        board: &'a str,
+        schedule: &'a str,
+    },
 }
 
 /// Whether the word may be an operand: it doesn't begin with `-`. An empty word may.
@@ -120,6 +125,9 @@ fn command_for<'a>(word: &str, operands: &'a [String]) -> Option<Command<'a>>
     } else if word == "soak" {
         let rounds = one_operand(operands)?;
         Some(Command::Soak { rounds })
+    } else if word == "pins" {
+        let (board, schedule) = two_operands(operands)?;
+        Some(Command::Pins { board, schedule })
     } else {
         None
     }

@@ -11,6 +11,7 @@ mod limits;
 mod lines;
 mod map;
 mod pack;
+mod pins;
 mod play;
 mod reply;
 mod run;

@@ -13,6 +13,7 @@ use crate::ending::{CallFault, Ending};
 use crate::lines::usage_line;
 use crate::map::map;
 use crate::pack::pack;
+use crate::pins::pins;
 use crate::play::play;
 use crate::status::Status;
 use jh_outside::Files;
@@ -36,6 +37,7 @@ fn carry_out<F: Files>(
         Command::Play { board, schedule } => play(alloc, files, board, schedule),
         Command::Map { board, schedule } => map(alloc, files, board, schedule),
         Command::Audit { board, journal } => audit(alloc, files, board, journal),
+        Command::Pins { board, schedule } => pins(alloc, files, board, schedule),
         // these two have been told apart already
         Command::Run { .. } | Command::Soak { .. } => unreachable!(),
     }

@@ -1,15 +1,20 @@
--- Two lists of the runs of one set are the same list, and so are two lists of the clashes of the same cells.
+-- Two lists of the runs of one set are the same list, and so are two lists of the clashes of the same cells, and two
+-- texts of the same pins.
 use Rattle.std.proofs.Common.{◌≡◌, ℕ, suc, ◌+◌, ◌-◌, ◌<◌, ◌≤◌, Bool, true, false, List, [], ◌∷◌, ◌++◌, refl, sym, ap, subst, ◌∙◌, ⊎_elim, inl, inr, arith}
 use Rattle.std.specs.Prelude.{AllPairs, Contains, map}
 use Rattle.std.proofs.lemmas.Bool.{both_ways, cases_order}
 use Rattle.std.proofs.lemmas.List.Elements.{All-contains}
 use Rattle.jh_num.proofs.Public.{Contains_cases, Contains_head, Contains_tail}
+use Rattle.jh_cellcfg.specs.declared.config.CellConfig.{CellConfig}
 use Rattle.jh_pins.specs.declared.pin.Pin.{Pin}
 use Rattle.jh_pins.specs.declared.pin.PinRun.{PinRun}
 use Rattle.jh_pins.specs.declared.pin.Clash.{Clash}
 use Rattle.jh_pins.specs.declared.claim.Claim.{Claim}
+use Rattle.jh_pins.specs.TableView.{TableView}
+use Rattle.jh_pins.specs.Holders.{is_held_by}
 use Rattle.jh_pins.specs.Runs.{pin_of, IsIn, IsRunOf, IsInRun, StandsBefore, AreRuns}
 use Rattle.jh_pins.specs.Clashes.{is_named_by_both, clash_of, AreClashesOf, AreClashesWith, AreClashes}
+use Rattle.jh_pins.specs.Texts.{held_text, clashes_text, AreHeld, ArePinsOf}
 
 -- ---- two runs of one set that have a pin in common are one
 
@@ -139,3 +144,18 @@ pub same_clashes : (cells : List Claim) (here there : List Clash) → AreClashes
 same_clashes [] here there is other_is = is ∙ sym other_is
 same_clashes (one ∷ others) here there (now, rest, of, with_rest, is) (then, more, other_of, with_more, other_is) =
     joined now then rest more here there (same_clashes_with one others now then of other_of) (same_clashes others rest more with_rest with_more) is other_is
+
+-- ---- texts
+
+same_held : (table : TableView) (cells : List CellConfig) (one other : List ℕ) → AreHeld table cells one → AreHeld table cells other → one ≡ other
+same_held table [] one other is other_is = is ∙ sym other_is
+same_held table (cell ∷ cells) one other (runs, rest, are, is, behind) (more, last, other_are, other_is, other_behind) =
+    let same : runs ≡ more = same_runs (is_held_by table cell.id) runs more are other_are in
+    let end : rest ≡ last = same_held table cells rest last behind other_behind in
+    is ∙ (λ i. held_text cell (same i) ++ end i) ∙ sym other_is
+
+pub same_text : (table : TableView) (cells : List CellConfig) (one other : List ℕ) → ArePinsOf table cells one → ArePinsOf table cells other → one ≡ other
+same_text table cells one other are other_are =
+    let front : are.held ≡ other_are.held = same_held table cells are.held other_are.held are.own other_are.own in
+    let end : are.clashes ≡ other_are.clashes = same_clashes table.cells are.clashes other_are.clashes are.common other_are.common in
+    are.whole ∙ (λ i. front i ++ clashes_text (end i)) ∙ sym other_are.whole

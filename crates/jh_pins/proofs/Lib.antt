@@ -4,3 +4,4 @@ mod HolderLemmas
 mod ClashLemmas
 mod LawLemmas
 mod AlikeLemmas
+mod LiveLemmas

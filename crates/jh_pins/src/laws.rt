@@ -1,6 +1,8 @@
 //! What a table tells. The functions do nothing; their contracts are the laws.
 ghost use Rattle.std.specs.Prelude.{◌≡◌, ◌≢◌, ◌↔◌, ℕ, ◌++◌, [], ◌∷◌, Bool, List, Contains, All, AllPairs, Some, None, true, false, find, option_map};
 ghost use Rattle.jh_cellcfg.specs.declared.config.Irqchip.{Irqchip as TheIrqchip};
+ghost use Rattle.jh_script.specs.declared.image.Image.{Image as TheImage};
+ghost use Rattle.jh_history.specs.declared.entry.Entry.{Entry as TheEntry};
 ghost use Rattle.jh_pins.specs.declared.pin.Pin.{Pin as ThePin};
 ghost use Rattle.jh_pins.specs.declared.pin.PinRun.{PinRun as TheRun};
 ghost use Rattle.jh_pins.specs.declared.pin.Clash.{Clash as TheClash};
@@ -10,6 +12,7 @@ ghost use Rattle.jh_pins.specs.TableView.{TableView, HaveOwnIds};
 ghost use Rattle.jh_pins.specs.Holders.{claimants, id_of, holder, is_held_by, without};
 ghost use Rattle.jh_pins.specs.Runs.{AreRuns, IsInRun};
 ghost use Rattle.jh_pins.specs.Clashes.{AreClashes};
+ghost use Rattle.jh_pins.specs.After.{IsPinsText};
 
 /// An irqchip gives exactly the pins of the bits that are set: bit b of word w is the pin with the number
 /// `pin_base + 32 w + b`.
@@ -54,4 +57,9 @@ pub fn pins_go_to_the_next()
 pub fn runs_and_clashes_are_told_in_one_way()
     ensures runs { (has : ThePin → Bool) (one other : List TheRun) → AreRuns has one → AreRuns has other → one ≡ other }
     ensures clashes { (cells : List TheClaim) (one other : List TheClash) → AreClashes cells one → AreClashes cells other → one ≡ other }
+{}
+
+/// The pins of the cells that live after the entries have one text.
+pub fn pins_have_one_text()
+    ensures { (image : TheImage) (entries : List TheEntry) (one other : List ℕ) → IsPinsText image entries one → IsPinsText image entries other → one ≡ other }
 {}

@@ -30,3 +30,9 @@ returns-in-Map-clause-ends g c = rw c.in-Map.is c.map.ensures.ends
 
 pub returns-in-Map-clause-asked : goal.returns-in-Map-clause-asked
 returns-in-Map-clause-asked g c = rw c.in-Map.is c.map.ensures.asked
+
+pub returns-in-Pins-clause-ends : goal.returns-in-Pins-clause-ends
+returns-in-Pins-clause-ends g c = rw c.in-Pins.is c.pins.ensures.ends
+
+pub returns-in-Pins-clause-asked : goal.returns-in-Pins-clause-asked
+returns-in-Pins-clause-asked g c = rw c.in-Pins.is c.pins.ensures.asked
