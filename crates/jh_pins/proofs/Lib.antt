@@ -4,4 +4,5 @@ mod HolderLemmas
 mod ClashLemmas
 mod LawLemmas
 mod AlikeLemmas
+mod EditLemmas
 mod LiveLemmas

@@ -1,27 +1,30 @@
 -- Items one after another, and the table of the cells that live.
-use Rattle.std.proofs.Common.{◌≡◌, ◌≢◌, ℕ, zero, suc, ◌+◌, ◌<◌, ◌≤◌, Bool, true, false, cond, ltb, not, List, [], ◌∷◌, ◌++◌, length, get_or, take, map, Option, Some, None, refl, sym, ap, subst, ◌∙◌, add-one, arith}
-use Rattle.std.specs.Prelude.{◌↔◌, AllPairs, IsSome, slice_get, fold, nat_eq, ◌==◌}
-use Rattle.std.specs.Cmp.Lexicographic.{pointwise}
-use Rattle.std.proofs.lemmas.Bool.{eqb-false, false≢true, le-ltb, lt-ltb, or_parts}
-use Rattle.std.proofs.lemmas.List.{get_or-map, get_or-take, get_or_default, length-map, length-take-le, map-append, take_more}
+use Rattle.std.proofs.Common.{◌≡◌, ◌≢◌, ℕ, zero, suc, ◌+◌, ◌<◌, ◌≤◌, Bool, true, false, cond, ltb, not, List, [], ◌∷◌, ◌++◌, length, get_or, take, map, Option, Some, None, refl, sym, ap, subst, ◌∙◌, add-one, append_assoc, arith}
+use Rattle.std.specs.Prelude.{◌↔◌, AllPairs, IsSome, slice_get, fold}
+use Rattle.std.proofs.lemmas.Bool.{false≢true, le-ltb, lt-ltb}
+use Rattle.std.proofs.lemmas.List.{get_or-map, get_or-take, get_or_default, length-map, append-nil, length-take-le, take_more}
 use Rattle.std.proofs.lemmas.List.Folds.{fold_stuck}
 use Rattle.std.proofs.lemmas.List.Sums.{fold_more}
 use Rattle.std.proofs.lemmas.Option.{slice_get_within, get_or_from_slice_get}
 use Rattle.jh_cellcfg.specs.declared.config.CellConfig.{CellConfig}
-use Rattle.jh_cellcfg.specs.Cells.{name_of}
 use Rattle.jh_check.specs.Refusals.{AreTwo}
 use Rattle.jh_script.specs.declared.image.Image.{Image}
 use Rattle.jh_history.specs.declared.entry.Entry.{Entry}
 use Rattle.jh_history.specs.Due.{due}
 use Rattle.jh_history.specs.Items.{Reached, with_due, with_item, items}
+use Rattle.jh_history.proofs.Public.{two_ids}
 use Rattle.jh_laws.specs.Items.{IsCutShort}
 use Rattle.jh_board.specs.BoardView.{BoardView}
 use Rattle.jh_board.specs.Turns.{MakesDue}
 use Rattle.jh_pins.specs.declared.claim.Claim.{Claim}
+use Rattle.jh_pins.specs.declared.pin.PinRun.{PinRun}
 use Rattle.jh_pins.specs.Pins.{claim_of}
 use Rattle.jh_pins.specs.TableView.{TableView}
-use Rattle.jh_pins.specs.Holders.{IsNewId, table_of}
+use Rattle.jh_pins.specs.Holders.{IsNewId, is_held_by, with_cell, table_of}
+use Rattle.jh_pins.specs.Runs.{AreRuns}
+use Rattle.jh_pins.specs.Texts.{held_text, AreHeld}
 use Rattle.jh_pins.specs.After.{IsStoppedAtLimit}
+use Rattle.jh_pins.proofs.EditLemmas.{table_with}
 
 -- ---- one item
 
@@ -83,9 +86,6 @@ stopped_exactly cut image limit cpus entries false are within =
 
 -- ---- the cells that live
 
-two_ids : (one other : CellConfig) → AreTwo one other → one.id ≢ other.id
-two_ids one other two same = eqb-false one.id other.id (or_parts (one.id == other.id) (pointwise nat_eq (name_of one) (name_of other)) two).0 same
-
 pub new_id : (root : CellConfig) (configs : List CellConfig) (i : ℕ) (cell : CellConfig) → AllPairs AreTwo (root ∷ configs) → slice_get configs i ≡ Some cell → IsNewId (table_of root (take i configs)) cell.id
 new_id root configs i cell differ at zero d lt =
     let within = slice_get_within configs i cell at in
@@ -104,11 +104,11 @@ new_id root configs i cell differ at (suc k) d lt =
     ap claim_of (sym (get_or-take i configs k root below)) ∙ sym (get_or-map claim_of (take i configs) k root d (omega arith)) in
     subst Q is two
 
-pub one_cell_more : (root : CellConfig) (configs : List CellConfig) (i : ℕ) (cell : CellConfig) (table new : TableView) → slice_get configs i ≡ Some cell → table ≡ table_of root (take i configs) → new ≡ record table { cells = table.cells ++ claim_of cell ∷ [] } → new ≡ table_of root (take (i + 1) configs)
+pub one_cell_more : (root : CellConfig) (configs : List CellConfig) (i : ℕ) (cell : CellConfig) (table new : TableView) → slice_get configs i ≡ Some cell → table ≡ table_of root (take i configs) → new ≡ with_cell cell table → new ≡ table_of root (take (i + 1) configs)
 one_cell_more root configs i cell table new at so_far is =
     let next : take (i + 1) configs ≡ take i configs ++ cell ∷ [] = take_more configs i cell (slice_get_within configs i cell at) ∙ ap (λ (x : CellConfig). take i configs ++ x ∷ []) (get_or_from_slice_get configs i cell cell at) in
-    is ∙ ap (λ (t : TableView). let u : TableView = record t { cells = t.cells ++ claim_of cell ∷ [] } in u) so_far
-    ∙ ap (λ (l : List Claim). let u : TableView = record { root = claim_of root; cells = l } in u) (sym (map-append claim_of (take i configs) (cell ∷ [])))
+    is ∙ ap (with_cell cell) so_far
+    ∙ sym (table_with root (take i configs) cell)
     ∙ ap (table_of root) (sym next)
 
 -- ---- the board stays the image's
@@ -120,3 +120,10 @@ same_image old new cpu (Some entry) h = ap (λ (v : BoardView). v.image) h.2
 pub same_limit : (old new : BoardView) (cpu : ℕ) (entry : Option Entry) → MakesDue old cpu entry new → new.limit ≡ old.limit
 same_limit old new cpu None h = ap (λ (v : BoardView). v.limit) h.1
 same_limit old new cpu (Some entry) h = ap (λ (v : BoardView). v.limit) h.2
+
+-- ---- the text of one cell more
+
+pub one_held_more : (table : TableView) (cells : List CellConfig) (cell : CellConfig) (runs : List PinRun) (text : List ℕ) → AreHeld table cells text → AreRuns (is_held_by table cell.id) runs → AreHeld table (cells ++ cell ∷ []) (text ++ held_text cell runs)
+one_held_more table [] cell runs text is are = (runs, [], are, ap (λ t. t ++ held_text cell runs) is ∙ sym (append-nil (held_text cell runs)), refl)
+one_held_more table (first ∷ cells) cell runs text (own, rest, own_are, is, more) are =
+    (own, rest ++ held_text cell runs, own_are, ap (λ t. t ++ held_text cell runs) is ∙ append_assoc (held_text first own) rest (held_text cell runs), one_held_more table cells cell runs rest more are)

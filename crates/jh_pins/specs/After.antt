@@ -1,5 +1,5 @@
 -- The table of the cells that live, and how the items of a schedule end.
-use Rattle.std.specs.Prelude.{◌≡◌, ℕ, true, false, List, [], length, Option, Some, None}
+use Rattle.std.specs.Prelude.{◌≡◌, ℕ, true, false, List, [], ◌∷◌, ◌++◌, length, Option, Some, None}
 use Rattle.jh_script.specs.declared.image.Image.{Image}
 use Rattle.jh_history.specs.declared.entry.Entry.{Entry}
 use Rattle.jh_history.specs.Due.{IsLegal}
@@ -7,6 +7,7 @@ use Rattle.jh_history.specs.History.{facts}
 use Rattle.jh_history.specs.Items.{items}
 use Rattle.jh_shape.specs.Lives.{configs_of, all_cells}
 use Rattle.jh_laws.specs.Items.{IsCutShort}
+use Rattle.jh_laws.specs.Moments.{AdmittedMoment}
 use Rattle.jh_pins.specs.TableView.{TableView}
 use Rattle.jh_pins.specs.Holders.{table_of}
 use Rattle.jh_pins.specs.Texts.{ArePinsOf}
@@ -14,6 +15,14 @@ use Rattle.jh_pins.specs.Texts.{ArePinsOf}
 -- the table of root and of the cells that live besides it after the entries
 abbrev pub live_table : Image → List Entry → TableView
 live_table image entries = table_of image.system.root (configs_of (facts image entries).cells)
+
+-- the table of the cells that live just before the entry
+abbrev pub table_before : AdmittedMoment → TableView
+table_before m = live_table m.image m.before
+
+-- the table of the cells that live just behind the entry
+abbrev pub table_behind : AdmittedMoment → TableView
+table_behind m = live_table m.image (m.before ++ m.entry ∷ [])
 
 -- the text of what all cells hold that live after the entries, root and then the others by creation, and of the clashes
 abbrev pub IsPinsText : Image → List Entry → List ℕ → Type 0

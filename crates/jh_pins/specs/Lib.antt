@@ -5,4 +5,5 @@ pub mod Runs
 pub mod Clashes
 pub mod Texts
 pub mod After
+pub mod Edits
 pub mod Private
