@@ -5,7 +5,7 @@ use Rattle.std.proofs.lemmas.List.{get_or-map, length-map, map-append, append-ni
 use Rattle.jh_cellcfg.specs.declared.config.CellConfig.{CellConfig}
 use Rattle.jh_cellcfg.specs.declared.live.Live.{Live}
 use Rattle.jh_call.specs.declared.call.Call.{Call}
-use Rattle.jh_call.specs.declared.call.Call.TheVariants.{Create, Start, Loadable, Destroy, Info, State, CpuInfo, Unknown}
+use Rattle.jh_call.specs.declared.call.Call.TheVariants.{Create, Start, Loadable, Destroy}
 use Rattle.jh_check.specs.Refusals.{AreTwo}
 use Rattle.jh_shape.specs.Lives.{configs_of}
 use Rattle.jh_shape.proofs.Public.{configs_marked}

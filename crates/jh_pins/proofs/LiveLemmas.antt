@@ -1,11 +1,11 @@
 -- Items one after another, and the table of the cells that live.
-use Rattle.std.proofs.Common.{◌≡◌, ◌≢◌, ℕ, zero, suc, ◌+◌, ◌<◌, ◌≤◌, Bool, true, false, cond, ltb, not, List, [], ◌∷◌, ◌++◌, length, get_or, take, map, Option, Some, None, refl, sym, ap, subst, ◌∙◌, add-one, append_assoc, arith}
-use Rattle.std.specs.Prelude.{◌↔◌, AllPairs, IsSome, slice_get, fold}
+use Rattle.std.proofs.Common.{◌≡◌, ◌≢◌, ℕ, zero, suc, ◌+◌, ◌<◌, ◌≤◌, Bool, true, false, cond, not, List, [], ◌∷◌, ◌++◌, length, get_or, take, map, Option, Some, None, refl, sym, ap, subst, ◌∙◌, add-one, append_assoc, arith}
+use Rattle.std.specs.Prelude.{◌↔◌, AllPairs, IsSome, slice_get}
 use Rattle.std.proofs.lemmas.Bool.{false≢true, le-ltb, lt-ltb}
-use Rattle.std.proofs.lemmas.List.{get_or-map, get_or-take, get_or_default, length-map, append-nil, length-take-le, take_more}
+use Rattle.std.proofs.lemmas.List.{get_or-map, get_or-take, length-map, append-nil, length-take-le, take_more}
 use Rattle.std.proofs.lemmas.List.Folds.{fold_stuck}
 use Rattle.std.proofs.lemmas.List.Sums.{fold_more}
-use Rattle.std.proofs.lemmas.Option.{slice_get_within, get_or_from_slice_get}
+use Rattle.std.proofs.lemmas.Option.{none-some, slice_get_within, slice_get-get_or, get_or_from_slice_get}
 use Rattle.jh_cellcfg.specs.declared.config.CellConfig.{CellConfig}
 use Rattle.jh_check.specs.Refusals.{AreTwo}
 use Rattle.jh_script.specs.declared.image.Image.{Image}
@@ -39,7 +39,7 @@ made old new cpu (Some entry) h =
     ∙ ap (λ (v : BoardView). reached v.entries false) (sym h.2)
 
 full_by : (limit : ℕ) (entries : List Entry) (o : Option Entry) → IsSome o → length entries ≡ limit → with_due limit entries o ≡ reached entries true
-full_by limit entries None h at = absurd h
+full_by limit entries None h at = absurd (false≢true h)
 full_by limit entries (Some entry) h at = ap (λ b. cond b (reached (entries ++ entry ∷ []) false) (reached entries true)) (le-ltb (length entries) limit (omega arith))
 
 pub stopped : (old new : BoardView) (cpu : ℕ) → IsSome (due old.image old.entries cpu) → length old.entries ≡ old.limit → new ≡ old → with_item old.image old.limit (reached old.entries false) cpu ≡ reached new.entries true
@@ -127,3 +127,12 @@ pub one_held_more : (table : TableView) (cells : List CellConfig) (cell : CellCo
 one_held_more table [] cell runs text is are = (runs, [], are, ap (λ t. t ++ held_text cell runs) is ∙ sym (append-nil (held_text cell runs)), refl)
 one_held_more table (first ∷ cells) cell runs text (own, rest, own_are, is, more) are =
     (own, rest ++ held_text cell runs, own_are, ap (λ t. t ++ held_text cell runs) is ∙ append_assoc (held_text first own) rest (held_text cell runs), one_held_more table cells cell runs rest more are)
+
+-- ---- the cells behind root
+
+pub behind_root : (root : CellConfig) (configs : List CellConfig) (i : ℕ) → slice_get (root ∷ configs) (i + 1) ≡ slice_get configs i
+behind_root root configs i = rw add-one refl
+
+pub there : (configs : List CellConfig) (i : ℕ) → i < length configs → None ≡ slice_get configs i → ⊥
+there [] i lt none = absurd (omega arith)
+there (config ∷ configs) i lt none = none-some (get_or (config ∷ configs) i config) (none ∙ slice_get-get_or (config ∷ configs) i config lt)

@@ -1,5 +1,5 @@
 -- A table of pins that is edited as cells come and go.
-use Rattle.std.specs.Prelude.{List, [], ◌∷◌, ◌++◌, Option, Some, None}
+use Rattle.std.specs.Prelude.{List, [], ◌∷◌, ◌++◌, Option, Some}
 use Rattle.jh_call.specs.declared.call.Call.{Call}
 use Rattle.jh_call.specs.declared.call.Call.TheVariants.{Create, Destroy}
 use Rattle.jh_script.specs.declared.image.Image.{Image}

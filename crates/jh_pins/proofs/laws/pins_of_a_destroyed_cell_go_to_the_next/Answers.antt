@@ -1,5 +1,5 @@
 -- The destroyed cell is dropped from the table.
-use Rattle.std.proofs.Common.{[], ◌∷◌, ap, ◌∙◌}
+use Rattle.std.proofs.Common.{◌∷◌, ap, ◌∙◌}
 use Rattle.jh_history.specs.History.{facts}
 use Rattle.jh_shape.specs.Lives.{configs_of}
 use Rattle.jh_pins.specs.TableView.{TableView}

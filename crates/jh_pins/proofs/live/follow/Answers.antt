@@ -1,5 +1,5 @@
 -- One item more, a stop, and all of them.
-use Rattle.std.proofs.Common.{◌≡◌, ℕ, true, false, List, length, take, refl, subst, ◌∙◌, arith}
+use Rattle.std.proofs.Common.{◌≡◌, ℕ, false, List, length, take, refl, subst, ◌∙◌, arith}
 use Rattle.jh_history.specs.Items.{items}
 use Rattle.jh_pins.proofs.ClashLemmas.{take_whole}
 use Rattle.jh_pins.proofs.LiveLemmas.{reached, items_none, items_more, items_stopped}
@@ -14,9 +14,11 @@ loop-cpu-preserved c =
     let mid = c.loop-cpu.board in
     let new = c.item.new.board in
     let inv = c.loop-cpu.invariant in
-    let step = rw c.if-stopped.false at c.in_ok-stopped.ensures.reached in
-    (items_more old.image mid.image old.limit mid.limit c.args.schedule.now c.loop-cpu.cpu-index old.entries mid.entries new.entries false (omega arith) inv.0 inv.1 inv.2 step,
-    c.in_ok-stopped.ensures.image ∙ inv.1, c.in_ok-stopped.ensures.limit ∙ inv.2)
+    let step = rw c.if-stopped.false at c.in_ok-stopped.ensures.reached in (
+      items_more old.image mid.image old.limit mid.limit c.args.schedule.now c.loop-cpu.cpu-index old.entries mid.entries new.entries false (omega arith) inv.0 inv.1 inv.2 step,
+      c.in_ok-stopped.ensures.image ∙ inv.1,
+      c.in_ok-stopped.ensures.limit ∙ inv.2,
+    )
 
 pub returns-then-stopped : goal.returns-then-stopped
 returns-then-stopped c =

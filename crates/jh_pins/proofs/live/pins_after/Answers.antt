@@ -1,5 +1,5 @@
 -- The board begins with an empty journal, and stays one of the image.
-use Rattle.std.proofs.Common.{◌≡◌, ℕ, ◌≤◌, not, List, length, ap, subst, ◌∙◌}
+use Rattle.std.proofs.Common.{◌≡◌, ℕ, ◌≤◌, not, length, ap, subst, ◌∙◌}
 use Rattle.jh_script.specs.declared.image.Image.{Image}
 use Rattle.jh_history.specs.Due.{IsLegal}
 use Rattle.jh_history.specs.History.{facts}
