@@ -17,7 +17,7 @@ const MAX_OPS: usize = 4096;
 const FILE_LIMIT: usize = 1 << 20;
 const JOURNAL_LIMIT: usize = 32 << 20;
 const USAGE: &str = "usage: jailhouse check SYSTEM CELL... | pack SPEC | play BOARD SCHEDULE | run BOARD | \
-map BOARD SCHEDULE | tables BOARD SCHEDULE | audit BOARD JOURNAL | soak N | plan SYSTEM DEMANDS\n";
+map BOARD SCHEDULE | tables BOARD SCHEDULE | audit BOARD JOURNAL | soak N | plan SYSTEM DEMANDS | pins BOARD SCHEDULE\n";
 
 const READ: u64 = 0x1;
 const WRITE: u64 = 0x2;

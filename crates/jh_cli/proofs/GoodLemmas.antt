@@ -38,6 +38,7 @@ use Rattle.jh_image.specs.Causes.{IsCauseOf}
 use Rattle.jh_image.specs.Images.{IsImage}
 use Rattle.jh_image.specs.Laws.{AreKnown}
 use Rattle.jh_image.proofs.Public.{OneSpelling, SpellingsAreFaultless}
+use Rattle.jh_pins.specs.After.{IsPinsAnswer}
 use Rattle.jh_run.specs.Maps.{IsMapsAnswer}
 use Rattle.jh_history.specs.Admitted.{IsAdmittedSystem}
 use Rattle.jh_plan.specs.declared.demand.Demand.{Demand}
@@ -49,7 +50,7 @@ use Rattle.jh_cli.specs.declared.status.Status.{Status}
 use Rattle.jh_cli.specs.declared.status.Status.TheVariants.{Good, Found, ReadFault, WriteFault, NoMemory, Full}
 use Rattle.jh_cli.specs.Limits.{asked_of_a_file, asked_of_a_journal}
 use Rattle.jh_cli.specs.Lines.{exit_number, fault_line}
-use Rattle.jh_cli.specs.Words.{Request, CheckOf, PackOf, PlayOf, RunOf, MapOf, AuditOf, SoakOf, PlanOf}
+use Rattle.jh_cli.specs.Words.{Request, CheckOf, PackOf, PlayOf, RunOf, MapOf, AuditOf, SoakOf, PlanOf, PinsOf}
 use Rattle.jh_image.specs.Files.{Contents}
 use Rattle.jh_cli.specs.Reading.{Reply, FileKind, EndsAt, Reads, IsCountedFault}
 use Rattle.jh_cli.specs.Check.{IsCellFile, CellRefusal, IsSystemFile, SystemRefusal, system_file, EndsAmong, ChecksCells, Checks, checked_status}
@@ -58,6 +59,7 @@ use Rattle.jh_cli.specs.Boards.{stopped, EndsAtBoard}
 use Rattle.jh_cli.specs.Play.{AreCpus, IsScheduleFile, ScheduleRefusal, schedule_file, IsPlayed, played_status, PlaysBy, Plays}
 use Rattle.jh_cli.specs.Run.{Runs}
 use Rattle.jh_cli.specs.Map.{map_reply, IsMapped, MapsBy, Maps}
+use Rattle.jh_cli.specs.Pins.{pins_reply, ArePinsTold, PinsBy, Pins}
 use Rattle.jh_cli.specs.Soak.{AreRounds, Soaks}
 use Rattle.jh_cli.specs.Plan.{admitted_file, demands_file, AdmittedRefusal, AreDemands, DemandsRefusal, IsAdmittedSystemFile, IsPlanned, IsUnadmitted, Plans, PlansBy}
 use Rattle.jh_cli.specs.Audit.{IsJournalFile, JournalRefusal, journal_file, IsAudited, AuditsBy, Audits, verdict_status}
@@ -302,6 +304,34 @@ map_unrefused one_image unrefused contents board schedule reply good (inr (image
     one_image (all_told contents) board image good.image (each_is_told contents) (is_image contents board good.known image is) (is_image contents board good.known good.image good.is) in
     maps_unrefused contents schedule good.image good.items reply good.spells (subst (λ (i : Image). MapsBy contents schedule i reply) same maps)
 
+-- ---- pins
+
+-- what the pins after the items end with
+abbrev ArePinsOfItems : Image → List ℕ → Status → Type 0
+ArePinsOfItems image cpus status = status ≡ played_status (items image max_entries cpus []).full
+
+pins_status : (image : Image) (cpus : List ℕ) (found : Option (List ℕ)) → IsPinsAnswer image max_entries cpus found → ArePinsOfItems image cpus (pins_reply found).status
+pins_status image cpus (Some text) is = ap played_status (sym is.0)
+pins_status image cpus None is = ap played_status (sym is.0)
+
+told_pins_unrefused : (image : Image) (cpus other : List ℕ) (reply : Reply) → cpus ≡ other → ArePinsTold image other reply → IsAnswered (ArePinsOfItems image cpus) reply
+told_pins_unrefused image cpus other reply same (found, is, told) =
+    inl (ap (λ (s : Reply). s.status) told ∙ pins_status image other found is ∙ ap (λ (xs : List ℕ). played_status (items image max_entries xs []).full) (sym same))
+
+pins_by_unrefused : (contents : Contents) (schedule : List ℕ) (image : Image) (cpus : List ℕ) (reply : Reply) → FileHolds contents schedule (IsScheduleFile image) cpus
+    → PinsBy contents schedule image reply → IsAnswered (ArePinsOfItems image cpus) reply
+pins_by_unrefused contents schedule image cpus reply held h =
+    reads_unrefused (ArePinsOfItems image cpus) contents schedule (schedule_file image) (ArePinsTold image) cpus reply (schedule_sound image cpus) (λ bytes form. form.within) held
+    (λ bytes other form form_other is. told_pins_unrefused image cpus other reply (one_schedule image bytes cpus other form form_other) is) h
+
+pins_unrefused : OneImage → BoardsAreUnrefused → (contents : Contents) (board schedule : List ℕ) (reply : Reply) (good : AreGoodToPlay contents board schedule) → Pins contents board schedule reply
+    → IsAnswered (ArePinsOfItems good.image good.items) reply
+pins_unrefused one_image unrefused contents board schedule reply good (inl ends) = board_unrefused unrefused (ArePinsOfItems good.image good.items) contents board good.image reply good.known good.is ends
+pins_unrefused one_image unrefused contents board schedule reply good (inr (image, is, admitted, pins)) =
+    let same : image ≡ good.image =
+    one_image (all_told contents) board image good.image (each_is_told contents) (is_image contents board good.known image is) (is_image contents board good.known good.image good.is) in
+    pins_by_unrefused contents schedule good.image good.items reply good.spells (subst (λ (i : Image). PinsBy contents schedule i reply) same pins)
+
 -- ---- run and soak
 
 -- a run ends with nothing due, or at its limit
@@ -372,7 +402,8 @@ good_answered cells systems one_system no_bad not_long one_image unrefused conte
 good_answered cells systems one_system no_bad not_long one_image unrefused contents (Some (MapOf board schedule)) reply good h = map_unrefused one_image unrefused contents board schedule reply good h
 good_answered cells systems one_system no_bad not_long one_image unrefused contents (Some (SoakOf rounds)) reply good h = soak_unrefused rounds reply good.0 good.1 h
 good_answered cells systems one_system no_bad not_long one_image unrefused contents (Some (PlanOf system demands)) reply good h = plan_unrefused systems one_system contents system demands reply good h
-good_answered cells systems one_system no_bad not_long one_image unrefused contents (Some (AuditOf board journal)) reply good h = audit_unrefused unrefused no_bad not_long contents board journal reply good h
+good_answered cells systems one_system no_bad not_long one_image unrefused contents (Some (PinsOf board schedule)) reply good h = pins_unrefused one_image unrefused contents board schedule reply good h
+good_answered cells systems no_bad not_long one_image unrefused contents (Some (AuditOf board journal)) reply good h = audit_unrefused unrefused no_bad not_long contents board journal reply good h
 
 -- ---- the status
 

@@ -20,7 +20,7 @@ use Rattle.jh_image.specs.Files.{Contents}
 use Rattle.jh_cli.specs.Reading.{Reply}
 use Rattle.jh_cli.specs.Boards.{stopped}
 use Rattle.jh_cli.specs.Private.Endings.{OnEnded, OnEnding}
-use Rattle.jh_cli.specs.Words.{Request, CheckOf, PackOf, PlayOf, RunOf, MapOf, AuditOf, SoakOf, PlanOf}
+use Rattle.jh_cli.specs.Words.{Request, CheckOf, PackOf, PlayOf, RunOf, MapOf, AuditOf, SoakOf, PlanOf, PinsOf}
 use Rattle.jh_cli.specs.Order.{IsFileStatus, last_ask, AsksUntilEnd, AsksIn, AsksBoardAnd, AsksFor}
 use Rattle.jh_cli.proofs.StopLemmas.{on_ended, on_ending}
 use Rattle.jh_cli.proofs.BoardLemmas.{nothing}
@@ -154,4 +154,5 @@ module _ {S : Type 0} (files : Ghosts S) where
   call_keeps contents (Some (MapOf board schedule)) s t reply reads read = board_keeps contents board (schedule ∷ []) s t reply read reads
   call_keeps contents (Some (SoakOf rounds)) s t reply reads read = keep s t [] reads tt
   call_keeps contents (Some (PlanOf system demands)) s t reply reads read = all_keep (system ∷ demands ∷ []) s t reply read reads
+  call_keeps contents (Some (PinsOf board schedule)) s t reply reads read = board_keeps contents board (schedule ∷ []) s t reply read reads
   call_keeps contents (Some (AuditOf board journal)) s t reply reads read = board_keeps contents board (journal ∷ []) s t reply read reads

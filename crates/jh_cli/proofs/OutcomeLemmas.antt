@@ -9,12 +9,13 @@ use Rattle.jh_image.specs.declared.fault.ImageCause.{ImageCause}
 use Rattle.jh_image.specs.declared.fault.ImageCause.TheVariants.{ReadFault as CantBeRead}
 use Rattle.jh_image.specs.Laws.{AreKnown, IsCertainCause}
 use Rattle.jh_image.proofs.Public.{OneSpelling, SpellingsAreFaultless}
+use Rattle.jh_pins.specs.After.{IsPinsText, IsPinsAnswer}
 use Rattle.jh_run.specs.Maps.{IsMapsText, IsMapsAnswer}
 use Rattle.jh_text.specs.Faults.{max_entries}
 use Rattle.jh_text.proofs.Public.{OneJournal, NoBadLine, NotLong, NotBoth, OneLine}
 use Rattle.jh_cli.specs.declared.status.Status.TheVariants.{Good, ReadFault}
 use Rattle.jh_cli.specs.Limits.{asked_of_a_file, asked_of_a_journal}
-use Rattle.jh_cli.specs.Words.{Request, CheckOf, PackOf, PlayOf, RunOf, MapOf, AuditOf, SoakOf, PlanOf, IsSerial}
+use Rattle.jh_cli.specs.Words.{Request, CheckOf, PackOf, PlayOf, RunOf, MapOf, AuditOf, SoakOf, PlanOf, PinsOf, IsSerial}
 use Rattle.jh_image.specs.Files.{Contents}
 use Rattle.jh_cli.specs.Reading.{Reply}
 use Rattle.jh_cli.specs.Check.{IsSystemFile, SystemRefusal, ChecksCells}
@@ -22,6 +23,7 @@ use Rattle.jh_cli.specs.Pack.{IsSpecFile, SpecRefusal, packed}
 use Rattle.jh_cli.specs.Boards.{stopped, EndsAtBoard, Opens}
 use Rattle.jh_cli.specs.Play.{IsScheduleFile, ScheduleRefusal, IsPlayed, PlaysBy}
 use Rattle.jh_cli.specs.Map.{map_reply, IsMapped, MapsBy}
+use Rattle.jh_cli.specs.Pins.{pins_reply, ArePinsTold, PinsBy}
 use Rattle.jh_cli.specs.Audit.{IsJournalFile, JournalRefusal, IsAudited, AuditsBy}
 use Rattle.jh_cli.specs.Outcome.{Outcome}
 use Rattle.jh_cli.specs.Complete.{IsKnownBoard, AreKnownFiles}
@@ -76,30 +78,49 @@ same_found one_maps image cpus (Some text) (Some more) h k = ap Some (one_maps i
 one_mapped : OneMaps → (image : Image) (cpus : List ℕ) (one other : Reply) → IsMapped image cpus one → IsMapped image cpus other → one ≡ other
 one_mapped one_maps image cpus one other (found, is, told) (more, also, told_also) = told ∙ ap map_reply (same_found one_maps image cpus found more is also) ∙ sym told_also
 
+-- ---- pins
+
+abbrev pub OnePins : Type 0
+OnePins = (image : Image) (entries : List Entry) (one other : List ℕ) → IsPinsText image entries one → IsPinsText image entries other → one ≡ other
+
+-- the limit stops the items or it doesn't
+same_pins : OnePins → (image : Image) (cpus : List ℕ) (one other : Option (List ℕ)) → IsPinsAnswer image max_entries cpus one → IsPinsAnswer image max_entries cpus other → one ≡ other
+same_pins one_pins image cpus None None h k = refl
+same_pins one_pins image cpus None (Some text) h k = absurd (false≢true (sym k.0 ∙ h.0))
+same_pins one_pins image cpus (Some text) None h k = absurd (false≢true (sym h.0 ∙ k.0))
+same_pins one_pins image cpus (Some text) (Some more) h k = ap Some (one_pins image (items image max_entries cpus []).entries text more h.2 k.2)
+
+one_told_pins : OnePins → (image : Image) (cpus : List ℕ) (one other : Reply) → ArePinsTold image cpus one → ArePinsTold image cpus other → one ≡ other
+one_told_pins one_pins image cpus one other (found, is, told) (more, also, told_also) = told ∙ ap pins_reply (same_pins one_pins image cpus found more is also) ∙ sym told_also
+
 -- ---- all of them
 
-pub one_outcome : CellsAreFaultless → SpellingsAreFaultless → OneCell → OneSpelling → NoBadLine → NotLong → OneJournal → NotBoth → OneLine → OneImage → BoardsAreUnrefused → OneCause → OneMaps
+pub one_outcome : CellsAreFaultless → SpellingsAreFaultless → OneCell → OneSpelling → NoBadLine → NotLong → OneJournal → NotBoth → OneLine → OneImage → BoardsAreUnrefused → OneCause → OneMaps → OnePins
     → (contents : Contents) (request : Option Request) (one other : Reply) → IsSerial request → AreKnownFiles contents request → Outcome contents request one → Outcome contents request other → IsRead one → IsRead other → one ≡ other
-one_outcome cells systems one_cell one_system no_bad not_long one_journal not_both one_line one_image unrefused one_cause one_maps contents None one other serial told h k read also = h ∙ sym k
-one_outcome cells systems one_cell one_system no_bad not_long one_journal not_both one_line one_image unrefused one_cause one_maps contents (Some (CheckOf system names)) one other serial told h k read also =
+one_outcome cells systems one_cell one_system no_bad not_long one_journal not_both one_line one_image unrefused one_cause one_maps one_pins contents None one other serial told h k read also = h ∙ sym k
+one_outcome cells systems one_cell one_system no_bad not_long one_journal not_both one_line one_image unrefused one_cause one_maps one_pins contents (Some (CheckOf system names)) one other serial told h k read also =
     one_reading asked_of_a_file contents system told.0 SystemRefusal IsSystemFile system_words (system_values one_system) (λ bytes s words form why. system_sound systems s bytes words form why)
     (ChecksCells contents names) one other (λ s a b. one_check cells one_cell contents names s one other told.1 a b) h k read also
-one_outcome cells systems one_cell one_system no_bad not_long one_journal not_both one_line one_image unrefused one_cause one_maps contents (Some (PackOf name)) one other serial told h k read also =
+one_outcome cells systems one_cell one_system no_bad not_long one_journal not_both one_line one_image unrefused one_cause one_maps one_pins contents (Some (PackOf name)) one other serial told h k read also =
     one_reading asked_of_a_file contents name told.0 SpecRefusal IsSpecFile spec_words spec_values (λ bytes s words form why. spec_sound s bytes words form why)
     (λ (spec : Spec) (s : Reply). s ≡ record { status = Good; text = packed spec }) one other (λ s a b r q. a ∙ sym b) h k read also
-one_outcome cells systems one_cell one_system no_bad not_long one_journal not_both one_line one_image unrefused one_cause one_maps contents (Some (PlayOf board schedule)) one other serial told h k read also =
+one_outcome cells systems one_cell one_system no_bad not_long one_journal not_both one_line one_image unrefused one_cause one_maps one_pins contents (Some (PlayOf board schedule)) one other serial told h k read also =
     one_opening one_cause one_image unrefused contents board (PlaysBy contents schedule) one other told.0
     (λ image a b. one_reading asked_of_a_file contents schedule told.1.0 (ScheduleRefusal image) (IsScheduleFile image) (schedule_words image) (one_schedule image) (λ bytes s words form why. schedule_sound image s bytes words form why)
     (IsPlayed image) one other (λ s x y r q. x.told ∙ sym y.told) a b read also) h k read also
-one_outcome cells systems one_cell one_system no_bad not_long one_journal not_both one_line one_image unrefused one_cause one_maps contents (Some (RunOf board)) one other serial told h k read also = absurd serial
-one_outcome cells systems one_cell one_system no_bad not_long one_journal not_both one_line one_image unrefused one_cause one_maps contents (Some (SoakOf rounds)) one other serial told h k read also = absurd serial
-one_outcome cells systems one_cell one_system no_bad not_long one_journal not_both one_line one_image unrefused one_cause one_maps contents (Some (PlanOf system demands)) one other serial told h k read also =
+one_outcome cells systems one_cell one_system no_bad not_long one_journal not_both one_line one_image unrefused one_cause one_maps one_pins contents (Some (RunOf board)) one other serial told h k read also = absurd serial
+one_outcome cells systems one_cell one_system no_bad not_long one_journal not_both one_line one_image unrefused one_cause one_maps one_pins contents (Some (SoakOf rounds)) one other serial told h k read also = absurd serial
+one_outcome cells systems one_cell one_system no_bad not_long one_journal not_both one_line one_image unrefused one_cause one_maps one_pins contents (Some (PlanOf system demands)) one other serial told h k read also =
     one_plan_reply systems one_system contents system demands one other told h k read also
-one_outcome cells systems one_cell one_system no_bad not_long one_journal not_both one_line one_image unrefused one_cause one_maps contents (Some (MapOf board schedule)) one other serial told h k read also =
+one_outcome cells systems one_cell one_system no_bad not_long one_journal not_both one_line one_image unrefused one_cause one_maps one_pins contents (Some (MapOf board schedule)) one other serial told h k read also =
     one_opening one_cause one_image unrefused contents board (MapsBy contents schedule) one other told.0
     (λ image a b. one_reading asked_of_a_file contents schedule told.1.0 (ScheduleRefusal image) (IsScheduleFile image) (schedule_words image) (one_schedule image) (λ bytes s words form why. schedule_sound image s bytes words form why)
     (IsMapped image) one other (λ s x y r q. one_mapped one_maps image s one other x y) a b read also) h k read also
-one_outcome cells systems one_cell one_system no_bad not_long one_journal not_both one_line one_image unrefused one_cause one_maps contents (Some (AuditOf board journal)) one other serial told h k read also =
+one_outcome cells systems one_cell one_system no_bad not_long one_journal not_both one_line one_image unrefused one_cause one_maps one_pins contents (Some (PinsOf board schedule)) one other serial told h k read also =
+    one_opening one_cause one_image unrefused contents board (PinsBy contents schedule) one other told.0
+    (λ image a b. one_reading asked_of_a_file contents schedule told.1.0 (ScheduleRefusal image) (IsScheduleFile image) (schedule_words image) (one_schedule image) (λ bytes s words form why. schedule_sound image s bytes words form why)
+    (ArePinsTold image) one other (λ s x y r q. one_told_pins one_pins image s one other x y) a b read also) h k read also
+one_outcome cells systems one_cell one_system no_bad not_long one_journal not_both one_line one_image unrefused one_cause one_maps one_pins contents (Some (AuditOf board journal)) one other serial told h k read also =
     one_opening one_cause one_image unrefused contents board (AuditsBy contents journal) one other told.0
     (λ image a b. one_reading asked_of_a_journal contents journal told.1.0 JournalRefusal IsJournalFile (journal_words not_both one_line) (λ bytes x y f g. one_journal bytes x y f.spelled g.spelled)
     (λ bytes s words form why. journal_sound no_bad not_long s bytes words form why)

@@ -17,7 +17,7 @@ use Rattle.jh_text.specs.Faults.{max_entries}
 use Rattle.jh_cli.specs.declared.status.Status.{Status}
 use Rattle.jh_cli.specs.declared.status.Status.TheVariants.{Good, Found, Usage, Refused, ReadFault, WriteFault, NoMemory, Full}
 use Rattle.jh_cli.specs.Lines.{exit_number}
-use Rattle.jh_cli.specs.Words.{Request, CheckOf, PackOf, PlayOf, RunOf, MapOf, AuditOf, SoakOf, PlanOf}
+use Rattle.jh_cli.specs.Words.{Request, CheckOf, PackOf, PlayOf, RunOf, MapOf, AuditOf, SoakOf, PlanOf, PinsOf}
 use Rattle.jh_image.specs.Files.{Contents}
 use Rattle.jh_cli.specs.Reading.{Reply, FileKind, EndsAt, Reads}
 use Rattle.jh_cli.specs.Check.{system_file, CellRefusal, ChecksCells, checked_status}
@@ -26,6 +26,7 @@ use Rattle.jh_cli.specs.Boards.{stopped, Opens}
 use Rattle.jh_cli.specs.Play.{schedule_file, IsPlayed, played_status, PlaysBy}
 use Rattle.jh_cli.specs.Run.{EndsRun, IsToldRun}
 use Rattle.jh_cli.specs.Map.{IsMapped, map_reply, MapsBy}
+use Rattle.jh_cli.specs.Pins.{ArePinsTold, pins_reply, PinsBy}
 use Rattle.jh_cli.specs.Audit.{journal_file, IsAudited, AuditsBy, verdict_status}
 use Rattle.jh_cli.specs.Soak.{Soaks}
 use Rattle.jh_cli.specs.Plan.{admitted_file, demands_file, IsPlanned, PlansBy}
@@ -71,6 +72,13 @@ mapped_other None = omega arith
 
 map_ends_other : (image : Image) (cpus : List ℕ) (reply : Reply) → IsMapped image cpus reply → IsOther reply
 map_ends_other image cpus reply (found, is, told) = other reply (map_reply found).status (ap (λ (s : Reply). s.status) told) (mapped_other found)
+
+pins_other : (found : Option (List ℕ)) → exit_number (pins_reply found).status ≢ 5
+pins_other (Some text) = omega arith
+pins_other None = omega arith
+
+pins_end_other : (image : Image) (cpus : List ℕ) (reply : Reply) → ArePinsTold image cpus reply → IsOther reply
+pins_end_other image cpus reply (found, is, told) = other reply (pins_reply found).status (ap (λ (s : Reply). s.status) told) (pins_other found)
 
 -- a run ends with one of two statuses
 pub run_ends : (image : Image) (entries : List Entry) (status : Status) → EndsRun image entries status → (status ≡ Good) ⊎ (status ≡ Full)
@@ -136,6 +144,9 @@ outcome_other contents (Some (SoakOf rounds)) reply h = soak_other rounds reply 
 outcome_other contents (Some (PlanOf system demands)) reply h =
     reads_other contents system admitted_file (PlansBy contents demands) reply
     (λ s reads. reads_other contents demands demands_file (IsPlanned demands s) reply (λ ds is. planned_other demands s ds reply is) reads) h
+outcome_other contents (Some (PinsOf board schedule)) reply h =
+    opens_other contents board (PinsBy contents schedule) reply
+    (λ image reads. reads_other contents schedule (schedule_file image) (ArePinsTold image) reply (λ cpus is. pins_end_other image cpus reply is) reads) h
 outcome_other contents (Some (AuditOf board journal)) reply h =
     opens_other contents board (AuditsBy contents journal) reply
     (λ image reads. reads_other contents journal journal_file (IsAudited image) reply (λ entries is. audit_ends_other image entries reply is) reads) h

@@ -16,7 +16,7 @@ use Rattle.jh_image.specs.Files.{Contents, Lists}
 use Rattle.jh_image.specs.Images.{IsImage}
 use Rattle.jh_image.specs.Order.{board_files}
 use Rattle.jh_text.specs.Faults.{max_entries}
-use Rattle.jh_cli.specs.Words.{Request, CheckOf, PackOf, PlayOf, RunOf, MapOf, AuditOf, SoakOf, PlanOf}
+use Rattle.jh_cli.specs.Words.{Request, CheckOf, PackOf, PlayOf, RunOf, MapOf, AuditOf, SoakOf, PlanOf, PinsOf}
 use Rattle.jh_cli.specs.Check.{IsCellFile, IsSystemFile}
 use Rattle.jh_cli.specs.Pack.{IsSpecFile}
 use Rattle.jh_cli.specs.Play.{IsScheduleFile, played_status}
@@ -59,6 +59,7 @@ AreKnownFiles contents (Some (MapOf board schedule)) = IsKnownBoard contents boa
 AreKnownFiles contents (Some (AuditOf board journal)) = IsKnownBoard contents board × AreKnownNames contents (journal ∷ [])
 AreKnownFiles contents (Some (SoakOf rounds)) = ⊤
 AreKnownFiles contents (Some (PlanOf system demands)) = AreKnownNames contents (system ∷ demands ∷ [])
+AreKnownFiles contents (Some (PinsOf board schedule)) = IsKnownBoard contents board × AreKnownNames contents (schedule ∷ [])
 
 -- the first file of a check holds a system and each other one a cell, whatever the check finds in them
 pub record AreGoodToCheck (contents : Contents) (system : List ℕ) (cells : List (List ℕ)) : Type 0 where
@@ -115,11 +116,12 @@ AreGood contents (Some (MapOf board schedule)) = AreGoodToPlay contents board sc
 AreGood contents (Some (AuditOf board journal)) = AreGoodToAudit contents board journal
 AreGood contents (Some (SoakOf rounds)) = (n : ℕ) × AreRounds rounds n
 AreGood contents (Some (PlanOf system demands)) = AreGoodToPlan contents system demands
+AreGood contents (Some (PinsOf board schedule)) = AreGoodToPlay contents board schedule
 
 -- what a call with good words and files ends with: a check or an audit with `Good` or `Found`, a pack or a plan with
 -- `Good`, a play
--- with whether the journal stopped at its limit, a map with whether that of the schedule's items alone did, a run or a
--- soak with `Good` or `Full`; where there are two, it is left to the outcome which of them it is
+-- with whether the journal stopped at its limit, a map or pins with whether that of the schedule's items alone did, a run
+-- or a soak with `Good` or `Full`; where there are two, it is left to the outcome which of them it is
 abbrev pub MayEndWith : (contents : Contents) (request : Option Request) → AreGood contents request → Status → Type 0
 MayEndWith contents None good status = ⊥
 MayEndWith contents (Some (CheckOf system cells)) good status = (status ≡ Good) ⊎ (status ≡ Found)
@@ -130,3 +132,4 @@ MayEndWith contents (Some (MapOf board schedule)) good status = status ≡ playe
 MayEndWith contents (Some (AuditOf board journal)) good status = (status ≡ Good) ⊎ (status ≡ Found)
 MayEndWith contents (Some (SoakOf rounds)) good status = (status ≡ Good) ⊎ (status ≡ Full)
 MayEndWith contents (Some (PlanOf system demands)) good status = status ≡ Good
+MayEndWith contents (Some (PinsOf board schedule)) good status = status ≡ played_status (items good.image max_entries good.items []).full

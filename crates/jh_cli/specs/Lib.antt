@@ -11,6 +11,7 @@ pub mod Map
 pub mod Audit
 pub mod Soak
 pub mod Plan
+pub mod Pins
 pub mod Order
 pub mod Outcome
 pub mod Complete

@@ -16,7 +16,7 @@ exit_number Full = 7
 
 -- the line that tells how the program is used; it names `tables`, which is no command here
 abbrev pub usage_line : List ℕ
-usage_line = codes "usage: jailhouse check SYSTEM CELL... | pack SPEC | play BOARD SCHEDULE | run BOARD | map BOARD SCHEDULE | tables BOARD SCHEDULE | audit BOARD JOURNAL | soak N | plan SYSTEM DEMANDS" ++ 10 ∷ []
+usage_line = codes "usage: jailhouse check SYSTEM CELL... | pack SPEC | play BOARD SCHEDULE | run BOARD | map BOARD SCHEDULE | tables BOARD SCHEDULE | audit BOARD JOURNAL | soak N | plan SYSTEM DEMANDS | pins BOARD SCHEDULE" ++ 10 ∷ []
 
 -- the line that tells that the word for a number of rounds tells none
 abbrev pub rounds_line : List ℕ

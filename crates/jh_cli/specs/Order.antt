@@ -7,7 +7,7 @@ use Rattle.jh_image.specs.declared.board.Listing.{Listing}
 use Rattle.jh_image.specs.Files.{Contents, Lists}
 use Rattle.jh_image.specs.Order.{board_files}
 use Rattle.jh_cli.specs.Reading.{Reply}
-use Rattle.jh_cli.specs.Words.{Request, CheckOf, PackOf, PlayOf, RunOf, MapOf, AuditOf, SoakOf, PlanOf}
+use Rattle.jh_cli.specs.Words.{Request, CheckOf, PackOf, PlayOf, RunOf, MapOf, AuditOf, SoakOf, PlanOf, PinsOf}
 use Rattle.jh_cli.specs.declared.status.Status.{Status}
 use Rattle.jh_cli.specs.declared.status.Status.TheVariants.{Refused, ReadFault}
 
@@ -52,3 +52,4 @@ module _ {S : Type 0} (files : Ghosts S) (s t : S) where
   AsksFor contents (Some (AuditOf board journal)) = AsksBoardAnd contents board (journal ∷ [])
   AsksFor contents (Some (SoakOf rounds)) = AsksNone
   AsksFor contents (Some (PlanOf system demands)) = AsksIn (system ∷ demands ∷ [])
+  AsksFor contents (Some (PinsOf board schedule)) = AsksBoardAnd contents board (schedule ∷ [])

@@ -3,7 +3,7 @@ use Rattle.std.specs.Prelude.{ℕ, Bool, true, not, ◌==◌, nat_le, if◌then�
 use Rattle.std.specs.List.{list_all}
 use Rattle.std.specs.Cmp.Lexicographic.{pointwise}
 use Rattle.jh_cli.specs.declared.command.Command.{Command}
-use Rattle.jh_cli.specs.declared.command.Command.TheVariants.{Check, Pack, Play, Run, Map, Audit, Soak, Plan}
+use Rattle.jh_cli.specs.declared.command.Command.TheVariants.{Check, Pack, Play, Run, Map, Audit, Soak, Plan, Pins}
 
 -- a command with its operands: the names of its files, or the word that tells how many rounds are run
 pub data Request : Type 0 where
@@ -15,6 +15,7 @@ pub data Request : Type 0 where
   AuditOf : List ℕ → List ℕ → Request
   SoakOf : List ℕ → Request
   PlanOf : List ℕ → List ℕ → Request
+  PinsOf : List ℕ → List ℕ → Request
 
 -- the word is an operand: it doesn't begin with `-`
 abbrev pub is_operand : List ℕ → Bool
@@ -56,6 +57,7 @@ command_for word operands =
     else (if is_word word (codes "audit") then of_two AuditOf operands
     else (if is_word word (codes "soak") then of_one SoakOf operands
     else (if is_word word (codes "plan") then of_two PlanOf operands
+    else (if is_word word (codes "pins") then of_two PinsOf operands
     else None)))))))
 
 -- the command of the words: the program's name, the command's word letter for letter, and its operands
@@ -74,6 +76,7 @@ request_by (Map board schedule) = MapOf board.now schedule.now
 request_by (Audit board journal) = AuditOf board.now journal.now
 request_by (Soak rounds) = SoakOf rounds.now
 request_by (Plan system demands) = PlanOf system.now demands.now
+request_by (Pins board schedule) = PinsOf board.now schedule.now
 
 -- the words have no command, or one that starts no thread and waits for none
 abbrev pub IsSerial : Option Request → Type 0

@@ -47,6 +47,11 @@ pub enum Command<'a> {
         system: &'a str,
         demands: &'a str,
     },
+    /// Tells which pins a board's cells hold after a schedule.
+    Pins {
+        board: &'a str,
+        schedule: &'a str,
+    },
 }
 
 /// Whether the word may be an operand: it doesn't begin with `-`. An empty word may.
@@ -128,6 +133,9 @@ fn command_for<'a>(word: &str, operands: &'a [String]) -> Option<Command<'a>>
     } else if word == "plan" {
         let (system, demands) = two_operands(operands)?;
         Some(Command::Plan { system, demands })
+    } else if word == "pins" {
+        let (board, schedule) = two_operands(operands)?;
+        Some(Command::Pins { board, schedule })
     } else {
         None
     }

@@ -11,6 +11,7 @@ use jh_cellcfg::{one_spelling, spelling_has_no_fault};
 use jh_image::{
     boards_have_one_cause, boards_make_one_image, boards_that_make_an_image_are_not_refused,
 };
+use jh_pins::pins_have_one_text;
 use jh_run::maps_have_one_text;
 use jh_syscfg::{one_system_spelling, system_has_no_fault};
 use jh_text::{one_answer, texts_go_both_ways};
@@ -46,4 +47,5 @@ pub fn words_have_one_outcome()
     boards_that_make_an_image_are_not_refused();
     boards_have_one_cause();
     maps_have_one_text();
+    pins_have_one_text();
 }

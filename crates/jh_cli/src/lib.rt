@@ -12,6 +12,7 @@ mod lines;
 mod map;
 mod pack;
 mod plan;
+mod pins;
 mod play;
 mod reply;
 mod run;

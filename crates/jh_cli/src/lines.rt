@@ -11,7 +11,7 @@ pub fn usage_line(alloc: Global) -> Result<Vec<u8>, NoMemory>
 {
     let mut text = Vec::new(alloc);
     text.extend_from_slice(
-        b"usage: jailhouse check SYSTEM CELL... | pack SPEC | play BOARD SCHEDULE | run BOARD | map BOARD SCHEDULE | tables BOARD SCHEDULE | audit BOARD JOURNAL | soak N | plan SYSTEM DEMANDS",
+        b"usage: jailhouse check SYSTEM CELL... | pack SPEC | play BOARD SCHEDULE | run BOARD | map BOARD SCHEDULE | tables BOARD SCHEDULE | audit BOARD JOURNAL | soak N | plan SYSTEM DEMANDS | pins BOARD SCHEDULE",
     )?;
     text.push(b'\n')?;
     Ok(text)

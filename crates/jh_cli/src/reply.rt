@@ -14,6 +14,7 @@ use crate::lines::usage_line;
 use crate::map::map;
 use crate::pack::pack;
 use crate::plan::plan;
+use crate::pins::pins;
 use crate::play::play;
 use crate::status::Status;
 use jh_outside::Files;
@@ -38,6 +39,7 @@ fn carry_out<F: Files>(
         Command::Map { board, schedule } => map(alloc, files, board, schedule),
         Command::Audit { board, journal } => audit(alloc, files, board, journal),
         Command::Plan { system, demands } => plan(alloc, files, system, demands),
+        Command::Pins { board, schedule } => pins(alloc, files, board, schedule),
         // these two have been told apart already
         Command::Run { .. } | Command::Soak { .. } => unreachable!(),
     }

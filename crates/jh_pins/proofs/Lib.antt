@@ -3,3 +3,6 @@ mod RunLemmas
 mod HolderLemmas
 mod ClashLemmas
 mod LawLemmas
+mod AlikeLemmas
+mod EditLemmas
+mod LiveLemmas

@@ -1,91 +1,48 @@
 -- Pins that are given, one index of a bitmap after another.
-use Rattle.std.proofs.Common.{◌≡◌, ℕ, ◌+◌, ◌-◌, ◌/◌, ◌%◌, ◌<◌, ◌≤◌, Bool, true, false, eqb, leb, ltb, not, ◌&&◌, ◌||◌, List, length, get_or, take, refl, sym, ap, ◌∙◌, ⊎_elim, arith}
+use Rattle.std.proofs.Common.{◌≡◌, ℕ, ◌+◌, ◌-◌, ◌/◌, ◌%◌, ◌^◌, ◌<◌, ◌≤◌, Bool, true, false, eqb, leb, ltb, not, ◌&&◌, ◌||◌, List, length, get_or, take, refl, sym, ap, ◌∙◌, ⊎_elim, arith}
 use Rattle.std.specs.Prelude.{slice_index}
 use Rattle.std.specs.List.{list_any}
-use Rattle.std.proofs.lemmas.Bool.{and_left, and_right, cases_eq, cases_lt, eq-eqb, le-leb, le-ltb, lt-leb, lt-ltb, ne_eqb, or_from}
-use Rattle.std.proofs.Math.Bool.{or-false}
+use Rattle.std.proofs.lemmas.Bool.{and_left, and_right, cases_lt, le-leb, le-ltb, lt-leb, lt-ltb}
+use Rattle.std.proofs.lemmas.Nat.Bits.{bit_at_ones}
 use Rattle.std.proofs.lemmas.List.Folds.{list_any_more}
 use Rattle.jh_num.specs.Bits.{has_bit}
 use Rattle.jh_num.specs.declared.range.Range.{Range}
 use Rattle.jh_num.specs.Bytes.{in_range, has_byte}
 use Rattle.jh_num.proofs.Public.{or_assoc}
-use Rattle.jh_cellcfg.specs.declared.config.Irqchip.{Irqchip}
-use Rattle.jh_pins.specs.Pins.{is_set, is_given_by}
-use Rattle.jh_pins.specs.Runs.{pin_of}
 
--- ---- the bits below an index
+-- ---- the bits of a word, and of words
+
+-- the number is that of an index below `n` which passes the test, where that of index 0 is `base`
+abbrev pub passes_below : (ℕ → Bool) → ℕ → ℕ → ℕ → Bool
+passes_below test base n number = leb base number && (ltb (number - base) n && test (number - base))
 
 -- the bit of the index is one of those that are set in the words, behind whose last there is none
-abbrev bit_of : List ℕ → ℕ → Bool
+abbrev pub bit_of : List ℕ → ℕ → Bool
 bit_of words index = has_bit (slice_index words (index / 32)) (index % 32)
 
--- the number is that of a bit below the index that is set
-abbrev pub is_given_below : Irqchip → ℕ → ℕ → Bool
-is_given_below irqchip index number = leb irqchip.pin_base number && (ltb (number - irqchip.pin_base) index && bit_of irqchip.pin_bitmap (number - irqchip.pin_base))
+-- the number is before them, among them, or behind them
+not_below : (test : ℕ → Bool) (base n number : ℕ) → number < base → passes_below test base n number ≡ false
+not_below test base n number lt = and_left (leb base number) (ltb (number - base) n && test (number - base)) (lt-leb base number lt)
 
-pub given_none : (irqchip : Irqchip) (number : ℕ) (had : Bool) → had ≡ (had || is_given_below irqchip 0 number)
-given_none irqchip number had =
-    let none : ltb (number - irqchip.pin_base) 0 ≡ false = le-ltb (number - irqchip.pin_base) 0 (omega arith) in
-    sym (ap (λ b. had || b) (and_right (leb irqchip.pin_base number) (ltb (number - irqchip.pin_base) 0 && bit_of irqchip.pin_bitmap (number - irqchip.pin_base)) (and_left (ltb (number - irqchip.pin_base) 0) (bit_of irqchip.pin_bitmap (number - irqchip.pin_base)) none)) ∙ or-false had)
+within : (test : ℕ → Bool) (base n number : ℕ) → base ≤ number → number - base < n → passes_below test base n number ≡ test (number - base)
+within test base n number le lt = rw (le-leb base number le, lt-ltb (number - base) n lt) refl
 
--- one index more
-one_more : (irqchip : Irqchip) (index number : ℕ) → index < 128 → is_given_below irqchip (index + 1) number ≡ (is_given_below irqchip index number || (is_set irqchip.pin_bitmap index && eqb number (irqchip.pin_base + index)))
-one_more irqchip index number lt =
-    let base = irqchip.pin_base in
-    let off = number - base in
-    let bit = bit_of irqchip.pin_bitmap off in
-    let set = is_set irqchip.pin_bitmap index in
+beyond : (test : ℕ → Bool) (base n number : ℕ) → n ≤ number - base → passes_below test base n number ≡ false
+beyond test base n number le = and_right (leb base number) (ltb (number - base) n && test (number - base)) (and_left (ltb (number - base) n) (test (number - base)) (le-ltb (number - base) n le))
+
+-- a word of all bits
+pub all_bits : (first number : ℕ) → passes_below (has_bit (2 ^ 32 - 1)) first 32 number ≡ (leb first number && ltb number (first + 32))
+all_bits first number =
     ⊎_elim
-    (λ (below : number < base).
-    let none : leb base number ≡ false = lt-leb base number below in
-    let other : eqb number (base + index) ≡ false = ne_eqb number (base + index) (λ e. omega arith) in
-    and_left (leb base number) (ltb off (index + 1) && bit) none
-    ∙ sym (or_from (leb base number && (ltb off index && bit)) (set && eqb number (base + index)) (and_left (leb base number) (ltb off index && bit) none) (and_right set (eqb number (base + index)) other)))
-    (λ (from : base ≤ number).
-    let low : leb base number ≡ true = le-leb base number from in
+    (λ (lt : number < first). not_below (has_bit (2 ^ 32 - 1)) first 32 number lt ∙ sym (and_left (leb first number) (ltb number (first + 32)) (lt-leb first number lt)))
+    (λ (le : first ≤ number).
     ⊎_elim
-    (λ (same : number ≡ base + index).
-    let at : off ≡ index = omega arith in
-    let more : ltb off (index + 1) ≡ true = lt-ltb off (index + 1) (omega arith) in
-    let not_yet : ltb off index ≡ false = le-ltb off index (omega arith) in
-    let test : eqb number (base + index) ≡ true = eq-eqb number (base + index) same in
-    let few : ltb index 128 ≡ true = lt-ltb index 128 lt in
-    let bits : bit ≡ set = ap (λ n. bit_of irqchip.pin_bitmap n) at ∙ sym (ap (λ b. b && bit_of irqchip.pin_bitmap index) few) in
-    at_index (leb base number) (ltb off (index + 1)) (ltb off index) (eqb number (base + index)) bit set low more not_yet test bits)
-    (λ (ne : number ≡ base + index → ⊥).
-    let other : eqb number (base + index) ≡ false = ne_eqb number (base + index) ne in
-    let same : ltb off (index + 1) ≡ ltb off index = same_side off index (λ e. ne (omega arith)) in
-    past_index (leb base number) (ltb off (index + 1)) (ltb off index) (eqb number (base + index)) bit set other same)
-    (cases_eq number (base + index)))
-    (cases_lt number base)
-  where
-    at_index : (l m n e b s : Bool) → l ≡ true → m ≡ true → n ≡ false → e ≡ true → b ≡ s → (l && (m && b)) ≡ ((l && (n && b)) || (s && e))
-    at_index l m n e b s hl hm hn he hb = rw (hl, hm, hn, he, hb) (both s)
-      where
-        both : (s : Bool) → s ≡ (s && true)
-        both true = refl
-        both false = refl
-
-    past_index : (l m n e b s : Bool) → e ≡ false → m ≡ n → (l && (m && b)) ≡ ((l && (n && b)) || (s && e))
-    past_index l m n e b s he hm = rw (he, hm, and_right s false refl) (sym (or-false (l && (n && b))))
-
-    same_side : (off index : ℕ) → (off ≡ index → ⊥) → ltb off (index + 1) ≡ ltb off index
-    same_side off index ne = ⊎_elim
-        (λ (lt : off < index). lt-ltb off (index + 1) (omega arith) ∙ sym (lt-ltb off index lt))
-        (λ (le : index ≤ off).
-        let past : index + 1 ≤ off = ⊎_elim (λ (e : off ≡ index). absurd (ne e)) (λ (other : off ≡ index → ⊥). omega arith) (cases_eq off index) in
-        le-ltb off (index + 1) past ∙ sym (le-ltb off index le))
-        (cases_lt off index)
-
-pub given_more : (irqchip : Irqchip) (index number : ℕ) (had mid new : Bool) → index < 128 → mid ≡ (had || is_given_below irqchip index number) → new ≡ (mid || (is_set irqchip.pin_bitmap index && eqb number (irqchip.pin_base + index))) → new ≡ (had || is_given_below irqchip (index + 1) number)
-given_more irqchip index number had mid new lt so_far is =
-    is ∙ ap (λ b. b || (is_set irqchip.pin_bitmap index && eqb number (irqchip.pin_base + index))) so_far
-    ∙ sym (or_assoc had (is_given_below irqchip index number) (is_set irqchip.pin_bitmap index && eqb number (irqchip.pin_base + index)))
-    ∙ ap (λ b. had || b) (sym (one_more irqchip index number lt))
-
--- all indices
-pub given_all : (irqchip : Irqchip) (number : ℕ) → is_given_below irqchip 128 number ≡ is_given_by (pin_of irqchip.address number) irqchip
-given_all irqchip number = sym (ap (λ b. b && is_given_below irqchip 128 number) (eq-eqb irqchip.address irqchip.address refl))
+    (λ (few : number - first < 32).
+    within (has_bit (2 ^ 32 - 1)) first 32 number le few ∙ ap (λ n. eqb n 1) (bit_at_ones 32 (number - first) few)
+    ∙ sym (rw (le-leb first number le, lt-ltb number (first + 32) (omega arith)) refl))
+    (λ (past : 32 ≤ number - first). beyond (has_bit (2 ^ 32 - 1)) first 32 number past ∙ sym (and_right (leb first number) (ltb number (first + 32)) (le-ltb number (first + 32) (omega arith))))
+    (cases_lt (number - first) 32))
+    (cases_lt number first)
 
 -- ---- one irqchip, and one cell, after another
 

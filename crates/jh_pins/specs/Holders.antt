@@ -31,6 +31,10 @@ has_id id claim = claim.id == id
 abbrev pub is_other : ℕ → Claim → Bool
 is_other id claim = not (has_id id claim)
 
+-- the table with the cell of the configuration, as the last
+abbrev pub with_cell : CellConfig → TableView → TableView
+with_cell config table = record table { cells = table.cells ++ claim_of config ∷ [] }
+
 -- the table without the cell with the id, where that isn't root
 abbrev pub without : ℕ → TableView → TableView
 without id table = record table { cells = filter (is_other id) table.cells }

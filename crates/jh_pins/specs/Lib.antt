@@ -3,4 +3,7 @@ pub mod TableView
 pub mod Holders
 pub mod Runs
 pub mod Clashes
+pub mod Texts
+pub mod After
+pub mod Edits
 pub mod Private

@@ -1,2 +1,3 @@
 -- Definitions that mirror the code: clauses of private functions alone cite them, and no public clause rests on them.
 pub mod Shares
+pub mod Words

@@ -8,7 +8,10 @@ use jh_num::{NoMemory, Seq, has_bit};
 use std::alloc::Global;
 
 /// How many pins an irqchip's bitmap has a bit for.
-pub const PINS_PER_IRQCHIP: u64 = 128;
+const PINS_PER_IRQCHIP: u64 = 128;
+
+/// How many pins a word of the bitmap has a bit for.
+pub const PINS_PER_WORD: u64 = 32;
 
 /// The pins that a cell claims: all that its irqchips give.
 #[derive(Drop)]
@@ -19,7 +22,7 @@ pub struct Claim {
 }
 
 /// Whether the bit of that index is set in the bitmap.
-pub fn is_set(words: &[u32; 4], index: u64) -> bool
+fn is_set(words: &[u32; 4], index: u64) -> bool
     ensures { result ≡ is_set words.now index }
 {
     index < PINS_PER_IRQCHIP && has_bit(words[index as usize / 32], index as usize % 32)

@@ -1,13 +1,26 @@
 //! What a table tells. The functions do nothing; their contracts are the laws.
-ghost use Rattle.std.specs.Prelude.{◌≡◌, ◌≢◌, ◌↔◌, ℕ, ◌++◌, [], ◌∷◌, List, Contains, All, AllPairs, Some, None, true, false, find, option_map};
+ghost use Rattle.std.specs.Prelude.{◌≡◌, ◌≢◌, ◌↔◌, ℕ, ◌++◌, [], ◌∷◌, Bool, List, Contains, All, AllPairs, Some, None, true, false, find, option_map};
 ghost use Rattle.jh_cellcfg.specs.declared.config.Irqchip.{Irqchip as TheIrqchip};
+ghost use Rattle.jh_call.specs.declared.call.Call.TheVariants.{Destroy};
+ghost use Rattle.jh_script.specs.declared.image.Image.{Image as TheImage};
+ghost use Rattle.jh_history.specs.declared.entry.Entry.{Entry as TheEntry};
+ghost use Rattle.jh_history.specs.declared.entry.Act.TheVariants.{Commit};
+ghost use Rattle.jh_laws.specs.Moments.{AdmittedMoment, call_before};
 ghost use Rattle.jh_pins.specs.declared.pin.Pin.{Pin as ThePin};
 ghost use Rattle.jh_pins.specs.declared.pin.PinRun.{PinRun as TheRun};
+ghost use Rattle.jh_pins.specs.declared.pin.Clash.{Clash as TheClash};
 ghost use Rattle.jh_pins.specs.declared.claim.Claim.{Claim as TheClaim};
 ghost use Rattle.jh_pins.specs.Pins.{is_given_by, is_named_by, IsPinOf};
 ghost use Rattle.jh_pins.specs.TableView.{TableView, HaveOwnIds};
 ghost use Rattle.jh_pins.specs.Holders.{claimants, id_of, holder, is_held_by, without};
 ghost use Rattle.jh_pins.specs.Runs.{AreRuns, IsInRun};
+ghost use Rattle.jh_pins.specs.Clashes.{AreClashes};
+ghost use Rattle.jh_pins.specs.After.{live_table, table_before, table_behind, IsPinsText};
+ghost use Rattle.jh_pins.specs.Edits.{edited_table};
+
+use jh_laws::{
+    beginnings_are_legal, cells_live_from_commit_to_commit, the_check_holds_of_live_cells,
+};
 
 /// An irqchip gives exactly the pins of the bits that are set: bit b of word w is the pin with the number
 /// `pin_base + 32 w + b`.
@@ -46,4 +59,35 @@ pub fn pins_go_to_the_next()
         holder (without own.id table) pin ≡ option_map id_of (find (is_named_by pin) (behind ++ table.root ∷ [])) }
     ensures others { (table : TableView) (id other : ℕ) (pin : ThePin) → holder table pin ≡ Some other → other ≢ id →
         holder (without id table) pin ≡ Some other }
+{}
+
+/// A set of pins has one list of runs, and cells have one list of clashes.
+pub fn runs_and_clashes_are_told_in_one_way()
+    ensures runs { (has : ThePin → Bool) (one other : List TheRun) → AreRuns has one → AreRuns has other → one ≡ other }
+    ensures clashes { (cells : List TheClaim) (one other : List TheClash) → AreClashes cells one → AreClashes cells other → one ≡ other }
+{}
+
+/// A table that is root's alone at opening, and to which the Commit of each create adds its cell, and from which that of
+/// each destroy drops it, is after the entries that of the cells that live then.
+pub fn tables_are_edited_at_commits()
+    ensures { (image : TheImage) (entries : List TheEntry) → edited_table image entries ≡ live_table image entries }
+{}
+
+/// Where a cell is destroyed, a pin that it held goes to the first of the later cells that names it, else to root if root
+/// names it, else to none. Every other pin stays with its holder.
+pub fn pins_of_a_destroyed_cell_go_to_the_next()
+    ensures next { (m : AdmittedMoment) (before behind : List TheClaim) (own : TheClaim) (pin : ThePin) → call_before m ≡ Some (Destroy own.id) → m.entry.act ≡ Commit →
+        (table_before m).cells ≡ before ++ own ∷ behind → holder (table_before m) pin ≡ Some own.id →
+        holder (table_behind m) pin ≡ option_map id_of (find (is_named_by pin) (behind ++ (table_before m).root ∷ [])) }
+    ensures others { (m : AdmittedMoment) (id other : ℕ) (pin : ThePin) → call_before m ≡ Some (Destroy id) → m.entry.act ≡ Commit →
+        holder (table_before m) pin ≡ Some other → other ≢ id → holder (table_behind m) pin ≡ Some other }
+{
+    cells_live_from_commit_to_commit();
+    beginnings_are_legal();
+    the_check_holds_of_live_cells();
+}
+
+/// The pins of the cells that live after the entries have one text.
+pub fn pins_have_one_text()
+    ensures { (image : TheImage) (entries : List TheEntry) (one other : List ℕ) → IsPinsText image entries one → IsPinsText image entries other → one ≡ other }
 {}

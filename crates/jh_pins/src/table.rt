@@ -1,7 +1,7 @@
 //! The table of who holds which pin.
-ghost use Rattle.std.specs.Prelude.{◌≡◌, [], ◌∷◌, ◌++◌, position, find, option_map, IfOk, OnOk, OnErr, IsOk};
-ghost use Rattle.jh_pins.specs.Pins.{claim_of, is_named_by};
-ghost use Rattle.jh_pins.specs.Holders.{holder, id_of, is_held_by, has_id, without, IsNewId, table_of};
+ghost use Rattle.std.specs.Prelude.{◌≡◌, [], position, find, option_map, IfOk, OnOk, OnErr, IsOk};
+ghost use Rattle.jh_pins.specs.Pins.{is_named_by};
+ghost use Rattle.jh_pins.specs.Holders.{holder, id_of, is_held_by, has_id, with_cell, without, IsNewId, table_of};
 ghost use Rattle.jh_pins.specs.Runs.{AreRuns};
 ghost use Rattle.jh_pins.specs.Clashes.{AreClashes};
 
@@ -61,7 +61,7 @@ impl PinTable {
     /// A new cell lives, as the last.
     pub fn add(&mut self, cell: &CellConfig) -> Result<(), NoMemory>
         requires { IsNewId self.old cell.now.id }
-        ensures ok { OnOk result (self.new ≡ record self.old { cells = self.old.cells ++ claim_of cell.now ∷ [] }) }
+        ensures ok { OnOk result (self.new ≡ with_cell cell.now self.old) }
         ensures err { OnErr result (self.new ≡ self.old) }
     {
         let alloc = *self.cells.allocator();

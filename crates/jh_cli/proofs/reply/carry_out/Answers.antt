@@ -36,3 +36,9 @@ returns-in-Plan-clause-ends g c = rw c.in-Plan.is c.plan.ensures.ends
 
 pub returns-in-Plan-clause-asked : goal.returns-in-Plan-clause-asked
 returns-in-Plan-clause-asked g c = rw c.in-Plan.is c.plan.ensures.asked
+
+pub returns-in-Pins-clause-ends : goal.returns-in-Pins-clause-ends
+returns-in-Pins-clause-ends g c = rw c.in-Pins.is c.pins.ensures.ends
+
+pub returns-in-Pins-clause-asked : goal.returns-in-Pins-clause-asked
+returns-in-Pins-clause-asked g c = rw c.in-Pins.is c.pins.ensures.asked

@@ -1,0 +1,21 @@
+-- The board is read, and what is asked of its image is done.
+use Rattle.std.proofs.Common.{[], ◌∷◌}
+use Rattle.jh_cli.specs.Pins.{PinsBy}
+use Rattle.jh_cli.proofs.BoardLemmas.{opens}
+use Rattle.jh_cli.proofs.OrderLemmas.{board_behind}
+use Rattle.jh_cli.proofs.StopLemmas.{counted_behind}
+use Rattle.jh_cli.proofs.pins.pins.Goals as goal
+
+pub returns-clause-ends : goal.returns-clause-ends
+returns-clause-ends g c =
+    let contents = g.F.Files.contents c.args.files.now in
+    let rest = rw c.open.ensures.kept at c.pins_by.ensures.ends in
+    opens contents c.args.board.now (PinsBy contents c.args.name.now) c.in_ok-image.image c.in_ok-image.ensures.image c.in_ok-image.ensures.admitted c.pins_by.result rest
+
+pub returns-clause-counted : goal.returns-clause-counted
+returns-clause-counted g c =
+    counted_behind (g.F.Files.faults c.args.files.now) (g.F.Files.faults c.open.new.files) (g.F.Files.faults c.pins_by.new.files) (g.F.Files.failed c.pins_by.new.files) c.open.ensures.never_falls c.pins_by.result c.pins_by.ensures.counted
+
+pub returns-clause-asked : goal.returns-clause-asked
+returns-clause-asked g c =
+    board_behind g.F.Files (g.F.Files.contents c.args.files.now) c.args.board.now (c.args.name.now ∷ []) c.args.files.now c.open.new.files c.pins_by.new.files c.in_ok-image.ensures.asked c.pins_by.result c.pins_by.ensures.asked
