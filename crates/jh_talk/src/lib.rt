@@ -1,0 +1,11 @@
+//! Messages between root and a cell over an ivshmem link: the text that tells them, and the image on which they are sent.
+#![tactic(auto)]
+
+mod fault;
+mod line;
+mod messages;
+mod read;
+
+pub use fault::MessagesFault;
+pub use messages::{MAX_MESSAGES, Messages};
+pub use read::read_messages;
