@@ -1,1 +1,5 @@
+mod CpuLemmas
+mod PlaceLemmas
 mod ReadLemmas
+mod SectionLemmas
+mod WindowLemmas

@@ -1,0 +1,5 @@
+-- Definitions that mirror the code. Only clauses of functions that the crate keeps to itself cite these. No public
+-- clause rests on them.
+pub mod Rooms
+pub mod Seats
+pub mod Steps
