@@ -17,8 +17,9 @@ none_more test cpu none this lower below =
       | inr e ↦ ap test (omega arith) ∙ this
     ]
 
-pub none_at_all : (test : ℕ → Bool) (end : ℕ) → ((cpu : ℕ) → test cpu ≡ true → cpu < 16) → 16 ≤ end → NoneBelow test end → (cpu : ℕ) → test cpu ≡ false
-none_at_all test end few all none cpu =
+-- where only numbers below the bound may pass, and none does, none passes at all
+pub none_at_all : (test : ℕ → Bool) (bound end : ℕ) → ((cpu : ℕ) → test cpu ≡ true → cpu < bound) → bound ≤ end → NoneBelow test end → (cpu : ℕ) → test cpu ≡ false
+none_at_all test bound end few all none cpu =
     elim (cases_lt cpu end) as (λ w. test cpu ≡ false) [
       | inl e ↦ none cpu e
       | inr e ↦ false_from_ne_true (test cpu) (λ passes. let small = few cpu passes in omega arith)

@@ -1,4 +1,7 @@
 mod CpuLemmas
+mod FaultLemmas
+mod JoinLemmas
+mod PairLemmas
 mod PlaceLemmas
 mod ReadLemmas
 mod SectionLemmas

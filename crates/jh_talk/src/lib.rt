@@ -3,13 +3,21 @@
 
 mod cpus;
 mod fault;
+mod function;
+mod joining;
 mod line;
+mod link;
 mod messages;
+mod pair;
 mod place;
 mod read;
+mod section;
+mod side;
+mod spots;
+mod talk;
 mod window;
 
-pub use fault::MessagesFault;
+pub use fault::{MessagesFault, TalkFault};
 pub use messages::{MAX_MESSAGES, Messages};
 pub use read::read_messages;
 pub use window::WINDOW_SIZE;

@@ -1,7 +1,10 @@
 -- The CPUs that talk, and why there are none.
-use Rattle.std.specs.Prelude.{◌≡◌, ◌<◌, ◌⊎◌, ℕ, Bool, true, false, ◌&&◌, not}
+use Rattle.std.specs.Prelude.{◌≡◌, ◌<◌, ◌⊎◌, ℕ, Bool, true, false, ◌&&◌, not, [], ◌∷◌}
 use Rattle.jh_cellcfg.specs.declared.config.CellConfig.{CellConfig}
+use Rattle.jh_cellcfg.specs.declared.config.SystemConfig.{SystemConfig}
 use Rattle.jh_cellcfg.specs.Cells.{is_cpu_set}
+use Rattle.jh_check.specs.Clean.{IsClean}
+use Rattle.jh_check.specs.Refusals.{is_known}
 use Rattle.jh_talk.specs.declared.cpus.Cpus.{Cpus}
 use Rattle.jh_talk.specs.Cpus.{is_left, IsLowest, NamesAllCpus, NamesForeignCpu}
 
@@ -26,3 +29,8 @@ pub record AreCpus (root cell : CellConfig) (cpus : Cpus) : Type 0 where
 -- no CPUs can talk
 abbrev pub CannotBe : CellConfig → CellConfig → Type 0
 CannotBe root cell = NamesForeignCpu root cell ⊎ NamesAllCpus root cell
+
+-- the cell may join root: it has another name and id, and nothing is found in both
+pub record IsJoining (system : SystemConfig) (cell : CellConfig) : Type 0 where
+  pub unknown : is_known (system.root ∷ []) cell ≡ false
+  pub clean : IsClean system (cell ∷ [])

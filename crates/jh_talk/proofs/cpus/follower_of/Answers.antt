@@ -14,4 +14,4 @@ loop-cpu-preserved c =
 pub returns : goal.returns
 returns c =
     let all : 16 ≤ c.loop-cpu.cpu = omega arith in
-    none_at_all (is_cpu_set c.args.cell.now.cpu_set) c.loop-cpu.cpu c.requires all c.loop-cpu.invariant
+    none_at_all (is_cpu_set c.args.cell.now.cpu_set) 16 c.loop-cpu.cpu c.requires all c.loop-cpu.invariant

@@ -14,4 +14,4 @@ loop-cpu-preserved c =
 pub returns : goal.returns
 returns c =
     let all : 16 ≤ c.loop-cpu.cpu = omega arith in
-    none_at_all (is_left c.args.root.now c.args.cell.now) c.loop-cpu.cpu (few_left c.args.root.now c.args.cell.now c.requires) all c.loop-cpu.invariant
+    none_at_all (is_left c.args.root.now c.args.cell.now) 16 c.loop-cpu.cpu (few_left c.args.root.now c.args.cell.now c.requires) all c.loop-cpu.invariant

@@ -16,5 +16,5 @@ loop-cpu-preserved c =
 pub returns : goal.returns
 returns c =
     let all : 16 ≤ c.loop-cpu.cpu = omega arith in
-    let none = none_at_all (is_foreign c.args.root.now c.args.cell.now) c.loop-cpu.cpu (few_foreign c.args.root.now c.args.cell.now c.requires) all c.loop-cpu.invariant in
+    let none = none_at_all (is_foreign c.args.root.now c.args.cell.now) 16 c.loop-cpu.cpu (few_foreign c.args.root.now c.args.cell.now c.requires) all c.loop-cpu.invariant in
     ((λ yes. absurd (false≢true yes)), (λ foreign. absurd (none_foreign c.args.root.now c.args.cell.now none foreign)))
