@@ -3,6 +3,7 @@ mod FaultLemmas
 mod JoinLemmas
 mod PairLemmas
 mod PlaceLemmas
+mod ProgramLemmas
 mod ReadLemmas
 mod SectionLemmas
 mod WindowLemmas

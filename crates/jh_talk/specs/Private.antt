@@ -3,5 +3,6 @@
 pub mod Others
 pub mod Rooms
 pub mod Seats
+pub mod Sides
 pub mod Spots
 pub mod Steps

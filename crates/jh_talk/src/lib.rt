@@ -10,6 +10,7 @@ mod link;
 mod messages;
 mod pair;
 mod place;
+mod program;
 mod read;
 mod section;
 mod side;
