@@ -88,7 +88,7 @@ pub clean_of : (system : SystemConfig) (cell : CellConfig) (number : ℕ) → 1 
 clean_of system cell number above none =
     clean_from_nothing system (cell ∷ []) (none_found (findings system (cell ∷ [])) (λ found. none Cell above (inl found)))
 
-talks_shmem : (number : ℕ) (device : PciDevice) → can_talk number device ≡ true → IsShmem device
+pub talks_shmem : (number : ℕ) (device : PciDevice) → can_talk number device ≡ true → IsShmem device
 talks_shmem number device talks =
     let endpoint = (and_parts (is_endpoint number device) (nat_le 2 device.num_msix_vectors) talks).0 in
     eqb-true device.kind 3 (and_parts (nat_lt number (2 ^ 32)) (is_shmem device) endpoint).1

@@ -1,9 +1,12 @@
+mod AddressLemmas
 mod CpuLemmas
 mod FaultLemmas
+mod ImageLemmas
 mod JoinLemmas
 mod PairLemmas
 mod PlaceLemmas
 mod ProgramLemmas
 mod ReadLemmas
 mod SectionLemmas
+mod SoundLemmas
 mod WindowLemmas

@@ -4,6 +4,7 @@
 mod cpus;
 mod fault;
 mod function;
+mod image;
 mod joining;
 mod line;
 mod link;
@@ -16,9 +17,11 @@ mod section;
 mod side;
 mod spots;
 mod talk;
+mod typed;
 mod window;
 
 pub use fault::{MessagesFault, TalkFault};
+pub use image::talk_image;
 pub use messages::{MAX_MESSAGES, Messages};
 pub use read::read_messages;
 pub use window::WINDOW_SIZE;
