@@ -1,5 +1,5 @@
 -- The addresses of a talk are small: its function ends within the addresses, its windows within 32 bits.
-use Rattle.std.proofs.Common.{◌≡◌, ℕ, ◌+◌, ◌*◌, ◌^◌, ◌<◌, ◌≤◌, Bool, true, false, ◌&&◌, not, nat_le, nat_lt, [], ◌∷◌, Option, Some, None, slice_get, refl, sym, ap, ◌∙◌, lit<, arith}
+use Rattle.std.proofs.Common.{◌≡◌, ◌+◌, ◌*◌, ◌^◌, ◌<◌, ◌≤◌, true, ◌&&◌, not, nat_le, [], ◌∷◌, Option, Some, None, refl, ap, arith}
 use Rattle.std.proofs.lemmas.Bool.{and_parts, leb-true, true_from_ne_false}
 use Rattle.jh_num.specs.declared.address.TheConstants.{ADDRESS_END}
 use Rattle.jh_cellcfg.specs.declared.region.Region.{Region}
@@ -14,7 +14,6 @@ use Rattle.jh_talk.specs.declared.fault.TalkFault.TheVariants.{Ecam}
 use Rattle.jh_talk.specs.Functions.{function_start, has_ecam, has_function, is_in_ecam}
 use Rattle.jh_talk.specs.Addresses.{is_met}
 use Rattle.jh_talk.specs.Images.{IsTalk}
-use Rattle.jh_talk.specs.Programs.{state_address}
 use Rattle.jh_talk.specs.Private.Sides.{HasAddresses}
 use Rattle.jh_talk.proofs.JoinLemmas.{clean_of, talks_shmem}
 

@@ -1,11 +1,11 @@
 -- Fault after fault is ruled out.
-use Rattle.std.proofs.Common.{◌≡◌, ℕ, ◌+◌, ◌<◌, ◌≤◌, List, [], ◌∷◌, get_or, refl, sym, ap, subst, ◌∙◌, inl, inr, arith}
+use Rattle.std.proofs.Common.{◌≡◌, ℕ, ◌+◌, [], ◌∷◌, get_or, refl, sym, ap, subst, ◌∙◌, inl, inr, arith}
 use Rattle.std.proofs.lemmas.Bool.{cases_lt}
 use Rattle.jh_cellcfg.specs.declared.config.CellConfig.{CellConfig}
 use Rattle.jh_cellcfg.specs.declared.config.SystemConfig.{SystemConfig}
 use Rattle.jh_talk.specs.declared.fault.TalkFault.{TalkFault}
 use Rattle.jh_talk.specs.declared.fault.TalkFault.TheVariants.{Cell, Cpu, Pool, Device, Section, Ecam, Window, Place, NoMemory}
-use Rattle.jh_talk.specs.Faults.{fault_number, SpeaksAgainst, IsFaultlessBelow, IsFirstFault, IsFault}
+use Rattle.jh_talk.specs.Faults.{fault_number, SpeaksAgainst, IsFaultlessBelow}
 
 -- the fault of that number
 abbrev pub fault_at : ℕ → TalkFault

@@ -1,20 +1,17 @@
 -- The image of a talk is admitted.
-use Rattle.std.proofs.Common.{◌≡◌, ℕ, ◌+◌, ◌<◌, ◌≤◌, ◌⊎◌, inl, inr, Bool, true, false, ◌&&◌, ◌||◌, nat_eq, nat_lt, nat_le, List, [], ◌∷◌, ◌++◌, length, refl, sym, ap, ◌∙◌, arith, length-append}
-use Rattle.std.specs.Prelude.{All, AllPairs, IsTrue, codes}
+use Rattle.std.proofs.Common.{◌≡◌, ℕ, ◌+◌, ◌<◌, ◌≤◌, inr, true, false, nat_eq, nat_lt, nat_le, List, [], ◌∷◌, ◌++◌, length, refl, sym, arith, length-append}
+use Rattle.std.specs.Prelude.{AllPairs, codes}
 use Rattle.std.specs.Cmp.Lexicographic.{pointwise}
 use Rattle.std.proofs.lemmas.Bool.{false≢true, both_ways, and_parts, and_from, or_parts, eqb-true, eq-eqb, leb-true, ltb-true, le-leb, lt-ltb, false_from_ne_true}
 use Rattle.std.proofs.lemmas.List.Elements.{All-nil, All-from_recursion}
 use Rattle.std.proofs.lemmas.List.Kept.{AllPairs-cons}
-use Rattle.jh_num.specs.declared.address.TheConstants.{ADDRESS_END}
 use Rattle.jh_cellcfg.specs.declared.config.CellConfig.{CellConfig}
 use Rattle.jh_cellcfg.specs.declared.config.SystemConfig.{SystemConfig}
 use Rattle.jh_cellcfg.specs.Cells.{name_of}
 use Rattle.jh_cellcfg.specs.Regions.{has_place, phys_end}
 use Rattle.jh_cellcfg.specs.Spelling.{spelling, u16_bytes, body_bytes}
 use Rattle.jh_check.specs.Refusals.{is_known, is_namesake}
-use Rattle.jh_script.specs.declared.image.Preload.{Preload}
-use Rattle.jh_script.specs.declared.image.Program.{Program}
-use Rattle.jh_history.specs.Admitted.{has_byte_at, IsAdmitted, IsAdmittedSystem, IsOtherPreload, IsOtherProgram, IsSoundPreload, IsSoundProgram}
+use Rattle.jh_history.specs.Admitted.{IsAdmitted, IsAdmittedSystem, IsOtherPreload, IsOtherProgram, IsSoundPreload, IsSoundProgram}
 use Rattle.jh_talk.specs.declared.messages.Messages.{Messages}
 use Rattle.jh_talk.specs.declared.talk.Talk.{Talk}
 use Rattle.jh_talk.specs.declared.fault.TalkFault.TheVariants.{Cell}

@@ -1,12 +1,11 @@
 -- What is known of a system and a cell in which nothing is found, and which faults that rules out.
-use Rattle.std.proofs.Common.{◌≡◌, ℕ, ◌+◌, ◌^◌, ◌<◌, ◌≤◌, ◌⊎◌, Bool, true, false, ◌&&◌, ◌==◌, nat_lt, nat_le, nat_eq, List, [], ◌∷◌, Some, slice_get, length, refl, sym, ap, subst, ◌∙◌, inl, inr, arith}
+use Rattle.std.proofs.Common.{◌≡◌, ℕ, ◌^◌, ◌<◌, Bool, true, false, ◌&&◌, nat_lt, nat_le, List, [], ◌∷◌, Some, slice_get, refl, sym, ap, subst, ◌∙◌, inl, inr, arith}
 use Rattle.std.specs.Prelude.{◌≢◌}
-use Rattle.std.proofs.lemmas.Bool.{cases_Bool, both_ways, and_parts, eqb-true}
+use Rattle.std.proofs.lemmas.Bool.{both_ways, and_parts, eqb-true}
 use Rattle.std.proofs.lemmas.Option.{same_Some}
 use Rattle.jh_cellcfg.specs.declared.config.CellConfig.{CellConfig}
 use Rattle.jh_cellcfg.specs.declared.config.PciDevice.{PciDevice}
 use Rattle.jh_cellcfg.specs.declared.config.SystemConfig.{SystemConfig}
-use Rattle.jh_cellcfg.specs.Cells.{is_cpu_set}
 use Rattle.jh_check.specs.declared.finding.Finding.{Finding}
 use Rattle.jh_check.specs.Clean.{IsClean, IsShmem, IsSoundBitmap}
 use Rattle.jh_check.specs.Devices.{is_shmem}
@@ -17,9 +16,9 @@ use Rattle.jh_history.specs.Admitted.{IsAdmittedSystem}
 use Rattle.jh_history.specs.Devices.{is_endpoint}
 use Rattle.jh_talk.specs.declared.pair.Pair.{Pair}
 use Rattle.jh_talk.specs.declared.cpus.Cpus.{Cpus}
-use Rattle.jh_talk.specs.declared.fault.TalkFault.TheVariants.{Cell, Cpu, Pool, Device, Section, Ecam, Window, Place}
+use Rattle.jh_talk.specs.declared.fault.TalkFault.TheVariants.{Cell, Cpu, Pool, Section, Ecam, Window, Place}
 use Rattle.jh_talk.specs.Cpus.{is_left}
-use Rattle.jh_talk.specs.Pairs.{can_talk, IsPair, IsFirstPair}
+use Rattle.jh_talk.specs.Pairs.{can_talk, IsFirstPair}
 use Rattle.jh_talk.specs.Sections.{has_sections, has_outputs, are_left_to_root}
 use Rattle.jh_talk.specs.Functions.{has_function, obstacles}
 use Rattle.jh_talk.specs.Windows.{IsLeastWindow}

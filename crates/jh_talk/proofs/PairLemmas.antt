@@ -1,14 +1,11 @@
 -- Which devices are in a pair.
-use Rattle.std.proofs.Common.{◌≡◌, ℕ, ◌+◌, ◌<◌, ◌≤◌, Bool, true, false, ◌&&◌, nat_eq, Option, Some, None, length, slice_get, refl, sym, ap, subst, ◌∙◌, inl, inr, arith}
-use Rattle.std.proofs.lemmas.Bool.{false≢true, cases_lt, both_ways, and_parts, and_from, eqb-true, eq-eqb}
-use Rattle.std.proofs.lemmas.Option.{none-some, same_Some, slice_get_within}
+use Rattle.std.proofs.Common.{◌≡◌, ℕ, ◌<◌, true, false, Option, Some, None, length, slice_get, refl}
+use Rattle.std.proofs.lemmas.Bool.{false≢true}
+use Rattle.std.proofs.lemmas.Option.{slice_get_within}
 use Rattle.std.specs.Option.{option_map_or}
 use Rattle.jh_cellcfg.specs.declared.config.CellConfig.{CellConfig}
 use Rattle.jh_cellcfg.specs.declared.config.PciDevice.{PciDevice}
-use Rattle.jh_talk.specs.declared.pair.Pair.{Pair}
-use Rattle.jh_talk.specs.Cpus.{IsLowest}
-use Rattle.jh_talk.specs.Pairs.{can_talk, IsPair, IsFirstPair, HasNoPair}
-use Rattle.jh_talk.specs.Private.Others.{is_other, talks_as, HasNoOther, IsNotPaired, IsPairOf}
+use Rattle.jh_talk.specs.Private.Others.{is_other, talks_as, IsNotPaired}
 
 -- ---- a device of the cell
 

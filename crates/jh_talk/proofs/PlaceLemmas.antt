@@ -1,12 +1,11 @@
 -- A configuration may be put where a region begins that is no section, and nowhere else before.
-use Rattle.std.proofs.Common.{◌≡◌, ℕ, ◌+◌, ◌-◌, ◌<◌, ◌≤◌, Bool, true, false, ◌&&◌, not, nat_lt, nat_le, List, Option, Some, None, refl, sym, ap, subst, ◌∙◌, inl, inr, cond, length, arith}
+use Rattle.std.proofs.Common.{◌≡◌, ℕ, ◌+◌, ◌-◌, ◌<◌, ◌≤◌, Bool, true, false, ◌&&◌, not, nat_lt, nat_le, Option, Some, None, refl, sym, ap, subst, ◌∙◌, inl, inr, cond, length, arith}
 use Rattle.std.specs.Prelude.{IfSome, MatchOption}
 use Rattle.std.specs.List.{list_any}
 use Rattle.std.proofs.lemmas.Bool.{ltb-true, leb-true, lt-ltb, le-leb, lt-leb, cases_eq, cases_lt, both_ways, and_parts, and_from, false_from_ne_true}
 use Rattle.std.proofs.lemmas.Option.{same_Some, slice_get_within}
 use Rattle.jh_cellcfg.specs.declared.region.Region.{Region}
 use Rattle.jh_cellcfg.specs.declared.config.CellConfig.{CellConfig}
-use Rattle.jh_cellcfg.specs.declared.config.PciDevice.{PciDevice}
 use Rattle.jh_cellcfg.specs.Regions.{has_flags, has_place, has_size, is_device, is_page_mapped, phys_end, phys_meet}
 use Rattle.jh_check.specs.Devices.{is_shmem, is_section, sections_of}
 use Rattle.jh_check.specs.Laws.{IsItem}

@@ -5,7 +5,6 @@ use Rattle.std.proofs.lemmas.List.{append-nil}
 use Rattle.jh_script.specs.Programs.{line_number, unless}
 use Rattle.jh_talk.specs.declared.line.Line.{Line}
 use Rattle.jh_talk.specs.declared.line.Line.TheVariants.{Blank, Send, Reply, Syntax}
-use Rattle.jh_talk.specs.declared.messages.Messages.{Messages}
 use Rattle.jh_talk.specs.declared.fault.MessagesFault.{MessagesFault}
 use Rattle.jh_talk.specs.declared.fault.MessagesFault.TheVariants as faults
 use Rattle.jh_talk.specs.Messages.{lines_of, first_fault, sends_of, replies_of, messages_of_lines, messages_of}

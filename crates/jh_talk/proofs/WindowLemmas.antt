@@ -1,14 +1,12 @@
 -- Windows that are sought behind what stands in the way.
-use Rattle.std.proofs.Common.{◌≡◌, ℕ, ◌+◌, ◌-◌, ◌*◌, ◌/◌, ◌%◌, ◌^◌, ◌<◌, ◌≤◌, ◌⊎◌, inl, inr, Bool, true, false, ◌&&◌, nat_lt, cond, List, [], ◌∷◌, Option, Some, None, lit<, arith, find}
-use Rattle.std.specs.List.{Contains, list_any}
+use Rattle.std.proofs.Common.{◌≡◌, ℕ, ◌+◌, ◌^◌, ◌<◌, ◌≤◌, inl, inr, true, false, ◌&&◌, nat_lt, List, Option, Some, None, lit<, arith, find}
 use Rattle.std.proofs.lemmas.Bool.{cases_lt, both_ways, and_parts, and_from, ltb-true, lt-ltb}
-use Rattle.jh_num.proofs.Public.{IsFound, IsFound_from_find, find_None, list_any_from_Contains, list_any_nothing}
-use Rattle.jh_num.specs.declared.address.TheConstants.{PAGE_SIZE}
+use Rattle.jh_num.proofs.Public.{IsFound_from_find, find_None, list_any_from_Contains, list_any_nothing}
 use Rattle.jh_cellcfg.specs.declared.region.Region.{Region}
 use Rattle.jh_cellcfg.specs.Regions.{has_size, virt_end, virt_meet}
 use Rattle.jh_talk.specs.declared.window.TheConstants.{WINDOW_SIZE}
 use Rattle.jh_talk.specs.Addresses.{addresses_from, is_met}
-use Rattle.jh_talk.specs.Windows.{IsWindow, IsLeastWindow, HasNoWindow}
+use Rattle.jh_talk.specs.Windows.{IsWindow, HasNoWindow}
 use Rattle.jh_talk.specs.Private.Steps.{IsPageBehind}
 
 -- two regions meet where each begins before the other ends, and both have a size

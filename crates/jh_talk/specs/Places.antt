@@ -1,5 +1,5 @@
 -- Where the cell's configuration is put, so that root may read it.
-use Rattle.std.specs.Prelude.{◌≡◌, ◌≤◌, ◌+◌, ◌%◌, ℕ, Bool, true, false, ◌&&◌, not, List}
+use Rattle.std.specs.Prelude.{◌≡◌, ◌≤◌, ◌+◌, ◌%◌, ℕ, Bool, true, false, ◌&&◌, not}
 use Rattle.std.specs.List.{list_any}
 use Rattle.jh_num.specs.declared.address.TheConstants.{PAGE_SIZE}
 use Rattle.jh_cellcfg.specs.declared.region.Region.{Region}

@@ -65,9 +65,6 @@ pub(crate) fn has_function(system: &SystemConfig, cell: &CellConfig, device: &Pc
     let Some(start) = function_start(system, device) else {
         return false;
     };
-    !is_met(
-        system.root.memory_regions.as_slice(),
-        start,
-        FUNCTION_SIZE,
-    ) && !is_met(cell.memory_regions.as_slice(), start, FUNCTION_SIZE)
+    !is_met(system.root.memory_regions.as_slice(), start, FUNCTION_SIZE)
+        && !is_met(cell.memory_regions.as_slice(), start, FUNCTION_SIZE)
 }

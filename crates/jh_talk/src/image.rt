@@ -20,12 +20,7 @@ use jh_script::{Image, Op, Preload, Program};
 use std::alloc::Global;
 
 /// The program of the CPU in the cell.
-fn program(
-    alloc: Global,
-    config: &CellConfig,
-    cpu: u8,
-    ops: Seq<Op>,
-) -> Result<Program, NoMemory>
+fn program(alloc: Global, config: &CellConfig, cpu: u8, ops: Seq<Op>) -> Result<Program, NoMemory>
     ensures { IfOk result (λ made. made ≡ record { cell = name_of config.now; cpu = cpu; ops = ops }) }
 {
     let cell = Seq::from_vec(Vec::from_slice(alloc, config.name())?);

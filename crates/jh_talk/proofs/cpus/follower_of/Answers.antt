@@ -1,5 +1,5 @@
 -- The first that the cell names is the lowest; where it names none of a board's CPUs, it names none at all.
-use Rattle.std.proofs.Common.{◌≡◌, ◌≤◌, ◌∙◌, sym, arith}
+use Rattle.std.proofs.Common.{◌≤◌, ◌∙◌, sym, arith}
 use Rattle.jh_cellcfg.specs.Cells.{is_cpu_set}
 use Rattle.jh_talk.proofs.CpuLemmas.{none_more, none_at_all}
 use Rattle.jh_talk.proofs.cpus.follower_of.Goals as goal

@@ -1,5 +1,5 @@
 -- The first that is left is the lowest; where none of a board's CPUs is left, none at all is.
-use Rattle.std.proofs.Common.{◌≡◌, ◌≤◌, ◌∙◌, sym, arith}
+use Rattle.std.proofs.Common.{◌≤◌, ◌∙◌, sym, arith}
 use Rattle.jh_talk.specs.Cpus.{is_left}
 use Rattle.jh_talk.proofs.CpuLemmas.{none_more, none_at_all, few_left}
 use Rattle.jh_talk.proofs.cpus.leader_of.Goals as goal

@@ -1,5 +1,5 @@
 -- The first foreign CPU tells; where none of a board's is foreign, none at all is.
-use Rattle.std.proofs.Common.{◌≡◌, ◌≤◌, ◌∙◌, sym, refl, arith}
+use Rattle.std.proofs.Common.{◌≤◌, ◌∙◌, sym, refl, arith}
 use Rattle.std.proofs.lemmas.Bool.{false≢true}
 use Rattle.jh_talk.specs.Private.Seats.{is_foreign}
 use Rattle.jh_talk.proofs.CpuLemmas.{none_more, none_at_all, few_foreign, foreign_from, none_foreign}

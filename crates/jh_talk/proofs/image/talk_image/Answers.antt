@@ -1,8 +1,7 @@
 -- The addresses are small, and the image is admitted.
-use Rattle.std.proofs.Common.{◌≡◌, rules, sym, subst}
+use Rattle.std.proofs.Common.{rules, sym, subst}
 use Rattle.jh_script.specs.declared.image.Image.{Image}
 use Rattle.jh_history.specs.Admitted.{IsAdmitted}
-use Rattle.jh_talk.specs.Images.{image_of, IsTalk}
 use Rattle.jh_talk.specs.Private.Sides.{AreNumbers}
 use Rattle.jh_talk.proofs.AddressLemmas.{addresses_of}
 use Rattle.jh_talk.proofs.ImageLemmas.{talk_admitted}

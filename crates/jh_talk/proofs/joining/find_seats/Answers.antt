@@ -1,12 +1,9 @@
 -- Each fault is told where none before it holds.
-use Rattle.std.proofs.Common.{◌≡◌, ◌<◌, ℕ, true, false, ◌∷◌, [], rules, sym, ◌∙◌}
-use Rattle.std.specs.Prelude.{◌↔◌}
-use Rattle.std.proofs.lemmas.Bool.{both_ways, false≢true}
+use Rattle.std.proofs.Common.{◌≡◌, true, false, ◌∷◌, [], rules}
+use Rattle.std.proofs.lemmas.Bool.{both_ways}
 use Rattle.jh_cellcfg.specs.Cells.{is_cpu_set}
 use Rattle.jh_check.specs.Clean.{IsSoundCpuSet}
-use Rattle.jh_shape.specs.Pages.{pages_of}
-use Rattle.jh_history.specs.Admitted.{pool_pages}
-use Rattle.jh_talk.specs.Private.Seats.{IsJoining, AreCpus, CannotBe}
+use Rattle.jh_talk.specs.Private.Seats.{AreCpus, CannotBe}
 use Rattle.jh_talk.proofs.FaultLemmas.{faultless_first}
 use Rattle.jh_talk.proofs.JoinLemmas.{below_cpu, below_device, below_pool, cell_set, cell_speaks, root_set}
 use Rattle.jh_talk.proofs.joining.find_seats.Goals as goal

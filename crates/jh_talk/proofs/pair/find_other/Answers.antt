@@ -1,5 +1,5 @@
 -- The first that is found is the lowest; where none of the cell's devices is one, there is none.
-use Rattle.std.proofs.Common.{◌≡◌, ◌≤◌, ◌∙◌, length, sym, arith}
+use Rattle.std.proofs.Common.{◌≤◌, ◌∙◌, length, sym, arith}
 use Rattle.jh_talk.specs.Private.Others.{is_other}
 use Rattle.jh_talk.proofs.CpuLemmas.{none_more, none_at_all}
 use Rattle.jh_talk.proofs.PairLemmas.{other_within}

@@ -1,5 +1,5 @@
 -- Round by round.
-use Rattle.std.proofs.Common.{◌≡◌, ◌-◌, ◌<◌, ◌≤◌, ◌++◌, ℕ, rules, arith, sym, ap, ◌∙◌}
+use Rattle.std.proofs.Common.{◌≡◌, ◌-◌, ◌<◌, ◌≤◌, ◌++◌, rules, arith, ap, ◌∙◌}
 use Rattle.jh_talk.specs.Programs.{follower_ops, follower_round, follower_start, round_count, rounds_from}
 use Rattle.jh_talk.proofs.ProgramLemmas.{no_round, one_round}
 use Rattle.jh_talk.proofs.program.follower_ops.Goals as goal

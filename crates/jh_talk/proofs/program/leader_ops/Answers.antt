@@ -1,5 +1,5 @@
 -- Round by round.
-use Rattle.std.proofs.Common.{◌≡◌, ◌-◌, ◌<◌, ◌≤◌, ◌++◌, ℕ, rules, arith, sym, ap, ◌∙◌}
+use Rattle.std.proofs.Common.{◌≡◌, ◌-◌, ◌<◌, ◌≤◌, ◌++◌, rules, arith, ap, ◌∙◌}
 use Rattle.jh_talk.specs.Programs.{leader_ops, leader_round, leader_start, round_count, rounds_from}
 use Rattle.jh_talk.proofs.ProgramLemmas.{no_round, one_round}
 use Rattle.jh_talk.proofs.program.leader_ops.Goals as goal

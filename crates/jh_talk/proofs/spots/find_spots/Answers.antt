@@ -1,6 +1,5 @@
 -- Each fault is told where none before it holds.
-use Rattle.std.proofs.Common.{◌≡◌, ◌<◌, ◌+◌, ℕ, ◌∷◌, length, rules, sym, subst, arith, inl, inr, length-append}
-use Rattle.jh_cellcfg.specs.Spelling.{spelling}
+use Rattle.std.proofs.Common.{ℕ, rules, subst, inl, inr}
 use Rattle.jh_talk.specs.Functions.{obstacles}
 use Rattle.jh_talk.specs.Places.{HasNoPlace, IsLeastPlace}
 use Rattle.jh_talk.specs.Windows.{HasNoWindow, IsLeastWindow}

@@ -1,5 +1,5 @@
 -- What is met is passed by a page behind it; the first page at which nothing is met is the least.
-use Rattle.std.proofs.Common.{◌≡◌, ◌<◌, ◌^◌, ◌∷◌, Option, Some, None, rules, arith, sym, subst}
+use Rattle.std.proofs.Common.{◌≡◌, ◌<◌, ◌^◌, ◌∷◌, Some, None, rules, arith, sym, subst}
 use Rattle.std.specs.Prelude.{MatchOption}
 use Rattle.jh_cellcfg.specs.Regions.{virt_end}
 use Rattle.jh_talk.specs.Windows.{HasNoWindow, IsLeastWindow}
