@@ -6,7 +6,9 @@ mod JoinLemmas
 mod PairLemmas
 mod PlaceLemmas
 mod ProgramLemmas
+mod ReachLemmas
 mod ReadLemmas
 mod SectionLemmas
+mod SetupLemmas
 mod SoundLemmas
 mod WindowLemmas
