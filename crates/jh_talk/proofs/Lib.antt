@@ -1,0 +1,14 @@
+mod AddressLemmas
+mod CpuLemmas
+mod FaultLemmas
+mod ImageLemmas
+mod JoinLemmas
+mod PairLemmas
+mod PlaceLemmas
+mod ProgramLemmas
+mod ReachLemmas
+mod ReadLemmas
+mod SectionLemmas
+mod SetupLemmas
+mod SoundLemmas
+mod WindowLemmas
