@@ -17,6 +17,11 @@ pub on_ended : (P Q : Reply → Type 0) (stop : CallFault) → ((reply : Reply) 
 on_ended P Q (Ended ending) f h = f (reply_of ending) h
 on_ended P Q NoMemory f h = tt
 
+-- of two facts of the reply of a call that ended a third
+pub both_ended : (P Q R : Reply → Type 0) (stop : CallFault) → ((reply : Reply) → P reply → Q reply → R reply) → OnEnded stop P → OnEnded stop Q → OnEnded stop R
+both_ended P Q R (Ended ending) f h k = f (reply_of ending) h k
+both_ended P Q R NoMemory f h k = tt
+
 -- bytes that are refused stop the call
 pub refuses : (most : ℕ) (contents : Contents) (name : List ℕ) (Why : List ℕ → List ℕ → Type 0) (bytes words : List ℕ) → HandsOut (contents name) most bytes → Why bytes words
     → (stop : CallFault) → OnEnded stop (λ reply. reply ≡ record { status = Refused; text = refusal_line name words }) → OnEnded stop (EndsAt most contents name Why)

@@ -4,11 +4,11 @@ ghost use Rattle.jh_history.specs.Admitted.{IsAdmitted};
 ghost use Rattle.jh_text.specs.FaultText.{journal_fault_text};
 ghost use Rattle.jh_text.specs.declared.fault.JournalFault.TheVariants.{NoMemory as for_memory};
 ghost use Rattle.jh_outside.specs.Trail.{AsksAll};
-ghost use Rattle.jh_cli.specs.Order.{AsksUntilEnd, AsksIn, AsksBoardAnd};
+ghost use Rattle.jh_cli.specs.Order.{AsksTo, AsksFile, AsksWithJournal};
 ghost use Rattle.jh_cli.specs.Limits.{asked_of_a_journal};
 ghost use Rattle.jh_cli.specs.Lines.{refusal_line};
 ghost use Rattle.jh_cli.specs.Reading.{EndsAt, IsCountedFault};
-ghost use Rattle.jh_cli.specs.Audit.{JournalRefusal, AuditsBy, Audits, due_line, verdict_line, verdict_status};
+ghost use Rattle.jh_cli.specs.Audit.{JournalRefusal, journal_file, AuditsBy, Audits, due_line, verdict_line, verdict_status};
 ghost use Rattle.jh_cli.specs.Private.JournalFiles.{JudgesFile};
 ghost use Rattle.jh_cli.specs.Private.Endings.{reply_of, OnEnded, OnEnding};
 
@@ -47,7 +47,7 @@ fn judge<F: Files>(
     ensures err { IfErr result (λ stop. OnEnded stop (EndsAt asked_of_a_journal (F.contents files.old) name.now JournalRefusal)) }
     ensures counted { IfErr result (λ stop. OnEnded stop (IsCountedFault (F.faults files.old) (F.faults files.new) (F.failed files.new))) }
     ensures asked { OnOk result (AsksAll F.Files (name.now ∷ []) files.old files.new) }
-    ensures asked_until { IfErr result (λ stop. OnEnded stop (AsksUntilEnd F.Files files.old files.new (name.now ∷ []))) }
+    ensures asked_until { IfErr result (λ stop. OnEnded stop (AsksTo F.Files files.old files.new [] name.now)) }
 {
     let bytes = read_below(alloc, files, name, MAX_JOURNAL_READ)?;
     match audit_journal(alloc, image, bytes.as_slice()) {
@@ -121,7 +121,7 @@ fn audit_by<F: Files>(
     requires admitted { IsAdmitted image }
     ensures ends { OnEnding result (AuditsBy (F.contents files.old) name.now image) }
     ensures counted { OnEnding result (IsCountedFault (F.faults files.old) (F.faults files.new) (F.failed files.new)) }
-    ensures asked { OnEnding result (AsksIn F.Files files.old files.new (name.now ∷ [])) }
+    ensures asked { OnEnding result (AsksFile F.Files files.old files.new (F.contents files.old) name.now journal_file) }
 {
     let verdict = judge(alloc, files, image, name)?;
     Ok(tell_verdict(alloc, &verdict)?)
@@ -136,7 +136,7 @@ pub fn audit<F: Files>(
 ) -> Result<Ending, CallFault>
     ensures ends { OnEnding result (Audits (F.contents files.old) board.now name.now) }
     ensures counted { OnEnding result (IsCountedFault (F.faults files.old) (F.faults files.new) (F.failed files.new)) }
-    ensures asked { OnEnding result (AsksBoardAnd F.Files files.old files.new (F.contents files.old) board.now (name.now ∷ [])) }
+    ensures asked { OnEnding result (AsksWithJournal F.Files files.old files.new (F.contents files.old) board.now name.now) }
 {
     let image = open(alloc, files, board)?;
     audit_by(alloc, files, image, name)

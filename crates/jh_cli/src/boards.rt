@@ -1,11 +1,11 @@
 //! The image that a board's files make.
-ghost use Rattle.std.specs.Prelude.{◌≡◌, ◌≤◌, IfOk, IfErr, ℕ, List, OnOk};
+ghost use Rattle.std.specs.Prelude.{◌≡◌, ◌≤◌, IfOk, IfErr, OnOk};
 ghost use Rattle.jh_history.specs.Admitted.{IsAdmitted};
 ghost use Rattle.jh_image.specs.Causes.{OnRefused};
 ghost use Rattle.jh_image.specs.Images.{IsImage};
 ghost use Rattle.jh_image.specs.declared.fault.ImageFault.TheVariants.{NoMemory as image_for_memory};
 ghost use Rattle.jh_image.specs.Order.{AsksBoard};
-ghost use Rattle.jh_cli.specs.Order.{AsksBoardAnd};
+ghost use Rattle.jh_cli.specs.Order.{AsksToCause};
 ghost use Rattle.jh_cli.specs.Boards.{stopped, EndsAtBoard};
 ghost use Rattle.jh_cli.specs.Reading.{IsCountedFault};
 ghost use Rattle.jh_cli.specs.Private.Endings.{OnEnded};
@@ -50,7 +50,7 @@ pub fn open<F: Files>(alloc: Global, files: &mut F, board: &str) -> Result<Image
     ensures never_falls { F.faults files.old ≤ F.faults files.new }
     ensures kept { F.contents files.new ≡ F.contents files.old }
     ensures asked { OnOk result (AsksBoard F.Files (F.contents files.old) board.now files.old files.new) }
-    ensures asked_until { IfErr result (λ stop. (more : List (List ℕ)) → OnEnded stop (AsksBoardAnd F.Files files.old files.new (F.contents files.old) board.now more)) }
+    ensures asked_until { IfErr result (λ stop. OnEnded stop (AsksToCause F.Files files.old files.new (F.contents files.old) board.now)) }
 {
     match read_image(alloc, files, board) {
         Ok(image) => Ok(image),

@@ -3,10 +3,10 @@ ghost use Rattle.std.specs.Prelude.{◌≡◌, ◌≤◌, length, map, string_by
 ghost use Rattle.jh_cellcfg.specs.Texts.{config_fault_text};
 ghost use Rattle.jh_cellcfg.specs.declared.fault.ConfigFault.TheVariants.{NoMemory as for_memory};
 ghost use Rattle.jh_outside.specs.Trail.{AsksAll};
-ghost use Rattle.jh_cli.specs.Order.{AsksUntilEnd, AsksIn};
+ghost use Rattle.jh_cli.specs.Order.{AsksTo, AsksToCell, AsksCells, AsksCheck};
 ghost use Rattle.jh_cli.specs.Lines.{refusal_line};
 ghost use Rattle.jh_cli.specs.Reading.{Spells, EndsAtFile, IsCountedFault};
-ghost use Rattle.jh_cli.specs.Check.{IsCellFile, CellRefusal, IsSystemFile, SystemRefusal, SpellCells, EndsAmong, ChecksCells, Checks, checked, findings_text};
+ghost use Rattle.jh_cli.specs.Check.{IsCellFile, CellRefusal, IsSystemFile, SystemRefusal, SpellCells, ChecksCells, Checks, checked, findings_text};
 ghost use Rattle.jh_cli.specs.Private.Endings.{reply_of, OnEnded, OnEnding};
 
 use crate::ending::{CallFault, Ending, read_below, refused_for};
@@ -38,7 +38,7 @@ fn cell<F: Files>(alloc: Global, files: &mut F, name: &str) -> Result<CellConfig
     ensures never_falls { F.faults files.old ≤ F.faults files.new }
     ensures kept { F.contents files.new ≡ F.contents files.old }
     ensures asked { OnOk result (AsksAll F.Files (name.now ∷ []) files.old files.new) }
-    ensures asked_until { IfErr result (λ stop. OnEnded stop (AsksUntilEnd F.Files files.old files.new (name.now ∷ []))) }
+    ensures asked_until { IfErr result (λ stop. OnEnded stop (AsksTo F.Files files.old files.new [] name.now)) }
 {
     let bytes = read_below(alloc, files, name, MAX_READ)?;
     match read_cell(alloc, bytes.as_slice()) {
@@ -55,7 +55,7 @@ pub fn system<F: Files>(alloc: Global, files: &mut F, name: &str) -> Result<Syst
     ensures never_falls { F.faults files.old ≤ F.faults files.new }
     ensures kept { F.contents files.new ≡ F.contents files.old }
     ensures asked { OnOk result (AsksAll F.Files (name.now ∷ []) files.old files.new) }
-    ensures asked_until { IfErr result (λ stop. OnEnded stop (AsksUntilEnd F.Files files.old files.new (name.now ∷ []))) }
+    ensures asked_until { IfErr result (λ stop. OnEnded stop (AsksTo F.Files files.old files.new [] name.now)) }
 {
     let bytes = read_below(alloc, files, name, MAX_READ)?;
     match read_system(alloc, bytes.as_slice()) {
@@ -72,11 +72,10 @@ fn cells<F: Files>(
 ) -> Result<Seq<CellConfig>, CallFault>
     ensures ok { IfOk result (SpellCells (F.contents files.old) (map string_bytes names.now)) }
     ensures few { IfOk result (λ cells. length cells ≡ length names.now) }
-    ensures err { IfErr result (λ stop. OnEnded stop (EndsAmong (F.contents files.old) (map string_bytes names.now))) }
     ensures counted { IfErr result (λ stop. OnEnded stop (IsCountedFault (F.faults files.old) (F.faults files.new) (F.failed files.new))) }
     ensures never_falls { F.faults files.old ≤ F.faults files.new }
     ensures asked { OnOk result (AsksAll F.Files (map string_bytes names.now) files.old files.new) }
-    ensures asked_until { IfErr result (λ stop. OnEnded stop (AsksUntilEnd F.Files files.old files.new (map string_bytes names.now))) }
+    ensures asked_until { IfErr result (λ stop. OnEnded stop (AsksToCell F.Files files.old files.new (F.contents files.old) (map string_bytes names.now))) }
 {
     let mut cells = Seq::new(alloc);
     for name in names {
@@ -130,7 +129,7 @@ fn check_cells<F: Files>(
     requires { length names.now ≤ 15 }
     ensures ends { OnEnding result (ChecksCells (F.contents files.old) (map string_bytes names.now) system.now) }
     ensures counted { OnEnding result (IsCountedFault (F.faults files.old) (F.faults files.new) (F.failed files.new)) }
-    ensures asked { OnEnding result (AsksIn F.Files files.old files.new (map string_bytes names.now)) }
+    ensures asked { OnEnding result (AsksCells F.Files files.old files.new (F.contents files.old) (map string_bytes names.now)) }
 {
     let cells = cells(alloc, files, names)?;
     Ok(tell_findings(alloc, system, cells.as_slice())?)
@@ -146,7 +145,7 @@ pub fn check<F: Files>(
     requires { length names.now ≤ 15 }
     ensures ends { OnEnding result (Checks (F.contents files.old) system_name.now (map string_bytes names.now)) }
     ensures counted { OnEnding result (IsCountedFault (F.faults files.old) (F.faults files.new) (F.failed files.new)) }
-    ensures asked { OnEnding result (AsksIn F.Files files.old files.new (system_name.now ∷ map string_bytes names.now)) }
+    ensures asked { OnEnding result (AsksCheck F.Files files.old files.new (F.contents files.old) system_name.now (map string_bytes names.now)) }
 {
     let system = system(alloc, files, system_name)?;
     check_cells(alloc, files, &system, names)

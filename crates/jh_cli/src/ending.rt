@@ -2,7 +2,7 @@
 ghost use Rattle.std.specs.Prelude.{◌≡◌, ◌≤◌, ◌<◌, length, OnOk, IfOk, IfErr, IfSome, ◌∷◌, []};
 ghost use Rattle.jh_outside.specs.Reads.{HandsOut};
 ghost use Rattle.jh_outside.specs.Trail.{AsksAll};
-ghost use Rattle.jh_cli.specs.Order.{AsksUntilEnd};
+ghost use Rattle.jh_cli.specs.Order.{AsksTo};
 ghost use Rattle.jh_cli.specs.Lines.{fault_line, refusal_line};
 ghost use Rattle.jh_cli.specs.Reading.{EndsAt, RefusesOversizeAt, IsCountedFault};
 ghost use Rattle.jh_cli.specs.Private.Endings.{OnEnded};
@@ -89,7 +89,7 @@ pub fn read_below<F: Files>(
     ensures never_falls { F.faults files.old ≤ F.faults files.new }
     ensures kept { F.contents files.new ≡ F.contents files.old }
     ensures asked { OnOk result (AsksAll F.Files (name.now ∷ []) files.old files.new) }
-    ensures asked_until { IfErr result (λ stop. OnEnded stop (AsksUntilEnd F.Files files.old files.new (name.now ∷ []))) }
+    ensures asked_until { IfErr result (λ stop. OnEnded stop (AsksTo F.Files files.old files.new [] name.now)) }
 {
     let bytes = match files.read(name, most) {
         Ok(bytes) => bytes,

@@ -2,9 +2,9 @@
 ghost use Rattle.std.specs.Prelude.{◌≡◌, ◌≤◌, IfOk, IfErr, ◌∷◌, [], OnOk};
 ghost use Rattle.jh_spec.specs.Specs.{MayBeWritten};
 ghost use Rattle.jh_outside.specs.Trail.{AsksAll};
-ghost use Rattle.jh_cli.specs.Order.{AsksUntilEnd, AsksIn};
+ghost use Rattle.jh_cli.specs.Order.{AsksTo, AsksFile};
 ghost use Rattle.jh_cli.specs.Reading.{Spells, EndsAtFile, IsCountedFault};
-ghost use Rattle.jh_cli.specs.Pack.{IsSpecFile, SpecRefusal, Packs, packed};
+ghost use Rattle.jh_cli.specs.Pack.{IsSpecFile, SpecRefusal, spec_file, Packs, packed};
 ghost use Rattle.jh_cli.specs.Private.Endings.{OnEnded, OnEnding};
 
 use crate::ending::{CallFault, Ending, read_below, refused};
@@ -26,7 +26,7 @@ fn spec<F: Files>(alloc: Global, files: &mut F, name: &str) -> Result<Spec, Call
     ensures counted { IfErr result (λ stop. OnEnded stop (IsCountedFault (F.faults files.old) (F.faults files.new) (F.failed files.new))) }
     ensures never_falls { F.faults files.old ≤ F.faults files.new }
     ensures asked { OnOk result (AsksAll F.Files (name.now ∷ []) files.old files.new) }
-    ensures asked_until { IfErr result (λ stop. OnEnded stop (AsksUntilEnd F.Files files.old files.new (name.now ∷ []))) }
+    ensures asked_until { IfErr result (λ stop. OnEnded stop (AsksTo F.Files files.old files.new [] name.now)) }
 {
     let bytes = read_below(alloc, files, name, MAX_READ)?;
     match read_spec(alloc, bytes.as_slice()) {
@@ -55,7 +55,7 @@ fn written(alloc: Global, spec: &Spec) -> Result<Vec<u8>, NoMemory>
 pub fn pack<F: Files>(alloc: Global, files: &mut F, name: &str) -> Result<Ending, CallFault>
     ensures ends { OnEnding result (Packs (F.contents files.old) name.now) }
     ensures counted { OnEnding result (IsCountedFault (F.faults files.old) (F.faults files.new) (F.failed files.new)) }
-    ensures asked { OnEnding result (AsksIn F.Files files.old files.new (name.now ∷ [])) }
+    ensures asked { OnEnding result (AsksFile F.Files files.old files.new (F.contents files.old) name.now spec_file) }
 {
     let spec = spec(alloc, files, name)?;
     Ok(Ending {

@@ -1,8 +1,9 @@
 //! The pins that a board's cells hold after a schedule.
-ghost use Rattle.std.specs.Prelude.{All, IsTrue, IfOk, ◌∷◌, []};
+ghost use Rattle.std.specs.Prelude.{All, IsTrue, IfOk};
 ghost use Rattle.jh_history.specs.Admitted.{IsAdmitted};
 ghost use Rattle.jh_history.specs.Lives.{is_on_board};
-ghost use Rattle.jh_cli.specs.Order.{AsksIn, AsksBoardAnd};
+ghost use Rattle.jh_cli.specs.Order.{AsksFile, AsksWithSchedule};
+ghost use Rattle.jh_cli.specs.Play.{schedule_file};
 ghost use Rattle.jh_cli.specs.Pins.{ArePinsTold, PinsBy, Pins};
 ghost use Rattle.jh_cli.specs.Reading.{IsCountedFault};
 ghost use Rattle.jh_cli.specs.Private.Endings.{reply_of, OnEnding};
@@ -47,7 +48,7 @@ fn pins_by<F: Files>(
     requires admitted { IsAdmitted image }
     ensures ends { OnEnding result (PinsBy (F.contents files.old) name.now image) }
     ensures counted { OnEnding result (IsCountedFault (F.faults files.old) (F.faults files.new) (F.failed files.new)) }
-    ensures asked { OnEnding result (AsksIn F.Files files.old files.new (name.now ∷ [])) }
+    ensures asked { OnEnding result (AsksFile F.Files files.old files.new (F.contents files.old) name.now (schedule_file image)) }
 {
     let cpus = schedule(alloc, files, name, &image)?;
     Ok(pins_image(alloc, image, cpus.as_slice())?)
@@ -62,7 +63,7 @@ pub fn pins<F: Files>(
 ) -> Result<Ending, CallFault>
     ensures ends { OnEnding result (Pins (F.contents files.old) board.now name.now) }
     ensures counted { OnEnding result (IsCountedFault (F.faults files.old) (F.faults files.new) (F.failed files.new)) }
-    ensures asked { OnEnding result (AsksBoardAnd F.Files files.old files.new (F.contents files.old) board.now (name.now ∷ [])) }
+    ensures asked { OnEnding result (AsksWithSchedule F.Files files.old files.new (F.contents files.old) board.now name.now) }
 {
     let image = open(alloc, files, board)?;
     pins_by(alloc, files, image, name)

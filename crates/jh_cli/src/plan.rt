@@ -7,7 +7,7 @@ ghost use Rattle.jh_plan.specs.declared.fault.PlanFault.TheVariants.{NoMemory as
 ghost use Rattle.jh_plan.specs.Demands.{IsDemand};
 ghost use Rattle.jh_plan.specs.FaultText.{demands_fault_text, plan_fault_text};
 ghost use Rattle.jh_cli.specs.Lines.{refusal_line};
-ghost use Rattle.jh_cli.specs.Order.{AsksUntilEnd, AsksIn};
+ghost use Rattle.jh_cli.specs.Order.{AsksTo, AsksPlan};
 ghost use Rattle.jh_cli.specs.Plan.{AdmittedRefusal, AreDemands, DemandsRefusal, IsAdmittedSystemFile, IsPlanned, IsUnadmitted, Plans, PlansBy};
 ghost use Rattle.jh_cli.specs.Reading.{Spells, EndsAtFile, IsCountedFault};
 ghost use Rattle.jh_cli.specs.Private.Endings.{reply_of, OnEnded, OnEnding};
@@ -56,7 +56,7 @@ fn admitted_system<F: Files>(
     ensures never_falls { F.faults files.old ≤ F.faults files.new }
     ensures kept { F.contents files.new ≡ F.contents files.old }
     ensures asked { OnOk result (AsksAll F.Files (name.now ∷ []) files.old files.new) }
-    ensures asked_until { IfErr result (λ stop. OnEnded stop (AsksUntilEnd F.Files files.old files.new (name.now ∷ []))) }
+    ensures asked_until { IfErr result (λ stop. OnEnded stop (AsksTo F.Files files.old files.new [] name.now)) }
 {
     // for the proof: what stops the call is handed up as it is, and `?` would make it anew by `From`
     let system = match system(alloc, files, name) {
@@ -94,7 +94,7 @@ fn demands<F: Files>(
     ensures never_falls { F.faults files.old ≤ F.faults files.new }
     ensures kept { F.contents files.new ≡ F.contents files.old }
     ensures asked { OnOk result (AsksAll F.Files (name.now ∷ []) files.old files.new) }
-    ensures asked_until { IfErr result (λ stop. OnEnded stop (AsksUntilEnd F.Files files.old files.new (name.now ∷ []))) }
+    ensures asked_until { IfErr result (λ stop. OnEnded stop (AsksTo F.Files files.old files.new [] name.now)) }
 {
     let bytes = read_below(alloc, files, name, MAX_READ)?;
     match read_demands(alloc, bytes.as_slice()) {
@@ -150,7 +150,7 @@ fn plan_by<F: Files>(
     requires admitted { IsAdmittedSystem system.now }
     ensures ends { OnEnding result (PlansBy (F.contents files.old) name.now system.now) }
     ensures counted { OnEnding result (IsCountedFault (F.faults files.old) (F.faults files.new) (F.failed files.new)) }
-    ensures asked { OnEnding result (AsksIn F.Files files.old files.new (name.now ∷ [])) }
+    ensures asked { OnEnding result (AsksTo F.Files files.old files.new [] name.now) }
 {
     let demands = demands(alloc, files, name)?;
     Ok(tell_plan(alloc, name, system, demands.as_slice())?)
@@ -165,7 +165,7 @@ pub fn plan<F: Files>(
 ) -> Result<Ending, CallFault>
     ensures ends { OnEnding result (Plans (F.contents files.old) system_name.now name.now) }
     ensures counted { OnEnding result (IsCountedFault (F.faults files.old) (F.faults files.new) (F.failed files.new)) }
-    ensures asked { OnEnding result (AsksIn F.Files files.old files.new (system_name.now ∷ name.now ∷ [])) }
+    ensures asked { OnEnding result (AsksPlan F.Files files.old files.new (F.contents files.old) system_name.now name.now) }
 {
     let system = admitted_system(alloc, files, system_name)?;
     plan_by(alloc, files, &system, name)

@@ -3,8 +3,8 @@ ghost use Rattle.std.specs.Prelude.{◌≡◌, All, IsTrue, IfOk, ◌∷◌, []}
 ghost use Rattle.jh_history.specs.Admitted.{IsAdmitted};
 ghost use Rattle.jh_history.specs.Lives.{is_on_board};
 ghost use Rattle.jh_run.specs.Ends.{is_full};
-ghost use Rattle.jh_cli.specs.Order.{AsksIn, AsksBoardAnd};
-ghost use Rattle.jh_cli.specs.Play.{IsPlayed, played_status, PlaysBy, Plays};
+ghost use Rattle.jh_cli.specs.Order.{AsksFile, AsksWithSchedule};
+ghost use Rattle.jh_cli.specs.Play.{schedule_file, IsPlayed, played_status, PlaysBy, Plays};
 ghost use Rattle.jh_cli.specs.Reading.{IsCountedFault};
 ghost use Rattle.jh_cli.specs.Private.Endings.{reply_of, OnEnding};
 
@@ -53,7 +53,7 @@ fn play_by<F: Files>(
     requires admitted { IsAdmitted image }
     ensures ends { OnEnding result (PlaysBy (F.contents files.old) name.now image) }
     ensures counted { OnEnding result (IsCountedFault (F.faults files.old) (F.faults files.new) (F.failed files.new)) }
-    ensures asked { OnEnding result (AsksIn F.Files files.old files.new (name.now ∷ [])) }
+    ensures asked { OnEnding result (AsksFile F.Files files.old files.new (F.contents files.old) name.now (schedule_file image)) }
 {
     let cpus = schedule(alloc, files, name, &image)?;
     Ok(play_image(alloc, image, cpus.as_slice())?)
@@ -68,7 +68,7 @@ pub fn play<F: Files>(
 ) -> Result<Ending, CallFault>
     ensures ends { OnEnding result (Plays (F.contents files.old) board.now name.now) }
     ensures counted { OnEnding result (IsCountedFault (F.faults files.old) (F.faults files.new) (F.failed files.new)) }
-    ensures asked { OnEnding result (AsksBoardAnd F.Files files.old files.new (F.contents files.old) board.now (name.now ∷ [])) }
+    ensures asked { OnEnding result (AsksWithSchedule F.Files files.old files.new (F.contents files.old) board.now name.now) }
 {
     let image = open(alloc, files, board)?;
     play_by(alloc, files, image, name)

@@ -1,7 +1,7 @@
 //! Running a board, with a worker for each of its CPUs.
 ghost use Rattle.std.specs.Prelude.{IfOk, []};
 ghost use Rattle.jh_history.specs.Admitted.{IsAdmitted};
-ghost use Rattle.jh_cli.specs.Order.{AsksBoardAnd};
+ghost use Rattle.jh_cli.specs.Order.{AsksBoardAlone};
 ghost use Rattle.jh_cli.specs.Run.{IsToldRun, Runs};
 ghost use Rattle.jh_cli.specs.Reading.{IsCountedFault};
 ghost use Rattle.jh_cli.specs.Private.Endings.{reply_of, OnEnding};
@@ -46,7 +46,7 @@ pub fn run<R: Threads + Wait + Sync, F: Files, G: Gate + Sync>(
 ) -> Result<Ending, CallFault>
     ensures ends { OnEnding result (Runs (F.contents files.old) board.now) }
     ensures counted { OnEnding result (IsCountedFault (F.faults files.old) (F.faults files.new) (F.failed files.new)) }
-    ensures asked { OnEnding result (AsksBoardAnd F.Files files.old files.new (F.contents files.old) board.now []) }
+    ensures asked { OnEnding result (AsksBoardAlone F.Files files.old files.new (F.contents files.old) board.now) }
 {
     let image = open(alloc, files, board)?;
     Ok(run_image(rt, alloc, image, gate)?)

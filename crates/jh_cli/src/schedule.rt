@@ -2,7 +2,7 @@
 ghost use Rattle.std.specs.Prelude.{◌≡◌, ◌≤◌, ◌<◌, All, IsTrue, IfOk, IfErr, ◌∷◌, [], OnOk};
 ghost use Rattle.jh_history.specs.Lives.{is_on_board};
 ghost use Rattle.jh_outside.specs.Trail.{AsksAll};
-ghost use Rattle.jh_cli.specs.Order.{AsksUntilEnd};
+ghost use Rattle.jh_cli.specs.Order.{AsksTo};
 ghost use Rattle.jh_cli.specs.Reading.{Spells, EndsAtFile, IsCountedFault};
 ghost use Rattle.jh_cli.specs.Play.{AreCpus, IsScheduleFile, ScheduleRefusal};
 ghost use Rattle.jh_cli.specs.Private.Endings.{OnEnded};
@@ -43,7 +43,7 @@ pub fn schedule<F: Files>(
     ensures never_falls { F.faults files.old ≤ F.faults files.new }
     ensures kept { F.contents files.new ≡ F.contents files.old }
     ensures asked { OnOk result (AsksAll F.Files (name.now ∷ []) files.old files.new) }
-    ensures asked_until { IfErr result (λ stop. OnEnded stop (AsksUntilEnd F.Files files.old files.new (name.now ∷ []))) }
+    ensures asked_until { IfErr result (λ stop. OnEnded stop (AsksTo F.Files files.old files.new [] name.now)) }
 {
     let bytes = read_below(alloc, files, name, MAX_READ)?;
     match read_schedule(alloc, bytes.as_slice(), cpu_mask_of(image)) {

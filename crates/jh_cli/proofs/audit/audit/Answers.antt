@@ -1,9 +1,9 @@
 -- The board is read, and what is asked of its image is done.
-use Rattle.std.proofs.Common.{[], ◌∷◌}
-use Rattle.jh_cli.specs.Audit.{AuditsBy}
+use Rattle.jh_cli.specs.Audit.{journal_file, AuditsBy}
 use Rattle.jh_cli.proofs.BoardLemmas.{opens}
-use Rattle.jh_cli.proofs.OrderLemmas.{board_behind}
-use Rattle.jh_cli.proofs.StopLemmas.{counted_behind}
+use Rattle.jh_cli.specs.Order.{AsksFile, AsksWithJournal}
+use Rattle.jh_cli.proofs.OrderLemmas.{board_behind, board_ends}
+use Rattle.jh_cli.proofs.StopLemmas.{counted_behind, told_up}
 use Rattle.jh_cli.proofs.audit.audit.Goals as goal
 
 pub returns-clause-ends : goal.returns-clause-ends
@@ -18,4 +18,15 @@ returns-clause-counted g c =
 
 pub returns-clause-asked : goal.returns-clause-asked
 returns-clause-asked g c =
-    board_behind g.F.Files (g.F.Files.contents c.args.files.now) c.args.board.now (c.args.name.now ∷ []) c.args.files.now c.open.new.files c.audit_by.new.files c.in_ok-image.ensures.asked c.audit_by.result c.audit_by.ensures.asked
+    let contents = g.F.Files.contents c.args.files.now in
+    let rest = rw c.open.ensures.kept at c.audit_by.ensures.asked in
+    board_behind g.F.Files contents c.args.board.now (λ image behind. AsksFile g.F.Files behind c.audit_by.new.files contents c.args.name.now journal_file) c.in_ok-image.image c.args.files.now c.open.new.files c.audit_by.new.files
+    c.in_ok-image.ensures.image c.in_ok-image.ensures.asked c.audit_by.result rest
+
+pub returns-in_err-image-clause-asked : goal.returns-in_err-image-clause-asked
+returns-in_err-image-clause-asked g c =
+    let contents = g.F.Files.contents c.args.files.now in
+    let s = c.args.files.now in
+    let t = c.open.new.files in
+    told_up (AsksWithJournal g.F.Files s t contents c.args.board.now c.args.name.now) c.from_residual.result c.in_err-image.field-0.0 c.from_residual.ensures.1
+    (board_ends g.F.Files contents c.args.board.now (λ image behind. AsksFile g.F.Files behind t contents c.args.name.now journal_file) s t c.in_err-image.field-0.0 c.in_err-image.ensures.asked_until)

@@ -4,19 +4,15 @@ use Rattle.std.specs.Prelude.{string_bytes}
 use Rattle.std.proofs.lemmas.List.{length-append}
 use Rattle.jh_outside.proofs.Public.{loop_more}
 use Rattle.jh_outside.specs.Trail.{no_ask}
-use Rattle.jh_cli.proofs.OrderLemmas.{next_stops}
 use Rattle.jh_cli.proofs.CellLemmas.{spell_next, stops_next}
 use Rattle.jh_cli.proofs.check.cells.Goals as goal
 
-pub returns-in-Err-clause-err : goal.returns-in-Err-clause-err
-returns-in-Err-clause-err g c =
-    let stops = rw (c.loop-name.invariant.kept, c.as_str.ensures.value, c.name-item.is) at c.in-Err.ensures.err in
-    stops_next string_bytes (g.F.Files.contents c.args.files.now) c.args.names.now c.loop-name.name-index _ c.loop-name.cells c.loop-name-test.true c.loop-name.invariant.spelled c.in-Err.stop stops
-
 pub returns-in-Err-clause-asked_until : goal.returns-in-Err-clause-asked_until
 returns-in-Err-clause-asked_until g c =
-    next_stops g.F.Files string_bytes c.args.names.now c.loop-name.name-index c.name-item.result c.args.files.now c.loop-name.files c.cell.new.files c.loop-name-test.true c.name-item.is c.loop-name.invariant.asked
-    c.in-Err.stop (rw c.as_str.ensures.value at c.in-Err.ensures.asked_until)
+    let stops = rw (c.loop-name.invariant.kept, c.as_str.ensures.value, c.name-item.is) at c.in-Err.ensures.err in
+    let last = rw (c.as_str.ensures.value, c.name-item.is) at c.in-Err.ensures.asked_until in
+    stops_next g.F.Files string_bytes (g.F.Files.contents c.args.files.now) c.args.names.now c.loop-name.name-index _ c.loop-name.cells c.args.files.now c.loop-name.files c.cell.new.files
+    c.loop-name-test.true c.loop-name.invariant.spelled c.loop-name.invariant.asked c.in-Err.stop stops last
 
 pub loop-name-preserved : goal.loop-name-preserved
 loop-name-preserved g c =

@@ -1,9 +1,9 @@
 -- The system is read, and then the demands.
-use Rattle.std.proofs.Common.{[], ◌∷◌}
-use Rattle.jh_cli.specs.Plan.{admitted_file, PlansBy}
-use Rattle.jh_cli.specs.Order.{AsksIn}
-use Rattle.jh_cli.proofs.OrderLemmas.{file_behind, first_stops}
-use Rattle.jh_cli.proofs.StopLemmas.{goes_on, counted_behind, told_up}
+use Rattle.std.proofs.Common.{[], inl, inr}
+use Rattle.jh_cli.specs.Plan.{admitted_file, AdmittedRefusal, PlansBy}
+use Rattle.jh_cli.specs.Reading.{EndsAtFile}
+use Rattle.jh_cli.specs.Order.{AsksTo, AsksPlan}
+use Rattle.jh_cli.proofs.StopLemmas.{goes_on, counted_behind, told_up, both_ended, on_ending}
 use Rattle.jh_cli.proofs.plan.plan.Goals as goal
 
 pub returns-clause-ends : goal.returns-clause-ends
@@ -18,10 +18,19 @@ returns-clause-counted g c =
 
 pub returns-clause-asked : goal.returns-clause-asked
 returns-clause-asked g c =
-    file_behind g.F.Files c.args.system_name.now (c.args.name.now ∷ []) c.args.files.now c.admitted_system.new.files c.plan_by.new.files c.in_ok-system.ensures.asked c.plan_by.result c.plan_by.ensures.asked
+    let contents = g.F.Files.contents c.args.files.now in
+    let s = c.args.files.now in
+    let t = c.admitted_system.new.files in
+    let u = c.plan_by.new.files in
+    on_ending (AsksTo g.F.Files t u [] c.args.name.now) (AsksPlan g.F.Files s u contents c.args.system_name.now c.args.name.now) c.plan_by.result
+    (λ reply last. inr (record { of_system = c.in_ok-system.system; spells = c.in_ok-system.ensures.ok; behind = t; asked = c.in_ok-system.ensures.asked; rest = last })) c.plan_by.ensures.asked
 
 pub returns-in_err-system-clause-asked : goal.returns-in_err-system-clause-asked
 returns-in_err-system-clause-asked g c =
-    let names = c.args.name.now ∷ [] in
-    told_up (AsksIn g.F.Files c.args.files.now c.admitted_system.new.files (c.args.system_name.now ∷ names)) c.from_residual.result c.in_err-system.field-0.0 c.from_residual.ensures.1
-    (first_stops g.F.Files c.args.system_name.now names c.args.files.now c.admitted_system.new.files c.in_err-system.field-0.0 c.in_err-system.ensures.asked_until)
+    let contents = g.F.Files.contents c.args.files.now in
+    let system = c.args.system_name.now in
+    let s = c.args.files.now in
+    let t = c.admitted_system.new.files in
+    told_up (AsksPlan g.F.Files s t contents system c.args.name.now) c.from_residual.result c.in_err-system.field-0.0 c.from_residual.ensures.1
+    (both_ended (EndsAtFile contents system AdmittedRefusal) (AsksTo g.F.Files s t [] system) (AsksPlan g.F.Files s t contents system c.args.name.now) c.in_err-system.field-0.0
+    (λ reply ends last. inl (ends, last)) c.in_err-system.ensures.err c.in_err-system.ensures.asked_until)
