@@ -33,10 +33,10 @@ spell_next {X} f contents names i d cells cell lt all one =
     subst (λ (ns : List (List ℕ)). SpellCells contents ns (cells ++ cell ∷ [])) (sym mapped) (spell_more contents (map f (take i names)) cells (f (get_or names i d)) cell all one)
 
 -- the next name's file stops the call, and is the last that is read
-pub stops_next : {S : Type 0} (files : Ghosts S) {X : Type 0} (f : X → List ℕ) (contents : Contents) (names : List X) (i : ℕ) (d : X) (cells : List CellConfig) (s t u : S)
+pub stops_next : {X : Type 0} {S : Type 0} (files : Ghosts S) (f : X → List ℕ) (contents : Contents) (names : List X) (i : ℕ) (d : X) (cells : List CellConfig) (s t u : S)
     → i < length names → SpellCells contents (map f (take i names)) cells → AsksAll files (map f (take i names)) s t
     → (stop : CallFault) → OnEnded stop (EndsAtFile contents (f (get_or names i d)) CellRefusal) → OnEnded stop (AsksTo files t u [] (f (get_or names i d))) → OnEnded stop (AsksToCell files s u contents (map f names))
-stops_next files {X} f contents names i d cells s t u lt all first stop ends last =
+stops_next {X} files f contents names i d cells s t u lt all first stop ends last =
     let before = map f (take i names) in
     let name = f (get_or names i d) in
     let split : map f names ≡ before ++ name ∷ map f (drop (suc i) names) =

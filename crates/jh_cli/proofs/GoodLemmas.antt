@@ -403,7 +403,7 @@ good_answered cells systems one_system no_bad not_long one_image unrefused conte
 good_answered cells systems one_system no_bad not_long one_image unrefused contents (Some (SoakOf rounds)) reply good h = soak_unrefused rounds reply good.0 good.1 h
 good_answered cells systems one_system no_bad not_long one_image unrefused contents (Some (PlanOf system demands)) reply good h = plan_unrefused systems one_system contents system demands reply good h
 good_answered cells systems one_system no_bad not_long one_image unrefused contents (Some (PinsOf board schedule)) reply good h = pins_unrefused one_image unrefused contents board schedule reply good h
-good_answered cells systems no_bad not_long one_image unrefused contents (Some (AuditOf board journal)) reply good h = audit_unrefused unrefused no_bad not_long contents board journal reply good h
+good_answered cells systems one_system no_bad not_long one_image unrefused contents (Some (AuditOf board journal)) reply good h = audit_unrefused unrefused no_bad not_long contents board journal reply good h
 
 -- ---- the status
 

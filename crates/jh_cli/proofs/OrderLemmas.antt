@@ -1,6 +1,6 @@
 -- The files that a call reads, one after another.
-use Rattle.std.proofs.Common.{◌≡◌, ◌≢◌, List, [], ◌∷◌, ◌++◌, ℕ, Bool, true, false, Option, None, Some, Result, refl, sym, ap, subst, ◌∙◌, inl, inr}
-use Rattle.std.specs.Prelude.{map, ⊤, cond}
+use Rattle.std.proofs.Common.{◌≡◌, ◌≢◌, List, [], ◌∷◌, ◌++◌, ℕ, Bool, true, false, cond, Option, None, Some, Result, refl, sym, ap, subst, ◌∙◌, inl, inr, arith}
+use Rattle.std.specs.Prelude.{map, ⊤}
 use Rattle.jh_outside.specs.declared.files.Files.{Ghosts}
 use Rattle.jh_outside.specs.Ask.{Ask, Handed, kept_name, handed, faulted}
 use Rattle.jh_outside.specs.Trail.{Asks, no_ask, one_more_ask, AsksAll, AsksUpTo}
@@ -30,10 +30,10 @@ use Rattle.jh_image.specs.Files.{Contents}
 use Rattle.jh_cli.specs.Reading.{Reply, FileKind, EndsAt}
 use Rattle.jh_cli.specs.Boards.{stopped}
 use Rattle.jh_cli.specs.Check.{checked, checked_status}
-use Rattle.jh_cli.specs.Play.{IsPlayed, played_status}
+use Rattle.jh_cli.specs.Play.{schedule_file, IsPlayed, played_status}
 use Rattle.jh_cli.specs.Map.{map_reply, IsMapped}
 use Rattle.jh_cli.specs.Pins.{pins_reply, ArePinsTold}
-use Rattle.jh_cli.specs.Audit.{IsAudited, verdict_status}
+use Rattle.jh_cli.specs.Audit.{journal_file, verdict_status}
 use Rattle.jh_cli.specs.Run.{IsToldRun}
 use Rattle.jh_cli.specs.Plan.{IsPlanned}
 use Rattle.jh_cli.specs.Lines.{exit_number}
@@ -222,10 +222,15 @@ module _ {S : Type 0} (files : Ghosts S) where
   call_keeps contents None s t reply reads read = keep s t [] reads tt
   call_keeps contents (Some (CheckOf system cells)) s t reply reads read = check_keeps contents system cells s t reply read reads
   call_keeps contents (Some (PackOf spec)) s t reply reads read = to_keeps [] spec s t reply read reads.0
-  call_keeps contents (Some (PlayOf board schedule)) s t reply reads read = board_keeps contents board _ s t reply read (λ image behind rest. to_keeps [] schedule behind t reply read rest.0) reads
-  call_keeps contents (Some (RunOf board)) s t reply reads read = board_keeps contents board _ s t reply read (λ image behind rest. all_keep [] behind t rest.0) reads
-  call_keeps contents (Some (MapOf board schedule)) s t reply reads read = board_keeps contents board _ s t reply read (λ image behind rest. to_keeps [] schedule behind t reply read rest.0) reads
+  call_keeps contents (Some (PlayOf board schedule)) s t reply reads read =
+      board_keeps contents board (λ image behind. AsksFile files behind t contents schedule (schedule_file image)) s t reply read (λ image behind rest. to_keeps [] schedule behind t reply read rest.0) reads
+  call_keeps contents (Some (RunOf board)) s t reply reads read =
+      board_keeps contents board (λ image behind. AsksWhole files behind t []) s t reply read (λ image behind rest. all_keep [] behind t rest.0) reads
+  call_keeps contents (Some (MapOf board schedule)) s t reply reads read =
+      board_keeps contents board (λ image behind. AsksFile files behind t contents schedule (schedule_file image)) s t reply read (λ image behind rest. to_keeps [] schedule behind t reply read rest.0) reads
   call_keeps contents (Some (SoakOf rounds)) s t reply reads read = keep s t [] reads tt
   call_keeps contents (Some (PlanOf system demands)) s t reply reads read = plan_keeps contents system demands s t reply read reads
-  call_keeps contents (Some (PinsOf board schedule)) s t reply reads read = board_keeps contents board _ s t reply read (λ image behind rest. to_keeps [] schedule behind t reply read rest.0) reads
-  call_keeps contents (Some (AuditOf board journal)) s t reply reads read = board_keeps contents board _ s t reply read (λ image behind rest. to_keeps [] journal behind t reply read rest.0) reads
+  call_keeps contents (Some (PinsOf board schedule)) s t reply reads read =
+      board_keeps contents board (λ image behind. AsksFile files behind t contents schedule (schedule_file image)) s t reply read (λ image behind rest. to_keeps [] schedule behind t reply read rest.0) reads
+  call_keeps contents (Some (AuditOf board journal)) s t reply reads read =
+      board_keeps contents board (λ image behind. AsksFile files behind t contents journal journal_file) s t reply read (λ image behind rest. to_keeps [] journal behind t reply read rest.0) reads

@@ -45,8 +45,8 @@ of_two request (first ∷ second ∷ []) = Some (request first second)
 of_two request (first ∷ second ∷ other ∷ more) = None
 
 -- the command of this word with these operands: `pack` has a SPEC; `play` a board and a schedule; `run` a board; `map`
--- a board and a schedule; `audit` a board and a journal; `soak` a number of rounds; `plan` a system and demands; `tables`
--- is none
+-- a board and a schedule; `audit` a board and a journal; `soak` a number of rounds; `plan` a system and demands; `pins` a board and a schedule;
+-- `tables` is none
 abbrev pub command_for : List ℕ → List (List ℕ) → Option Request
 command_for word operands =
     if is_word word (codes "check") then check_command operands
@@ -58,7 +58,7 @@ command_for word operands =
     else (if is_word word (codes "soak") then of_one SoakOf operands
     else (if is_word word (codes "plan") then of_two PlanOf operands
     else (if is_word word (codes "pins") then of_two PinsOf operands
-    else None)))))))
+    else None))))))))
 
 -- the command of the words: the program's name, the command's word letter for letter, and its operands
 abbrev pub command_of : List (List ℕ) → Option Request

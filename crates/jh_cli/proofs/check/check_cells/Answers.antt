@@ -27,4 +27,4 @@ returns-in_err-cells-clause-asked g c =
 
 pub returns-clause-asked : goal.returns-clause-asked
 returns-clause-asked g c =
-    inr (c.in_ok-cells.ensures.asked, checked_at_none c.args.system.now c.in_ok-cells.cells (reply_of c.in_ok-tell_findings.field-0) c.in_ok-tell_findings.ensures)
+    inr (c.in_ok-cells.ensures.asked, checked_at_none c.args.system.now c.as_slice.result.now (reply_of c.in_ok-tell_findings.field-0) c.in_ok-tell_findings.ensures)

@@ -17,4 +17,4 @@ returns-in_err-cpus-clause-asked g c =
 
 pub returns-clause-asked : goal.returns-clause-asked
 returns-clause-asked g c =
-    file_read g.F.Files (g.F.Files.contents c.args.files.now) c.args.name.now (schedule_file c.args.image) c.args.files.now c.schedule.new.files (reply_of c.in_ok-play_image.field-0) c.in_ok-cpus.ensures.asked (played_at_none c.args.image c.in_ok-cpus.cpus (reply_of c.in_ok-play_image.field-0) c.in_ok-play_image.ensures)
+    file_read g.F.Files (g.F.Files.contents c.args.files.now) c.args.name.now (schedule_file c.args.image) c.args.files.now c.schedule.new.files (reply_of c.in_ok-play_image.field-0) c.in_ok-cpus.ensures.asked (played_at_none c.args.image c.as_slice.result.now (reply_of c.in_ok-play_image.field-0) c.in_ok-play_image.ensures)
