@@ -170,10 +170,6 @@ apart_cpus of one other a b (behind less) cpu mine its =
 
 -- ---- cells of the plan in whatever order
 
--- each is one of the plan's
-AreOfPlan : PlannedImage → List CellConfig → Type 0
-AreOfPlan of cells = AreAmong cells of.planned.cells
-
 among_at : (cells : List CellConfig) (n : ℕ) (cell : CellConfig) → slice_get cells n ≡ Some cell → Contains cells cell
 among_at cells n cell at = (n, slice_get_within cells n cell at, get_or_from_slice_get cells n cell cell at)
 
