@@ -1,5 +1,5 @@
 -- Each cell of a plan has what its demand wants: its name, its id, as many CPUs, and as many bytes of memory.
-use Rattle.std.proofs.Common.{◌≡◌, ℕ, ◌+◌, ◌-◌, ◌<◌, ◌≤◌, Bool, true, false, ◌&&◌, nat_lt, cond, Some, slice_get, List, [], ◌∷◌, ◌++◌, zero, suc, length, get_or, refl, sym, ap, subst, ◌∙◌, inl, inr, arith}
+use Rattle.std.proofs.Common.{◌≡◌, ℕ, ◌+◌, ◌-◌, ◌≤◌, Bool, true, false, ◌&&◌, nat_lt, cond, Some, slice_get, List, [], ◌∷◌, ◌++◌, zero, suc, length, refl, ap, subst, ◌∙◌, inl, inr, arith}
 use Rattle.std.specs.List.{All}
 use Rattle.std.proofs.lemmas.Bool.{and_from, cases_Bool, cases_lt, lt-ltb, le-ltb}
 use Rattle.std.proofs.lemmas.Option.{same_Some, slice_get_within, get_or_from_slice_get}
@@ -13,7 +13,7 @@ use Rattle.jh_plan.specs.Cpus.{cpus_above, cpus_with, is_greatest, is_spare}
 use Rattle.jh_plan.specs.Demands.{IsDemand}
 use Rattle.jh_plan.specs.Fits.{memory_region, Fits}
 use Rattle.jh_plan.specs.Plans.{ArePlanned, HasWanted, IsPlan}
-use Rattle.jh_plan.proofs.CpuLemmas.{not_passing}
+use Rattle.jh_plan.proofs.CpuLemmas.{count_grows, count_nothing, not_passing}
 use Rattle.jh_plan.proofs.WrittenLemmas.{name_before, name_parts}
 
 -- ---- as many CPUs
@@ -22,33 +22,29 @@ one_below : (test : ℕ → Bool) (n : ℕ) (passes : Bool) → test n ≡ passe
 unfolding count_below
 one_below test n passes is = ap (λ b. count_below test n + cond b 1 0) is
 
-none_below : (test : ℕ → Bool) → count_below test 0 ≡ 0
-unfolding count_below
-none_below test = refl
-
 -- of those below n the least ones are left out
 greatest_below : (test : ℕ → Bool) (count n : ℕ) → n ≤ 16 → count ≤ cpus_with test → count_below (is_greatest test count) n ≡ count_below test n - (cpus_with test - count)
-greatest_below test count zero within enough = omega (arith, none_below (is_greatest test count), none_below test)
+greatest_below test count zero within enough = omega (arith, count_nothing (is_greatest test count) 0 refl, count_nothing test 0 refl)
 greatest_below test count (suc n) within enough =
     let before = greatest_below test count n (omega (arith, within)) enough in
     elim (cases_Bool (test n)) [
       | inl passes ↦
-          let all = one_below test n true passes in
+          let all : count_below test (suc n) ≡ count_below test n + 1 = one_below test n true passes in
           let next : n + 1 ≡ suc n = omega arith in
           let above : cpus_above test n ≡ cpus_with test - count_below test (suc n) = ap (λ k. cpus_with test - count_below test k) next in
           let first = and_from (nat_lt n 16) (test n) (lt-ltb n 16 (omega (arith, within))) passes in
           let is : is_greatest test count n ≡ nat_lt (cpus_above test n) count = ap (λ b. b && nat_lt (cpus_above test n) count) first in
           elim (cases_lt (cpus_above test n) count) [
             | inl few ↦
-                let one = one_below (is_greatest test count) n true (is ∙ lt-ltb (cpus_above test n) count few) in
+                let one : count_below (is_greatest test count) (suc n) ≡ count_below (is_greatest test count) n + 1 = one_below (is_greatest test count) n true (is ∙ lt-ltb (cpus_above test n) count few) in
                 omega (arith, before, all, above, few, one, enough)
             | inr many ↦
-                let none = one_below (is_greatest test count) n false (is ∙ le-ltb (cpus_above test n) count many) in
-                omega (arith, before, all, above, many, none, enough)
+                let none : count_below (is_greatest test count) (suc n) ≡ count_below (is_greatest test count) n + 0 = one_below (is_greatest test count) n false (is ∙ le-ltb (cpus_above test n) count many) in
+                omega (arith, before, all, above, many, none, enough, count_grows test (suc n) 16 within)
           ]
       | inr fails ↦
-          let all = one_below test n false fails in
-          let none = one_below (is_greatest test count) n false (not_passing test count n fails) in
+          let all : count_below test (suc n) ≡ count_below test n + 0 = one_below test n false fails in
+          let none : count_below (is_greatest test count) (suc n) ≡ count_below (is_greatest test count) n + 0 = one_below (is_greatest test count) n false (not_passing test count n fails) in
           omega (arith, before, all, none)
     ]
 
