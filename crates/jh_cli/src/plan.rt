@@ -81,11 +81,7 @@ fn undemanded(alloc: Global, name: &str, fault: &DemandsFault) -> CallFault
 }
 
 /// The demands in the file of this name.
-fn demands<F: Files>(
-    alloc: Global,
-    files: &mut F,
-    name: &str,
-) -> Result<Seq<Demand>, CallFault>
+fn demands<F: Files>(alloc: Global, files: &mut F, name: &str) -> Result<Seq<Demand>, CallFault>
     ensures ok { IfOk result (Spells (F.contents files.old) name.now AreDemands) }
     ensures few { IfOk result (λ demands. length demands ≤ 15) }
     ensures each { IfOk result (All IsDemand) }
