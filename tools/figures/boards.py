@@ -85,6 +85,15 @@ def sections(first_place, peers, own, flags):
     return [page(first_place + k * PAGE, right | flags) for k, right in enumerate(rights)]
 
 
+def plan_board():
+    """Fifteen demands beside a root of 1,024 regions."""
+    regions = [page(BASE + r * 32 * PAGE, pages=16) for r in range(1024)]
+    write("plan", "root.sys", system("root", 0, range(CELLS), regions))
+    lines = (f"cell cell{c} {c} 1 {4 * PAGE}{' loadable' if c > 8 else ''}" for c in range(1, CELLS))
+    write("plan", "demands.txt", "\n".join(lines) + "\n")
+    words("plan", "plan", "plan", "root.sys", "demands.txt")
+
+
 def few_linked(flags):
     """256 devices a cell: four with a link each through all sixteen cells, by 18 sections each; 252 that are alone,
     over 238 groups of four sections of their own."""
@@ -235,3 +244,4 @@ if __name__ == "__main__":
     starts()
     many_pages()
     words("soak", "soak", "soak", "400")
+    plan_board()

@@ -16,7 +16,7 @@ def figures(boards, only):
     found = []
     for board in sorted(os.listdir(boards)):
         folder = os.path.join(boards, board)
-        for command in ("check", "play", "audit", "soak"):
+        for command in ("check", "play", "audit", "soak", "plan"):
             path = os.path.join(folder, command + ".words")
             if os.path.exists(path):
                 with open(path, encoding="utf-8") as file:

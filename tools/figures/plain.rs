@@ -1,4 +1,4 @@
-//! A plain program with the commands `check`, `play`, `audit`, `run` and `soak` of `jailhouse`, written from its
+//! A plain program with the commands `check`, `play`, `audit`, `run`, `soak` and `plan` of `jailhouse`, written from its
 //! published documents alone: ordered and hashed maps, sorted vectors, no proofs.
 
 use std::collections::HashMap;
@@ -2795,6 +2795,164 @@ fn do_soak(word: &str) -> Result<(String, i32), Stop> {
     }
 }
 
+// ---------------------------------------------------------------------------------------------------------
+// Plans
+
+const LARGE: u64 = 0x20_0000;
+
+struct Demand {
+    name: String,
+    id: u32,
+    cpus: usize,
+    size: u64,
+    loadable: bool,
+}
+
+fn read_demand(words: &[&[u8]]) -> Option<Demand> {
+    let (words, loadable) = match words {
+        [words @ .., b"loadable"] if words.len() == 5 => (words, true),
+        _ => (words, false),
+    };
+    let [b"cell", name, id, cpus, size] = words else { return None };
+    let is_letter = |&byte: &u8| (0x21..=0x7e).contains(&byte) && byte != b'"' && byte != b'\\';
+    let (cpus, size) = (number(cpus)?, number(size)?);
+    let is_good = (1..=31).contains(&name.len())
+        && name.iter().all(is_letter)
+        && (1..=15).contains(&cpus)
+        && size > 0
+        && size % PAGE == 0;
+    is_good.then_some(Demand {
+        name: String::from_utf8_lossy(name).into_owned(),
+        id: number(id)?.try_into().ok()?,
+        cpus: cpus as usize,
+        size,
+        loadable,
+    })
+}
+
+fn read_demands(text: &[u8]) -> Result<Vec<Demand>, String> {
+    let mut demands = Vec::new();
+    let mut words = Vec::new();
+    for (i, line) in text.split_inclusive(|&byte| byte == b'\n').enumerate() {
+        let line = line.strip_suffix(b"\n").map_or(line, |line| line.strip_suffix(b"\r").unwrap_or(line));
+        words.clear();
+        words.extend(line.split(|&byte| byte == b' ' || byte == b'\t').filter(|word| !word.is_empty()));
+        if !line.is_ascii() {
+            return Err(format!("line {}: syntax", i + 1));
+        }
+        if words.first().is_none_or(|word| word[0] == b'#') {
+            continue;
+        }
+        match read_demand(&words) {
+            None => return Err(format!("line {}: syntax", i + 1)),
+            Some(_) if demands.len() == 15 => return Err("demands too many".to_string()),
+            Some(demand) => demands.push(demand),
+        }
+    }
+    Ok(demands)
+}
+
+/// The ranges of root, as first and end, in which cells may have memory.
+fn rooms(root: &CellConfig) -> Vec<(u64, u64)> {
+    let is_section = |number| root.shmem_devices().any(|(_, device)| device.offset_of(number).is_some());
+    let has_room = |region: &Region| {
+        region.is_page_mapped() && region.has(READ) && region.has(WRITE) && region.has(EXECUTE)
+    };
+    let regions = root.regions.iter().enumerate();
+    let found = regions.filter(|(number, region)| has_room(region) && !is_section(*number));
+    found.filter_map(|(_, region)| Some((region.phys, region.phys.checked_add(region.size)?))).collect()
+}
+
+/// The greatest free place of the rooms.
+fn place_of(rooms: &[(u64, u64)], taken: &[(u64, u64)], size: u64) -> Option<u64> {
+    let step = if size < LARGE { PAGE } else { LARGE };
+    let highest = |&(first, end): &(u64, u64)| {
+        let mut place = end.checked_sub(size)? / step * step;
+        while place >= first {
+            match taken.iter().find(|range| range.0 < place + size && place < range.1) {
+                None => return Some(place),
+                Some(range) => place = range.0.checked_sub(size)? / step * step,
+            }
+        }
+        None
+    };
+    rooms.iter().filter_map(highest).max()
+}
+
+/// The cells that meet the demands and all pages, or the number of the first demand that isn't met and why.
+fn plan(system: &SystemConfig, demands: &[Demand]) -> Result<(Vec<CellConfig>, u64), String> {
+    let root = &system.root;
+    let rooms = rooms(root);
+    let mut left: Vec<usize> = root.cpus().skip(1).collect();
+    let (mut cells, mut taken, mut cuts) = (Vec::<CellConfig>::new(), Vec::new(), Vec::new());
+    let mut own = 0;
+    let mut pages = tables(&root.regions, &[]);
+    for (number, demand) in demands.iter().enumerate() {
+        let why = |word: &str| Err(format!("demand {} {word}", number + 1));
+        if cells.iter().chain([root]).any(|cell| cell.id == demand.id || cell.name == demand.name) {
+            return why("taken");
+        }
+        if left.len() < demand.cpus {
+            return why("cpus");
+        }
+        let Some(place) = place_of(&rooms, &taken, demand.size) else { return why("place") };
+        let comm = demand.size.next_multiple_of(LARGE);
+        if comm + PAGE > 1 << 48 {
+            return why("place");
+        }
+        let mut cpu_set = vec![0; 8];
+        for cpu in left.split_off(left.len() - demand.cpus) {
+            cpu_set[cpu / 8] |= 1 << (cpu % 8);
+        }
+        let flags = if demand.loadable { 0x47 } else { 0x7 };
+        let memory = Region { phys: place, virt: 0, size: demand.size, flags };
+        let page = Region { phys: 0, virt: comm, size: PAGE, flags: 0x23 };
+        let cell = CellConfig {
+            name: demand.name.clone(),
+            id: demand.id,
+            flags: 0,
+            timeout: 0,
+            console: [0; 32],
+            cpu_set,
+            regions: vec![memory, page],
+            devices: Vec::new(),
+        };
+        cuts.extend(unshared_places(&cell));
+        own += tables(&cell.regions, &[]) + 1;
+        pages = tables(&root.regions, &cuts) + own;
+        if pages > system.hypervisor.size / PAGE {
+            return why("pages");
+        }
+        taken.push((place, place + demand.size));
+        cells.push(cell);
+    }
+    Ok((cells, pages))
+}
+
+fn spec_line(cell: &CellConfig) -> String {
+    let cpus: Vec<String> = cell.cpus().map(|cpu| cpu.to_string()).collect();
+    let region = |it: &Region| {
+        format!("{{\"flags\":{},\"phys\":{},\"size\":{},\"virt\":{}}}", it.flags, it.phys, it.size, it.virt)
+    };
+    let regions: Vec<String> = cell.regions.iter().map(region).collect();
+    format!(
+        "{{\"cpus\":[{}],\"id\":{},\"kind\":\"cell\",\"name\":\"{}\",\"regions\":[{}]}}\n",
+        cpus.join(","),
+        cell.id,
+        cell.name,
+        regions.join(",")
+    )
+}
+
+fn do_plan(system: &str, name: &str) -> Result<(String, i32), Stop> {
+    let read = read_system_of(system, system)?;
+    let demands = read_demands(&read_file(name, FILE_LIMIT)?).or_else(|fault| refused(name, fault))?;
+    let (cells, pages) = plan(&read, &demands).or_else(|fault| refused(name, fault))?;
+    let mut text: String = cells.iter().map(spec_line).collect();
+    let _ = writeln!(text, "pages {pages} of {}", read.hypervisor.size / PAGE);
+    Ok((text, 0))
+}
+
 fn outcome(words: &[String]) -> (String, i32) {
     let usage = || (USAGE.to_string(), 2);
     let Some((command, operands)) = words.split_first() else { return usage() };
@@ -2807,6 +2965,7 @@ fn outcome(words: &[String]) -> (String, i32) {
         ("run", [board]) => do_run(board),
         ("audit", [board, journal]) => do_audit(board, journal),
         ("soak", [rounds]) => do_soak(rounds),
+        ("plan", [system, demands]) => do_plan(system, demands),
         _ => return usage(),
     };
     match done {

@@ -361,13 +361,13 @@ admitted_or_not system (BadPreload number) may is = is
 admitted_or_not system (BadProgram fault) may is = is
 
 -- two systems of the same bytes are one
-pub one_system_file : OneSpelling → (bytes : List ℕ) (a b : SystemConfig) → IsSystemFile bytes a → IsSystemFile bytes b → a ≡ b
-one_system_file one bytes a b h k = one a b h.is.typed k.is.typed h.is.limits k.is.limits (sym h.is.spelled ∙ k.is.spelled)
+pub system_values : OneSpelling → (bytes : List ℕ) (a b : SystemConfig) → IsSystemFile bytes a → IsSystemFile bytes b → a ≡ b
+system_values one bytes a b h k = one a b h.is.typed k.is.typed h.is.limits k.is.limits (sym h.is.spelled ∙ k.is.spelled)
 
 pub admitted_sound : SpellingsAreFaultless → OneSpelling → (system : SystemConfig) → IsSound AdmittedRefusal IsAdmittedSystemFile system
 admitted_sound faultless one system bytes words form (inl no_system) = system_sound faultless system bytes words form.file no_system
 admitted_sound faultless one system bytes words form (inr bad) =
-    let same : bad.system ≡ system = one_system_file one bytes bad.system system bad.file form.file in
+    let same : bad.system ≡ system = system_values one bytes bad.system system bad.file form.file in
     admitted_or_not system bad.cause form.admitted (subst (λ (s : SystemConfig). IsUnadmitted s bad.cause) same bad.is)
 
 pub demands_sound : (demands : List Demand) → IsSound DemandsRefusal AreDemands demands
@@ -383,7 +383,7 @@ plan_unrefused : SpellingsAreFaultless → OneSpelling → (contents : Contents)
 plan_unrefused faultless one contents system demands reply good h =
     reads_unrefused (λ status. status ≡ Good) contents system admitted_file (PlansBy contents demands) good.of_system reply (admitted_sound faultless one good.of_system) (λ bytes form. form.file.within) good.system_held
     (λ bytes other form form_other went.
-    let same : other ≡ good.of_system = one_system_file one bytes other good.of_system form_other.file form.file in
+    let same : other ≡ good.of_system = system_values one bytes other good.of_system form_other.file form.file in
     reads_unrefused (λ status. status ≡ Good) contents demands demands_file (IsPlanned demands good.of_system) good.of_demands reply (demands_sound good.of_demands) (λ text told. told.0) good.demands_held
     (λ text more told told_more is.
     let listed : more ≡ good.of_demands = ok_one (demands_of text) more good.of_demands told_more.1 told.1 in

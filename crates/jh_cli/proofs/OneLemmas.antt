@@ -28,12 +28,12 @@ use Rattle.jh_text.specs.FaultText.{journal_fault_text}
 use Rattle.jh_audit.specs.declared.verdict.Verdict.{Verdict}
 use Rattle.jh_audit.specs.declared.verdict.Verdict.TheVariants.{Legal, Illegal}
 use Rattle.jh_audit.specs.Judges.{Judges, IsFirstIllegal}
-use Rattle.jh_image.proofs.Public.{OneSpelling, hands_one}
+use Rattle.jh_image.proofs.Public.{hands_one}
 use Rattle.jh_cli.specs.declared.status.Status.TheVariants.{ReadFault}
 use Rattle.jh_cli.specs.Limits.{asked_of_a_file, asked_of_a_journal}
 use Rattle.jh_image.specs.Files.{Contents}
 use Rattle.jh_cli.specs.Reading.{Reply, EndsAt, SpellsAt, Reads}
-use Rattle.jh_cli.specs.Check.{IsCellFile, CellRefusal, IsSystemFile, SystemRefusal, SpellCells, ChecksCells, checked}
+use Rattle.jh_cli.specs.Check.{IsCellFile, CellRefusal, SystemRefusal, SpellCells, ChecksCells, checked}
 use Rattle.jh_cli.specs.Pack.{IsSpecFile, SpecRefusal}
 use Rattle.jh_cli.specs.Play.{ScheduleRefusal}
 use Rattle.jh_cli.specs.Audit.{JournalRefusal, IsAudited, verdict_status, verdict_line}
@@ -113,9 +113,6 @@ cell_words bytes v w (inl h) (inl k) = h.1 ∙ sym k.1
 cell_words bytes v w (inl h) (inr k) = absurd (no_more asked_of_a_file bytes k.within h.0)
 cell_words bytes v w (inr h) (inl k) = absurd (no_more asked_of_a_file bytes h.within k.0)
 cell_words bytes v w (inr h) (inr k) = h.told ∙ ap config_fault_text (some_one (first_fault bytes) h.fault k.fault h.first k.first) ∙ sym k.told
-
-pub system_values : OneSpelling → (bytes : List ℕ) (a b : SystemConfig) → IsSystemFile bytes a → IsSystemFile bytes b → a ≡ b
-system_values one bytes a b h k = one a b h.is.typed k.is.typed h.is.limits k.is.limits (sym h.is.spelled ∙ k.is.spelled)
 
 cell_values : OneCell → (bytes : List ℕ) (a b : CellConfig) → IsCellFile bytes a → IsCellFile bytes b → a ≡ b
 cell_values one bytes a b h k = one a b h.typed k.typed h.limits k.limits (sym h.spelled ∙ k.spelled)

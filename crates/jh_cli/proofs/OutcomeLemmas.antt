@@ -27,9 +27,9 @@ use Rattle.jh_cli.specs.Pins.{pins_reply, ArePinsTold, PinsBy}
 use Rattle.jh_cli.specs.Audit.{IsJournalFile, JournalRefusal, IsAudited, AuditsBy}
 use Rattle.jh_cli.specs.Outcome.{Outcome}
 use Rattle.jh_cli.specs.Complete.{IsKnownBoard, AreKnownFiles}
-use Rattle.jh_cli.proofs.GoodLemmas.{CellsAreFaultless, OneImage, BoardsAreUnrefused, IsAnswered, system_sound, spec_sound, schedule_sound, one_schedule, journal_sound, board_unrefused}
+use Rattle.jh_cli.proofs.GoodLemmas.{CellsAreFaultless, OneImage, BoardsAreUnrefused, IsAnswered, system_sound, system_values, spec_sound, schedule_sound, one_schedule, journal_sound, board_unrefused}
 use Rattle.jh_cli.proofs.KnownLemmas.{all_told, each_is_told, is_image, stops}
-use Rattle.jh_cli.proofs.OneLemmas.{OneCell, IsRead, one_reading, system_words, system_values, one_check, spec_words, spec_values, schedule_words, journal_words, one_audited}
+use Rattle.jh_cli.proofs.OneLemmas.{OneCell, IsRead, one_reading, system_words, one_check, spec_words, spec_values, schedule_words, journal_words, one_audited}
 use Rattle.jh_cli.proofs.PlanLemmas.{one_plan_reply}
 
 -- ---- boards

@@ -26,7 +26,7 @@ use Rattle.jh_cli.specs.Lines.{refusal_line}
 use Rattle.jh_cli.specs.Plan.{AdmittedRefusal, AreDemands, DemandsRefusal, IsAdmittedSystemFile, IsPlanned, IsUnadmitted, Plans, PlansBy}
 use Rattle.jh_cli.specs.Reading.{Reply, EndsAtFile, Spells}
 use Rattle.jh_cli.specs.Private.Endings.{OnEnded}
-use Rattle.jh_cli.proofs.GoodLemmas.{admitted_sound, demands_sound, no_more, one_system_file, system_sound}
+use Rattle.jh_cli.proofs.GoodLemmas.{admitted_sound, demands_sound, no_more, system_sound, system_values}
 use Rattle.jh_cli.proofs.OneLemmas.{err_one, one_reading, system_words, IsRead}
 use Rattle.jh_cli.proofs.StopLemmas.{on_ended, refusal_reply, refuses}
 
@@ -89,7 +89,7 @@ admitted_words faultless one bytes v w (inl h) (inl k) = system_words bytes v w 
 admitted_words faultless one bytes v w (inl h) (inr k) = absurd (system_sound faultless k.system bytes v k.file h)
 admitted_words faultless one bytes v w (inr h) (inl k) = absurd (system_sound faultless h.system bytes w h.file k)
 admitted_words faultless one bytes v w (inr h) (inr k) =
-    let same : h.system ≡ k.system = one_system_file one bytes h.system k.system h.file k.file in
+    let same : h.system ≡ k.system = system_values one bytes h.system k.system h.file k.file in
     let cause : h.cause ≡ k.cause = one_cause k.system h.cause k.cause (subst (λ (s : SystemConfig). IsUnadmitted s h.cause) same h.is) k.is in
     h.told ∙ ap cause_text cause ∙ sym k.told
 
@@ -114,7 +114,7 @@ one_planned name system demands one other (inr h) (inr k) =
 pub one_plan_reply : SpellingsAreFaultless → OneSpelling → (contents : Contents) (system demands : List ℕ) (one other : Reply) → AreKnownNames contents (system ∷ demands ∷ [])
     → Plans contents system demands one → Plans contents system demands other → IsRead one → IsRead other → one ≡ other
 one_plan_reply faultless spelling contents system demands one other told h k read also =
-    one_reading asked_of_a_file contents system told.0 AdmittedRefusal IsAdmittedSystemFile (admitted_words faultless spelling) (λ bytes a b f g. one_system_file spelling bytes a b f.file g.file)
+    one_reading asked_of_a_file contents system told.0 AdmittedRefusal IsAdmittedSystemFile (admitted_words faultless spelling) (λ bytes a b f g. system_values spelling bytes a b f.file g.file)
     (λ bytes s words form why. admitted_sound faultless spelling s bytes words form why) (PlansBy contents demands) one other
     (λ s a b r q. one_reading asked_of_a_file contents demands told.1.0 DemandsRefusal AreDemands demands_words (λ bytes x y f g. ok_one (demands_of bytes) x y f.1 g.1)
     (λ bytes ds words form why. demands_sound ds bytes words form why) (IsPlanned demands s) one other (λ ds x y t u. one_planned demands s ds one other x y) a b r q) h k read also

@@ -89,18 +89,19 @@ KeepsTables = (few many : Claims) (level start : ℕ) → IsBesideMore few many 
 abbrev pub CountsTables : Type 0
 CountsTables = (claims : Claims) → tables_of claims ≡ tables_by (want_of claims)
 
-table_from : (want : Want) → is_to_table want ≡ true → want ≡ Table
-table_from Nothing e = absurd (both_ways false refl e)
-table_from Table e = refl
-table_from (Leaf out rights device) e = absurd (both_ways false refl e)
+table_by : KeepsTables → (few many : Claims) → IsBesideMore few many → (level start : ℕ) (want : Want) → want_of few level start ≡ want → is_to_table want ≡ true → is_to_table (want_of many level start) ≡ true
+table_by keeps few many more level start Nothing is e = absurd (both_ways false refl e)
+table_by keeps few many more level start Table is e = ap is_to_table (keeps few many level start more is)
+table_by keeps few many more level start (Leaf out rights device) is e = absurd (both_ways false refl e)
 
 table_stays : KeepsTables → (few many : Claims) → IsBesideMore few many → (level start : ℕ) → is_to_table (want_of few level start) ≡ true → is_to_table (want_of many level start) ≡ true
-table_stays keeps few many more level start e = ap is_to_table (keeps few many level start more (table_from (want_of few level start) e))
+table_stays keeps few many more level start e = table_by keeps few many more level start (want_of few level start) refl e
 
-count_le : (p q : ℕ → Bool) → ((n : ℕ) → p n ≡ true → q n ≡ true) → (n : ℕ) → count_below p n ≤ count_below q n
+-- of so many slots those that lead to tables
+count_le : (p q : ℕ → Want) → ((n : ℕ) → is_to_table (p n) ≡ true → is_to_table (q n) ≡ true) → (n : ℕ) → count_below (λ k. is_to_table (p k)) n ≤ count_below (λ k. is_to_table (q k)) n
 unfolding count_below
 count_le p q h zero = omega arith
-count_le p q h (suc n) = one (p n) (q n) (count_below p n) (count_below q n) (h n) (count_le p q h n)
+count_le p q h (suc n) = one (is_to_table (p n)) (is_to_table (q n)) (count_below (λ k. is_to_table (p k)) n) (count_below (λ k. is_to_table (q k)) n) (h n) (count_le p q h n)
   where
     one : (a b : Bool) (m n : ℕ) → (a ≡ true → b ≡ true) → m ≤ n → m + cond a 1 0 ≤ n + cond b 1 0
     one true true m n i l = omega arith
@@ -110,9 +111,9 @@ count_le p q h (suc n) = one (p n) (q n) (count_below p n) (count_below q n) (h 
 
 tables_le_by : (p q : ℕ → ℕ → Want) → ((level start : ℕ) → is_to_table (p level start) ≡ true → is_to_table (q level start) ≡ true) → tables_by p ≤ tables_by q
 tables_le_by p q h =
-    let a = count_le (λ n. is_to_table (p 0 (n * 2 ^ 39))) (λ n. is_to_table (q 0 (n * 2 ^ 39))) (λ n. h 0 (n * 2 ^ 39)) 512 in
-    let b = count_le (λ n. is_to_table (p 1 (n * 2 ^ 30))) (λ n. is_to_table (q 1 (n * 2 ^ 30))) (λ n. h 1 (n * 2 ^ 30)) (512 * 512) in
-    let c = count_le (λ n. is_to_table (p 2 (n * 2 ^ 21))) (λ n. is_to_table (q 2 (n * 2 ^ 21))) (λ n. h 2 (n * 2 ^ 21)) (512 * 512 * 512) in
+    let a = count_le (λ n. p 0 (n * 2 ^ 39)) (λ n. q 0 (n * 2 ^ 39)) (λ n. h 0 (n * 2 ^ 39)) 512 in
+    let b = count_le (λ n. p 1 (n * 2 ^ 30)) (λ n. q 1 (n * 2 ^ 30)) (λ n. h 1 (n * 2 ^ 30)) (512 * 512) in
+    let c = count_le (λ n. p 2 (n * 2 ^ 21)) (λ n. q 2 (n * 2 ^ 21)) (λ n. h 2 (n * 2 ^ 21)) (512 * 512 * 512) in
     omega (arith, a, b, c)
 
 holders_among : (cells all : List CellConfig) → AreAmong cells all → (holder : Holder) → Contains (map holder_of cells) holder → Contains (map holder_of all) holder

@@ -75,7 +75,7 @@ pub count_nothing : (test : ℕ → Bool) (n : ℕ) → n ≡ 0 → count_below 
 unfolding count_below
 count_nothing test n e = ap (count_below test) e
 
-count_grows : (test : ℕ → Bool) (n m : ℕ) → n ≤ m → count_below test n ≤ count_below test m
+pub count_grows : (test : ℕ → Bool) (n m : ℕ) → n ≤ m → count_below test n ≤ count_below test m
 count_grows test n m le =
     let split : n + (m - n) ≡ m = omega arith in
     let sum = sym (ap (count_below test) split) ∙ count_below_plus test n (m - n) in

@@ -96,18 +96,15 @@ other_called demand cell other is free =
     ∙ ap (λ n. (other.id == demand.id) || pointwise nat_eq (name_of other) n) is.name
     ∙ free
 
-same_either_way : (a b : ℕ) → (a == b) ≡ (b == a)
-same_either_way a b = same_test (a == b) (b == a) (λ e. eq-eqb b a (sym (eqb-true a b e))) (λ e. eq-eqb a b (sym (eqb-true b a e)))
-
 names_either_way : (xs ys : List ℕ) → pointwise nat_eq xs ys ≡ pointwise nat_eq ys xs
 names_either_way [] [] = refl
 names_either_way [] (y ∷ ys) = refl
 names_either_way (x ∷ xs) [] = refl
-names_either_way (x ∷ xs) (y ∷ ys) = ap (λ t. t && pointwise nat_eq xs ys) (same_either_way x y) ∙ ap (λ t. (y == x) && t) (names_either_way xs ys)
+names_either_way (x ∷ xs) (y ∷ ys) = ap (λ t. t && pointwise nat_eq xs ys) (same_test (x == y) (y == x) (λ e. eq-eqb y x (sym (eqb-true x y e))) (λ e. eq-eqb x y (sym (eqb-true y x e)))) ∙ ap (λ t. (y == x) && t) (names_either_way xs ys)
 
 namesake_either_way : (one other : CellConfig) → is_namesake one other ≡ is_namesake other one
 namesake_either_way one other =
-    ap (λ t. t || pointwise nat_eq (name_of other) (name_of one)) (same_either_way other.id one.id)
+    ap (λ t. t || pointwise nat_eq (name_of other) (name_of one)) (same_test (other.id == one.id) (one.id == other.id) (λ e. eq-eqb one.id other.id (sym (eqb-true other.id one.id e))) (λ e. eq-eqb other.id one.id (sym (eqb-true one.id other.id e))))
     ∙ ap (λ t. (one.id == other.id) || t) (names_either_way (name_of other) (name_of one))
 
 -- root is no namesake
@@ -170,10 +167,6 @@ apart_cpus of one other a b (behind less) cpu mine its =
 
 -- ---- cells of the plan in whatever order
 
--- each is one of the plan's
-AreOfPlan : PlannedImage → List CellConfig → Type 0
-AreOfPlan of cells = AreAmong cells of.planned.cells
-
 among_at : (cells : List CellConfig) (n : ℕ) (cell : CellConfig) → slice_get cells n ≡ Some cell → Contains cells cell
 among_at cells n cell at = (n, slice_get_within cells n cell at, get_or_from_slice_get cells n cell cell at)
 
@@ -204,12 +197,13 @@ clean_all of cells own among =
     sound_plan system of.demands of.planned.cells alone (good_demands of.demands of.typed) of.plan.are p.number cell p.at in
     clean_cells system cells alone sound (apart_all of cells own among)
 
--- where nothing is found the verdict is clean
-clean_verdict : (system : SystemConfig) (live : List CellConfig) (new : CellConfig) → IsClean system (live ++ new ∷ []) → verdict_of system live new ≡ Clean
+-- so nothing is found that names the last of them
+clean_verdict : (of : PlannedImage) (live : List CellConfig) (new : CellConfig) → HaveOwnIds (live ++ new ∷ []) → AreAmong (live ++ new ∷ []) of.planned.cells → verdict_of of.image.system live new ≡ Clean
 unfolding verdict_of
-clean_verdict system live new clean =
+clean_verdict of live new own among =
     let n = length live + 1 in
-    ap (λ (found : List Finding). verdict_by (list_any (makes_invalid n) found) (list_any (makes_busy n) found)) (nothing_from_clean system (live ++ new ∷ []) clean)
+    let clean = clean_all of (live ++ new ∷ []) own among in
+    ap (λ (found : List Finding). verdict_by (list_any (makes_invalid n) found) (list_any (makes_busy n) found)) (nothing_from_clean of.image.system (live ++ new ∷ []) clean)
 
 -- ---- the cells that live
 
@@ -301,7 +295,7 @@ accepted_all board config caller at laws create =
     record {
       unknown = unknown board config caller at create;
       cpus = given_cpu board config caller at create;
-      clean = clean_verdict system lives config (clean_all of (lives ++ config ∷ []) both among);
+      clean = clean_verdict of lives config both among;
       room = omega (arith, fewer, of.plan.pages, of.plan.room);
     }
 

@@ -12,4 +12,5 @@ mod ReadLemmas
 mod StandLemmas
 mod TextLemmas
 mod UniqueLemmas
+mod WantedLemmas
 mod WrittenLemmas

@@ -1,8 +1,11 @@
 -- Which cells meet demands, one after the other, and why none does.
 use Rattle.std.specs.Prelude.{◌≡◌, ◌≤◌, ◌<◌, ◌+◌, ◌⊎◌, ◌++◌, ℕ, true, false, List, [], ◌∷◌, length}
 use Rattle.jh_num.specs.declared.address.TheConstants.{ADDRESS_END, PAGE_SIZE}
+use Rattle.jh_cellcfg.specs.declared.region.Region.{Region}
 use Rattle.jh_cellcfg.specs.declared.config.CellConfig.{CellConfig}
 use Rattle.jh_cellcfg.specs.declared.config.SystemConfig.{SystemConfig}
+use Rattle.jh_cellcfg.specs.Cells.{name_of, is_cpu_set}
+use Rattle.jh_check.specs.Laws.{IsItem}
 use Rattle.jh_shape.specs.Pages.{pages_of}
 use Rattle.jh_history.specs.Admitted.{pool_pages}
 use Rattle.jh_plan.specs.declared.demand.Demand.{Demand}
@@ -54,6 +57,13 @@ pub record IsFirstUnmet (system : SystemConfig) (demands : List Demand) (number 
   pub cells : List CellConfig
   pub planned : ArePlanned system [] before cells
   pub unmet : WhyNot system cells demand why
+
+-- the cell has what the demand wants: its name, its id, as many CPUs, and a first region of as many bytes
+pub record HasWanted (demand : Demand) (cell : CellConfig) : Type 0 where
+  pub name : name_of cell ≡ demand.name
+  pub id : cell.id ≡ demand.id
+  pub cpus : cpus_with (is_cpu_set cell.cpu_set) ≡ demand.cpus
+  pub memory : (region : Region) × IsItem cell 0 region × (region.size ≡ demand.size)
 
 -- the cells meet the demands, and these are the pages that root and all of them take
 pub record IsPlan (system : SystemConfig) (demands : List Demand) (planned : Planned) : Type 0 where

@@ -1,6 +1,6 @@
 //! What a cell that fits has for itself, that demands have one answer, what the cells of a plan are together, and that they
 //! may be created. The functions do nothing; their contracts are the laws.
-ghost use Rattle.std.specs.Prelude.{◌≡◌, ℕ, true, false, List, [], All, Contains};
+ghost use Rattle.std.specs.Prelude.{◌≡◌, ℕ, true, false, List, [], length, All, Contains, Some, slice_get};
 ghost use Rattle.jh_num.specs.Below.{any_below};
 ghost use Rattle.jh_cellcfg.specs.declared.config.CellConfig.{CellConfig as TheCell};
 ghost use Rattle.jh_cellcfg.specs.declared.region.Region.{Region as TheRegion};
@@ -19,7 +19,7 @@ ghost use Rattle.jh_plan.specs.declared.planning.Planned.{Planned as ThePlanned}
 ghost use Rattle.jh_plan.specs.Demands.{IsDemand};
 ghost use Rattle.jh_plan.specs.Fits.{Fits};
 ghost use Rattle.jh_plan.specs.Moments.{facts_of, IsCreateOf, PlannedBoard, PlannedImage};
-ghost use Rattle.jh_plan.specs.Plans.{IsFirstUnmet, IsPlan};
+ghost use Rattle.jh_plan.specs.Plans.{HasWanted, IsFirstUnmet, IsPlan};
 
 use crate::demand::Demand;
 use jh_cellcfg::{CellConfig, SystemConfig, a_spelling_tells_its_configuration, size_is_length};
@@ -40,6 +40,13 @@ pub fn demands_have_one_answer(_system: &SystemConfig, _demands: &[Demand])
     ensures plan { (one other : ThePlanned) → IsPlan _system.now _demands.now one → IsPlan _system.now _demands.now other → one ≡ other }
     ensures no_fault { (planned : ThePlanned) (number : ℕ) (why : TheWhy) → IsPlan _system.now _demands.now planned → IsFirstUnmet _system.now _demands.now number why → ⊥ }
     ensures fault { (number other : ℕ) (why also : TheWhy) → IsFirstUnmet _system.now _demands.now number why → IsFirstUnmet _system.now _demands.now other also → (number ≡ other) × (why ≡ also) }
+{}
+
+/// A plan has a cell for each demand, in their order, with the demand's name and id, as many CPUs, and as many bytes of
+/// memory.
+pub fn planned_cells_have_what_is_wanted(_system: &SystemConfig, _demands: &[Demand])
+    ensures number { (planned : ThePlanned) → IsPlan _system.now _demands.now planned → length planned.cells ≡ length _demands.now }
+    ensures each { (planned : ThePlanned) → All IsDemand _demands.now → IsPlan _system.now _demands.now planned → (n : ℕ) (demand : TheDemand) (cell : TheCell) → slice_get _demands.now n ≡ Some demand → slice_get planned.cells n ≡ Some cell → HasWanted demand cell }
 {}
 
 /// No CPU is one of two cells of a plan, and no place is in memory of two of them.

@@ -16,7 +16,8 @@ pub use demand::{Demand, MAX_DEMANDS};
 pub use fault::{DemandsFault, PlanFault, Why};
 pub use laws::{
     cells_that_fit_are_apart, demands_have_one_answer, planned_cells_are_apart,
-    planned_cells_can_be_written, planned_cells_may_be_created, plans_are_clean,
+    planned_cells_can_be_written, planned_cells_have_what_is_wanted, planned_cells_may_be_created,
+    plans_are_clean,
 };
 pub use place::LARGE;
 pub use planning::{Planned, plan};
