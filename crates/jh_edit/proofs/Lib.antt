@@ -6,6 +6,7 @@ mod LackLemmas
 mod BoundLemmas
 mod GrantLemmas
 mod PlanLemmas
+mod EndLemmas
 mod CountingLemmas
 mod WritingLemmas
 mod MadeLemmas
@@ -26,5 +27,10 @@ mod MoveSpotLemmas
 mod MoveSlotLemmas
 mod MoveStepLemmas
 mod FindingLemmas
+mod StandingLemmas
+mod BlankLemmas
+mod LoneLemmas
+mod ForestLemmas
+mod ForestEditLemmas
 mod StepLemmas
 mod DeedLemmas

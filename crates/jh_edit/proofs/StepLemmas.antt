@@ -46,7 +46,7 @@ use Rattle.jh_edit.proofs.MovePathLemmas.{reached_le}
 -- ---- bytes and words
 
 -- a word is told by its eight bytes
-word_alike : (b b' : ℕ → ℕ) (q : ℕ) → ((r : ℕ) → q ≤ r → r < q + 8 → b' r ≡ b r) → word_in b' q ≡ word_in b q
+pub word_alike : (b b' : ℕ → ℕ) (q : ℕ) → ((r : ℕ) → q ≤ r → r < q + 8 → b' r ≡ b r) → word_in b' q ≡ word_in b q
 word_alike b b' q same =
     let a = same q (omega arith) (omega arith) in
     let c = same (q + 1) (omega arith) (omega arith) in

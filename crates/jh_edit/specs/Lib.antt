@@ -3,4 +3,5 @@ pub mod Turns
 pub mod Plans
 pub mod Tables
 pub mod Moves
+pub mod Forest
 pub mod Private

@@ -1,5 +1,5 @@
 //! One tree of tables edited in turns.
-ghost use Rattle.std.specs.Prelude.{◌≡◌, ℕ, ◌+◌, ◌%◌, ◌<◌, ◌≤◌, ◌⊎◌, ◌↔◌, ◌||◌, Some, false, length, map, true};
+ghost use Rattle.std.specs.Prelude.{◌≡◌, ℕ, ◌+◌, ◌%◌, ◌<◌, ◌≤◌, ◌⊎◌, ◌↔◌, ◌||◌, Some, None, false, length, map, true};
 ghost use Rattle.jh_num.specs.declared.address.TheConstants.{ADDRESS_END};
 ghost use Rattle.jh_frames.specs.Memory.{byte_at, word_in};
 ghost use Rattle.jh_shape.specs.Claims.{claims_of};
@@ -68,6 +68,7 @@ impl Edit {
         requires sound { AreSoundClaims (claims_of t.now) }
         ensures table { result.table ≡ table }
         ensures aim { result.removing ≡ false }
+        ensures ahead { result.ahead ≡ None }
         ensures left { result.left ≡ turns_of (want_of (claims_of t.now)) (word_in (byte_at f.now)) levels table 0 }
         ensures plan { Plans result (want_of (claims_of t.now)) (word_in (byte_at f.now)) }
     {

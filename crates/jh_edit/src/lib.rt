@@ -5,20 +5,28 @@
 mod counting;
 mod edit;
 mod finding;
+mod forest;
 mod laws;
 mod mending;
+mod stage;
+mod standing;
 mod turns;
 mod writing;
 
 pub use edit::{Ahead, Edit};
+pub use forest::{
+    a_write_outside_tables_keeps_the_forest, each_cell_has_tables_of_its_own,
+    forests_take_their_pages,
+};
 pub use laws::{
-    a_filled_table_takes_a_turn_less, a_linked_table_takes_two_turns_less,
+    a_filled_table_takes_a_turn_less, a_finished_edit_stands, a_linked_table_takes_two_turns_less,
     a_pruned_table_takes_a_turn_less, a_table_taken_out_is_one_turn_less, an_edit_is_bounded,
     an_emptied_table_takes_a_turn_less, claims_want_pages_at_the_end,
     claims_want_tables_below_tables, made_tables_lack_tables_alone, plans_stay,
     standing_tables_lack_the_difference, standing_tables_walk_as_wanted, walked_tells_grants,
     where_nothing_is_left_tables_stand,
 };
+pub use stage::{CellPart, Editing, Seat, Stage2, Tree, left_of};
 pub use turns::{
     turns_account_for_pages, turns_break_before_they_make, turns_keep_the_plan,
     turns_keep_the_tables_apart, turns_lead_where_it_is_wanted, turns_leave_right_words,
