@@ -14,6 +14,7 @@ use Rattle.jh_shape.specs.Claims.{Claims}
 use Rattle.jh_shape.specs.Grants.{IsGranted}
 use Rattle.jh_shape.specs.Pages.{tables_of}
 use Rattle.jh_shape.specs.Shapes.{want_of}
+use Rattle.jh_shape.specs.SoundClaims.{AreSoundClaims}
 use Rattle.jh_edit.specs.declared.stage.CellPart.{CellPart}
 use Rattle.jh_edit.specs.declared.stage.CellPart.TheVariants.{Unchanged, Fresh, Build, Remove}
 use Rattle.jh_edit.specs.declared.stage.Editing.{Editing}
@@ -167,33 +168,56 @@ pub record IsEditOf (stage : Stage2) (edit : EditView) (seat : Seat) : Type 0 wh
   pub has : seat.tree ≡ Some tree
   pub table : edit.table ≡ tree.table
 
--- the part of root plans what the coming claims want of its tables
+-- the claims with that communication page
+abbrev pub with_comm : Claims → ℕ → Claims
+with_comm claims comm = record claims { comm = comm }
+
+-- the claims grant no place of those bytes
+pub record GrantsNothingOf (claims : Claims) (base size : ℕ) : Type 0 where
+  pub apart : (at place : ℕ) (rights : Rights) (device : Bool) → at < ADDRESS_END → IsGranted claims at place rights device → base ≤ place → place < base + size → ⊥
+
+-- the claims of the cell that comes, wherever its communication page will lie: they are sound, and grant no place of the
+-- hypervisor's memory but in that page
+pub record IsFitToCome (coming : Claims) (stage : Stage2) : Type 0 where
+  pub sound : (comm : ℕ) → comm % 4096 ≡ 0 → comm < ADDRESS_END → AreSoundClaims (with_comm coming comm)
+  pub kept : (comm : ℕ) → comm % 4096 ≡ 0 → comm < ADDRESS_END → (at place : ℕ) (rights : Rights) (device : Bool) → at < ADDRESS_END → IsGranted (with_comm coming comm) at place rights device
+      → is_own stage.frames.own place ≡ true → place - place % 4096 ≡ comm
+
+-- the part of root plans what the coming claims want of its tables, which are sound and grant no place of the hypervisor's
+-- memory
 pub record IsRootPart (rootward : Claims) (stage : Stage2) (edit : EditView) : Type 0 where
   pub seat : Seat
   pub root : is_root seat ≡ true
   pub of : IsEditOf stage edit seat
   pub aim : edit.removing ≡ false
   pub plan : Plans edit (want_of rootward) (words stage.frames)
+  pub sound : AreSoundClaims rootward
+  pub kept : GrantsNothingOf rootward stage.frames.own.base (length stage.frames.own.bytes)
 
 -- no page is the coming cell's yet, and none has its id; two turns are allowed for each table that it wants, which are as many
--- wherever its communication page will lie
-pub record IsFreshPart (cellward : ℕ → Claims) (stage : Stage2) (id bound : ℕ) : Type 0 where
-  pub allowed : bound ≡ 2 * tables_of (cellward 0)
+-- wherever its communication page will lie; it takes a page for each of them, and one more for that
+pub record IsFreshPart (coming : Claims) (stage : Stage2) (id bound lack : ℕ) : Type 0 where
+  pub allowed : bound ≡ 2 * tables_of coming
   pub new : (seat : Seat) → HasSeat stage seat → seat.id ≢ id
   pub room : length stage.seats.items < 16
+  pub fit : IsFitToCome coming stage
+  pub lacks : lack ≡ tables_of coming + 1
 
--- the part plans what the claims of the coming cell want, with the communication page that it has
-pub record IsBuildPart (cellward : ℕ → Claims) (stage : Stage2) (id : ℕ) (edit : EditView) : Type 0 where
+-- the part plans what the claims of the coming cell want, with the communication page that it has; it takes a page for each
+-- table that lacks and isn't ahead
+pub record IsBuildPart (coming : Claims) (stage : Stage2) (id : ℕ) (edit : EditView) (lack : ℕ) : Type 0 where
   pub seat : Seat
   pub comm : ℕ
   pub named : seat.id ≡ id
   pub page : seat.comm ≡ Some comm
   pub of : IsEditOf stage edit seat
   pub aim : edit.removing ≡ false
-  pub plan : Plans edit (want_of (cellward comm)) (words stage.frames)
+  pub plan : Plans edit (want_of (with_comm coming comm)) (words stage.frames)
+  pub fit : IsFitToCome coming stage
+  pub lacks : lack + ahead_count edit.ahead ≡ lack_of (want_of (with_comm coming comm)) (words stage.frames) levels edit.table 0
 
 -- the part takes the tables of the cell away; once none is left, the cell has none
-pub record IsRemovePart (stage : Stage2) (id : ℕ) (edit : EditView) : Type 0 where
+pub record IsRemovePart (stage : Stage2) (id : ℕ) (edit : EditView) (lack : ℕ) : Type 0 where
   pub seat : Seat
   pub named : seat.id ≡ id
   pub sits : HasSeat stage seat
@@ -203,29 +227,21 @@ pub record IsRemovePart (stage : Stage2) (id : ℕ) (edit : EditView) : Type 0 w
   pub on : 0 < edit.left → IsEditOf stage edit seat
   pub turns : 0 < edit.left → edit.left ≡ pages_reached (words stage.frames) levels edit.table
   pub over : edit.left ≡ 0 → seat.tree ≡ None
+  pub lacks : lack ≡ 0
 
-abbrev pub IsCellPart : (ℕ → Claims) → Stage2 → CellPart → Type 0
-IsCellPart cellward stage Unchanged = Unit {0}
-IsCellPart cellward stage (Fresh id bound) = IsFreshPart cellward stage id bound
-IsCellPart cellward stage (Build id edit) = IsBuildPart cellward stage id edit
-IsCellPart cellward stage (Remove id edit) = IsRemovePart stage id edit
-
--- the pages that the cell's part still takes: a table that lacks takes one, and a cell that has none yet one more for its
--- communication page
-abbrev pub IsPartLack : (ℕ → Claims) → Stage2 → CellPart → ℕ → Type 0
-IsPartLack cellward stage Unchanged lack = lack ≡ 0
-IsPartLack cellward stage (Fresh id bound) lack = lack ≡ tables_of (cellward 0) + 1
-IsPartLack cellward stage (Build id edit) lack =
-    (seat : Seat) (comm : ℕ) → HasSeat stage seat → seat.id ≡ id → seat.comm ≡ Some comm → lack + ahead_count edit.ahead ≡ lack_of (want_of (cellward comm)) (words stage.frames) levels edit.table 0
-IsPartLack cellward stage (Remove id edit) lack = lack ≡ 0
+-- the cell's part, and the pages that it still takes
+abbrev pub IsCellPart : Claims → Stage2 → CellPart → ℕ → Type 0
+IsCellPart coming stage Unchanged lack = lack ≡ 0
+IsCellPart coming stage (Fresh id bound) lack = IsFreshPart coming stage id bound lack
+IsCellPart coming stage (Build id edit) lack = IsBuildPart coming stage id edit lack
+IsCellPart coming stage (Remove id edit) lack = IsRemovePart stage id edit lack
 
 -- an edit is under way, from the tables as they are to the claims that root and the coming cell will have, and the pool has
 -- the pages for it
-pub record IsEdit (rootward : Claims) (cellward : ℕ → Claims) (stage : Stage2) (editing : Editing) : Type 0 where
+pub record IsEdit (rootward coming : Claims) (stage : Stage2) (editing : Editing) : Type 0 where
   pub lack : ℕ
   pub root : IsRootPart rootward stage editing.root
-  pub cell : IsCellPart cellward stage editing.cell
-  pub lacks : IsPartLack cellward stage editing.cell lack
+  pub cell : IsCellPart coming stage editing.cell lack
   pub enough : lack_of (want_of rootward) (words stage.frames) levels editing.root.table 0 + (lack + used_of stage.pool) ≤ stage.pool.size + ahead_count editing.root.ahead
 
 -- ---- writes of guests
@@ -241,10 +257,6 @@ abbrev pub with_frames : Stage2 → FramesView → Stage2
 with_frames stage after = record stage { frames = after }
 
 -- ---- opening
-
--- the claims grant no place of those bytes
-pub record GrantsNothingOf (claims : Claims) (base size : ℕ) : Type 0 where
-  pub apart : (at place : ℕ) (rights : Rights) (device : Bool) → at < ADDRESS_END → IsGranted claims at place rights device → base ≤ place → place < base + size → ⊥
 
 -- root has its tables, with the tag 0, and no other cell has a seat; no edit is under way
 pub record IsLoneRoot (stage : Stage2) : Type 0 where

@@ -4,4 +4,5 @@ pub mod Plans
 pub mod Tables
 pub mod Moves
 pub mod Forest
+pub mod Stages
 pub mod Private
