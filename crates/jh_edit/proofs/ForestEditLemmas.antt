@@ -1,5 +1,5 @@
 -- The edit of a call stays while the words of the tables do that it is about, and those of the page that is ahead.
-use Rattle.std.proofs.Common.{◌≡◌, ℕ, ◌+◌, ◌≤◌, ap, ◌∙◌, sym, subst, arith, refl, true, Option, Some, None, IfSome, if◌then◌else◌}
+use Rattle.std.proofs.Common.{◌≡◌, ℕ, ◌+◌, ◌≤◌, ap, ◌∙◌, sym, subst, arith, refl, true, Option, Some, None, IfSome, length, if◌then◌else◌}
 use Rattle.jh_num.proofs.Public.{same_number}
 use Rattle.jh_frames.specs.Memory.{FramesView}
 use Rattle.jh_walk.specs.Counts.{unmoved}
@@ -15,11 +15,11 @@ use Rattle.jh_edit.specs.declared.stage.CellPart.TheVariants.{Unchanged, Fresh, 
 use Rattle.jh_edit.specs.declared.stage.Editing.{Editing}
 use Rattle.jh_edit.specs.declared.stage.Seat.{Seat}
 use Rattle.jh_edit.specs.declared.stage.Stage2.{Stage2}
-use Rattle.jh_edit.specs.Forest.{IsCellPart, IsEdit, IsEditOf, IsForest, IsPartLack, WritesNoTable, ahead_times, ahead_uses, part_ahead_times, uses, with_frames}
+use Rattle.jh_edit.specs.Forest.{GrantsNothingOf, IsCellPart, IsEdit, IsEditOf, IsFitToCome, IsForest, WritesNoTable, ahead_times, ahead_uses, part_ahead_times, uses, with_comm, with_frames}
 use Rattle.jh_edit.specs.Plans.{EditView, HasSameWords, Plans}
 use Rattle.jh_edit.specs.Tables.{is_ahead, words}
 use Rattle.jh_edit.specs.Trees.{lack_at, lack_of, staying}
-use Rattle.jh_edit.proofs.ForestLemmas.{used_page, written_apart, written_tables}
+use Rattle.jh_edit.proofs.ForestLemmas.{same_own, used_page, written_apart, written_tables}
 use Rattle.jh_edit.proofs.MoveLackLemmas.{lack_told}
 use Rattle.jh_edit.proofs.PlanLemmas.{plan_stays}
 
@@ -68,20 +68,34 @@ pages_written claims stage after w edit seat of =
 still_of : (stage : Stage2) (after : FramesView) (edit : EditView) (seat : Seat) → IsEditOf stage edit seat → IsEditOf (with_frames stage after) edit seat
 still_of stage after edit seat of = record { tree = of.tree; sits = of.sits; has = of.has; table = of.table }
 
-cell_written : (claims : Seat → Claims) (cellward : ℕ → Claims) (stage : Stage2) (after : FramesView) → Written claims stage after → (part : CellPart) → ((page : ℕ) → part_ahead_times page part ≤ ahead_uses stage.editing page)
-    → IsCellPart cellward stage part → IsCellPart cellward (with_frames stage after) part
-cell_written claims cellward stage after w Unchanged counted is = tt
-cell_written claims cellward stage after w (Fresh id bound) counted is = record { allowed = is.allowed; new = is.new; room = is.room }
-cell_written claims cellward stage after w (Build id edit) counted is = record {
+kept_root : (rootward : Claims) (stage : Stage2) (after : FramesView) → WritesNoTable stage after → GrantsNothingOf rootward stage.frames.own.base (length stage.frames.own.bytes) → GrantsNothingOf rootward after.own.base (length after.own.bytes)
+kept_root rootward stage after writes kept =
+    let P : ℕ → Type 0 = λ base. GrantsNothingOf rootward base (length after.own.bytes) in
+    let Q : ℕ → Type 0 = λ size. GrantsNothingOf rootward stage.frames.own.base size in
+    subst P (sym writes.base) (subst Q (sym writes.size) kept)
+
+fit_written : (coming : Claims) (stage : Stage2) (after : FramesView) → WritesNoTable stage after → IsFitToCome coming stage → IsFitToCome coming (with_frames stage after)
+fit_written coming stage after writes fit = record {
+  sound = fit.sound;
+  kept = λ comm aligned low at place rights device below granted own. fit.kept comm aligned low at place rights device below granted (sym (same_own stage after writes place) ∙ own);
+}
+
+cell_written : (claims : Seat → Claims) (coming : Claims) (stage : Stage2) (after : FramesView) → Written claims stage after → (part : CellPart) (lack : ℕ) → ((page : ℕ) → part_ahead_times page part ≤ ahead_uses stage.editing page)
+    → IsCellPart coming stage part lack → IsCellPart coming (with_frames stage after) part lack
+cell_written claims coming stage after w Unchanged lack counted is = is
+cell_written claims coming stage after w (Fresh id bound) lack counted is = record { allowed = is.allowed; new = is.new; room = is.room; fit = fit_written coming stage after w.writes is.fit; lacks = is.lacks }
+cell_written claims coming stage after w (Build id edit) lack counted is = record {
   seat = is.seat;
   comm = is.comm;
   named = is.named;
   page = is.page;
   of = still_of stage after edit is.seat is.of;
   aim = is.aim;
-  plan = plan_written claims stage after w (want_of (cellward is.comm)) edit is.seat is.of counted is.plan;
+  plan = plan_written claims stage after w (want_of (with_comm coming is.comm)) edit is.seat is.of counted is.plan;
+  fit = fit_written coming stage after w.writes is.fit;
+  lacks = is.lacks ∙ sym (lack_written claims stage after w (want_of (with_comm coming is.comm)) edit is.seat is.of);
 }
-cell_written claims cellward stage after w (Remove id edit) counted is = record {
+cell_written claims coming stage after w (Remove id edit) lack counted is = record {
   seat = is.seat;
   named = is.named;
   sits = is.sits;
@@ -91,19 +105,12 @@ cell_written claims cellward stage after w (Remove id edit) counted is = record 
   on = λ some. still_of stage after edit is.seat (is.on some);
   turns = λ some. is.turns some ∙ sym (pages_written claims stage after w edit is.seat (is.on some));
   over = is.over;
+  lacks = is.lacks;
 }
 
-part_lack_written : (claims : Seat → Claims) (cellward : ℕ → Claims) (stage : Stage2) (after : FramesView) → Written claims stage after → (part : CellPart) (lack : ℕ)
-    → IsCellPart cellward stage part → IsPartLack cellward stage part lack → IsPartLack cellward (with_frames stage after) part lack
-part_lack_written claims cellward stage after w Unchanged lack is lacks = lacks
-part_lack_written claims cellward stage after w (Fresh id bound) lack is lacks = lacks
-part_lack_written claims cellward stage after w (Build id edit) lack is lacks =
-    λ seat comm sits named page. lacks seat comm sits named page ∙ sym (lack_written claims stage after w (want_of (cellward comm)) edit is.seat is.of)
-part_lack_written claims cellward stage after w (Remove id edit) lack is lacks = lacks
-
-pub written_edit : (claims : Seat → Claims) (rootward : Claims) (cellward : ℕ → Claims) (stage : Stage2) (editing : Editing) (after : FramesView) → stage.editing ≡ Some editing → IsForest claims stage → IsEdit rootward cellward stage editing
-    → WritesNoTable stage after → IsEdit rootward cellward (with_frames stage after) editing
-written_edit claims rootward cellward stage editing after on forest is writes =
+pub written_edit : (claims : Seat → Claims) (rootward coming : Claims) (stage : Stage2) (editing : Editing) (after : FramesView) → stage.editing ≡ Some editing → IsForest claims stage → IsEdit rootward coming stage editing
+    → WritesNoTable stage after → IsEdit rootward coming (with_frames stage after) editing
+written_edit claims rootward coming stage editing after on forest is writes =
     let w : Written claims stage after = record { forest = forest; writes = writes } in
     let both = λ (page : ℕ). ap (λ e. ahead_uses e page) on in
     let rooted : IsCounted stage editing.root = λ page. let e : ahead_uses stage.editing page ≡ ahead_times page editing.root + part_ahead_times page editing.cell = both page in omega arith in
@@ -119,8 +126,9 @@ written_edit claims rootward cellward stage editing after on forest is writes =
         of = still_of stage after editing.root is.root.seat is.root.of;
         aim = is.root.aim;
         plan = plan_written claims stage after w (want_of rootward) editing.root is.root.seat is.root.of rooted is.root.plan;
+        sound = is.root.sound;
+        kept = kept_root rootward stage after writes is.root.kept;
       };
-      cell = cell_written claims cellward stage after w editing.cell celled is.cell;
-      lacks = part_lack_written claims cellward stage after w editing.cell is.lack is.cell is.lacks;
+      cell = cell_written claims coming stage after w editing.cell is.lack celled is.cell;
       enough = omega arith;
     }

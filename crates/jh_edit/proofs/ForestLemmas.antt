@@ -129,7 +129,7 @@ written_uses claims stage after forest writes page =
     in
     ap (λ n. n + (comm_uses stage page + ahead_uses stage.editing page)) tables
 
-same_own : (stage : Stage2) (after : FramesView) → WritesNoTable stage after → (place : ℕ) → is_own after.own place ≡ is_own stage.frames.own place
+pub same_own : (stage : Stage2) (after : FramesView) → WritesNoTable stage after → (place : ℕ) → is_own after.own place ≡ is_own stage.frames.own place
 same_own stage after writes place =
     ap (λ base. nat_le base place && nat_lt place (base + length after.own.bytes)) writes.base
     ∙ ap (λ size. nat_le stage.frames.own.base place && nat_lt place (stage.frames.own.base + size)) writes.size
@@ -168,4 +168,5 @@ written_forest claims stage after forest writes =
             found = walk_same (words stage.frames) (words after) levels is.tree.table translation.page (same is.seat is.tree is.sits is.has) ∙ is.found;
           };
       apart = forest.apart;
+      room = forest.room;
     }

@@ -174,26 +174,26 @@ taken_from page p p' base size from was taken others used = record {
 pub pool_away : (table : ℕ) (link : TableLink) (p p' : PoolView) → IsGivenBack link.page p p' → IsPoolAfter table (TakeAway link) p p'
 pool_away table link p p' given =
     let used = given.used in
-    record { base = given.base; size = given.size; from = λ page e. absurd (false≢true e); free = given.free; used = omega arith }
+    record { base = given.base; size = given.size; from = λ page e. absurd (false≢true e); was_free = λ page e. absurd (false≢true e); free = given.free; used = omega arith }
 
 pub pool_end : (table : ℕ) (p p' : PoolView) → IsGivenBack table p p' → IsPoolAfter table End p p'
 pool_end table p p' given =
     let used = given.used in
-    record { base = given.base; size = given.size; from = λ page e. absurd (false≢true e); free = given.free; used = omega arith }
+    record { base = given.base; size = given.size; from = λ page e. absurd (false≢true e); was_free = λ page e. absurd (false≢true e); free = given.free; used = omega arith }
 
 pub pool_pruned : (table : ℕ) (there : Option ℕ) (link : TableLink) (p p' : PoolView) → IsGivenBack link.page p p' → IsPoolAfter table (PruneLink there link) p p'
 pool_pruned table there link p p' given =
     let used = given.used in
-    record { base = given.base; size = given.size; from = λ page e. absurd (false≢true e); free = given.free; used = omega arith }
+    record { base = given.base; size = given.size; from = λ page e. absurd (false≢true e); was_free = λ page e. absurd (false≢true e); free = given.free; used = omega arith }
 
 pub pool_emptied : (table : ℕ) (at : StayingTable) (p : PoolView) → IsPoolAfter table (EmptyTable at) p p
-pool_emptied table at p = record { base = refl; size = refl; from = λ page e. absurd (false≢true e); free = λ q. refl; used = omega arith }
+pool_emptied table at p = record { base = refl; size = refl; from = λ page e. absurd (false≢true e); was_free = λ page e. absurd (false≢true e); free = λ q. refl; used = omega arith }
 
 pub pool_filled : (table : ℕ) (at : StayingTable) (p : PoolView) → IsPoolAfter table (FillTable at) p p
-pool_filled table at p = record { base = refl; size = refl; from = λ page e. absurd (false≢true e); free = λ q. refl; used = omega arith }
+pool_filled table at p = record { base = refl; size = refl; from = λ page e. absurd (false≢true e); was_free = λ page e. absurd (false≢true e); free = λ q. refl; used = omega arith }
 
 pub pool_linked : (table : ℕ) (ahead : Ahead) (p : PoolView) → IsPoolAfter table (LinkPage ahead) p p
-pool_linked table ahead p = record { base = refl; size = refl; from = λ page e. absurd (false≢true e); free = λ q. refl; used = omega arith }
+pool_linked table ahead p = record { base = refl; size = refl; from = λ page e. absurd (false≢true e); was_free = λ page e. absurd (false≢true e); free = λ q. refl; used = omega arith }
 
 from_same : (p : PoolView) (page : ℕ) → IsPageOf p page → (q : ℕ) → nat_eq page q ≡ true → IsPageOf p q
 from_same p page is q e = subst (IsPageOf p) (eqb-true page q e) is
@@ -201,7 +201,7 @@ from_same p page is q e = subst (IsPageOf p) (eqb-true page q e) is
 pub pool_made : (table : ℕ) (slot : EmptySlot) (page : ℕ) (p p' : PoolView) → IsTakenFrom page p p' → IsPoolAfter table (MakePage slot page) p p'
 pool_made table slot page p p' taken =
     let used = taken.used in
-    record { base = taken.base; size = taken.size; from = from_same p page taken.from; free = taken.free; used = omega arith }
+    record { base = taken.base; size = taken.size; from = from_same p page taken.from; was_free = λ q e. subst (λ r. is_free p r ≡ true) (eqb-true page q e) taken.was_free; free = taken.free; used = omega arith }
 
 -- ---- pages that are reached
 

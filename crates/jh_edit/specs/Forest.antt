@@ -1,6 +1,6 @@
 -- The tables of all cells in one memory: whose each page of the pool is, and what stands, what is led to and what is cached,
 -- also while an edit goes on.
-use Rattle.std.specs.Prelude.{◌≡◌, ◌≢◌, ℕ, ◌+◌, ◌-◌, ◌*◌, ◌%◌, ◌<◌, ◌≤◌, ◌↔◌, ◌⊎◌, Bool, true, false, ◌&&◌, ◌||◌, not, nat_eq, Contains, AllPairs, length, [], ◌∷◌, sum_by, Option, Some, None, IsSome, is_some, if◌then◌else◌}
+use Rattle.std.specs.Prelude.{◌≡◌, ◌≢◌, ℕ, ◌+◌, ◌-◌, ◌*◌, ◌%◌, ◌<◌, ◌≤◌, ◌↔◌, ◌⊎◌, Bool, true, false, ◌&&◌, ◌||◌, not, nat_eq, Contains, AllPairs, length, [], ◌∷◌, sum_by, vec_capacity, Option, Some, None, IsSome, is_some, if◌then◌else◌}
 use Rattle.jh_num.specs.declared.address.TheConstants.{ADDRESS_END}
 use Rattle.jh_desc.specs.declared.descriptor.Hit.{Hit}
 use Rattle.jh_frames.specs.Memory.{FramesView, byte_at, is_own}
@@ -148,7 +148,7 @@ pub record AreApart (seat other : Seat) : Type 0 where
 -- ---- the forest
 
 -- the tables of all cells: each page of the pool has at most one use, and is taken just where it has one; tables that no edit
--- is about stand as the claims of their cell want them
+-- is about stand as the claims of their cell want them; and there is room for 16 cells
 pub record IsForest (claims : Seat → Claims) (stage : Stage2) : Type 0 where
   pub inside : IsPoolOf stage.pool stage.frames
   pub once : (page : ℕ) → uses stage page ≤ 1
@@ -158,6 +158,7 @@ pub record IsForest (claims : Seat → Claims) (stage : Stage2) : Type 0 where
   pub outside : (seat : Seat) (tree : Tree) → HasSeat stage seat → seat.tree ≡ Some tree → IsKeptOut stage seat tree
   pub cached : (cpu : ℕ) (translation : Translation) → Contains (translations_of stage.cache cpu) translation → IsTrueTranslation stage translation
   pub apart : AllPairs AreApart stage.seats.items
+  pub room : 16 ≤ vec_capacity stage.seats
 
 -- ---- the edit of a call
 

@@ -1,5 +1,5 @@
 -- What one turn of an edit does to the tables of all cells, by the part that has the turn.
-use Rattle.std.specs.Prelude.{◌≡◌, ◌≢◌, ℕ, ◌+◌, ◌*◌, ◌%◌, ◌<◌, ◌≤◌, ◌↔◌, ◌⊎◌, ◌||◌, Bool, true, false, nat_eq, length, [], ◌∷◌, ◌++◌, map, sum_by, Option, Some, None, if◌then◌else◌}
+use Rattle.std.specs.Prelude.{◌≡◌, ◌≢◌, ℕ, ◌+◌, ◌*◌, ◌%◌, ◌<◌, ◌≤◌, ◌↔◌, ◌⊎◌, ◌||◌, Bool, true, false, nat_eq, length, [], ◌∷◌, ◌++◌, map, sum_by, vec_capacity, Option, Some, None, if◌then◌else◌}
 use Rattle.jh_desc.specs.declared.descriptor.Hit.{Hit}
 use Rattle.jh_frames.specs.Memory.{byte_at}
 use Rattle.jh_pool.specs.Pages.{IsPageOf, IsTakenPage, is_free, used_of}
@@ -66,7 +66,7 @@ pub record IsRootTurn (rootward : Claims) (editing editing' : Editing) (old new 
   pub of : IsEditOf old editing.root seat
   pub turn : IsTreeTurn (want_of rootward) of.tree.tag editing.root editing'.root old new
   pub cell : editing'.cell ≡ editing.cell
-  pub seats : new.seats.items ≡ old.seats.items
+  pub seats : new.seats ≡ old.seats
   pub editing : new.editing ≡ Some editing'
 
 -- a turn of the tables of the cell that comes
@@ -80,7 +80,7 @@ pub record IsBuildTurn (coming : Claims) (id : ℕ) (edit edit' : EditView) (edi
   pub was : editing.cell ≡ Build id edit
   pub cell : editing'.cell ≡ Build id edit'
   pub root : editing'.root ≡ editing.root
-  pub seats : new.seats.items ≡ old.seats.items
+  pub seats : new.seats ≡ old.seats
   pub editing : new.editing ≡ Some editing'
 
 -- a turn of the removal of the tables of the cell that goes; after the last one it has none
@@ -94,6 +94,7 @@ pub record IsRemoveTurn (want : Wants) (id : ℕ) (edit edit' : EditView) (editi
   pub root : editing'.root ≡ editing.root
   pub on : 0 < edit'.left → new.seats.items ≡ old.seats.items
   pub over : edit'.left ≡ 0 → new.seats.items ≡ map (untreed id) old.seats.items
+  pub capacity : vec_capacity new.seats ≡ vec_capacity old.seats
   pub editing : new.editing ≡ Some editing'
 
 -- the turn in which the coming cell gets its communication page and its first table, in which nothing stands, and a tag that
@@ -119,6 +120,7 @@ pub record IsFreshTurn (coming : Claims) (id bound : ℕ) (edit' : EditView) (ed
   pub cache : new.cache ≡ old.cache
   pub new_tag : (seat : Seat) (tree : Tree) → HasSeat old seat → seat.tree ≡ Some tree → tree.tag ≢ tag
   pub seats : new.seats.items ≡ old.seats.items ++ record { id = id; comm = Some comm; tree = Some (record { table = table; tag = tag }) } ∷ []
+  pub capacity : vec_capacity new.seats ≡ vec_capacity old.seats
   pub first : edit'.table ≡ table
   pub aim : edit'.removing ≡ false
   pub ahead : edit'.ahead ≡ None

@@ -16,8 +16,8 @@ use jh_pool::{Pool, pages_taken_once_are_counted};
 /// and so is the edit that is under way.
 pub fn a_write_outside_tables_keeps_the_forest()
     ensures forest { (claims : AnySeat → Claims) (stage : AnyStage) (after : FramesView) → IsForest claims stage → WritesNoTable stage after → IsForest claims (with_frames stage after) }
-    ensures edit { (claims : AnySeat → Claims) (rootward : Claims) (cellward : ℕ → Claims) (stage : AnyStage) (editing : AnyEditing) (after : FramesView) → stage.editing ≡ Some editing → IsForest claims stage
-        → IsEdit rootward cellward stage editing → WritesNoTable stage after → IsEdit rootward cellward (with_frames stage after) editing }
+    ensures edit { (claims : AnySeat → Claims) (rootward coming : Claims) (stage : AnyStage) (editing : AnyEditing) (after : FramesView) → stage.editing ≡ Some editing → IsForest claims stage
+        → IsEdit rootward coming stage editing → WritesNoTable stage after → IsEdit rootward coming (with_frames stage after) editing }
 {}
 
 /// From the first table of each cell on, each page is reached once, begins at a page and is the hypervisor's.

@@ -6,5 +6,5 @@ use Rattle.jh_edit.proofs.forest.a_write_outside_tables_keeps_the_forest.Goals a
 pub returns : goal.returns
 returns c = record {
   forest = λ claims stage after forest writes. written_forest claims stage after forest writes;
-  edit = λ claims rootward cellward stage editing after on forest is writes. written_edit claims rootward cellward stage editing after on forest is writes;
+  edit = λ claims rootward coming stage editing after on forest is writes. written_edit claims rootward coming stage editing after on forest is writes;
 }
