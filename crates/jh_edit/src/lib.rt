@@ -4,6 +4,7 @@
 
 mod counting;
 mod edit;
+mod edits;
 mod finding;
 mod forest;
 mod laws;
@@ -14,6 +15,10 @@ mod turns;
 mod writing;
 
 pub use edit::{Ahead, Edit};
+pub use edits::{
+    a_fresh_cell_keeps_the_forest, turns_of_a_coming_cell_keep_the_forest,
+    turns_of_a_removal_keep_the_forest, turns_of_root_keep_the_forest,
+};
 pub use forest::{
     a_write_outside_tables_keeps_the_forest, each_cell_has_tables_of_its_own,
     forests_take_their_pages,
