@@ -32,5 +32,7 @@ mod BlankLemmas
 mod LoneLemmas
 mod ForestLemmas
 mod ForestEditLemmas
+mod SeatLemmas
+mod TurningLemmas
 mod StepLemmas
 mod DeedLemmas

@@ -67,7 +67,7 @@ pub record IsRootTurn (rootward : Claims) (editing editing' : Editing) (old new 
   pub turn : IsTreeTurn (want_of rootward) of.tree.tag editing.root editing'.root old new
   pub cell : editing'.cell ≡ editing.cell
   pub seats : new.seats ≡ old.seats
-  pub editing : new.editing ≡ Some editing'
+  pub now : new.editing ≡ Some editing'
 
 -- a turn of the tables of the cell that comes
 pub record IsBuildTurn (coming : Claims) (id : ℕ) (edit edit' : EditView) (editing editing' : Editing) (old new : Stage2) : Type 0 where
@@ -81,7 +81,7 @@ pub record IsBuildTurn (coming : Claims) (id : ℕ) (edit edit' : EditView) (edi
   pub cell : editing'.cell ≡ Build id edit'
   pub root : editing'.root ≡ editing.root
   pub seats : new.seats ≡ old.seats
-  pub editing : new.editing ≡ Some editing'
+  pub now : new.editing ≡ Some editing'
 
 -- a turn of the removal of the tables of the cell that goes; after the last one it has none
 pub record IsRemoveTurn (want : Wants) (id : ℕ) (edit edit' : EditView) (editing editing' : Editing) (old new : Stage2) : Type 0 where
@@ -95,7 +95,7 @@ pub record IsRemoveTurn (want : Wants) (id : ℕ) (edit edit' : EditView) (editi
   pub on : 0 < edit'.left → new.seats.items ≡ old.seats.items
   pub over : edit'.left ≡ 0 → new.seats.items ≡ map (untreed id) old.seats.items
   pub capacity : vec_capacity new.seats ≡ vec_capacity old.seats
-  pub editing : new.editing ≡ Some editing'
+  pub now : new.editing ≡ Some editing'
 
 -- the turn in which the coming cell gets its communication page and its first table, in which nothing stands, and a tag that
 -- no other tables have
@@ -129,4 +129,4 @@ pub record IsFreshTurn (coming : Claims) (id bound : ℕ) (edit' : EditView) (ed
   pub was : editing.cell ≡ Fresh id bound
   pub cell : editing'.cell ≡ Build id edit'
   pub root : editing'.root ≡ editing.root
-  pub editing : new.editing ≡ Some editing'
+  pub now : new.editing ≡ Some editing'
