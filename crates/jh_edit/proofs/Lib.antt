@@ -1,4 +1,5 @@
 mod SumLemmas
+mod TagLemmas
 mod DescriptorLemmas
 mod StandLemmas
 mod WalkLemmas

@@ -5,4 +5,5 @@ pub mod Tables
 pub mod Moves
 pub mod Forest
 pub mod Stages
+pub mod Seats
 pub mod Private

@@ -9,6 +9,7 @@ mod finding;
 mod forest;
 mod laws;
 mod mending;
+mod seats;
 mod stage;
 mod standing;
 mod turns;

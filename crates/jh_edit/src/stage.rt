@@ -17,7 +17,7 @@ use jh_shape::Target;
 use std::alloc::Global;
 
 /// How many cells there can be, root among them.
-const MAX_CELLS: usize = 16;
+pub(crate) const MAX_CELLS: u8 = 16;
 
 /// The tables of a cell: the place of the first one, and the tag of the translations that are found in them.
 #[derive(Clone, Copy, PartialEq, Eq, Debug)]
@@ -113,7 +113,7 @@ impl Stage2 {
         let mut frames = Frames::open(alloc, base, PAGE_SIZE * u64::from(pages))?;
         let mut pool = Pool::open(alloc, base, pages)?;
         let mut cache = Cache::open(alloc, cpus)?;
-        let mut seats = Vec::with_capacity(alloc, MAX_CELLS)?;
+        let mut seats = Vec::with_capacity(alloc, usize::from(MAX_CELLS))?;
         let table = root_table(root, &mut frames, &mut pool, &mut cache, 0);
         seats.push(Seat {
             id: 0,
