@@ -1,5 +1,6 @@
 -- Where root alone has a seat, its tables are all that is used.
 use Rattle.std.proofs.Common.{◌≡◌, ℕ, ◌+◌, ◌<◌, ◌≤◌, ◌↔◌, ◌^◌, inl, ⊎_elim, IsSome, if◌then◌else◌, nat_le, nat_lt, ap, ◌∙◌, sym, subst, arith, refl, false, List, [], ◌∷◌, Contains, sum_by, Option, Some, None, length}
+use Rattle.std.specs.Prelude.{vec_capacity}
 use Rattle.std.proofs.lemmas.List.Sums.{sum_by-cons}
 use Rattle.std.proofs.lemmas.Bool.{and_parts, cases_Bool, leb-true, ltb-true}
 use Rattle.jh_num.proofs.Public.{Contains_cases}
@@ -35,6 +36,7 @@ pub record IsOpened (claims : Claims) (stage : Stage2) : Type 0 where
   pub taken : (page : ℕ) → IsTakenPage stage.pool page ↔ (0 < times (words stage.frames) levels lone.table page)
   pub empty : (cpu : ℕ) → translations_of stage.cache cpu ≡ []
   pub outside : (at : ℕ) (hit : Hit) → at < 2 ^ 48 → walk_of (words stage.frames) levels lone.table at ≡ Some hit → LeadsOutside stage.frames hit
+  pub room : 16 ≤ vec_capacity stage.seats
 
 abbrev pub lone_tree : ℕ → Tree
 lone_tree table = record { table = table; tag = 0 }
@@ -87,4 +89,5 @@ lone_forest claims stage is =
           let past : Contains [] translation = subst P (is.empty cpu) held in
           absurd (omega (arith, past.1));
       apart = λ i j d low high. absurd (let long : length stage.seats.items ≡ 1 = ap length is.lone.seats in let no : ⊥ = omega arith in no);
+      room = is.room;
     }

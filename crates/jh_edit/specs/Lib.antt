@@ -6,4 +6,5 @@ pub mod Moves
 pub mod Forest
 pub mod Stages
 pub mod Seats
+pub mod OneTurn
 pub mod Private

@@ -12,6 +12,7 @@ mod mending;
 mod seats;
 mod stage;
 mod standing;
+mod turning;
 mod turns;
 mod writing;
 

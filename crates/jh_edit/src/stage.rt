@@ -115,11 +115,11 @@ impl Stage2 {
         let mut cache = Cache::open(alloc, cpus)?;
         let mut seats = Vec::with_capacity(alloc, usize::from(MAX_CELLS))?;
         let table = root_table(root, &mut frames, &mut pool, &mut cache, 0);
-        seats.push(Seat {
+        seats.push_reserved(Seat {
             id: 0,
             comm: None,
             tree: Some(Tree { table, tag: 0 }),
-        })?;
+        });
         Ok(Stage2 {
             frames,
             pool,
