@@ -1,5 +1,6 @@
 -- Root alone has a seat, and its tables are all that is taken.
 use Rattle.std.proofs.Common.{◌≡◌, ◌*◌, ◌++◌, ◌∷◌, [], ap, ◌∙◌, sym, arith, refl, length, None}
+use Rattle.std.specs.Prelude.{vec_capacity}
 use Rattle.jh_shape.specs.Claims.{claims_of}
 use Rattle.jh_shape.specs.Shapes.{want_of}
 use Rattle.jh_walk.specs.Walks.{levels}
