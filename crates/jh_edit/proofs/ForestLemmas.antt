@@ -117,7 +117,7 @@ written_tables claims stage after forest writes seat tree sits has = record {
       written_apart stage after writes page (used_page claims stage forest page (omega arith)) (omega arith) slot few;
 }
 
-same_tree : (word word' : ℕ → ℕ) (page : ℕ) (tree : Option Tree) → ((t : Tree) → tree ≡ Some t → HaveSameTables word word' levels t.table) → tree_times word' page tree ≡ tree_times word page tree
+pub same_tree : (word word' : ℕ → ℕ) (page : ℕ) (tree : Option Tree) → ((t : Tree) → tree ≡ Some t → HaveSameTables word word' levels t.table) → tree_times word' page tree ≡ tree_times word page tree
 same_tree word word' page None same = refl
 same_tree word word' page (Some tree) same = same_times word word' levels tree.table page (same tree refl)
 

@@ -21,7 +21,7 @@ pairs_head {X} R x xs y all (k, below, is) = let P : X → Type 0 = R x in subst
 
 pub pairs_map : {X : Type 0} (R : X → X → Type 0) (h : X → X) (xs : List X) → ((x y : X) → R x y → R (h x) (h y)) → AllPairs R xs → AllPairs R (map h xs)
 pairs_map R h xs each all = λ i j d less below.
-    let size : length (map h xs) ≡ length xs = length-map h xs in
+    let size : length (map h xs) ≡ length xs = length-map xs h in
     let one : get_or (map h xs) i d ≡ h (get_or xs i d) = get_or-map h xs i d d (omega arith) in
     let other : get_or (map h xs) j d ≡ h (get_or xs j d) = get_or-map h xs j d d (omega arith) in
     rw (one, other) (each (get_or xs i d) (get_or xs j d) (all i j d less (omega arith)))

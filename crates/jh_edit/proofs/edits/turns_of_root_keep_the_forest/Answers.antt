@@ -5,3 +5,6 @@ use Rattle.jh_edit.proofs.edits.turns_of_root_keep_the_forest.Goals as goal
 
 pub returns-clause-forest : goal.returns-clause-forest
 returns-clause-forest c = ?
+
+pub returns-clause-edit : goal.returns-clause-edit
+returns-clause-edit c = ?
