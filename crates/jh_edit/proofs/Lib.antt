@@ -1,5 +1,6 @@
 mod SumLemmas
 mod TagLemmas
+mod FoundLemmas
 mod DescriptorLemmas
 mod StandLemmas
 mod WalkLemmas

@@ -1,9 +1,10 @@
 //! One turn of the edit of a call.
-ghost use Rattle.std.specs.Prelude.{◌≡◌, ℕ, ◌+◌, ◌<◌, ◌≤◌, Some, None, MatchOption};
+ghost use Rattle.std.specs.Prelude.{◌≡◌, ℕ, ◌+◌, ◌<◌, ◌≤◌, length, Some, None, MatchOption};
 ghost use Rattle.jh_pool.specs.Pages.{IsTakenPage};
 ghost use Rattle.jh_shape.specs.Claims.{Claims, claims_of};
 ghost use Rattle.jh_edit.specs.Forest.{left_of};
-ghost use Rattle.jh_edit.specs.OneTurn.{gone_comm, is_removing, is_root_next, with_editing, IsCellTurn, IsOneTurn, IsRootTurn, IsUnderWay};
+ghost use Rattle.jh_edit.specs.OneTurn.{gone_comm, is_removing, is_root_next, with_editing, IsCellTurn, IsOneTurn, IsUnderWay};
+ghost use Rattle.jh_edit.specs.Stages.{IsRootTurn};
 ghost use Rattle.jh_edit.specs.Private.Steps.{IsGivenBack};
 
 use crate::seats::{cell_comm, root_tree};
@@ -52,5 +53,31 @@ fn give_back(seats: &[Seat], editing: &Editing, p: &mut Pool)
 {
     if let Some(page) = gone_comm(seats, editing) {
         p.give(page);
+    }
+}
+
+impl Stage2 {
+    /// A turn of root's tables.
+    fn root_turn(&mut self, mut editing: Editing, root: &Target) -> Editing
+        requires cells { length root.now.cells.now ≤ 15 }
+        requires under { (coming : Claims) × IsUnderWay (claims_of root.now) coming (with_editing self.old editing) editing }
+        requires left { 0 < editing.root.left }
+        ensures { IsRootTurn (claims_of root.now) editing result (with_editing self.old editing) (with_editing self.new result) }
+    {
+        match root_tree(self.seats.as_slice()) {
+            Some(tree) => {
+                editing.root.turn(
+                    root,
+                    &mut self.frames,
+                    &mut self.pool,
+                    &mut self.cache,
+                    tree.tag,
+                );
+                give_back(self.seats.as_slice(), &editing, &mut self.pool);
+                editing
+            }
+            // an edit has root's tables
+            None => unreachable!(),
+        }
     }
 }
