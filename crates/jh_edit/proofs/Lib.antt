@@ -36,5 +36,6 @@ mod ForestLemmas
 mod ForestEditLemmas
 mod SeatLemmas
 mod TurningLemmas
+mod TurnedLemmas
 mod StepLemmas
 mod DeedLemmas

@@ -63,13 +63,13 @@ one_by b is = let e : one_if b ≡ 1 = ap one_if is in omega arith
 none_by : (b : Bool) → b ≡ false → one_if b ≡ 0
 none_by b is = ap one_if is
 
-own_on : (edit : EditView) (word : ℕ → ℕ) (page : ℕ) → is_over edit ≡ false → own_times edit word page ≡ times word levels edit.table page + ahead_times page edit
+pub own_on : (edit : EditView) (word : ℕ → ℕ) (page : ℕ) → is_over edit ≡ false → own_times edit word page ≡ times word levels edit.table page + ahead_times page edit
 own_on edit word page on = ap (λ b. if b then 0 else times word levels edit.table page + ahead_times page edit) on
 
 own_over : (edit : EditView) (word : ℕ → ℕ) (page : ℕ) → is_over edit ≡ true → own_times edit word page ≡ 0
 own_over edit word page over = ap (λ b. if b then 0 else times word levels edit.table page + ahead_times page edit) over
 
-mine_over : (edit : EditView) (word : ℕ → ℕ) (page : ℕ) → is_over edit ≡ true → is_mine edit word page ≡ false
+pub mine_over : (edit : EditView) (word : ℕ → ℕ) (page : ℕ) → is_over edit ≡ true → is_mine edit word page ≡ false
 mine_over edit word page over = ap (λ b. if b then false else nat_lt 0 (times word levels edit.table page) || is_ahead edit.ahead page) over
 
 -- a page is the edit's where it is so at least once
@@ -110,7 +110,7 @@ apart_all word want table None is = is
 apart_all word want table (Some ahead) is = is.apart
 
 -- a page ahead is no table of the edit's
-ahead_apart : (edit : EditView) (want : Wants) (word : ℕ → ℕ) (page : ℕ) → Plans edit want word → is_ahead edit.ahead page ≡ true → times word levels edit.table page ≡ 0
+pub ahead_apart : (edit : EditView) (want : Wants) (word : ℕ → ℕ) (page : ℕ) → Plans edit want word → is_ahead edit.ahead page ≡ true → times word levels edit.table page ≡ 0
 ahead_apart edit want word page plans is =
     ⊎_elim
     (λ away. absurd (false≢true (sym (ahead_none edit.ahead page (plans.removal away).ahead) ∙ is)))
@@ -118,7 +118,7 @@ ahead_apart edit want word page plans is =
     (cases_Bool edit.removing)
 
 -- each page is the edit's at most once
-own_once : (edit : EditView) (want : Wants) (word : ℕ → ℕ) (page : ℕ) → (is_over edit ≡ false → Plans edit want word) → times word levels edit.table page ≤ 1 → own_times edit word page ≤ 1
+pub own_once : (edit : EditView) (want : Wants) (word : ℕ → ℕ) (page : ℕ) → (is_over edit ≡ false → Plans edit want word) → times word levels edit.table page ≤ 1 → own_times edit word page ≤ 1
 own_once edit want word page plans once =
     ⊎_elim
     (λ over. let is = own_over edit word page over in omega arith)
@@ -307,7 +307,7 @@ own_after : (claims : Seat → Claims) (want : Wants) (edit edit' : EditView) (o
 own_after claims want edit edit' old new t page = own_once edit' want (words new.frames) page t.turn.plan (t.turn.tables.once page)
 
 -- each page has one use at most, also with those that are gone
-all_once : (claims : Seat → Claims) (want : Wants) (edit edit' : EditView) (old new : Stage2) → (t : Turning claims want edit edit' old new) → (page : ℕ) → uses new page + gone_uses new page ≤ 1
+pub all_once : (claims : Seat → Claims) (want : Wants) (edit edit' : EditView) (old new : Stage2) → (t : Turning claims want edit edit' old new) → (page : ℕ) → uses new page + gone_uses new page ≤ 1
 all_once claims want edit edit' old new t page =
     let moved = uses_move claims want edit edit' old new t page in
     let among = own_among claims want edit edit' old new t page in

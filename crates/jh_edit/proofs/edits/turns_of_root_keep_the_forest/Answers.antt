@@ -1,5 +1,5 @@
 -- A turn of root's tables.
-use Rattle.jh_edit.proofs.TurningLemmas
+use Rattle.jh_edit.proofs.TurnedLemmas
 use Rattle.jh_edit.proofs.SeatLemmas.{one_seat, pairs_map}
 use Rattle.jh_edit.proofs.edits.turns_of_root_keep_the_forest.Goals as goal
 
