@@ -32,7 +32,7 @@ pub record Written (claims : Seat → Claims) (stage : Stage2) (after : FramesVi
 abbrev pub IsCounted : Stage2 → EditView → Type 0
 IsCounted stage edit = (page : ℕ) → ahead_times page edit ≤ ahead_uses stage.editing page
 
-ahead_words : (P : ℕ → Type 0) (ahead : Option Ahead) → ((page : ℕ) → is_ahead ahead page ≡ true → P page) → IfSome ahead (λ (a : Ahead). P a.page)
+pub ahead_words : (P : ℕ → Type 0) (ahead : Option Ahead) → ((page : ℕ) → is_ahead ahead page ≡ true → P page) → IfSome ahead (λ (a : Ahead). P a.page)
 ahead_words P None h = tt
 ahead_words P (Some ahead) h = h ahead.page (same_number ahead.page)
 

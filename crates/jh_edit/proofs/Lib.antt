@@ -37,5 +37,7 @@ mod ForestEditLemmas
 mod SeatLemmas
 mod TurningLemmas
 mod TurnedLemmas
+mod PartLemmas
+mod KindLemmas
 mod StepLemmas
 mod DeedLemmas

@@ -84,7 +84,7 @@ unedited claims want edit edit' old new t now sits still =
 
 -- ---- what walks find
 
-same_own : (old new : FramesView) → new.own.base ≡ old.own.base → length new.own.bytes ≡ length old.own.bytes → (place : ℕ) → is_own new.own place ≡ is_own old.own place
+pub same_own : (old new : FramesView) → new.own.base ≡ old.own.base → length new.own.bytes ≡ length old.own.bytes → (place : ℕ) → is_own new.own place ≡ is_own old.own place
 same_own old new base size place =
     ap (λ b. nat_le b place && nat_lt place (b + length new.own.bytes)) base
     ∙ ap (λ n. nat_le old.own.base place && nat_lt place (old.own.base + n)) size
@@ -146,7 +146,7 @@ left_by tag lists cpu translation held =
     (found.among, λ e. false≢true (sym (not-true (translation.tag == tag) found.passes) ∙ eq-eqb translation.tag tag e))
 
 -- a seat of another cell is there after
-other_sits : (claims : Seat → Claims) (want : Wants) (edit edit' : EditView) (old new : Stage2) → (t : Turning claims want edit edit' old new) → (other : Seat) → HasSeat old other → t.seat.id ≢ other.id → HasSeat new other
+pub other_sits : (claims : Seat → Claims) (want : Wants) (edit edit' : EditView) (old new : Stage2) → (t : Turning claims want edit edit' old new) → (other : Seat) → HasSeat old other → t.seat.id ≢ other.id → HasSeat new other
 other_sits claims want edit edit' old new t other sits differ =
     let h : Seat → Seat = untreed_if (is_over edit') t.seat.id in
     let P : List Seat → Type 0 = λ seats. Contains seats other in

@@ -149,7 +149,7 @@ pub on_before : (claims : Seat → Claims) (want : Wants) (edit edit' : EditView
 on_before claims want edit edit' old new t = let left = t.turn.left in let some : 0 < edit.left = omega arith in not_over edit some
 
 -- the edit's pages are among those that are used
-own_used : (claims : Seat → Claims) (want : Wants) (edit edit' : EditView) (old new : Stage2) → Turning claims want edit edit' old new → (page : ℕ)
+pub own_used : (claims : Seat → Claims) (want : Wants) (edit edit' : EditView) (old new : Stage2) → Turning claims want edit edit' old new → (page : ℕ)
     → times (words old.frames) levels edit.table page ≤ table_uses old page
 own_used claims want edit edit' old new t page =
     let up : tree_times (words old.frames) page t.seat.tree ≤ table_uses old page = sum_up (λ (s : Seat). tree_times (words old.frames) page s.tree) old.seats.items t.seat t.of.sits in

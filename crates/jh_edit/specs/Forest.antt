@@ -224,7 +224,7 @@ pub record IsRemovePart (stage : Stage2) (id : ℕ) (edit : EditView) (lack : �
   pub sits : HasSeat stage seat
   pub cell : is_root seat ≡ false
   pub aim : edit.removing ≡ true
-  pub ahead : edit.ahead ≡ None
+  pub ahead : 0 < edit.left → edit.ahead ≡ None
   pub on : 0 < edit.left → IsEditOf stage edit seat
   pub turns : 0 < edit.left → edit.left ≡ pages_reached (words stage.frames) levels edit.table
   pub over : edit.left ≡ 0 → seat.tree ≡ None
