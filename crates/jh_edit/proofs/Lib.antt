@@ -1,6 +1,8 @@
 mod SumLemmas
 mod TagLemmas
 mod FoundLemmas
+mod MappedLemmas
+mod OneTurnLemmas
 mod DescriptorLemmas
 mod StandLemmas
 mod WalkLemmas

@@ -4,3 +4,4 @@ pub mod Written
 pub mod Finding
 pub mod Steps
 pub mod Standing
+pub mod Turned

@@ -1,16 +1,32 @@
 //! One turn of the edit of a call.
-ghost use Rattle.std.specs.Prelude.{◌≡◌, ℕ, ◌+◌, ◌<◌, ◌≤◌, length, Some, None, MatchOption};
-ghost use Rattle.jh_pool.specs.Pages.{IsTakenPage};
+ghost use Rattle.std.specs.Prelude.{◌≡◌, ℕ, ◌+◌, ◌*◌, ◌%◌, ◌<◌, ◌≤◌, ◌⊎◌, false, true, length, map, Some, None, MatchOption, vec_capacity};
+ghost use Rattle.jh_num.specs.declared.address.TheConstants.{ADDRESS_END};
+ghost use Rattle.jh_frames.specs.Memory.{byte_at, AreOwnBytes};
+ghost use Rattle.jh_pool.specs.Pages.{used_of, IsTakenPage};
 ghost use Rattle.jh_shape.specs.Claims.{Claims, claims_of};
-ghost use Rattle.jh_edit.specs.Forest.{left_of};
+ghost use Rattle.jh_shape.specs.Shapes.{want_of};
+ghost use Rattle.jh_shape.specs.SoundClaims.{AreSoundClaims};
+ghost use Rattle.jh_walk.specs.Walks.{levels};
+ghost use Rattle.jh_edit.specs.declared.stage.CellPart.{CellPart as AnyPart};
+ghost use Rattle.jh_edit.specs.declared.stage.Editing.{Editing as AnyEditing};
+ghost use Rattle.jh_edit.specs.declared.stage.Seat.{Seat as AnySeat};
+ghost use Rattle.jh_edit.specs.Forest.{left_of, with_comm, IsForest};
 ghost use Rattle.jh_edit.specs.OneTurn.{gone_comm, is_removing, is_root_next, with_editing, IsCellTurn, IsOneTurn, IsUnderWay};
-ghost use Rattle.jh_edit.specs.Stages.{IsRootTurn};
-ghost use Rattle.jh_edit.specs.Private.Steps.{IsGivenBack};
+ghost use Rattle.jh_edit.specs.Plans.{EditView, Plans};
+ghost use Rattle.jh_edit.specs.Stages.{untreed, IsBuildTurn, IsFreshTurn, IsRemoveTurn, IsRootTurn};
+ghost use Rattle.jh_edit.specs.Tables.{words};
+ghost use Rattle.jh_edit.specs.Turns.{turns_of};
+ghost use Rattle.jh_edit.specs.Private.Steps.{IsGivenBack, IsTakenFrom};
+ghost use Rattle.jh_edit.specs.Private.Turned.{IsEditTurn, IsReady};
 
-use crate::seats::{cell_comm, root_tree};
-use crate::stage::{CellPart, Editing, Seat, Stage2, left_of};
+use crate::counting::LEVELS;
+use crate::edit::Edit;
+use crate::seats::{cell_comm, cell_tree, lowest_tag, root_tree};
+use crate::stage::{CellPart, Editing, Seat, Stage2, Tree, left_of};
+use crate::writing::{Writing, write_table};
+use jh_frames::Frames;
 use jh_pool::Pool;
-use jh_shape::Target;
+use jh_shape::{Target, a_wanted_leaf_may_be_written};
 
 impl CellPart {
     /// Whether a cell's tables are still to be taken away.
@@ -56,7 +72,82 @@ fn give_back(seats: &[Seat], editing: &Editing, p: &mut Pool)
     }
 }
 
+/// The seat, without tables where it is that of the cell with the id.
+fn untreed(seat: Seat, id: u32) -> Seat
+    ensures { result ≡ untreed id seat }
+{
+    if seat.id == id {
+        Seat { tree: None, ..seat }
+    } else {
+        seat
+    }
+}
+
+/// The cell with the id has no tables any more.
+fn untree(seats: &mut [Seat], id: u32)
+    ensures { seats.new ≡ map (untreed id) seats.old }
+{
+    for seat in seats.iter_mut() {
+        *seat = untreed(*seat, id);
+    }
+}
+
+/// Once their removal is done, the cell with the id has no tables.
+fn settle(seats: &mut [Seat], id: u32, edit: &Edit)
+    ensures on { 0 < edit.now.left → seats.new ≡ seats.old }
+    ensures over { edit.now.left ≡ 0 → seats.new ≡ map (untreed id) seats.old }
+{
+    if edit.left() == 0 {
+        untree(seats, id);
+    }
+}
+
+/// A page of the pool, which has a free one.
+fn free_page(p: &mut Pool) -> u64
+    requires { used_of p.old < p.old.size }
+    ensures { IsTakenFrom result p.old p.new }
+{
+    match p.take() {
+        Some(page) => page,
+        // not all pages are taken
+        None => unreachable!(),
+    }
+}
+
+/// Makes the page the first table of a cell, in which nothing stands.
+fn clear_table(t: &Target, f: &mut Frames, table: u64)
+    requires cells { length t.now.cells.now ≤ 15 }
+    requires sound { AreSoundClaims (claims_of t.now) }
+    requires own { AreOwnBytes f.old.own table 4096 }
+    requires place { table + 4096 ≤ ADDRESS_END }
+    ensures zero { (slot : ℕ) → slot < 512 → words f.new (table + 8 * slot) ≡ 0 }
+    ensures outside { (q : ℕ) → (q < table) ⊎ (table + 4096 ≤ q) → byte_at f.new q ≡ byte_at f.old q }
+    ensures guests { f.new.guest ≡ f.old.guest }
+    ensures base { f.new.own.base ≡ f.old.own.base }
+    ensures size { length f.new.own.bytes ≡ length f.old.own.bytes }
+{
+    a_wanted_leaf_may_be_written();
+    write_table(t, f, Writing::Make, LEVELS, table, 0);
+}
+
 impl Stage2 {
+    /// A turn of the tables of one cell.
+    fn tree_turn(&mut self, edit: &mut Edit, tag: u8, t: &Target)
+        requires cells { length t.now.cells.now ≤ 15 }
+        requires ready { IsReady (claims_of t.now) edit.old self.old.frames self.old.pool }
+        ensures turn { IsEditTurn (want_of (claims_of t.now)) tag edit.old edit.new self.old.frames self.new.frames self.old.pool self.new.pool self.old.cache self.new.cache }
+        ensures seats { self.new.seats ≡ self.old.seats }
+        ensures editing { self.new.editing ≡ self.old.editing }
+    {
+        edit.turn(
+            t,
+            &mut self.frames,
+            &mut self.pool,
+            &mut self.cache,
+            tag,
+        );
+    }
+
     /// A turn of root's tables.
     fn root_turn(&mut self, mut editing: Editing, root: &Target) -> Editing
         requires cells { length root.now.cells.now ≤ 15 }
@@ -66,18 +157,76 @@ impl Stage2 {
     {
         match root_tree(self.seats.as_slice()) {
             Some(tree) => {
-                editing.root.turn(
-                    root,
-                    &mut self.frames,
-                    &mut self.pool,
-                    &mut self.cache,
-                    tree.tag,
-                );
+                self.tree_turn(&mut editing.root, tree.tag, root);
                 give_back(self.seats.as_slice(), &editing, &mut self.pool);
                 editing
             }
             // an edit has root's tables
             None => unreachable!(),
         }
+    }
+
+    /// A turn of the removal of the tables of the cell that goes. What is wanted isn't looked at.
+    fn remove_turn(&mut self, id: u32, mut edit: Edit, root: Edit, t: &Target) -> Editing
+        requires cells { length t.now.cells.now ≤ 15 }
+        requires under { (rootward : Claims) × ((coming : Claims) × IsUnderWay rootward coming (with_editing self.old (record { root = root; cell = AnyPart.Remove id edit })) (record { root = root; cell = AnyPart.Remove id edit })) }
+        requires left { 0 < edit.left }
+        ensures { (edit' : EditView) × IsRemoveTurn (want_of (claims_of t.now)) id edit edit' (record { root = root; cell = AnyPart.Remove id edit }) result (with_editing self.old (record { root = root; cell = AnyPart.Remove id edit })) (with_editing self.new result) }
+    {
+        match cell_tree(self.seats.as_slice(), id) {
+            Some(tree) => {
+                self.tree_turn(&mut edit, tree.tag, t);
+                settle(self.seats.as_mut_slice(), id, &edit);
+                let cell = CellPart::Remove { id, edit };
+                let editing = Editing { root, cell };
+                give_back(self.seats.as_slice(), &editing, &mut self.pool);
+                editing
+            }
+            // a cell whose tables are taken away has some
+            None => unreachable!(),
+        }
+    }
+
+    /// A turn of the tables of the cell that comes, whose communication page is that of its seat.
+    fn build_turn(&mut self, id: u32, mut edit: Edit, root: Edit, cell: &Target) -> Editing
+        requires cells { length cell.now.cells.now ≤ 15 }
+        requires under { (rootward : Claims) × IsUnderWay rootward (claims_of cell.now) (with_editing self.old (record { root = root; cell = AnyPart.Build id edit })) (record { root = root; cell = AnyPart.Build id edit }) }
+        requires left { 0 < edit.left }
+        requires behind { root.left ≡ 0 }
+        ensures { (edit' : EditView) × IsBuildTurn (claims_of cell.now) id edit edit' (record { root = root; cell = AnyPart.Build id edit }) result (with_editing self.old (record { root = root; cell = AnyPart.Build id edit })) (with_editing self.new result) }
+    {
+        let seats = self.seats.as_slice();
+        match (cell_tree(seats, id), cell_comm(seats, id)) {
+            (Some(tree), Some(comm)) => {
+                let target = Target { comm, ..*cell };
+                self.tree_turn(&mut edit, tree.tag, &target);
+                let cell = CellPart::Build { id, edit };
+                Editing { root, cell }
+            }
+            // a cell that is built has a seat
+            _ => unreachable!(),
+        }
+    }
+
+    /// The turn in which the coming cell gets its communication page and its first table, and the lowest tag that is free.
+    fn fresh_turn(&mut self, id: u32, root: Edit, cell: &Target) -> Editing
+        requires cells { length cell.now.cells.now ≤ 15 }
+        requires under { (rootward : Claims) × ((bound : ℕ) × IsUnderWay rootward (claims_of cell.now) (with_editing self.old (record { root = root; cell = AnyPart.Fresh id bound })) (record { root = root; cell = AnyPart.Fresh id bound })) }
+        requires behind { root.left ≡ 0 }
+        ensures { (bound : ℕ) → (edit' : EditView) × IsFreshTurn (claims_of cell.now) id bound edit' (record { root = root; cell = AnyPart.Fresh id bound }) result (with_editing self.old (record { root = root; cell = AnyPart.Fresh id bound })) (with_editing self.new result) }
+    {
+        let comm = free_page(&mut self.pool);
+        let table = free_page(&mut self.pool);
+        let tag = lowest_tag(self.seats.as_slice());
+        let target = Target { comm, ..*cell };
+        clear_table(&target, &mut self.frames, table);
+        let edit = Edit::new(table, &target, &self.frames);
+        self.seats.push_reserved(Seat {
+            id,
+            comm: Some(comm),
+            tree: Some(Tree { table, tag }),
+        });
+        let cell = CellPart::Build { id, edit };
+        Editing { root, cell }
     }
 }
