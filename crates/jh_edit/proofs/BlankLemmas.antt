@@ -27,29 +27,43 @@ use Rattle.jh_edit.proofs.SumLemmas.{count_more, sum_none, under_more}
 pub zero_word : (f : FramesView) → ((q : ℕ) → byte_at f q ≡ 0) → (at : ℕ) → words f at ≡ 0
 zero_word f zero at = word_alike (λ q. 0) (byte_at f) at (λ r low high. zero r)
 
-zero_reads : (word : ℕ → ℕ) → ((at : ℕ) → word at ≡ 0) → (at level : ℕ) → read_of (word at) level ≡ Invalid
-zero_reads word zero at level = ap (λ w. read_of w level) (zero at)
+-- ---- a table all of whose words are 0
 
-pub blank_count : (step : Step) (weight : StateWeight) (word : ℕ → ℕ) (n : ℕ) (s : Option ℕ) (table : ℕ) → ((at : ℕ) → word at ≡ 0) → count_from step weight word (suc n) s table ≡ weight s word n table
-blank_count step weight word n s table zero =
+-- each word of the table is 0
+abbrev pub IsClear : (ℕ → ℕ) → ℕ → Type 0
+IsClear word table = (i : ℕ) → i < 512 → word (table + 8 * i) ≡ 0
+
+clear_reads : (word : ℕ → ℕ) (table : ℕ) → IsClear word table → (i level : ℕ) → i < 512 → read_of (word (table + 8 * i)) level ≡ Invalid
+clear_reads word table zero i level few = ap (λ w. read_of w level) (zero i few)
+
+pub clear_count : (step : Step) (weight : StateWeight) (word : ℕ → ℕ) (n : ℕ) (s : Option ℕ) (table : ℕ) → IsClear word table → count_from step weight word (suc n) s table ≡ weight s word n table
+clear_count step weight word n s table zero =
     let B = λ (i : ℕ). by_next (count_from step weight word n (step s n i)) (read_of (word (table + 8 * i)) (LAST_LEVEL - n)) in
-    let none : sum_below 512 B ≡ 0 = sum_none B 512 (λ i lt. ap (by_next (count_from step weight word n (step s n i))) (zero_reads word zero (table + 8 * i) (LAST_LEVEL - n))) in
+    let none : sum_below 512 B ≡ 0 = sum_none B 512 (λ i lt. ap (by_next (count_from step weight word n (step s n i))) (clear_reads word table zero i (LAST_LEVEL - n) lt)) in
     let all = count_more step weight word n s table in
     omega arith
 
-pub blank_times : (word : ℕ → ℕ) (table page : ℕ) → ((at : ℕ) → word at ≡ 0) → times word levels table page ≡ (if nat_eq table page then 1 else 0)
-blank_times word table page zero = blank_count unmoved (λ state. page_weight page) word 3 None table zero
+pub clear_times : (word : ℕ → ℕ) (table page : ℕ) → IsClear word table → times word levels table page ≡ (if nat_eq table page then 1 else 0)
+clear_times word table page zero = clear_count unmoved (λ state. page_weight page) word 3 None table zero
 
-pub blank_lack : (want : Wants) (word : ℕ → ℕ) (table : ℕ) → ((at : ℕ) → word at ≡ 0) → lack_of want word levels table 0 + 1 ≡ tables_under want levels 0
-blank_lack want word table zero =
+pub clear_lack : (want : Wants) (word : ℕ → ℕ) (table : ℕ) → IsClear word table → lack_of want word levels table 0 + 1 ≡ tables_under want levels 0
+clear_lack want word table zero =
     let S = λ (i : ℕ). slot_start (LAST_LEVEL - 3) 0 i in
     let K = λ (i : ℕ). lacking (tables_under want 3 (S i)) (want (LAST_LEVEL - 3) (S i)) (read_of (word (table + 8 * i)) (LAST_LEVEL - 3)) in
     let T = λ (i : ℕ). if_table (tables_under want 3 (S i)) (want (LAST_LEVEL - 3) (S i)) in
     let same : sum_below 512 K ≡ sum_below 512 T =
-    sum_same 512 K T (λ i lt. ap (lacking (tables_under want 3 (S i)) (want (LAST_LEVEL - 3) (S i))) (zero_reads word zero (table + 8 * i) (LAST_LEVEL - 3)) ∙ lack_whole (tables_under want 3 (S i)) (want (LAST_LEVEL - 3) (S i))) in
-    let lack : lack_of want word levels table 0 ≡ sum_below 512 K = blank_count (staying want) (lack_at want) word 3 (Some 0) table zero in
+    sum_same 512 K T (λ i lt. ap (lacking (tables_under want 3 (S i)) (want (LAST_LEVEL - 3) (S i))) (clear_reads word table zero i (LAST_LEVEL - 3) lt) ∙ lack_whole (tables_under want 3 (S i)) (want (LAST_LEVEL - 3) (S i))) in
+    let lack : lack_of want word levels table 0 ≡ sum_below 512 K = clear_count (staying want) (lack_at want) word 3 (Some 0) table zero in
     let under : tables_under want levels 0 ≡ 1 + sum_below 512 T = under_more want 3 0 in
     omega arith
+
+-- ---- where all words are 0
+
+pub blank_times : (word : ℕ → ℕ) (table page : ℕ) → ((at : ℕ) → word at ≡ 0) → times word levels table page ≡ (if nat_eq table page then 1 else 0)
+blank_times word table page zero = clear_times word table page (λ i few. zero (table + 8 * i))
+
+pub blank_lack : (want : Wants) (word : ℕ → ℕ) (table : ℕ) → ((at : ℕ) → word at ≡ 0) → lack_of want word levels table 0 + 1 ≡ tables_under want levels 0
+blank_lack want word table zero = clear_lack want word table (λ i few. zero (table + 8 * i))
 
 -- only the table itself is reached
 pub blank_reached : (word : ℕ → ℕ) (table page : ℕ) → ((at : ℕ) → word at ≡ 0) → 0 < times word levels table page → table ≡ page

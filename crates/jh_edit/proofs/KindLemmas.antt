@@ -156,7 +156,7 @@ comm_place claims stage seat comm forest sits page still =
     let end = forest.inside.end in
     record { aligned = is.aligned; end = omega arith }
 
-part_is : (rootward coming : Claims) (stage : Stage2) (editing : Editing) (part : CellPart) → editing.cell ≡ part → (is : IsEdit rootward coming stage editing) → IsCellPart coming stage part is.lack
+pub part_is : (rootward coming : Claims) (stage : Stage2) (editing : Editing) (part : CellPart) → editing.cell ≡ part → (is : IsEdit rootward coming stage editing) → IsCellPart coming stage part is.lack
 part_is rootward coming stage editing part was is = subst (λ p. IsCellPart coming stage p is.lack) was is.cell
 
 build_turning : TellsGrants → (claims : Seat → Claims) (rootward coming : Claims) (id : ℕ) (edit edit' : EditView) (editing editing' : Editing) (old new : Stage2) → old.editing ≡ Some editing → IsForest claims old → IsEdit rootward coming old editing

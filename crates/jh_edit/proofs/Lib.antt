@@ -41,5 +41,6 @@ mod TurningLemmas
 mod TurnedLemmas
 mod PartLemmas
 mod KindLemmas
+mod FreshLemmas
 mod StepLemmas
 mod DeedLemmas

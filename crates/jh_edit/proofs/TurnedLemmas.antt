@@ -89,7 +89,7 @@ same_own old new base size place =
     ap (λ b. nat_le b place && nat_lt place (b + length new.own.bytes)) base
     ∙ ap (λ n. nat_le old.own.base place && nat_lt place (old.own.base + n)) size
 
-out_after : (old new : FramesView) (seat : Seat) (hit : Hit) → new.own.base ≡ old.own.base → length new.own.bytes ≡ length old.own.bytes → LeadsOutside old hit ⊎ LeadsToComm seat hit → LeadsOutside new hit ⊎ LeadsToComm seat hit
+pub out_after : (old new : FramesView) (seat : Seat) (hit : Hit) → new.own.base ≡ old.own.base → length new.own.bytes ≡ length old.own.bytes → LeadsOutside old hit ⊎ LeadsToComm seat hit → LeadsOutside new hit ⊎ LeadsToComm seat hit
 out_after old new seat hit base size (inl out) = inl (same_own old new base size hit.out ∙ out)
 out_after old new seat hit base size (inr comm) = inr comm
 

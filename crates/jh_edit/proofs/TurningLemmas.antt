@@ -135,7 +135,7 @@ own_once edit want word page plans once =
 
 -- ---- pages of others
 
-apart_pages : (page written slot r : ℕ) → page % 4096 ≡ 0 → written % 4096 ≡ 0 → page ≢ written → slot < 512 → page + 8 * slot ≤ r → r < page + 8 * slot + 8 → (r < written) ⊎ (written + 4096 ≤ r)
+pub apart_pages : (page written slot r : ℕ) → page % 4096 ≡ 0 → written % 4096 ≡ 0 → page ≢ written → slot < 512 → page + 8 * slot ≤ r → r < page + 8 * slot + 8 → (r < written) ⊎ (written + 4096 ≤ r)
 apart_pages page written slot r begins begins' apart few from below =
     ⊎_elim
     (λ (less : r < written). inl less)
