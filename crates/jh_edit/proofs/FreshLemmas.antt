@@ -11,6 +11,7 @@ use Rattle.jh_num.specs.declared.address.TheConstants.{ADDRESS_END}
 use Rattle.jh_num.specs.declared.level.TheConstants.{LAST_LEVEL}
 use Rattle.jh_num.specs.declared.rights.Rights.{Rights}
 use Rattle.jh_num.specs.Levels.{slot_size}
+use Rattle.jh_desc.specs.declared.descriptor.Descriptor.{Descriptor}
 use Rattle.jh_desc.specs.declared.descriptor.Descriptor.TheVariants.{Invalid}
 use Rattle.jh_desc.specs.declared.descriptor.Hit.{Hit}
 use Rattle.jh_desc.specs.Descriptors.{read_of}
@@ -365,4 +366,135 @@ fresh_forest claims rootward coming id bound edit' editing editing' old new f =
           (all_pairs_push AreApart old.seats.items seat f.forest.apart
           (λ k d below. fresh_apart claims rootward coming id bound edit' editing editing' old new f (get_or old.seats.items k d) (k, below, sym (read_again old.seats.items k d below))));
       room = let capacity = f.turn.capacity in let room = f.forest.room in omega arith;
+    }
+
+-- ---- the edit after
+
+-- no leaf is wanted at level 0
+abbrev pub LeavesStandBelow : Type 0
+LeavesStandBelow = (claims : Claims) (level start out : ℕ) (rights : Rights) (device : Bool) → AreSoundClaims claims → IsSlot level start → want_of claims level start ≡ WantLeaf out rights device → (0 < level) × (out % slot_size level ≡ 0) × (out + slot_size level ≤ ADDRESS_END)
+
+-- a cell's tables are those that are wanted from the first one on
+abbrev pub CountsFromTop : Type 0
+CountsFromTop = (claims : Claims) → tables_of claims ≡ tables_under (want_of claims) levels 0
+
+made_by : (want : Want) (d : Descriptor) → d ≡ Invalid → ((out : ℕ) (rights : Rights) (device : Bool) → want ≡ WantLeaf out rights device → ⊥) → IsMade want d
+made_by Nothing d is none = is
+made_by WantTable d is none = is
+made_by (WantLeaf out rights device) d is none = absurd (none out rights device refl)
+
+top_slot : (slot : ℕ) → slot < 512 → IsSlot 0 (slot_start 0 0 slot)
+top_slot slot few = record { first = omega arith; last = omega arith; begins = omega arith; bound = omega arith }
+
+top_made : LeavesStandBelow → (claims : Claims) (word : ℕ → ℕ) (table : ℕ) → AreSoundClaims claims → IsClear word table → IsMadeTable (want_of claims) word 3 table 0
+top_made below claims word table sound clear = λ slot few.
+    made_by (want_of claims 0 (slot_start 0 0 slot)) (read_of (word (table + 8 * slot)) 0) (ap (λ w. read_of w 0) (clear slot few))
+    (λ out rights device is. let low : 0 < 0 = (below claims 0 (slot_start 0 0 slot) out rights device sound (top_slot slot few) is).0 in let no : ⊥ = omega arith in no)
+
+same_count : (coming : Claims) (comm : ℕ) → tables_of (with_comm coming comm) ≡ tables_of coming
+unfolding tables_of tables_at
+same_count coming comm = refl
+
+-- the two pages begin at pages below the end of addresses
+comm_end : (coming : Claims) (id bound : ℕ) (edit' : EditView) (editing editing' : Editing) (old new : Stage2) → (r : IsFreshTurn coming id bound edit' editing editing' old new) → IsPoolOf old.pool old.frames → r.comm < ADDRESS_END
+comm_end coming id bound edit' editing editing' old new r inside =
+    let base : new.pool.base ≡ old.pool.base = r.pool_base in
+    let size : new.pool.size ≡ old.pool.size = r.pool_size in
+    let below : r.comm < new.pool.base + 4096 * new.pool.size = r.comm_taken.in_range.below in
+    let end = inside.end in
+    omega arith
+
+fresh_tables_under : CountsFromTop → (coming : Claims) (comm : ℕ) → tables_under (want_of (with_comm coming comm)) levels 0 ≡ tables_of coming
+fresh_tables_under counts coming comm = sym (counts (with_comm coming comm)) ∙ same_count coming comm
+
+-- two turns are less left
+pub fresh_left : LeavesStandBelow → CountsFromTop → (claims : Seat → Claims) (rootward coming : Claims) (id bound : ℕ) (edit' : EditView) (editing editing' : Editing) (old new : Stage2) → (f : Freshening claims rootward coming id bound edit' editing editing' old new)
+    → left_of editing' + 2 ≡ left_of editing
+fresh_left below counts claims rootward coming id bound edit' editing editing' old new f =
+    let want = want_of (with_comm coming f.turn.comm) in
+    let sound : AreSoundClaims (with_comm coming f.turn.comm) = f.part.fit.sound f.turn.comm f.turn.comm_taken.in_range.aligned (comm_end coming id bound edit' editing editing' old new f.turn f.forest.inside) in
+    let made : turns_of want (words new.frames) levels f.turn.table 0 + 2 ≡ 2 * tables_under want levels 0 =
+    made_turns want (words new.frames) 3 f.turn.table 0 (top_made below (with_comm coming f.turn.comm) (words new.frames) f.turn.table sound f.turn.zero)
+    in
+    let under = fresh_tables_under counts coming f.turn.comm in
+    let left : edit'.left ≡ turns_of want (words new.frames) levels f.turn.table 0 = f.turn.left in
+    let allowed : bound ≡ 2 * tables_of coming = f.part.allowed in
+    let was : part_left editing.cell ≡ bound = ap part_left f.turn.was in
+    let is : part_left editing'.cell ≡ edit'.left = ap part_left f.turn.cell in
+    let root : editing'.root.left ≡ editing.root.left = ap (λ (e : EditView). e.left) f.turn.root in
+    omega arith
+
+fresh_root_tables : (claims : Seat → Claims) (rootward coming : Claims) (id bound : ℕ) (edit' : EditView) (editing editing' : Editing) (old new : Stage2) → (f : Freshening claims rootward coming id bound edit' editing editing' old new)
+    → HaveSameTables (words old.frames) (words new.frames) levels editing.root.table
+fresh_root_tables claims rootward coming id bound edit' editing editing' old new f =
+    let of = f.is.root.of in
+    let P : ℕ → Type 0 = λ table. HaveSameTables (words old.frames) (words new.frames) levels table in
+    subst P (sym of.table) (fresh_tables claims rootward coming id bound edit' editing editing' old new f f.is.root.seat of.tree of.sits of.has)
+
+fresh_root_ahead : (claims : Seat → Claims) (rootward coming : Claims) (id bound : ℕ) (edit' : EditView) (editing editing' : Editing) (old new : Stage2) → (f : Freshening claims rootward coming id bound edit' editing editing' old new)
+    → IfSome editing.root.ahead (λ (a : Ahead). HasSameWords (words old.frames) (words new.frames) a.page)
+fresh_root_ahead claims rootward coming id bound edit' editing editing' old new f =
+    ahead_words (HasSameWords (words old.frames) (words new.frames)) editing.root.ahead
+    (λ page is slot few.
+    let one : ahead_times page editing.root ≡ 1 = ap (λ (x : Bool). if x then 1 else 0) is in
+    let all : ahead_uses old.editing page ≡ ahead_times page editing.root + part_ahead_times page editing.cell = ap (λ e. ahead_uses e page) f.on in
+    fresh_page claims rootward coming id bound edit' editing editing' old new f page (omega arith) slot few)
+
+fresh_root : (claims : Seat → Claims) (rootward coming : Claims) (id bound : ℕ) (edit' : EditView) (editing editing' : Editing) (old new : Stage2) → (f : Freshening claims rootward coming id bound edit' editing editing' old new)
+    → IsRootPart rootward new editing.root
+fresh_root claims rootward coming id bound edit' editing editing' old new f =
+    let is = f.is.root in
+    record {
+      seat = is.seat;
+      root = is.root;
+      of = record { tree = is.of.tree; sits = fresh_sits claims rootward coming id bound edit' editing editing' old new f is.seat is.of.sits; has = is.of.has; table = is.of.table };
+      aim = is.aim;
+      plan = plan_stays counts_same editing.root (want_of rootward) (words old.frames) (words new.frames) (fresh_root_tables claims rootward coming id bound edit' editing editing' old new f)
+          (fresh_root_ahead claims rootward coming id bound edit' editing editing' old new f) is.plan;
+      sound = is.sound;
+      kept = kept_after rootward old.frames new.frames f.turn.base f.turn.size is.kept;
+    }
+
+pub fresh_edit : CountsFromTop → (claims : Seat → Claims) (rootward coming : Claims) (id bound : ℕ) (edit' : EditView) (editing editing' : Editing) (old new : Stage2) → (f : Freshening claims rootward coming id bound edit' editing editing' old new)
+    → IsEdit rootward coming new editing'
+fresh_edit counts claims rootward coming id bound edit' editing editing' old new f =
+    let want = want_of (with_comm coming f.turn.comm) in
+    let tree = fresh_tree f.turn.table f.turn.tag in
+    let seat = fresh_seat id f.turn.comm tree in
+    let same = fresh_root_tables claims rootward coming id bound edit' editing editing' old new f in
+    let rootlack : lack_of (want_of rootward) (words new.frames) levels editing.root.table 0 ≡ lack_of (want_of rootward) (words old.frames) levels editing.root.table 0 =
+    counts_same (staying (want_of rootward)) (lack_at (want_of rootward)) (words old.frames) (words new.frames) levels (Some 0) editing.root.table same
+    (λ state m page some. lack_told (want_of rootward) (words old.frames) (words new.frames) m page state (λ slot few. same.words page slot some few))
+    in
+    let rootsame : lack_of (want_of rootward) (words new.frames) levels editing'.root.table 0 ≡ lack_of (want_of rootward) (words new.frames) levels editing.root.table 0 =
+    ap (λ (e : EditView). lack_of (want_of rootward) (words new.frames) levels e.table 0) f.turn.root
+    in
+    let rootahead : ahead_count editing'.root.ahead ≡ ahead_count editing.root.ahead = ap (λ (e : EditView). ahead_count e.ahead) f.turn.root in
+    let lack' : ℕ = lack_of want (words new.frames) levels edit'.table 0 in
+    let none : ahead_count edit'.ahead ≡ 0 = ap ahead_count f.turn.ahead in
+    let first : lack' ≡ lack_of want (words new.frames) levels f.turn.table 0 = ap (λ z. lack_of want (words new.frames) levels z 0) f.turn.first in
+    let lacks : lack_of want (words new.frames) levels f.turn.table 0 + 1 ≡ tables_under want levels 0 = clear_lack want (words new.frames) f.turn.table f.turn.zero in
+    let under = fresh_tables_under counts coming f.turn.comm in
+    let was : f.is.lack ≡ tables_of coming + 1 = f.part.lacks in
+    let enough = f.is.enough in
+    let used = f.turn.used in
+    let size = f.turn.pool_size in
+    let P : EditView → Type 0 = IsRootPart rootward new in
+    let now : IsBuildPart coming new id edit' lack' = record {
+      seat = seat;
+      comm = f.turn.comm;
+      named = refl;
+      page = refl;
+      of = record { tree = tree; sits = fresh_new_sits claims rootward coming id bound edit' editing editing' old new f; has = refl; table = f.turn.first };
+      aim = f.turn.aim;
+      plan = f.turn.plan;
+      fit = fit_after coming old new f.turn.base f.turn.size f.part.fit;
+      lacks = let e : lack' + ahead_count edit'.ahead ≡ lack' = omega arith in e;
+    }
+    in
+    record {
+      lack = lack';
+      root = subst P (sym f.turn.root) (fresh_root claims rootward coming id bound edit' editing editing' old new f);
+      cell = subst (λ part. IsCellPart coming new part lack') (sym f.turn.cell) now;
+      enough = omega arith;
     }

@@ -9,7 +9,8 @@ ghost use Rattle.jh_edit.specs.Forest.{left_of, IsEdit, IsForest};
 ghost use Rattle.jh_edit.specs.Plans.{EditView};
 ghost use Rattle.jh_edit.specs.Stages.{IsBuildTurn, IsFreshTurn, IsRemoveTurn, IsRootTurn};
 
-use crate::laws::{walked_tells_grants};
+use crate::laws::walked_tells_grants;
+use jh_shape::{a_wanted_leaf_may_be_written, tables_are_counted_from_the_top};
 
 /// A turn of root's tables keeps the tables of all cells and the edit, with one turn less left.
 pub fn turns_of_root_keep_the_forest()
@@ -50,4 +51,7 @@ pub fn a_fresh_cell_keeps_the_forest()
         → IsFreshTurn coming id bound edit' editing editing' stage stage' → IsEdit rootward coming stage' editing' }
     ensures left { (claims : AnySeat → Claims) (rootward coming : Claims) (id bound : ℕ) (edit' : EditView) (editing editing' : AnyEditing) (stage stage' : AnyStage) → stage.editing ≡ Some editing → IsForest claims stage → IsEdit rootward coming stage editing
         → IsFreshTurn coming id bound edit' editing editing' stage stage' → left_of editing' + 2 ≡ left_of editing }
-{}
+{
+    a_wanted_leaf_may_be_written();
+    tables_are_counted_from_the_top();
+}
