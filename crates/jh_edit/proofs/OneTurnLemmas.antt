@@ -157,7 +157,7 @@ ready_build claims rootward coming stage root id edit comm on forest is same som
       enough = λ aim. let h = is.enough in let l = part.lacks in omega arith;
     })
 
-ahead_of_none : (page : ℕ) (edit : EditView) (n : ℕ) → edit.ahead ≡ None → ahead_times page edit ≤ n
+pub ahead_of_none : (page : ℕ) (edit : EditView) (n : ℕ) → edit.ahead ≡ None → ahead_times page edit ≤ n
 ahead_of_none page edit n none = let e : ahead_times page edit ≡ 0 = ap (λ a. if is_ahead a page then 1 else 0) none in omega arith
 
 pub ready_remove : (claims : Seat → Claims) (rootward coming other : Claims) (stage : Stage2) (root : EditView) (id : ℕ) (edit : EditView) → IsForest claims stage → IsEdit rootward coming stage (removing root id edit) → 0 < edit.left

@@ -1,5 +1,5 @@
 //! One turn of the edit of a call.
-ghost use Rattle.std.specs.Prelude.{◌≡◌, ℕ, ◌+◌, ◌*◌, ◌%◌, ◌<◌, ◌≤◌, ◌⊎◌, false, true, length, map, Some, None, MatchOption, vec_capacity};
+ghost use Rattle.std.specs.Prelude.{◌≡◌, ℕ, ◌+◌, ◌*◌, ◌%◌, ◌<◌, ◌≤◌, ◌⊎◌, false, true, length, map, Some, None, IsSome, MatchOption, vec_capacity};
 ghost use Rattle.jh_num.specs.declared.address.TheConstants.{ADDRESS_END};
 ghost use Rattle.jh_frames.specs.Memory.{byte_at, AreOwnBytes};
 ghost use Rattle.jh_pool.specs.Pages.{used_of, IsTakenPage};
@@ -13,6 +13,7 @@ ghost use Rattle.jh_edit.specs.declared.stage.Seat.{Seat as AnySeat};
 ghost use Rattle.jh_edit.specs.Forest.{left_of, with_comm, IsForest};
 ghost use Rattle.jh_edit.specs.OneTurn.{gone_comm, is_removing, is_root_next, with_editing, IsCellTurn, IsOneTurn, IsUnderWay};
 ghost use Rattle.jh_edit.specs.Plans.{EditView, Plans};
+ghost use Rattle.jh_edit.specs.Seats.{cell_comm};
 ghost use Rattle.jh_edit.specs.Stages.{untreed, IsBuildTurn, IsFreshTurn, IsRemoveTurn, IsRootTurn};
 ghost use Rattle.jh_edit.specs.Tables.{words};
 ghost use Rattle.jh_edit.specs.Turns.{turns_of};
@@ -59,6 +60,18 @@ fn gone_comm(seats: &[Seat], editing: &Editing) -> Option<u64>
     match &editing.cell {
         CellPart::Remove { id, edit: _ } => cell_comm(seats, *id),
         _ => None,
+    }
+}
+
+/// The communication page of the cell with the id, which has one.
+fn cell_page(seats: &[Seat], id: u32) -> u64
+    requires { IsSome (cell_comm id seats.now) }
+    ensures { cell_comm id seats.now ≡ Some result }
+{
+    match cell_comm(seats, id) {
+        Some(page) => page,
+        // a cell besides root has a communication page
+        None => unreachable!(),
     }
 }
 
@@ -196,15 +209,16 @@ impl Stage2 {
         ensures { (edit' : EditView) × IsBuildTurn (claims_of cell.now) id edit edit' (record { root = root; cell = AnyPart.Build id edit }) result (with_editing self.old (record { root = root; cell = AnyPart.Build id edit })) (with_editing self.new result) }
     {
         let seats = self.seats.as_slice();
-        match (cell_tree(seats, id), cell_comm(seats, id)) {
-            (Some(tree), Some(comm)) => {
+        match cell_tree(seats, id) {
+            Some(tree) => {
+                let comm = cell_page(seats, id);
                 let target = Target { comm, ..*cell };
                 self.tree_turn(&mut edit, tree.tag, &target);
                 let cell = CellPart::Build { id, edit };
                 Editing { root, cell }
             }
-            // a cell that is built has a seat
-            _ => unreachable!(),
+            // a cell that is built has tables
+            None => unreachable!(),
         }
     }
 
