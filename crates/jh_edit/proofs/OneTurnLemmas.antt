@@ -28,6 +28,7 @@ use Rattle.jh_edit.specs.Plans.{EditView, Plans, ahead_count}
 use Rattle.jh_edit.specs.Seats.{cell_comm}
 use Rattle.jh_edit.specs.Stages.{IsTreeTurn, gone_uses, untreed}
 use Rattle.jh_edit.specs.Tables.{AreTables, HasTaken, is_ahead, is_mine, is_over, words}
+use Rattle.jh_edit.specs.Turns.{turn_if}
 use Rattle.jh_edit.specs.Private.Steps.{IsGivenBack, IsTakenFrom}
 use Rattle.jh_edit.specs.Private.Turned.{IsEditTurn, IsReady}
 use Rattle.jh_edit.proofs.EndLemmas.{edit_ends}
@@ -168,10 +169,10 @@ ready_remove claims rootward coming other stage root id edit forest is some =
     record {
       sound = λ not. absurd (true≢false (sym part.aim ∙ not));
       tables = own_tables claims stage forest edit part.seat of;
-      plan = record { target = λ not. absurd (true≢false (sym part.aim ∙ not)); removal = λ yes. record { turns = part.turns some; ahead = part.ahead } };
+      plan = record { target = λ not. absurd (true≢false (sym part.aim ∙ not)); removal = λ away. record { turns = part.turns some; ahead = part.ahead some } };
       left = some;
       pool = forest.inside;
-      taken = own_taken claims stage forest edit part.seat of (λ page. ahead_of_none page edit (ahead_uses stage.editing page) part.ahead);
+      taken = own_taken claims stage forest edit part.seat of (λ page. ahead_of_none page edit (ahead_uses stage.editing page) (part.ahead some));
       enough = λ not. absurd (true≢false (sym part.aim ∙ not));
     }
 
@@ -270,11 +271,11 @@ pub record IsSettled (gone : Option ℕ) (p p' : PoolView) : Type 0 where
   pub freed : (q : ℕ) → 0 < comm_times q gone → is_free p' q ≡ true
   pub used : used_of p' ≤ used_of p
 
-flag_none : (b : Bool) → (if b then 1 else 0) ≡ 0 → b ≡ false
+flag_none : (b : Bool) → turn_if b ≡ 0 → b ≡ false
 flag_none true none = absurd (omega arith)
 flag_none false none = refl
 
-flag_some : (b : Bool) → 0 < (if b then 1 else 0) → b ≡ true
+flag_some : (b : Bool) → 0 < turn_if b → b ≡ true
 flag_some true some = refl
 flag_some false some = absurd (omega arith)
 

@@ -14,9 +14,9 @@ use Rattle.jh_edit.proofs.WritingLemmas.{slot_there}
 use Rattle.jh_edit.proofs.turning.clear_table.Goals as goal
 
 no_leaf : (level : ℕ) (want : Want) (old : ℕ) → ((out : ℕ) (rights : Rights) (device : Bool) → want ≡ WantLeaf out rights device → ⊥) → word_after Make level want old ≡ 0
-no_leaf level Nothing old no = refl
-no_leaf level WantTable old no = refl
-no_leaf level (WantLeaf out rights device) old no = absurd (no out rights device refl)
+no_leaf level Nothing old none = refl
+no_leaf level WantTable old none = refl
+no_leaf level (WantLeaf out rights device) old none = absurd (none out rights device refl)
 
 pub returns-clause-zero : goal.returns-clause-zero
 returns-clause-zero c = λ slot few.
