@@ -42,5 +42,6 @@ mod TurnedLemmas
 mod PartLemmas
 mod KindLemmas
 mod FreshLemmas
+mod EndingLemmas
 mod StepLemmas
 mod DeedLemmas

@@ -5,6 +5,7 @@ pub mod Tables
 pub mod Moves
 pub mod Forest
 pub mod Stages
+pub mod Ends
 pub mod Seats
 pub mod OneTurn
 pub mod Private

@@ -5,6 +5,7 @@
 mod counting;
 mod edit;
 mod edits;
+mod ends;
 mod finding;
 mod forest;
 mod laws;
@@ -21,6 +22,7 @@ pub use edits::{
     a_fresh_cell_keeps_the_forest, turns_of_a_coming_cell_keep_the_forest,
     turns_of_a_removal_keep_the_forest, turns_of_root_keep_the_forest,
 };
+pub use ends::{claims_of_seats_are_asked_alone, where_no_edit_is_left_the_forest_stands};
 pub use forest::{
     a_write_outside_tables_keeps_the_forest, each_cell_has_tables_of_its_own,
     forests_take_their_pages,
