@@ -23,10 +23,10 @@ use Rattle.jh_edit.specs.declared.stage.Seat.{Seat}
 use Rattle.jh_edit.specs.declared.stage.Stage2.{Stage2}
 use Rattle.jh_edit.specs.declared.stage.Tree.{Tree}
 use Rattle.jh_edit.specs.Forest.{AreApart, HasSeat, IsCellPart, IsEdit, IsEditOf, IsForest, IsRemovePart, ahead_times, ahead_uses, comm_times, comm_uses, is_gone, is_removed, is_root, left_of, part_ahead_times, part_left, table_uses, tree_times, uses, with_comm}
-use Rattle.jh_edit.specs.OneTurn.{gone_comm, removed_comm}
+use Rattle.jh_edit.specs.OneTurn.{gone_comm, removed_comm, with_editing, IsCellTurn, IsKept, IsTurnBy}
 use Rattle.jh_edit.specs.Plans.{EditView, Plans, ahead_count}
 use Rattle.jh_edit.specs.Seats.{cell_comm}
-use Rattle.jh_edit.specs.Stages.{IsTreeTurn, gone_uses, untreed}
+use Rattle.jh_edit.specs.Stages.{IsBuildTurn, IsFreshTurn, IsRemoveTurn, IsRootTurn, IsTreeTurn, gone_uses, untreed}
 use Rattle.jh_edit.specs.Tables.{AreTables, HasTaken, is_ahead, is_mine, is_over, words}
 use Rattle.jh_edit.specs.Turns.{turn_if}
 use Rattle.jh_edit.specs.Private.Steps.{IsGivenBack, IsTakenFrom}
@@ -253,6 +253,10 @@ gone_seat seats apart root (Build id edit) has page is = absurd (none-some page 
 gone_seat seats apart root (Remove id edit) has page is =
     (has.0, (has.1.0, sym (cell_comm_is seats apart has.0 id has.1.0 has.1.1) ∙ if_some (nat_eq (root.left + edit.left) 0) (cell_comm id seats) page is))
 
+pub removed_page : (seats : List Seat) → AllPairs AreApart seats → (root : EditView) (id : ℕ) (edit : EditView) (seat : Seat) → Contains seats seat → seat.id ≡ id → (page : ℕ) → gone_comm (removing root id edit) seats ≡ Some page → seat.comm ≡ Some page
+removed_page seats apart root id edit seat sits named page is =
+    sym (cell_comm_is seats apart seat id sits named) ∙ if_some (nat_eq (root.left + edit.left) 0) (cell_comm id seats) page is
+
 -- the page of a cell that goes stays taken through a turn of other tables
 pub stays_taken : (claims : Seat → Claims) (stage : Stage2) (editing : Editing) → stage.editing ≡ Some editing → IsForest claims stage → (want : Wants) (tag : ℕ) (edit edit' : EditView) (f' : FramesView) (p' : PoolView) (c' : List (List Translation))
     → (owner : Seat) → IsEditOf stage edit owner → ((q : ℕ) → ahead_times q edit ≤ ahead_uses stage.editing q) → 0 < left_of editing → IsEditTurn want tag edit edit' stage.frames f' stage.pool p' stage.cache c'
@@ -411,3 +415,29 @@ two_taken comm table p p1 p2 first second =
       base = base;
       size = size;
     }
+
+-- ---- turns of all kinds
+
+-- the relation of one turn keeps the tables of all cells and the edit
+abbrev pub KeepsBy : Claims → Claims → (Editing → Editing → Stage2 → Stage2 → Type 0) → Type 0
+KeepsBy rootward coming T =
+    (claims : Seat → Claims) (editing editing' : Editing) (stage stage' : Stage2) → stage.editing ≡ Some editing → IsForest claims stage → IsEdit rootward coming stage editing → T editing editing' stage stage'
+    → IsKept claims rootward coming editing editing' stage'
+
+cell_kept : (rootward coming : Claims) → ((id bound : ℕ) (edit' : EditView) → KeepsBy rootward coming (IsFreshTurn coming id bound edit')) → ((id : ℕ) (edit edit' : EditView) → KeepsBy rootward coming (IsBuildTurn coming id edit edit'))
+    → ((id : ℕ) (edit edit' : EditView) → KeepsBy rootward coming (IsRemoveTurn (want_of rootward) id edit edit')) → (part : CellPart) → KeepsBy rootward coming (IsCellTurn rootward coming part)
+cell_kept rootward coming fresh build remove Unchanged claims editing editing' stage stage' on forest edit turn = absurd turn
+cell_kept rootward coming fresh build remove (Fresh id bound) claims editing editing' stage stage' on forest edit turn = fresh id bound turn.0 claims editing editing' stage stage' on forest edit turn.1
+cell_kept rootward coming fresh build remove (Build id own) claims editing editing' stage stage' on forest edit turn = build id own turn.0 claims editing editing' stage stage' on forest edit turn.1
+cell_kept rootward coming fresh build remove (Remove id own) claims editing editing' stage stage' on forest edit turn = remove id own turn.0 claims editing editing' stage stage' on forest edit turn.1
+
+pub turn_kept : (rootward coming : Claims) → KeepsBy rootward coming (IsRootTurn rootward) → ((id bound : ℕ) (edit' : EditView) → KeepsBy rootward coming (IsFreshTurn coming id bound edit')) → ((id : ℕ) (edit edit' : EditView) → KeepsBy rootward coming (IsBuildTurn coming id edit edit'))
+    → ((id : ℕ) (edit edit' : EditView) → KeepsBy rootward coming (IsRemoveTurn (want_of rootward) id edit edit')) → (b : Bool) → KeepsBy rootward coming (IsTurnBy b rootward coming)
+turn_kept rootward coming root fresh build remove true claims editing editing' stage stage' on forest edit turn = root claims editing editing' stage stage' on forest edit turn
+turn_kept rootward coming root fresh build remove false claims editing editing' stage stage' on forest edit turn = cell_kept rootward coming fresh build remove editing.cell claims editing editing' stage stage' on forest edit turn
+
+-- ---- the edit in its place
+
+-- the stage is the one with the edit that it has
+pub editing_there : (stage : Stage2) (editing : Editing) → stage.editing ≡ Some editing → with_editing stage editing ≡ stage
+editing_there stage editing on = ap (λ (o : Option Editing). record stage { editing = o }) (sym on)

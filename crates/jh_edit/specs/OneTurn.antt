@@ -63,6 +63,12 @@ pub record IsTurned (rootward coming : Claims) (editing : Editing) (old new : St
   pub now : new.editing ≡ Some editing'
   pub turn : IsOneTurn rootward coming editing editing' old new
 
+-- what a turn keeps: the tables of all cells, and the edit, with fewer turns left
+pub record IsKept (claims : Seat → Claims) (rootward coming : Claims) (editing editing' : Editing) (new : Stage2) : Type 0 where
+  pub forest : IsForest claims new
+  pub edit : IsEdit rootward coming new editing'
+  pub falls : left_of editing' < left_of editing
+
 -- ---- the page of a cell that is gone
 
 abbrev pub removed_comm : CellPart → List Seat → Option ℕ

@@ -10,8 +10,9 @@ ghost use Rattle.jh_walk.specs.Walks.{levels};
 ghost use Rattle.jh_edit.specs.declared.stage.CellPart.{CellPart as AnyPart};
 ghost use Rattle.jh_edit.specs.declared.stage.Editing.{Editing as AnyEditing};
 ghost use Rattle.jh_edit.specs.declared.stage.Seat.{Seat as AnySeat};
+ghost use Rattle.jh_edit.specs.declared.stage.Stage2.{Stage2 as AnyStage};
 ghost use Rattle.jh_edit.specs.Forest.{left_of, IsEdit, IsForest};
-ghost use Rattle.jh_edit.specs.OneTurn.{gone_comm, is_removing, is_root_next, with_editing, HasTurn, IsCellTurn, IsOneTurn, IsTurned, IsUnderWay};
+ghost use Rattle.jh_edit.specs.OneTurn.{gone_comm, is_removing, is_root_next, with_editing, HasTurn, IsCellTurn, IsKept, IsOneTurn, IsTurned, IsUnderWay};
 ghost use Rattle.jh_edit.specs.Plans.{EditView, Plans};
 ghost use Rattle.jh_edit.specs.Seats.{cell_comm};
 ghost use Rattle.jh_edit.specs.Stages.{untreed, IsBuildTurn, IsFreshTurn, IsRemoveTurn, IsRootTurn};
@@ -145,6 +146,17 @@ fn clear_table(t: &Target, f: &mut Frames, table: u64)
 {
     a_wanted_leaf_may_be_written();
     write_table(t, f, Writing::Make, LEVELS, table, 0);
+}
+
+/// Each turn of an edit keeps the tables of all cells and the edit, with fewer turns left.
+pub fn turns_keep_the_forest()
+    ensures { (claims : AnySeat → Claims) (rootward coming : Claims) (editing editing' : AnyEditing) (stage stage' : AnyStage) → stage.editing ≡ Some editing → IsForest claims stage → IsEdit rootward coming stage editing
+        → IsOneTurn rootward coming editing editing' stage stage' → IsKept claims rootward coming editing editing' stage' }
+{
+    turns_of_root_keep_the_forest();
+    turns_of_a_coming_cell_keep_the_forest();
+    turns_of_a_removal_keep_the_forest();
+    a_fresh_cell_keeps_the_forest();
 }
 
 impl Stage2 {
@@ -298,10 +310,7 @@ impl Stage2 {
         ensures left { (editing : AnyEditing) → self.new.editing ≡ Some editing → result ≡ left_of editing }
         ensures falls { (editing : AnyEditing) → self.old.editing ≡ Some editing → result < left_of editing }
     {
-        turns_of_root_keep_the_forest();
-        turns_of_a_coming_cell_keep_the_forest();
-        turns_of_a_removal_keep_the_forest();
-        a_fresh_cell_keeps_the_forest();
+        turns_keep_the_forest();
         match self.editing.take() {
             Some(editing) => {
                 let editing = self.one_turn(editing, root, cell);

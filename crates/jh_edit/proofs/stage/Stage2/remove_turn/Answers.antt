@@ -3,6 +3,7 @@
 use Rattle.std.proofs.Common.{◌≡◌, ℕ, ◌+◌, ◌<◌, List, map, None, Some, Option, sum_by, if◌then◌else◌, refl, sym, ap, subst, ◌∙◌, arith}
 use Rattle.std.specs.Prelude.{MatchOption, vec_capacity}
 use Rattle.std.specs.Vec.{with_items}
+use Rattle.std.proofs.lemmas.List.{with_items_is}
 use Rattle.std.proofs.lemmas.Option.{none-some, same_Some}
 use Rattle.jh_shape.specs.Claims.{claims_of}
 use Rattle.jh_shape.specs.Shapes.{want_of}
@@ -17,7 +18,7 @@ use Rattle.jh_edit.specs.Seats.{cell_tree}
 use Rattle.jh_edit.specs.Stages.{IsRemoveTurn, IsTreeTurn, gone_uses, untreed}
 use Rattle.jh_edit.specs.Private.Steps.{IsGivenBack}
 use Rattle.jh_edit.proofs.FoundLemmas.{cell_tree_is}
-use Rattle.jh_edit.proofs.OneTurnLemmas.{ahead_of_none, gone_counted, gone_seat, ready_remove, removing, settled, settled_seats, stays_taken, tree_turned}
+use Rattle.jh_edit.proofs.OneTurnLemmas.{ahead_of_none, gone_counted, ready_remove, removed_page, removing, settled, settled_seats, stays_taken, tree_turned}
 use Rattle.jh_edit.proofs.stage.Stage2.remove_turn.Goals as goal
 
 pub tree_turn-requires-clause-ready : goal.tree_turn-requires-clause-ready
@@ -43,10 +44,11 @@ give_back-requires c page is =
     let seats : List Seat = c.settle.new.seats in
     let start : c.as_mut_slice.result.now ≡ old.seats.items = c.as_mut_slice.ensures.value ∙ ap (λ v. v.items) c.tree_turn.ensures.seats in
     let s = settled_seats c.args.id c.tree_turn.new.edit.left old.seats.items seats part.seat u.forest.apart part.sits part.named (λ some. c.settle.ensures.on some ∙ start) (λ none. c.settle.ensures.over none ∙ ap (map (untreed c.args.id)) start) in
-    let slice : c.as_slice-in-Some.result.now ≡ seats = c.as_slice-in-Some.ensures.value in
-    let gone = gone_seat seats s.apart c.args.root (Remove c.args.id c.tree_turn.new.edit) (s.own, (s.sits, s.named)) page (ap (gone_comm next) (sym slice) ∙ is) in
+    let items : (with_items c.tree_turn.new.self.seats seats).items ≡ seats = with_items_is c.tree_turn.new.self.seats seats (c.settle.auto.seats ∙ c.as_mut_slice.ensures.len) in
+    let slice : c.as_slice-in-Some.result.now ≡ seats = c.as_slice-in-Some.ensures.value ∙ items in
+    let gone : s.own.comm ≡ Some page = removed_page seats s.apart c.args.root c.args.id c.tree_turn.new.edit s.own s.sits s.named page (ap (gone_comm next) (sym slice) ∙ is) in
     stays_taken u.claims old was refl u.forest (want_of (claims_of c.args.t.now)) c.in-Some.tree.tag c.args.edit c.tree_turn.new.edit c.tree_turn.new.self.frames c.tree_turn.new.self.pool c.tree_turn.new.self.cache part.seat (part.on c.requires.left)
-    (λ q. ahead_of_none q c.args.edit (ahead_uses old.editing q) (part.ahead c.requires.left)) (let some = c.requires.left in omega arith) c.tree_turn.ensures.turn part.seat part.sits page (sym s.comm ∙ gone.1.1)
+    (λ q. ahead_of_none q c.args.edit (ahead_uses old.editing q) (part.ahead c.requires.left)) (let some = c.requires.left in omega arith) c.tree_turn.ensures.turn part.seat part.sits page (sym s.comm ∙ gone)
 
 pub returns : goal.returns
 returns c =
@@ -64,9 +66,11 @@ returns c =
     let on : 0 < edit'.left → seats ≡ old.seats.items = λ some. c.settle.ensures.on some ∙ start in
     let over : edit'.left ≡ 0 → seats ≡ map (untreed c.args.id) old.seats.items = λ none. c.settle.ensures.over none ∙ ap (map (untreed c.args.id)) start in
     let s = settled_seats c.args.id edit'.left old.seats.items seats part.seat u.forest.apart part.sits part.named on over in
-    let slice : c.as_slice-in-Some.result.now ≡ seats = c.as_slice-in-Some.ensures.value in
+    let items : (with_items c.tree_turn.new.self.seats seats).items ≡ seats = with_items_is c.tree_turn.new.self.seats seats (c.settle.auto.seats ∙ c.as_mut_slice.ensures.len) in
+    let slice : c.as_slice-in-Some.result.now ≡ seats = c.as_slice-in-Some.ensures.value ∙ items in
     let given = subst (λ (l : List Seat). MatchOption (gone_comm next l) (c.give_back.new.p ≡ c.tree_turn.new.self.pool) (λ page. IsGivenBack page c.tree_turn.new.self.pool c.give_back.new.p)) slice c.give_back.ensures in
-    let counted : (page : ℕ) → gone_uses new page ≡ comm_times page (gone_comm next seats) = λ page. gone_counted seats s.apart c.args.root (Remove c.args.id edit') (s.own, (s.sits, s.named)) page in
+    let counted : (page : ℕ) → gone_uses new page ≡ comm_times page (gone_comm next seats) =
+    λ page. ap (λ (l : List Seat). sum_by (λ (x : Seat). if is_gone (Some next) x then comm_times page x.comm else 0) l) items ∙ gone_counted seats s.apart c.args.root (Remove c.args.id edit') (s.own, (s.sits, s.named)) page in
     let tree : c.in-Some.tree ≡ of.tree =
     same_Some c.in-Some.tree of.tree (sym c.in-Some.is ∙ (c.cell_tree.ensures ∙ (ap (cell_tree c.args.id) c.as_slice.ensures.value ∙ (cell_tree_is c.args.self.now.seats.items u.forest.apart part.seat c.args.id part.sits part.named ∙ of.has)))) in
     let want = want_of (claims_of c.args.t.now) in
@@ -81,8 +85,8 @@ returns c =
       was = refl;
       cell = refl;
       root = refl;
-      on = on;
-      over = over;
+      on = λ some. items ∙ on some;
+      over = λ none. items ∙ over none;
       capacity = ap vec_capacity c.tree_turn.ensures.seats;
       now = refl;
     })
