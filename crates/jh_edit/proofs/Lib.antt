@@ -43,5 +43,6 @@ mod PartLemmas
 mod KindLemmas
 mod FreshLemmas
 mod EndingLemmas
+mod PagesLemmas
 mod StepLemmas
 mod DeedLemmas

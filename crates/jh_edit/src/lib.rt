@@ -24,7 +24,7 @@ pub use edits::{
 };
 pub use ends::{claims_of_seats_are_asked_alone, where_no_edit_is_left_the_forest_stands};
 pub use forest::{
-    a_write_outside_tables_keeps_the_forest, each_cell_has_tables_of_its_own,
+    a_write_outside_tables_keeps_the_forest, cells_take_their_pages, each_cell_has_tables_of_its_own,
     forests_take_their_pages,
 };
 pub use laws::{
