@@ -44,5 +44,6 @@ mod KindLemmas
 mod FreshLemmas
 mod EndingLemmas
 mod PagesLemmas
+mod PlannedLemmas
 mod StepLemmas
 mod DeedLemmas

@@ -1,5 +1,5 @@
 -- How the edit of a call begins, and what it leaves of the tables of all cells.
-use Rattle.std.specs.Prelude.{◌≡◌, ℕ, ◌+◌, ◌≤◌, Bool, not, nat_eq, vec_capacity, List, filter, Option, Some, None, if◌then◌else◌}
+use Rattle.std.specs.Prelude.{◌≡◌, ℕ, ◌+◌, ◌≤◌, Bool, false, not, nat_eq, vec_capacity, List, filter, Option, Some, None, if◌then◌else◌}
 use Rattle.jh_shape.specs.Claims.{Claims}
 use Rattle.jh_shape.specs.Pages.{tables_of}
 use Rattle.jh_edit.specs.declared.stage.CellPart.{CellPart}
@@ -36,6 +36,13 @@ pub record IsClosed (editing : Editing) (old new : Stage2) : Type 0 where
   pub seats : new.seats.items ≡ seats_left editing.cell old.seats.items
   pub room : vec_capacity old.seats ≤ vec_capacity new.seats
   pub still : new.editing ≡ None
+
+-- ---- the beginning
+
+-- an edit that was just planned: no page is ahead, and no table of a cell that comes is made
+pub record IsPlanned (editing : Editing) : Type 0 where
+  pub bare : editing.root.ahead ≡ None
+  pub unmade : (id : ℕ) → is_built editing.cell id ≡ false
 
 -- ---- pages
 

@@ -9,12 +9,41 @@ ghost use Rattle.jh_edit.specs.declared.stage.Editing.{Editing as AnyEditing};
 ghost use Rattle.jh_edit.specs.declared.stage.Seat.{Seat as AnySeat};
 ghost use Rattle.jh_edit.specs.declared.stage.Stage2.{Stage2 as AnyStage};
 ghost use Rattle.jh_edit.specs.declared.stage.Tree.{Tree as AnyTree};
-ghost use Rattle.jh_edit.specs.Ends.{claims_after, seat_pages, IsClosed};
+ghost use Rattle.jh_edit.specs.Ends.{claims_after, seat_pages, IsClosed, IsPlanned};
 ghost use Rattle.jh_edit.specs.Forest.{is_root, left_of, HasSeat, IsEdit, IsForest};
+ghost use Rattle.jh_edit.specs.OneTurn.{with_editing};
 ghost use Rattle.jh_edit.specs.Tables.{words};
+ghost use Rattle.jh_pool.specs.Pages.{used_of};
 ghost use Rattle.jh_edit.specs.Trees.{lack_of, WantsItsTables};
 
-use crate::laws::{a_finished_edit_stands, claims_want_pages_at_the_end};
+use crate::forest::cells_take_their_pages;
+use crate::laws::{
+    a_finished_edit_stands, claims_want_pages_at_the_end, standing_tables_lack_the_difference,
+};
+use jh_pool::Pool;
+use jh_shape::tables_are_counted_from_the_top;
+
+/// An edit that was just planned, and has a turn left, may be put beside the tables of all cells: they are kept, and it is under
+/// way.
+pub fn a_planned_edit_keeps_the_forest()
+    ensures forest { (claims : AnySeat → Claims) (editing : AnyEditing) (stage : AnyStage) → stage.editing ≡ None → IsForest claims stage → IsPlanned editing → 0 < left_of editing → IsForest claims (with_editing stage editing) }
+    ensures edit { (rootward coming : Claims) (editing : AnyEditing) (stage : AnyStage) → IsEdit rootward coming stage editing → IsEdit rootward coming (with_editing stage editing) editing }
+{}
+
+/// Where the pool has as many pages as the cells have after a call, with those of a cell that comes, it has those that the
+/// edit of the call takes; and where root wants no table more than before, its part takes none.
+pub fn planned_edits_have_pages(pool: &Pool)
+    ensures create { (claims : AnySeat → Claims) (rootward coming : Claims) (stage : AnyStage) (root : AnySeat) (tree : AnyTree) → stage.pool ≡ pool.now → stage.editing ≡ None → IsForest claims stage
+        → HasSeat stage root → is_root root ≡ true → root.tree ≡ Some tree → WantsItsTables (want_of (claims root)) (want_of rootward)
+        → sum_by (seat_pages (claims_after rootward coming AnyPart.Unchanged claims)) stage.seats.items + (tables_of coming + 1) ≤ stage.pool.size
+        → lack_of (want_of rootward) (words stage.frames) levels tree.table 0 + ((tables_of coming + 1) + used_of stage.pool) ≤ stage.pool.size }
+    ensures others { (claims : AnySeat → Claims) (rootward : Claims) (stage : AnyStage) (root : AnySeat) (tree : AnyTree) → stage.editing ≡ None → IsForest claims stage
+        → HasSeat stage root → root.tree ≡ Some tree → WantsItsTables (want_of rootward) (want_of (claims root)) → lack_of (want_of rootward) (words stage.frames) levels tree.table 0 ≡ 0 }
+{
+    cells_take_their_pages(pool);
+    standing_tables_lack_the_difference();
+    tables_are_counted_from_the_top();
+}
 
 /// Where no turn of an edit is left, the tables of all cells stand for the claims after the call, once it is closed; and so
 /// they do at once where none is left of what was planned.
