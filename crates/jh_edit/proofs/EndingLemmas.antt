@@ -30,13 +30,21 @@ use Rattle.jh_edit.specs.Trees.{Stands, WantsPagesAtTheEnd}
 use Rattle.jh_edit.proofs.ForestLemmas.{sum_alike}
 use Rattle.jh_edit.proofs.SeatLemmas.{one_root, one_seat, sum_filter}
 
-pub alike_forest : (claims claims' : Seat → Claims) (stage : Stage2) → ((seat : Seat) → HasSeat stage seat → claims' seat ≡ claims seat) → IsForest claims stage → IsForest claims' stage
+-- ---- wants that stay
+
+-- wants that are the same everywhere are one
+pub same_wants : (want want' : Wants) → ((level start : ℕ) → want' level start ≡ want level start) → want' ≡ want
+same_wants want want' same = λ i level start. same level start i
+
+pub alike_forest : (claims claims' : Seat → Claims) (stage : Stage2) → ((seat : Seat) (level start : ℕ) → HasSeat stage seat → want_of (claims' seat) level start ≡ want_of (claims seat) level start) → IsForest claims stage → IsForest claims' stage
 alike_forest claims claims' stage same forest = record {
   inside = forest.inside;
   once = forest.once;
   taken = forest.taken;
   trees = forest.trees;
-  stands = λ seat tree sits has still. let P : Claims → Type 0 = λ c. Stands (want_of c) (words stage.frames) levels tree.table 0 in subst P (sym (same seat sits)) (forest.stands seat tree sits has still);
+  stands = λ seat tree sits has still.
+      let P : Wants → Type 0 = λ want. Stands want (words stage.frames) levels tree.table 0 in
+      subst P (sym (same_wants (want_of (claims seat)) (want_of (claims' seat)) (λ level start. same seat level start sits))) (forest.stands seat tree sits has still);
   outside = forest.outside;
   cached = forest.cached;
   apart = forest.apart;

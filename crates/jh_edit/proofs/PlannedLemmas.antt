@@ -1,7 +1,7 @@
 -- An edit that was just planned: what it leaves of the tables of all cells, and the pages that it takes.
 use Rattle.std.proofs.Common.{◌≡◌, ◌≢◌, ℕ, ◌+◌, ◌-◌, ◌*◌, ◌<◌, ◌≤◌, ◌↔◌, ap, ◌∙◌, sym, subst, Bool, true, false, not, ◌&&◌, ◌||◌, nat_eq, List, length, sum_by, Option, Some, None, if◌then◌else◌, arith, refl, ⊎_elim}
 use Rattle.std.specs.Prelude.{Contains, is_some}
-use Rattle.std.proofs.lemmas.Bool.{and_right, cases_Bool, eq-eqb, false≢true, ne_eqb}
+use Rattle.std.proofs.lemmas.Bool.{and_left, and_right, cases_Bool, eq-eqb, false≢true, ne_eqb}
 use Rattle.jh_pool.specs.Pages.{IsTakenPage, used_of}
 use Rattle.jh_walk.specs.Walks.{levels}
 use Rattle.jh_shape.specs.Claims.{Claims}
@@ -15,7 +15,7 @@ use Rattle.jh_edit.specs.declared.stage.Editing.{Editing}
 use Rattle.jh_edit.specs.declared.stage.Seat.{Seat}
 use Rattle.jh_edit.specs.declared.stage.Stage2.{Stage2}
 use Rattle.jh_edit.specs.declared.stage.Tree.{Tree}
-use Rattle.jh_edit.specs.Ends.{IsPlanned, came, claims_after, seat_pages}
+use Rattle.jh_edit.specs.Ends.{IsJustPlanned, came, claims_after, seat_pages}
 use Rattle.jh_edit.specs.Forest.{HasSeat, IsCellPart, IsEdit, IsEditOf, IsFitToCome, IsForest, IsTrueTranslation, ahead_times, ahead_uses, comm_times, comm_uses, is_built, is_coming, is_edited, is_gone, is_removed, is_root, left_of, part_ahead_times, table_uses, uses}
 use Rattle.jh_edit.specs.OneTurn.{with_editing}
 use Rattle.jh_edit.specs.Plans.{EditView}
@@ -32,11 +32,21 @@ part_unmade (Fresh id bound) page unmade = refl
 part_unmade (Build id edit) page unmade = absurd (false≢true (sym (unmade id) ∙ eq-eqb id id refl))
 part_unmade (Remove id edit) page unmade = refl
 
-planned_uses : (stage : Stage2) (editing : Editing) → stage.editing ≡ None → IsPlanned editing → 0 < left_of editing → (page : ℕ) → uses (with_editing stage editing) page ≡ uses stage page
-planned_uses stage editing still planned some page =
+-- no cell is gone
+planned_stays : (editing : Editing) (seat : Seat) → IsJustPlanned editing → is_gone (Some editing) seat ≡ false
+planned_stays editing seat planned =
+    ⊎_elim
+    (λ (goes : is_removed editing.cell seat.id ≡ true).
+    let some : 0 < left_of editing = planned.going seat.id goes in
+    and_right (is_removed editing.cell seat.id) (nat_eq (left_of editing) 0) (ne_eqb (left_of editing) 0 (λ e. let none : left_of editing ≡ 0 = e in let no : ⊥ = omega arith in no)))
+    (λ (stays : is_removed editing.cell seat.id ≡ false). and_left (is_removed editing.cell seat.id) (nat_eq (left_of editing) 0) stays)
+    (cases_Bool (is_removed editing.cell seat.id))
+
+planned_uses : (stage : Stage2) (editing : Editing) → stage.editing ≡ None → IsJustPlanned editing → (page : ℕ) → uses (with_editing stage editing) page ≡ uses stage page
+planned_uses stage editing still planned page =
     let G : Seat → ℕ = λ seat. if is_gone (Some editing) seat then 0 else comm_times page seat.comm in
     let F : Seat → ℕ = λ seat. if is_gone stage.editing seat then 0 else comm_times page seat.comm in
-    let stays : (seat : Seat) → is_gone (Some editing) seat ≡ false = λ seat. and_right (is_removed editing.cell seat.id) (nat_eq (left_of editing) 0) (ne_eqb (left_of editing) 0 (λ e. let none : left_of editing ≡ 0 = e in let no : ⊥ = omega arith in no)) in
+    let stays : (seat : Seat) → is_gone (Some editing) seat ≡ false = λ seat. planned_stays editing seat planned in
     let comms : sum_by G stage.seats.items ≡ sum_by F stage.seats.items =
     sum_alike G F stage.seats.items (λ seat among. ap (λ b. if b then 0 else comm_times page seat.comm) (stays seat ∙ sym (ap (λ e. is_gone e seat) still)))
     in
@@ -45,9 +55,9 @@ planned_uses stage editing still planned some page =
     let cell : part_ahead_times page editing.cell ≡ 0 = part_unmade editing.cell page planned.unmade in
     omega arith
 
-pub planned_forest : (claims : Seat → Claims) (editing : Editing) (stage : Stage2) → stage.editing ≡ None → IsForest claims stage → IsPlanned editing → 0 < left_of editing → IsForest claims (with_editing stage editing)
-planned_forest claims editing stage still forest planned some =
-    let used = planned_uses stage editing still planned some in
+pub planned_forest : (claims : Seat → Claims) (editing : Editing) (stage : Stage2) → stage.editing ≡ None → IsForest claims stage → IsJustPlanned editing → IsForest claims (with_editing stage editing)
+planned_forest claims editing stage still forest planned =
+    let used = planned_uses stage editing still planned in
     let unedited : (seat : Seat) → is_edited stage.editing seat ≡ false = λ seat. ap (λ e. is_edited e seat) still in
     record {
       inside = forest.inside;

@@ -1,5 +1,5 @@
 -- How the edit of a call begins, and what it leaves of the tables of all cells.
-use Rattle.std.specs.Prelude.{◌≡◌, ℕ, ◌+◌, ◌≤◌, Bool, false, not, nat_eq, vec_capacity, List, filter, Option, Some, None, if◌then◌else◌}
+use Rattle.std.specs.Prelude.{◌≡◌, ℕ, ◌+◌, ◌<◌, ◌≤◌, Bool, true, false, not, nat_eq, vec_capacity, List, filter, Option, Some, None, if◌then◌else◌}
 use Rattle.jh_shape.specs.Claims.{Claims}
 use Rattle.jh_shape.specs.Pages.{tables_of}
 use Rattle.jh_edit.specs.declared.stage.CellPart.{CellPart}
@@ -7,7 +7,7 @@ use Rattle.jh_edit.specs.declared.stage.CellPart.TheVariants.{Unchanged, Fresh, 
 use Rattle.jh_edit.specs.declared.stage.Editing.{Editing}
 use Rattle.jh_edit.specs.declared.stage.Seat.{Seat}
 use Rattle.jh_edit.specs.declared.stage.Stage2.{Stage2}
-use Rattle.jh_edit.specs.Forest.{is_built, is_root, with_comm}
+use Rattle.jh_edit.specs.Forest.{is_built, is_removed, is_root, left_of, with_comm}
 
 -- ---- the end
 
@@ -39,10 +39,11 @@ pub record IsClosed (editing : Editing) (old new : Stage2) : Type 0 where
 
 -- ---- the beginning
 
--- an edit that was just planned: no page is ahead, and no table of a cell that comes is made
-pub record IsPlanned (editing : Editing) : Type 0 where
+-- an edit that was just planned: no page is ahead, no table of a cell that comes is made, and a cell that goes has turns left
+pub record IsJustPlanned (editing : Editing) : Type 0 where
   pub bare : editing.root.ahead ≡ None
   pub unmade : (id : ℕ) → is_built editing.cell id ≡ false
+  pub going : (id : ℕ) → is_removed editing.cell id ≡ true → 0 < left_of editing
 
 -- ---- pages
 

@@ -9,24 +9,25 @@ ghost use Rattle.jh_edit.specs.declared.stage.Editing.{Editing as AnyEditing};
 ghost use Rattle.jh_edit.specs.declared.stage.Seat.{Seat as AnySeat};
 ghost use Rattle.jh_edit.specs.declared.stage.Stage2.{Stage2 as AnyStage};
 ghost use Rattle.jh_edit.specs.declared.stage.Tree.{Tree as AnyTree};
-ghost use Rattle.jh_edit.specs.Ends.{claims_after, seat_pages, IsClosed, IsPlanned};
+ghost use Rattle.jh_edit.specs.Ends.{claims_after, seat_pages, IsClosed, IsJustPlanned};
 ghost use Rattle.jh_edit.specs.Forest.{is_root, left_of, HasSeat, IsEdit, IsForest};
 ghost use Rattle.jh_edit.specs.OneTurn.{with_editing};
 ghost use Rattle.jh_edit.specs.Tables.{words};
 ghost use Rattle.jh_pool.specs.Pages.{used_of};
 ghost use Rattle.jh_edit.specs.Trees.{lack_of, WantsItsTables};
+ghost use Rattle.jh_edit.specs.Turns.{turns_of};
 
 use crate::forest::cells_take_their_pages;
 use crate::laws::{
     a_finished_edit_stands, claims_want_pages_at_the_end, standing_tables_lack_the_difference,
+    where_nothing_is_left_tables_stand,
 };
 use jh_pool::Pool;
 use jh_shape::tables_are_counted_from_the_top;
 
-/// An edit that was just planned, and has a turn left, may be put beside the tables of all cells: they are kept, and it is under
-/// way.
+/// An edit that was just planned may be put beside the tables of all cells: they are kept, and it is under way.
 pub fn a_planned_edit_keeps_the_forest()
-    ensures forest { (claims : AnySeat → Claims) (editing : AnyEditing) (stage : AnyStage) → stage.editing ≡ None → IsForest claims stage → IsPlanned editing → 0 < left_of editing → IsForest claims (with_editing stage editing) }
+    ensures forest { (claims : AnySeat → Claims) (editing : AnyEditing) (stage : AnyStage) → stage.editing ≡ None → IsForest claims stage → IsJustPlanned editing → IsForest claims (with_editing stage editing) }
     ensures edit { (rootward coming : Claims) (editing : AnyEditing) (stage : AnyStage) → IsEdit rootward coming stage editing → IsEdit rootward coming (with_editing stage editing) editing }
 {}
 
@@ -57,7 +58,16 @@ pub fn where_no_edit_is_left_the_forest_stands()
     claims_want_pages_at_the_end();
 }
 
-/// The tables of all cells ask of the claims those of the cells that have a seat alone.
-pub fn claims_of_seats_are_asked_alone()
-    ensures { (claims claims' : AnySeat → Claims) (stage : AnyStage) → ((seat : AnySeat) → HasSeat stage seat → claims' seat ≡ claims seat) → IsForest claims stage → IsForest claims' stage }
+/// The tables of all cells ask of the claims only what those want of the cells that have a seat.
+pub fn forests_ask_for_wants_alone()
+    ensures { (claims claims' : AnySeat → Claims) (stage : AnyStage) → ((seat : AnySeat) (level start : ℕ) → HasSeat stage seat → want_of (claims' seat) level start ≡ want_of (claims seat) level start)
+        → IsForest claims stage → IsForest claims' stage }
 {}
+
+/// Where a call changes no want of root, no turn of root's part is planned.
+pub fn unchanged_wants_plan_nothing()
+    ensures { (claims : AnySeat → Claims) (rootward : Claims) (stage : AnyStage) (root : AnySeat) (tree : AnyTree) → stage.editing ≡ None → IsForest claims stage → HasSeat stage root → root.tree ≡ Some tree
+        → ((level start : ℕ) → want_of rootward level start ≡ want_of (claims root) level start) → turns_of (want_of rootward) (words stage.frames) levels tree.table 0 ≡ 0 }
+{
+    where_nothing_is_left_tables_stand();
+}

@@ -23,8 +23,8 @@ pub use edits::{
     turns_of_a_removal_keep_the_forest, turns_of_root_keep_the_forest,
 };
 pub use ends::{
-    a_planned_edit_keeps_the_forest, claims_of_seats_are_asked_alone, planned_edits_have_pages,
-    where_no_edit_is_left_the_forest_stands,
+    a_planned_edit_keeps_the_forest, forests_ask_for_wants_alone, planned_edits_have_pages,
+    unchanged_wants_plan_nothing, where_no_edit_is_left_the_forest_stands,
 };
 pub use forest::{
     a_write_outside_tables_keeps_the_forest, cells_take_their_pages, each_cell_has_tables_of_its_own,
