@@ -1,6 +1,7 @@
 mod SumLemmas
 mod TagLemmas
 mod FoundLemmas
+mod PlanningLemmas
 mod MappedLemmas
 mod OneTurnLemmas
 mod DescriptorLemmas

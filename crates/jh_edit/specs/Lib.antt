@@ -8,4 +8,5 @@ pub mod Stages
 pub mod Ends
 pub mod Seats
 pub mod OneTurn
+pub mod Planned
 pub mod Private

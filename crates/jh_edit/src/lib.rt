@@ -10,6 +10,7 @@ mod finding;
 mod forest;
 mod laws;
 mod mending;
+mod planning;
 mod seats;
 mod stage;
 mod standing;
@@ -38,7 +39,9 @@ pub use laws::{
     standing_tables_lack_the_difference, standing_tables_walk_as_wanted, walked_tells_grants,
     where_nothing_is_left_tables_stand,
 };
+pub use planning::Planned;
 pub use stage::{CellPart, Editing, Seat, Stage2, Tree, left_of};
+pub use turning::turns_keep_the_forest;
 pub use turns::{
     turns_account_for_pages, turns_break_before_they_make, turns_keep_the_plan,
     turns_keep_the_tables_apart, turns_lead_where_it_is_wanted, turns_leave_right_words,
