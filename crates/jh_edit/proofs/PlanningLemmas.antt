@@ -1,6 +1,7 @@
 -- The edit that is planned, and the seats once it is closed.
 use Rattle.std.proofs.Common.{◌≡◌, ℕ, ◌+◌, ◌*◌, ◌<◌, ◌≤◌, Bool, true, false, not, ◌||◌, nat_eq, List, Option, Some, None, IsSome, if◌then◌else◌, refl, sym, ap, subst, ◌∙◌, arith}
 use Rattle.std.specs.Prelude.{filter}
+use Rattle.std.proofs.lemmas.Bool.{false≢true}
 use Rattle.std.proofs.lemmas.Option.{none-some, same_Some}
 use Rattle.jh_pool.specs.Pages.{used_of}
 use Rattle.jh_walk.specs.Counts.{unmoved}
@@ -15,9 +16,9 @@ use Rattle.jh_edit.specs.declared.stage.CellPart.TheVariants.{Unchanged as NoPar
 use Rattle.jh_edit.specs.declared.stage.Seat.{Seat}
 use Rattle.jh_edit.specs.declared.stage.Stage2.{Stage2}
 use Rattle.jh_edit.specs.declared.stage.Tree.{Tree}
-use Rattle.jh_edit.specs.Forest.{HasSeat, IsFreshPart, IsRemovePart, is_edited}
+use Rattle.jh_edit.specs.Forest.{HasSeat, IsFreshPart, IsRemovePart, is_built, is_edited}
 use Rattle.jh_edit.specs.Ends.{seats_left}
-use Rattle.jh_edit.specs.Planned.{MayPlan, pages_planned, removed_id}
+use Rattle.jh_edit.specs.Planned.{IsPartPlanned, MayPlan, pages_planned, removed_id}
 use Rattle.jh_edit.specs.Plans.{EditView, Plans, ahead_count}
 use Rattle.jh_edit.specs.Private.Slots.{IsTablePlace}
 use Rattle.jh_edit.specs.Seats.{cell_tree, root_tree}
@@ -65,7 +66,7 @@ pub going_is : (rootward coming : Claims) (stage : Stage2) (id : ℕ) → (may :
 going_is rootward coming stage id may o is = sym (cell_tree_is stage.seats.items may.forest.apart may.change.seat id may.change.sits may.change.named) ∙ sym is
 
 some_none : (o : Option Tree) → IsSome o → o ≡ None → ⊥
-some_none None some none = absurd (none-some tt (sym some))
+some_none None some none = absurd (false≢true some)
 some_none (Some tree) some none = none-some tree (sym none)
 
 pub going_none : (rootward coming : Claims) (stage : Stage2) (id : ℕ) → MayPlan rootward coming stage (Destroy id) → None ≡ cell_tree id stage.seats.items → ⊥
@@ -75,7 +76,7 @@ pub going_place : (rootward coming : Claims) (stage : Stage2) (id : ℕ) → May
 going_place rootward coming stage id may whole tree is =
     first_place stage.frames tree.table (tables_of_seat may.claims stage may.forest may.change.seat tree may.change.sits (going_is rootward coming stage id may (Some tree) is)) whole
 
-pages_some : (word : ℕ → ℕ) (table : ℕ) → 0 < pages_reached word levels table
+pub pages_some : (word : ℕ → ℕ) (table : ℕ) → 0 < pages_reached word levels table
 pages_some word table = let e = count_more unmoved (λ s w n page. 1) word 3 None table in omega arith
 
 pub planned_removal : (rootward coming : Claims) (stage : Stage2) (id : ℕ) → MayPlan rootward coming stage (Destroy id) → (tree : Tree) → Some tree ≡ cell_tree id stage.seats.items → (edit : EditView) → edit.table ≡ tree.table → edit.removing ≡ true
@@ -92,6 +93,12 @@ planned_removal rootward coming stage id may tree is edit table aim left plan = 
   over = λ none. let pages = pages_some (words stage.frames) tree.table in absurd (omega arith);
   lacks = refl;
 }
+
+-- none is made yet
+pub not_built : (cell : Planned) (part : CellPart) → IsPartPlanned cell part → (id : ℕ) → is_built part id ≡ false
+not_built Unchanged part is id = ap (λ p. is_built p id) is
+not_built (Create own tables) part is id = ap (λ p. is_built p id) is
+not_built (Destroy own) part is id = ap (λ p. is_built p id) is.1
 
 -- ---- the end
 

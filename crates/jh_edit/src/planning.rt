@@ -1,9 +1,9 @@
 //! How the edit of a call begins and ends.
-ghost use Rattle.std.specs.Prelude.{◌≡◌, ℕ, ◌+◌, ◌*◌, ◌^◌, ◌<◌, ◌≤◌, length, None, Some};
+ghost use Rattle.std.specs.Prelude.{◌≡◌, ℕ, ◌+◌, ◌*◌, ◌^◌, ◌<◌, ◌≤◌, length, true, None, Some};
 ghost use Rattle.jh_shape.specs.Claims.{Claims, claims_of};
 ghost use Rattle.jh_edit.specs.declared.stage.Editing.{Editing as AnyEditing};
-ghost use Rattle.jh_edit.specs.Ends.{IsClosed};
-ghost use Rattle.jh_edit.specs.Forest.{IsCellPart, IsEdit};
+ghost use Rattle.jh_edit.specs.Ends.{IsClosed, IsJustPlanned};
+ghost use Rattle.jh_edit.specs.Forest.{is_removed, part_left, IsCellPart, IsEdit};
 ghost use Rattle.jh_edit.specs.Planned.{pages_planned, removed_id, IsPartPlanned, MayPlan};
 
 use crate::edit::Edit;
@@ -40,6 +40,7 @@ impl Stage2 {
         requires { (rootward : Claims) × ((coming : Claims) × MayPlan rootward coming self.now cell) }
         ensures part { (rootward coming : Claims) → MayPlan rootward coming self.now cell → IsCellPart coming self.now result (pages_planned coming cell) }
         ensures kind { IsPartPlanned cell result }
+        ensures going { (id : ℕ) → is_removed result id ≡ true → 0 < part_left result }
     {
         tables_are_few();
         // for the proof: memory lies below the end of addresses
@@ -68,7 +69,7 @@ impl Stage2 {
         requires may { (coming : Claims) × MayPlan (claims_of root.now) coming self.now cell }
         ensures edit { (coming : Claims) → MayPlan (claims_of root.now) coming self.now cell → IsEdit (claims_of root.now) coming self.now result }
         ensures kind { IsPartPlanned cell result.cell }
-        ensures ahead { result.root.ahead ≡ None }
+        ensures just { IsJustPlanned result }
     {
         // for the proof: memory lies below the end of addresses
         let _ = self.frames.holds(0);

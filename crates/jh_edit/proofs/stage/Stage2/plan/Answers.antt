@@ -1,11 +1,11 @@
 -- Root's tables are those of its seat, and the pool has the pages that lack.
-use Rattle.std.proofs.Common.{◌≡◌, ℕ, Some, None, sym, ap, subst, ◌∙◌}
+use Rattle.std.proofs.Common.{◌≡◌, ℕ, ◌+◌, ◌<◌, arith, Some, None, sym, ap, subst, ◌∙◌}
 use Rattle.std.proofs.lemmas.Option.{none-some, same_Some}
 use Rattle.jh_shape.specs.Claims.{Claims, claims_of}
 use Rattle.jh_edit.specs.declared.stage.Tree.{Tree}
 use Rattle.jh_edit.specs.Planned.{MayPlan, pages_planned}
 use Rattle.jh_edit.specs.Seats.{root_tree}
-use Rattle.jh_edit.proofs.PlanningLemmas.{planned_enough, root_is, root_place}
+use Rattle.jh_edit.proofs.PlanningLemmas.{not_built, planned_enough, root_is, root_place}
 use Rattle.jh_edit.proofs.stage.Stage2.plan.Goals as goal
 
 pub new-rooted-requires-clause-aligned : goal.new-rooted-requires-clause-aligned
@@ -52,3 +52,10 @@ returns-clause-edit c = λ coming may.
       cell = c.planned_part.ensures.part rootward coming may;
       enough = planned_enough rootward coming c.args.self.now c.args.cell may c.new-rooted.result (sym table);
     }
+
+pub returns-clause-just : goal.returns-clause-just
+returns-clause-just c = record {
+  bare = c.new-rooted.ensures.ahead;
+  unmade = not_built c.args.cell c.planned_part.result c.planned_part.ensures.kind;
+  going = λ id is. let some = c.planned_part.ensures.going id is in omega arith;
+}
