@@ -46,5 +46,6 @@ mod FreshLemmas
 mod EndingLemmas
 mod PagesLemmas
 mod PlannedLemmas
+mod LeafLemmas
 mod StepLemmas
 mod DeedLemmas

@@ -6,6 +6,7 @@ pub mod Moves
 pub mod Forest
 pub mod Stages
 pub mod Ends
+pub mod Leaves
 pub mod Seats
 pub mod OneTurn
 pub mod Planned

@@ -9,6 +9,7 @@ mod ends;
 mod finding;
 mod forest;
 mod laws;
+mod leaves;
 mod mending;
 mod planning;
 mod seats;
@@ -40,6 +41,7 @@ pub use laws::{
     where_nothing_is_left_tables_stand,
 };
 pub use planning::Planned;
+pub use leaves::{LeafAt, leaves_are_what_walks_find};
 pub use stage::{CellPart, Editing, Seat, Stage2, Tree, left_of};
 pub use turning::turns_keep_the_forest;
 pub use turns::{
