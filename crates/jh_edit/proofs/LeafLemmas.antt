@@ -1,11 +1,11 @@
 -- The leaves of tables are what walks find.
-use Rattle.std.proofs.Common.{◌≡◌, ◌≢◌, ℕ, ◌+◌, ◌-◌, ◌*◌, ◌/◌, ◌%◌, ◌^◌, ◌<◌, ◌≤◌, ◌⊎◌, inl, inr, zero, suc, ap, ◌∙◌, sym, subst, Bool, true, false, nat_lt, List, [], ◌∷◌, ◌++◌, length, get_or, Option, Some, None, if◌then◌else◌, arith, refl, ⊎_elim}
-use Rattle.std.specs.Prelude.{All, AllPairs, Contains}
+use Rattle.std.proofs.Common.{add-one, append_assoc, ◌≡◌, ◌≢◌, ℕ, ◌+◌, ◌-◌, ◌*◌, ◌/◌, ◌%◌, ◌^◌, ◌<◌, ◌≤◌, ◌⊎◌, inl, inr, zero, suc, ap, ◌∙◌, sym, subst, Bool, true, false, nat_lt, List, [], ◌∷◌, ◌++◌, length, get_or, Option, Some, None, if◌then◌else◌, arith, refl, ⊎_elim}
+use Rattle.std.specs.Prelude.{All, AllPairs, Contains, find}
 use Rattle.std.proofs.lemmas.Bool.{cases_Bool, cases_lt, lt-ltb, le-ltb}
 use Rattle.std.proofs.lemmas.List.Elements.{Contains-append_cases, Contains-append_left, Contains-append_right}
 use Rattle.std.proofs.lemmas.List.Kept.{AllPairs-cons}
 use Rattle.std.proofs.lemmas.Option.{none-some, same_Some}
-use Rattle.jh_num.proofs.Public.{Contains_cases, Contains_head, Contains_tail, read_again}
+use Rattle.jh_num.proofs.Public.{Contains_cases, Contains_head, Contains_tail, IsFound_from_find, read_again}
 use Rattle.jh_num.specs.declared.address.TheConstants.{ADDRESS_END}
 use Rattle.jh_num.specs.declared.level.TheConstants.{LAST_LEVEL}
 use Rattle.jh_num.specs.declared.rights.Rights.{Rights}
@@ -16,11 +16,21 @@ use Rattle.jh_desc.specs.declared.descriptor.Hit.{Hit}
 use Rattle.jh_desc.specs.Descriptors.{read_of}
 use Rattle.jh_desc.specs.Levels.{index_of}
 use Rattle.jh_walk.specs.Walks.{descriptor_at, hit_of, levels, walk_of, walk_on}
-use Rattle.jh_walk.proofs.Public.{index_small}
+use Rattle.jh_walk.proofs.Public.{index_small, self_times}
 use Rattle.jh_shape.specs.Wanted.{slot_start}
+use Rattle.jh_walk.specs.Pages.{times}
+use Rattle.jh_shape.specs.Claims.{Claims}
+use Rattle.jh_edit.specs.declared.stage.Seat.{Seat}
+use Rattle.jh_edit.specs.declared.stage.Stage2.{Stage2}
+use Rattle.jh_edit.specs.declared.stage.Tree.{Tree}
+use Rattle.jh_edit.specs.Forest.{IsForest}
+use Rattle.jh_edit.specs.Seats.{cell_tree, is_seat_of, tree_in}
+use Rattle.jh_edit.specs.Tables.{words}
+use Rattle.jh_edit.specs.Private.Slots.{IsTablePlace}
 use Rattle.jh_edit.specs.declared.leaves.LeafAt.{LeafAt}
 use Rattle.jh_edit.specs.Leaves.{GivesHit, Precedes, leaves_before, leaves_of, leaves_on}
 use Rattle.jh_edit.proofs.DescriptorLemmas.{named_below}
+use Rattle.jh_edit.proofs.ForestLemmas.{tables_of_seat}
 use Rattle.jh_edit.proofs.GrantLemmas.{IsInSlot, in_slot}
 use Rattle.jh_edit.proofs.SeatLemmas.{pairs_head, pairs_rest}
 
@@ -261,3 +271,52 @@ ordered word (suc n) table start few =
     let last = mine.last in
     let first = theirs.first in
     omega arith))
+
+-- ---- as the code goes over the slots
+
+-- the leaves of a slot, with so many levels below the table, its level and the size of its slots
+abbrev pub slot_leaves : (ℕ → ℕ) → ℕ → ℕ → ℕ → ℕ → ℕ → ℕ → List LeafAt
+slot_leaves word table start n level size slot =
+    leaves_on (λ next. leaves_of word n next (start + slot * size)) level (start + slot * size) (read_of (word (table + 8 * slot)) level)
+
+pub leaves_all : (word : ℕ → ℕ) (left table start level size : ℕ) → 0 < left → level ≡ LAST_LEVEL + 1 - left → size ≡ slot_size level → leaves_before (slot_leaves word table start (left - 1) level size) 512 ≡ leaves_of word left table start
+leaves_all word left table start level size some at is =
+    let n : ℕ = left - 1 in
+    let e : left ≡ suc n = omega arith in
+    let below : level ≡ LAST_LEVEL - n = omega arith in
+    ap (λ z. leaves_before (slot_leaves word table start n level z) 512) (is ∙ ap slot_size below)
+    ∙ (ap (λ z. leaves_before (slot_leaves word table start n z (slot_size (LAST_LEVEL - n))) 512) below ∙ (sym (leaves_more word n table start) ∙ ap (λ z. leaves_of word z table start) (sym e)))
+
+pub leaves_zero : (word : ℕ → ℕ) (left table start : ℕ) → left ≡ 0 → leaves_of word left table start ≡ []
+leaves_zero word left table start none = ap (λ z. leaves_of word z table start) none ∙ leaves_none word table start
+
+-- one slot more
+pub more_leaves : (old now new here : List LeafAt) (leaves : ℕ → List LeafAt) (slot : ℕ) → now ≡ old ++ leaves_before leaves slot → new ≡ now ++ here → here ≡ leaves slot → new ≡ old ++ leaves_before leaves (slot + 1)
+more_leaves old now new here leaves slot before is same =
+    is
+    ∙ (ap (λ l. l ++ here) before
+    ∙ (ap (λ l. (old ++ leaves_before leaves slot) ++ l) same ∙ (append_assoc old (leaves_before leaves slot) (leaves slot) ∙ ap (λ k. old ++ leaves_before leaves k) (sym (add-one slot)))))
+
+-- the descriptor of the slot, at its level
+pub slot_here : (word : ℕ → ℕ) (table start n level level' size slot : ℕ) (d : Descriptor) → level' ≡ level → d ≡ read_of (word (table + 8 * slot)) level
+    → leaves_on (λ next. leaves_of word n next (start + slot * size)) level' (start + slot * size) d ≡ slot_leaves word table start n level size slot
+slot_here word table start n level level' size slot d at is =
+    ap (λ z. leaves_on (λ next. leaves_of word n next (start + slot * size)) z (start + slot * size) d) at ∙ ap (leaves_on (λ next. leaves_of word n next (start + slot * size)) level (start + slot * size)) is
+
+-- ---- where a cell's tables stand
+
+seat_tree : (id : ℕ) (seats : List Seat) (found' : Option Seat) (tree : Tree) → find (is_seat_of id) seats ≡ found' → tree_in found' ≡ Some tree → (seat : Seat) × (Contains seats seat × (seat.tree ≡ Some tree))
+seat_tree id seats None tree is has = absurd (none-some tree has)
+seat_tree id seats (Some seat) tree is has = (seat, ((IsFound_from_find (is_seat_of id) seats seat is).among, has))
+
+pub tree_place : (id : ℕ) (claims : Seat → Claims) (stage : Stage2) → IsForest claims stage → (tree : Tree) → cell_tree id stage.seats.items ≡ Some tree → IsTablePlace tree.table
+tree_place id claims stage forest tree has =
+    let one = seat_tree id stage.seats.items (find (is_seat_of id) stage.seats.items) tree refl has in
+    let tables = tables_of_seat claims stage forest one.0 tree one.1.0 one.1.1 in
+    let some : 0 < times (words stage.frames) levels tree.table tree.table = self_times (words stage.frames) 3 tree.table tree.table refl in
+    let own = tables.own tree.table some in
+    let below = own.below in
+    let base = forest.inside.base in
+    let size = forest.inside.size in
+    let end = forest.inside.end in
+    record { aligned = tables.aligned tree.table some; below = omega arith }
