@@ -330,14 +330,14 @@ tree_turned want tag edit edit' old new p gone t s counted has = record {
   right = t.right;
   left_alone = t.left_alone;
   pages = λ page. (
-      λ taken. ⊎_elim
-          (λ some. absurd (false≢true (sym taken.taken ∙ s.freed page some)))
-          (λ none. ((t.pages page).0 (record { in_range = same_pages new.pool p page (sym s.base) (sym s.size) taken.in_range; taken = sym (s.kept page none) ∙ taken.taken }), counted page ∙ none))
-          (some_or_none (comm_times page gone)),
-      λ both.
-          let is : IsTakenPage p page = (t.pages page).1 both.0 in
-          record { in_range = same_pages p new.pool page s.base s.size is.in_range; taken = s.kept page (sym (counted page) ∙ both.1) ∙ is.taken },
-    );
+    λ taken. ⊎_elim
+        (λ some. absurd (false≢true (sym taken.taken ∙ s.freed page some)))
+        (λ none. ((t.pages page).0 (record { in_range = same_pages new.pool p page (sym s.base) (sym s.size) taken.in_range; taken = sym (s.kept page none) ∙ taken.taken }), counted page ∙ none))
+        (some_or_none (comm_times page gone)),
+    λ both.
+        let is : IsTakenPage p page = (t.pages page).1 both.0 in
+        record { in_range = same_pages p new.pool page s.base s.size is.in_range; taken = s.kept page (sym (counted page) ∙ both.1) ∙ is.taken },
+  );
   fresh = t.fresh;
   room = λ aim. let r = t.room aim in let u = s.used in omega arith;
   given = λ away. let g = t.given away in let u = s.used in omega arith;

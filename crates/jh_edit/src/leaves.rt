@@ -54,7 +54,13 @@ fn add_leaves(
     let size = slot_size(level);
     for slot in 0..SLOTS {
         let begin = start + slot as u64 * size;
-        add_leaf(f, left - 1, begin, descriptor(f, level, table, slot), leaves)?;
+        add_leaf(
+            f,
+            left - 1,
+            begin,
+            descriptor(f, level, table, slot),
+            leaves,
+        )?;
     }
     Ok(())
 }

@@ -29,8 +29,8 @@ pub use ends::{
     unchanged_wants_plan_nothing, where_no_edit_is_left_the_forest_stands,
 };
 pub use forest::{
-    a_write_outside_tables_keeps_the_forest, cells_take_their_pages, each_cell_has_tables_of_its_own,
-    forests_take_their_pages,
+    a_write_outside_tables_keeps_the_forest, cells_take_their_pages,
+    each_cell_has_tables_of_its_own, forests_take_their_pages,
 };
 pub use laws::{
     a_filled_table_takes_a_turn_less, a_finished_edit_stands, a_linked_table_takes_two_turns_less,
@@ -40,8 +40,8 @@ pub use laws::{
     standing_tables_lack_the_difference, standing_tables_walk_as_wanted, walked_tells_grants,
     where_nothing_is_left_tables_stand,
 };
-pub use planning::Planned;
 pub use leaves::{LeafAt, leaves_are_what_walks_find};
+pub use planning::Planned;
 pub use stage::{CellPart, Editing, Seat, Stage2, Tree, left_of};
 pub use turning::turns_keep_the_forest;
 pub use turns::{

@@ -168,13 +168,7 @@ impl Stage2 {
         ensures seats { self.new.seats ≡ self.old.seats }
         ensures editing { self.new.editing ≡ self.old.editing }
     {
-        edit.turn(
-            t,
-            &mut self.frames,
-            &mut self.pool,
-            &mut self.cache,
-            tag,
-        );
+        edit.turn(t, &mut self.frames, &mut self.pool, &mut self.cache, tag);
     }
 
     /// A turn of root's tables.

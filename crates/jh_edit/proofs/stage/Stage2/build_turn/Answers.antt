@@ -62,21 +62,23 @@ returns c =
     let items : c.tree_turn.new.self.seats.items ≡ old.seats.items = ap (λ v. v.items) seats in
     let counted : (page : ℕ) → gone_uses new page ≡ 0 =
     λ page. ap (λ (l : List Seat). sum_by (λ (s : Seat). if is_gone (Some next) s then comm_times page s.comm else 0) l) items
-        ∙ (gone_counted old.seats.items u.forest.apart c.args.root (Build c.args.id edit') tt page ∙ no_page page (nat_eq (c.args.root.left + edit'.left) 0)) in
-    let P : ℕ → ℕ → Type 0 = λ page tag. IsTreeTurn (want_of (with_comm coming page)) tag c.args.edit edit' old new in
-    (edit', record {
-      seat = part.seat;
-      comm = part.comm;
-      named = part.named;
-      page = part.page;
-      of = part.of;
-      turn = subst (P part.comm) (ap (λ (t : Tree). t.tag) tree)
-          (subst (λ page. P page c.in-Some.tree.tag) comm
-          (tree_turned (want_of (with_comm coming c.cell_page-comm.result)) c.in-Some.tree.tag c.args.edit edit' old new c.tree_turn.new.self.pool None c.tree_turn.ensures.turn (settled None c.tree_turn.new.self.pool c.tree_turn.new.self.pool refl) counted
-          (ready_build u.claims c.requires.under.0 coming old c.args.root c.args.id c.args.edit c.cell_page-comm.result refl u.forest u.edit comm c.requires.left c.requires.behind).taken));
-      was = refl;
-      cell = refl;
-      root = refl;
-      seats = seats;
-      now = refl;
-    })
+    ∙ (gone_counted old.seats.items u.forest.apart c.args.root (Build c.args.id edit') tt page ∙ no_page page (nat_eq (c.args.root.left + edit'.left) 0)) in
+    let P : ℕ → ℕ → Type 0 = λ page tag. IsTreeTurn (want_of (with_comm coming page)) tag c.args.edit edit' old new in (
+      edit',
+      record {
+        seat = part.seat;
+        comm = part.comm;
+        named = part.named;
+        page = part.page;
+        of = part.of;
+        turn = subst (P part.comm) (ap (λ (t : Tree). t.tag) tree)
+            (subst (λ page. P page c.in-Some.tree.tag) comm
+            (tree_turned (want_of (with_comm coming c.cell_page-comm.result)) c.in-Some.tree.tag c.args.edit edit' old new c.tree_turn.new.self.pool None c.tree_turn.ensures.turn (settled None c.tree_turn.new.self.pool c.tree_turn.new.self.pool refl) counted
+            (ready_build u.claims c.requires.under.0 coming old c.args.root c.args.id c.args.edit c.cell_page-comm.result refl u.forest u.edit comm c.requires.left c.requires.behind).taken));
+        was = refl;
+        cell = refl;
+        root = refl;
+        seats = seats;
+        now = refl;
+      },
+    )

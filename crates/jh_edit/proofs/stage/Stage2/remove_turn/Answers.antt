@@ -74,19 +74,21 @@ returns c =
     let tree : c.in-Some.tree ≡ of.tree =
     same_Some c.in-Some.tree of.tree (sym c.in-Some.is ∙ (c.cell_tree.ensures ∙ (ap (cell_tree c.args.id) c.as_slice.ensures.value ∙ (cell_tree_is c.args.self.now.seats.items u.forest.apart part.seat c.args.id part.sits part.named ∙ of.has)))) in
     let want = want_of (claims_of c.args.t.now) in
-    let P : ℕ → Type 0 = λ tag. IsTreeTurn want tag c.args.edit edit' old new in
-    (edit', record {
-      seat = part.seat;
-      named = part.named;
-      of = of;
-      turn = subst P (ap (λ (t : Tree). t.tag) tree)
-          (tree_turned want c.in-Some.tree.tag c.args.edit edit' old new c.tree_turn.new.self.pool (gone_comm next seats) c.tree_turn.ensures.turn (settled (gone_comm next seats) c.tree_turn.new.self.pool c.give_back.new.p given) counted
-          (ready_remove u.claims c.requires.under.0 c.requires.under.1.0 (claims_of c.args.t.now) old c.args.root c.args.id c.args.edit u.forest u.edit c.requires.left).taken);
-      was = refl;
-      cell = refl;
-      root = refl;
-      on = λ some. items ∙ on some;
-      over = λ none. items ∙ over none;
-      capacity = ap vec_capacity c.tree_turn.ensures.seats;
-      now = refl;
-    })
+    let P : ℕ → Type 0 = λ tag. IsTreeTurn want tag c.args.edit edit' old new in (
+      edit',
+      record {
+        seat = part.seat;
+        named = part.named;
+        of = of;
+        turn = subst P (ap (λ (t : Tree). t.tag) tree)
+            (tree_turned want c.in-Some.tree.tag c.args.edit edit' old new c.tree_turn.new.self.pool (gone_comm next seats) c.tree_turn.ensures.turn (settled (gone_comm next seats) c.tree_turn.new.self.pool c.give_back.new.p given) counted
+            (ready_remove u.claims c.requires.under.0 c.requires.under.1.0 (claims_of c.args.t.now) old c.args.root c.args.id c.args.edit u.forest u.edit c.requires.left).taken);
+        was = refl;
+        cell = refl;
+        root = refl;
+        on = λ some. items ∙ on some;
+        over = λ none. items ∙ over none;
+        capacity = ap vec_capacity c.tree_turn.ensures.seats;
+        now = refl;
+      },
+    )
