@@ -1,12 +1,11 @@
 -- The turns of an edit, by the part that has them: each is a turn of one cell's tables among those of all, and keeps the edit.
-use Rattle.std.proofs.Common.{◌≡◌, ◌≢◌, ℕ, ◌+◌, ◌-◌, ◌*◌, ◌%◌, ◌<◌, ◌≤◌, ◌⊎◌, inl, inr, zero, suc, ap, ◌∙◌, sym, subst, Bool, true, false, not, ◌&&◌, ◌||◌, nat_eq, List, length, map, Option, Some, None, if◌then◌else◌, arith, refl, ⊎_elim}
+use Rattle.std.proofs.Common.{◌≡◌, ℕ, ◌+◌, ◌-◌, ◌%◌, ◌<◌, ◌≤◌, ◌⊎◌, inl, inr, ap, ◌∙◌, sym, subst, true, false, not, ◌||◌, nat_eq, length, map, Option, Some, None, if◌then◌else◌, arith, refl, ⊎_elim}
 use Rattle.std.specs.Prelude.{Contains, IfSome, is_some, vec_capacity}
-use Rattle.std.proofs.lemmas.Bool.{and_from, and_left, and_right, cases_Bool, cases_eq, cases_lt, eq-eqb, false≢true, ne_eqb, or_left, or_right}
+use Rattle.std.proofs.lemmas.Bool.{and_from, and_left, and_right, cases_Bool, cases_lt, eq-eqb, false≢true, ne_eqb, or_left, or_right}
 use Rattle.jh_num.proofs.Public.{Contains_map, same_number}
 use Rattle.jh_num.specs.declared.address.TheConstants.{ADDRESS_END}
 use Rattle.jh_desc.specs.declared.descriptor.Hit.{Hit}
-use Rattle.jh_frames.specs.Memory.{FramesView, is_own}
-use Rattle.jh_walk.specs.Pages.{pages_reached}
+use Rattle.jh_frames.specs.Memory.{is_own}
 use Rattle.jh_walk.specs.Walks.{levels}
 use Rattle.jh_shape.specs.Claims.{Claims}
 use Rattle.jh_shape.specs.Grants.{IsGranted}
@@ -15,11 +14,11 @@ use Rattle.jh_shape.specs.SoundClaims.{AreSoundClaims}
 use Rattle.jh_shape.specs.Wanted.{Wants}
 use Rattle.jh_edit.specs.declared.edit.Ahead.{Ahead}
 use Rattle.jh_edit.specs.declared.stage.CellPart.{CellPart}
-use Rattle.jh_edit.specs.declared.stage.CellPart.TheVariants.{Unchanged, Fresh, Build, Remove}
+use Rattle.jh_edit.specs.declared.stage.CellPart.TheVariants.{Build, Remove}
 use Rattle.jh_edit.specs.declared.stage.Editing.{Editing}
 use Rattle.jh_edit.specs.declared.stage.Seat.{Seat}
 use Rattle.jh_edit.specs.declared.stage.Stage2.{Stage2}
-use Rattle.jh_edit.specs.Forest.{GrantsNothingOf, HasSeat, IsCellPart, IsEdit, IsBuildPart, IsEditOf, IsFitToCome, IsForest, IsRemovePart, IsRootPart, LeadsOutside, LeadsToComm, ahead_times, ahead_uses, comm_times, comm_uses, is_built, is_coming, is_edited, is_gone, is_removed, is_root, left_of, part_ahead_times, part_left, uses, with_comm}
+use Rattle.jh_edit.specs.Forest.{HasSeat, IsCellPart, IsEdit, IsBuildPart, IsFitToCome, IsForest, IsRemovePart, IsRootPart, LeadsOutside, LeadsToComm, ahead_times, ahead_uses, comm_times, comm_uses, is_built, is_coming, is_edited, is_gone, is_removed, is_root, left_of, part_ahead_times, part_left, with_comm}
 use Rattle.jh_edit.specs.Plans.{EditView, IsAhead, Plans, ahead_count}
 use Rattle.jh_edit.specs.Stages.{IsBuildTurn, IsRemoveTurn, IsRootTurn, untreed}
 use Rattle.jh_edit.specs.Tables.{IsPoolOf, is_ahead, is_over, words}

@@ -1,13 +1,12 @@
 -- A turn of the tables of one cell among those of all: the pages of the others, and what has a use after it.
-use Rattle.std.proofs.Common.{◌≡◌, ◌≢◌, ℕ, ◌+◌, ◌-◌, ◌*◌, ◌%◌, ◌<◌, ◌≤◌, ◌⊎◌, ◌↔◌, inl, inr, zero, suc, ap, ◌∙◌, sym, subst, Bool, true, false, ◌&&◌, ◌||◌, nat_eq, nat_lt, List, length, map, sum_by, Option, Some, None, if◌then◌else◌, arith, refl, ⊎_elim}
-use Rattle.std.specs.Prelude.{Contains, IfSome, vec_capacity}
-use Rattle.std.proofs.lemmas.Bool.{cases_Bool, cases_eq, cases_lt, eqb-true, false≢true, ltb-false, ltb-true, or_cases, or_parts}
-use Rattle.jh_num.proofs.Public.{same_number}
+use Rattle.std.proofs.Common.{◌≡◌, ◌≢◌, ℕ, ◌+◌, ◌*◌, ◌%◌, ◌<◌, ◌≤◌, ◌⊎◌, ◌↔◌, inl, inr, ap, ◌∙◌, sym, subst, Bool, true, false, ◌||◌, nat_lt, map, sum_by, Option, Some, None, if◌then◌else◌, arith, refl, ⊎_elim}
+use Rattle.std.specs.Prelude.{IfSome, vec_capacity}
+use Rattle.std.proofs.lemmas.Bool.{cases_Bool, cases_lt, eqb-true, false≢true, ltb-false, ltb-true, or_cases, or_parts}
 use Rattle.jh_desc.specs.declared.descriptor.Hit.{Hit}
-use Rattle.jh_frames.specs.Memory.{FramesView, byte_at}
-use Rattle.jh_pool.specs.Pages.{IsTakenPage, is_free, used_of}
+use Rattle.jh_frames.specs.Memory.{byte_at}
+use Rattle.jh_pool.specs.Pages.{IsTakenPage}
 use Rattle.jh_walk.specs.Pages.{HaveSameTables, times}
-use Rattle.jh_walk.specs.Walks.{levels, walk_of}
+use Rattle.jh_walk.specs.Walks.{levels}
 use Rattle.jh_num.specs.declared.address.TheConstants.{ADDRESS_END}
 use Rattle.jh_shape.specs.Claims.{Claims}
 use Rattle.jh_shape.specs.Wanted.{Wants}
@@ -22,7 +21,7 @@ use Rattle.jh_edit.specs.Trees.{walked}
 use Rattle.jh_edit.specs.Stages.{IsTreeTurn, gone_uses}
 use Rattle.jh_edit.proofs.ForestLemmas.{same_tree, sum_alike, sum_up, used_page}
 use Rattle.jh_edit.proofs.MoveTableLemmas.{mine_is, not_over}
-use Rattle.jh_edit.proofs.SeatLemmas.{sum_both, sum_map, sum_moved, two_terms, untreed_comm, untreed_id, untreed_if, untreed_none, untreed_other}
+use Rattle.jh_edit.proofs.SeatLemmas.{sum_both, sum_map, sum_moved, two_terms, untreed_comm, untreed_if, untreed_none, untreed_other}
 use Rattle.jh_edit.proofs.StepLemmas.{word_alike}
 
 -- ---- a turn among all cells
