@@ -132,7 +132,7 @@ fresh_table_uses claims rootward coming id bound edit' editing editing' old new 
 fresh_gone : (editing : Editing) (id : ℕ) (edit : EditView) (seat : Seat) → editing.cell ≡ Build id edit → is_gone (Some editing) seat ≡ false
 fresh_gone editing id edit seat is = and_left (is_removed editing.cell seat.id) (nat_eq (left_of editing) 0) (ap (λ part. is_removed part seat.id) is)
 
-begun_gone : (editing : Editing) (id bound : ℕ) (seat : Seat) → editing.cell ≡ Fresh id bound → is_gone (Some editing) seat ≡ false
+pub begun_gone : (editing : Editing) (id bound : ℕ) (seat : Seat) → editing.cell ≡ Fresh id bound → is_gone (Some editing) seat ≡ false
 begun_gone editing id bound seat is = and_left (is_removed editing.cell seat.id) (nat_eq (left_of editing) 0) (ap (λ part. is_removed part seat.id) is)
 
 fresh_comm_uses : (claims : Seat → Claims) (rootward coming : Claims) (id bound : ℕ) (edit' : EditView) (editing editing' : Editing) (old new : Stage2) → (f : Freshening claims rootward coming id bound edit' editing editing' old new)

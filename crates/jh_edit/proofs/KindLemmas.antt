@@ -55,7 +55,7 @@ coming_leads tells coming stage seat comm page aligned end fit at hit low found 
 -- ---- the edit of the call before and after
 
 -- while a turn is left no cell is gone
-not_gone : (stage : Stage2) (editing : Editing) (seat : Seat) → stage.editing ≡ Some editing → 0 < left_of editing → is_gone stage.editing seat ≡ false
+pub not_gone : (stage : Stage2) (editing : Editing) (seat : Seat) → stage.editing ≡ Some editing → 0 < left_of editing → is_gone stage.editing seat ≡ false
 not_gone stage editing seat on some =
     ap (λ e. is_gone e seat) on ∙ and_right (is_removed editing.cell seat.id) (nat_eq (left_of editing) 0) (ne_eqb (left_of editing) 0 (λ e. let none : left_of editing ≡ 0 = e in let no : ⊥ = omega arith in no))
 
@@ -68,12 +68,12 @@ on_ahead edit page on = ap (λ b. if b then 0 else ahead_times page edit) on
 aheads_of : (stage : Stage2) (editing : Editing) (page : ℕ) → stage.editing ≡ Some editing → ahead_uses stage.editing page ≡ ahead_times page editing.root + part_ahead_times page editing.cell
 aheads_of stage editing page on = ap (λ e. ahead_uses e page) on
 
-pool_size : (old new : Stage2) → IsPoolOf old.pool old.frames → IsPoolOf new.pool new.frames → length new.frames.own.bytes ≡ length old.frames.own.bytes → new.pool.size ≡ old.pool.size
+pub pool_size : (old new : Stage2) → IsPoolOf old.pool old.frames → IsPoolOf new.pool new.frames → length new.frames.own.bytes ≡ length old.frames.own.bytes → new.pool.size ≡ old.pool.size
 pool_size old new before after same = let a = before.size in let b = after.size in omega arith
 
 -- ---- a turn of root
 
-root_turning : TellsGrants → (claims : Seat → Claims) (rootward coming : Claims) (editing editing' : Editing) (old new : Stage2) → old.editing ≡ Some editing → IsForest claims old → IsEdit rootward coming old editing → IsRootTurn rootward editing editing' old new
+pub root_turning : TellsGrants → (claims : Seat → Claims) (rootward coming : Claims) (editing editing' : Editing) (old new : Stage2) → old.editing ≡ Some editing → IsForest claims old → IsEdit rootward coming old editing → IsRootTurn rootward editing editing' old new
     → Turning claims (want_of rootward) editing.root editing'.root old new
 root_turning tells claims rootward coming editing editing' old new on forest is r =
     let aims : is_over editing'.root ≡ false = aims_on editing'.root (r.turn.aim ∙ is.root.aim) in
@@ -158,7 +158,7 @@ comm_place claims stage seat comm forest sits page still =
 pub part_is : (rootward coming : Claims) (stage : Stage2) (editing : Editing) (part : CellPart) → editing.cell ≡ part → (is : IsEdit rootward coming stage editing) → IsCellPart coming stage part is.lack
 part_is rootward coming stage editing part was is = subst (λ p. IsCellPart coming stage p is.lack) was is.cell
 
-build_turning : TellsGrants → (claims : Seat → Claims) (rootward coming : Claims) (id : ℕ) (edit edit' : EditView) (editing editing' : Editing) (old new : Stage2) → old.editing ≡ Some editing → IsForest claims old → IsEdit rootward coming old editing
+pub build_turning : TellsGrants → (claims : Seat → Claims) (rootward coming : Claims) (id : ℕ) (edit edit' : EditView) (editing editing' : Editing) (old new : Stage2) → old.editing ≡ Some editing → IsForest claims old → IsEdit rootward coming old editing
     → (r : IsBuildTurn coming id edit edit' editing editing' old new) → Turning claims (want_of (with_comm coming r.comm)) edit edit' old new
 build_turning tells claims rootward coming id edit edit' editing editing' old new on forest is r =
     let part : IsBuildPart coming old id edit is.lack = part_is rootward coming old editing (Build id edit) r.was is in
@@ -336,7 +336,7 @@ removed_part want id edit edit' editing editing' old new r cell away =
     })
     (cases_lt 0 edit'.left)
 
-remove_turning : (claims : Seat → Claims) (rootward coming : Claims) (want : Wants) (id : ℕ) (edit edit' : EditView) (editing editing' : Editing) (old new : Stage2) → old.editing ≡ Some editing → IsForest claims old → IsEdit rootward coming old editing
+pub remove_turning : (claims : Seat → Claims) (rootward coming : Claims) (want : Wants) (id : ℕ) (edit edit' : EditView) (editing editing' : Editing) (old new : Stage2) → old.editing ≡ Some editing → IsForest claims old → IsEdit rootward coming old editing
     → (r : IsRemoveTurn want id edit edit' editing editing' old new) → Turning claims want edit edit' old new
 remove_turning claims rootward coming want id edit edit' editing editing' old new on forest is r =
     let part : IsRemovePart old id edit is.lack = part_is rootward coming old editing (Remove id edit) r.was is in
