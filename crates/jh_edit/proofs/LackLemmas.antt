@@ -29,7 +29,7 @@ lack_more want word n table start =
     count_more (staying want) (lack_at want) word n (Some start) table ∙ sym (sum_plus 512 A B (slot_lacks want word n table start) (λ i lt. refl))
 
 -- where no table stands, a slot lacks all that are wanted there
-lack_whole : (much : ℕ) (want : Want) → lacking much want Invalid ≡ if_table much want
+pub lack_whole : (much : ℕ) (want : Want) → lacking much want Invalid ≡ if_table much want
 lack_whole much Nothing = refl
 lack_whole much WantTable = refl
 lack_whole much (WantLeaf out rights device) = refl

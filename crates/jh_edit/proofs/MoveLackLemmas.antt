@@ -28,7 +28,7 @@ use Rattle.jh_edit.proofs.MoveTurnLemmas.{AreApart, cleared_invalid, empty_chang
 
 -- ---- words
 
-lack_told : (want : Wants) (word word' : ℕ → ℕ) (n page : ℕ) (state : Option ℕ) → ((i : ℕ) → i < 512 → word' (page + 8 * i) ≡ word (page + 8 * i)) → lack_at want state word' n page ≡ lack_at want state word n page
+pub lack_told : (want : Wants) (word word' : ℕ → ℕ) (n page : ℕ) (state : Option ℕ) → ((i : ℕ) → i < 512 → word' (page + 8 * i) ≡ word (page + 8 * i)) → lack_at want state word' n page ≡ lack_at want state word n page
 lack_told want word word' n page None same = refl
 lack_told want word word' n page (Some start) same =
     let S = λ (i : ℕ). slot_start (LAST_LEVEL - n) start i in

@@ -29,7 +29,7 @@ use Rattle.jh_edit.proofs.MoveTurnLemmas.{AreApart, cleared_invalid, empty_chang
 abbrev pub is_one : ℕ → ℕ → ℕ
 is_one page other = if nat_eq page other then 1 else 0
 
-few_if : (b : Bool) → (if b then 1 else 0) ≤ 1
+pub few_if : (b : Bool) → (if b then 1 else 0) ≤ 1
 few_if true = omega arith
 few_if false = omega arith
 
@@ -40,7 +40,7 @@ pub one_self : (page : ℕ) → is_one page page ≡ 1
 one_self page = ap (λ b. if b then 1 else 0) (same_number page)
 
 -- where it counts, it is that page
-if_some : (b : Bool) → 0 < (if b then 1 else 0) → b ≡ true
+pub if_some : (b : Bool) → 0 < (if b then 1 else 0) → b ≡ true
 if_some true some = refl
 if_some false some = absurd (let no : ⊥ = omega arith in no)
 

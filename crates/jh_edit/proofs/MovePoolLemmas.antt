@@ -238,6 +238,22 @@ turn_pages old new want word word' move pool pool' apart plans taken is after q 
           either,
     )
 
+-- what is the edit's now and wasn't before was free
+pub turn_fresh : (old new : EditView) (want : Wants) (word word' : ℕ → ℕ) (move : Move) (pool pool' : PoolView) → AreApart word old.table → Plans old want word → IsTurn old new want word word' move → IsPoolAfter old.table move pool pool'
+    → (q : ℕ) → is_mine new word' q ≡ true → is_mine old word q ≡ false → is_free pool q ≡ true
+turn_fresh old new want word word' move pool pool' apart plans is after q now before =
+    let G = is_given old.table move q in
+    let T = is_taken move q in
+    let M = is_mine old word q in
+    let mine : is_mine new word' q ≡ (if G then false else (T || M)) = mine_after old new want word word' move apart plans is q in
+    ⊎_elim
+    (λ g. absurd (false≢true (sym (mine ∙ ap (λ b. if b then false else (T || M)) g) ∙ now)))
+    (λ g. ⊎_elim
+    (λ t. after.was_free q t)
+    (λ t. absurd (false≢true (sym (mine ∙ (ap (λ b. if b then false else (T || M)) g ∙ (ap (λ b. b || M) t ∙ before))) ∙ now)))
+    (cases_Bool T))
+    (cases_Bool G)
+
 -- ---- how many pages
 
 -- of a turn towards a target, what is linked, taken and ahead make up for one another, but for the page that is given

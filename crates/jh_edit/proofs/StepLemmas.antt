@@ -1,5 +1,5 @@
 -- What the code of one turn writes is what its kind of turn does to words.
-use Rattle.std.proofs.Common.{◌≡◌, ◌≢◌, ℕ, ◌+◌, ◌-◌, ◌*◌, ◌%◌, ◌<◌, ◌≤◌, ◌⊎◌, inl, inr, zero, suc, ap, ◌∙◌, sym, subst, ⊎_elim, arith, refl, Bool, true, false, nat_eq, if◌then◌else◌, Some, Option, None, List, length, map, []}
+use Rattle.std.proofs.Common.{◌≡◌, ◌≢◌, ℕ, ◌+◌, ◌-◌, ◌*◌, ◌%◌, ◌<◌, ◌≤◌, inl, inr, zero, suc, ap, ◌∙◌, sym, subst, ⊎_elim, arith, refl, Bool, true, false, nat_eq, if◌then◌else◌, Some, Option, None, length, map, []}
 use Rattle.std.proofs.lemmas.Bool.{cases_eq, cases_lt, eqb-true, false≢true, ne_eqb}
 use Rattle.std.specs.Int.{w64, from_le_bytes}
 use Rattle.std.specs.Prelude.{◌∷◌}
@@ -7,7 +7,7 @@ use Rattle.jh_num.specs.declared.level.TheConstants.{LAST_LEVEL}
 use Rattle.jh_num.specs.declared.rights.Rights.{Rights}
 use Rattle.jh_num.proofs.Public.{same_number}
 use Rattle.jh_desc.specs.declared.descriptor.Descriptor.{Descriptor}
-use Rattle.jh_desc.specs.declared.descriptor.Descriptor.TheVariants.{Invalid, Table, Leaf}
+use Rattle.jh_desc.specs.declared.descriptor.Descriptor.TheVariants.{Invalid, Leaf}
 use Rattle.jh_desc.specs.Descriptors.{IsWritable, read_of, word_of}
 use Rattle.jh_frames.specs.Memory.{FramesView, AreOwnBytes, byte_at, word_in}
 use Rattle.jh_pool.specs.Pages.{IsPageOf, IsTakenPage, PoolView, is_free, used_of}
@@ -29,7 +29,7 @@ use Rattle.jh_edit.specs.declared.finding.Node.{Node}
 use Rattle.jh_edit.specs.declared.writing.Writing.{Writing}
 use Rattle.jh_edit.specs.declared.writing.Writing.TheVariants.{Empty, Fill, Make}
 use Rattle.jh_edit.specs.Trees.{staying}
-use Rattle.jh_edit.specs.Turns.{emptied, filled, is_wrong_leaf, lacks_leaf}
+use Rattle.jh_edit.specs.Turns.{filled, is_wrong_leaf, lacks_leaf}
 use Rattle.jh_edit.specs.declared.edit.Ahead.{Ahead}
 use Rattle.jh_edit.specs.Plans.{EmptySlot, IsEmptySlot, IsMade, IsMadeTable}
 use Rattle.jh_edit.specs.Tables.{AreTables, words}
@@ -46,7 +46,7 @@ use Rattle.jh_edit.proofs.MovePathLemmas.{reached_le}
 -- ---- bytes and words
 
 -- a word is told by its eight bytes
-word_alike : (b b' : ℕ → ℕ) (q : ℕ) → ((r : ℕ) → q ≤ r → r < q + 8 → b' r ≡ b r) → word_in b' q ≡ word_in b q
+pub word_alike : (b b' : ℕ → ℕ) (q : ℕ) → ((r : ℕ) → q ≤ r → r < q + 8 → b' r ≡ b r) → word_in b' q ≡ word_in b q
 word_alike b b' q same =
     let a = same q (omega arith) (omega arith) in
     let c = same (q + 1) (omega arith) (omega arith) in
@@ -174,26 +174,26 @@ taken_from page p p' base size from was taken others used = record {
 pub pool_away : (table : ℕ) (link : TableLink) (p p' : PoolView) → IsGivenBack link.page p p' → IsPoolAfter table (TakeAway link) p p'
 pool_away table link p p' given =
     let used = given.used in
-    record { base = given.base; size = given.size; from = λ page e. absurd (false≢true e); free = given.free; used = omega arith }
+    record { base = given.base; size = given.size; from = λ page e. absurd (false≢true e); was_free = λ page e. absurd (false≢true e); free = given.free; used = omega arith }
 
 pub pool_end : (table : ℕ) (p p' : PoolView) → IsGivenBack table p p' → IsPoolAfter table End p p'
 pool_end table p p' given =
     let used = given.used in
-    record { base = given.base; size = given.size; from = λ page e. absurd (false≢true e); free = given.free; used = omega arith }
+    record { base = given.base; size = given.size; from = λ page e. absurd (false≢true e); was_free = λ page e. absurd (false≢true e); free = given.free; used = omega arith }
 
 pub pool_pruned : (table : ℕ) (there : Option ℕ) (link : TableLink) (p p' : PoolView) → IsGivenBack link.page p p' → IsPoolAfter table (PruneLink there link) p p'
 pool_pruned table there link p p' given =
     let used = given.used in
-    record { base = given.base; size = given.size; from = λ page e. absurd (false≢true e); free = given.free; used = omega arith }
+    record { base = given.base; size = given.size; from = λ page e. absurd (false≢true e); was_free = λ page e. absurd (false≢true e); free = given.free; used = omega arith }
 
 pub pool_emptied : (table : ℕ) (at : StayingTable) (p : PoolView) → IsPoolAfter table (EmptyTable at) p p
-pool_emptied table at p = record { base = refl; size = refl; from = λ page e. absurd (false≢true e); free = λ q. refl; used = omega arith }
+pool_emptied table at p = record { base = refl; size = refl; from = λ page e. absurd (false≢true e); was_free = λ page e. absurd (false≢true e); free = λ q. refl; used = omega arith }
 
 pub pool_filled : (table : ℕ) (at : StayingTable) (p : PoolView) → IsPoolAfter table (FillTable at) p p
-pool_filled table at p = record { base = refl; size = refl; from = λ page e. absurd (false≢true e); free = λ q. refl; used = omega arith }
+pool_filled table at p = record { base = refl; size = refl; from = λ page e. absurd (false≢true e); was_free = λ page e. absurd (false≢true e); free = λ q. refl; used = omega arith }
 
 pub pool_linked : (table : ℕ) (ahead : Ahead) (p : PoolView) → IsPoolAfter table (LinkPage ahead) p p
-pool_linked table ahead p = record { base = refl; size = refl; from = λ page e. absurd (false≢true e); free = λ q. refl; used = omega arith }
+pool_linked table ahead p = record { base = refl; size = refl; from = λ page e. absurd (false≢true e); was_free = λ page e. absurd (false≢true e); free = λ q. refl; used = omega arith }
 
 from_same : (p : PoolView) (page : ℕ) → IsPageOf p page → (q : ℕ) → nat_eq page q ≡ true → IsPageOf p q
 from_same p page is q e = subst (IsPageOf p) (eqb-true page q e) is
@@ -201,7 +201,7 @@ from_same p page is q e = subst (IsPageOf p) (eqb-true page q e) is
 pub pool_made : (table : ℕ) (slot : EmptySlot) (page : ℕ) (p p' : PoolView) → IsTakenFrom page p p' → IsPoolAfter table (MakePage slot page) p p'
 pool_made table slot page p p' taken =
     let used = taken.used in
-    record { base = taken.base; size = taken.size; from = from_same p page taken.from; free = taken.free; used = omega arith }
+    record { base = taken.base; size = taken.size; from = from_same p page taken.from; was_free = λ q e. subst (λ r. is_free p r ≡ true) (eqb-true page q e) taken.was_free; free = taken.free; used = omega arith }
 
 -- ---- pages that are reached
 

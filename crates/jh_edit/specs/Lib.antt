@@ -3,4 +3,12 @@ pub mod Turns
 pub mod Plans
 pub mod Tables
 pub mod Moves
+pub mod Forest
+pub mod Stages
+pub mod Ends
+pub mod Leaves
+pub mod Keeping
+pub mod Seats
+pub mod OneTurn
+pub mod Planned
 pub mod Private

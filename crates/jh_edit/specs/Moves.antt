@@ -232,11 +232,12 @@ taken_count (Link ahead) = 0
 taken_count (TakeAway link) = 0
 taken_count End = 0
 
--- the pool after the turn: the page that it gives back is free, the one that it takes is the pool's and isn't, and all others
--- are as they were
+-- the pool after the turn: the page that it gives back is free, the one that it takes is the pool's, was free and isn't now, and
+-- all others are as they were
 pub record IsPoolAfter (table : ℕ) (move : Move) (old new : PoolView) : Type 0 where
   pub base : new.base ≡ old.base
   pub size : new.size ≡ old.size
   pub from : (page : ℕ) → is_taken move page ≡ true → IsPageOf old page
+  pub was_free : (page : ℕ) → is_taken move page ≡ true → is_free old page ≡ true
   pub free : (page : ℕ) → is_free new page ≡ (if is_given table move page then true else if is_taken move page then false else is_free old page)
   pub used : used_of new + given_count move ≡ used_of old + taken_count move

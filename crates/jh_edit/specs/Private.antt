@@ -3,3 +3,5 @@ pub mod Slots
 pub mod Written
 pub mod Finding
 pub mod Steps
+pub mod Standing
+pub mod Turned

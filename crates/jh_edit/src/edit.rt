@@ -1,5 +1,5 @@
 //! One tree of tables edited in turns.
-ghost use Rattle.std.specs.Prelude.{◌≡◌, ℕ, ◌+◌, ◌%◌, ◌<◌, ◌≤◌, ◌⊎◌, ◌↔◌, ◌||◌, Some, false, length, map, true};
+ghost use Rattle.std.specs.Prelude.{◌≡◌, ℕ, ◌+◌, ◌%◌, ◌<◌, ◌≤◌, ◌⊎◌, ◌↔◌, ◌||◌, Some, None, false, length, map, true};
 ghost use Rattle.jh_num.specs.declared.address.TheConstants.{ADDRESS_END};
 ghost use Rattle.jh_frames.specs.Memory.{byte_at, word_in};
 ghost use Rattle.jh_shape.specs.Claims.{claims_of};
@@ -7,7 +7,7 @@ ghost use Rattle.jh_shape.specs.Shapes.{want_of};
 ghost use Rattle.jh_shape.specs.SoundClaims.{AreSoundClaims};
 ghost use Rattle.jh_shape.specs.Wanted.{Wants};
 ghost use Rattle.jh_desc.specs.declared.descriptor.Hit.{Hit as AnyHit};
-ghost use Rattle.jh_pool.specs.Pages.{used_of, IsTakenPage};
+ghost use Rattle.jh_pool.specs.Pages.{is_free, used_of, IsTakenPage};
 ghost use Rattle.jh_cache.specs.Translations.{flushed};
 ghost use Rattle.jh_walk.specs.Pages.{pages_reached, Grows};
 ghost use Rattle.jh_walk.specs.Walks.{levels, walk_of};
@@ -68,6 +68,7 @@ impl Edit {
         requires sound { AreSoundClaims (claims_of t.now) }
         ensures table { result.table ≡ table }
         ensures aim { result.removing ≡ false }
+        ensures ahead { result.ahead ≡ None }
         ensures left { result.left ≡ turns_of (want_of (claims_of t.now)) (word_in (byte_at f.now)) levels table 0 }
         ensures plan { Plans result (want_of (claims_of t.now)) (word_in (byte_at f.now)) }
     {
@@ -163,6 +164,7 @@ impl Edit {
         ensures right { self.old.removing ≡ false → KeepsRight (want_of (claims_of t.now)) (words f.old) (words f.new) levels self.old.table 0 }
         ensures left_alone { self.old.removing ≡ false → LeavesAlone (want_of (claims_of t.now)) (words f.old) (words f.new) levels self.old.table 0 }
         ensures pages { (page : ℕ) → IsTakenPage p.new page ↔ ((IsTakenPage p.old page × (is_mine self.old (words f.old) page ≡ false)) ⊎ (is_mine self.new (words f.new) page ≡ true)) }
+        ensures fresh { (page : ℕ) → is_mine self.new (words f.new) page ≡ true → is_mine self.old (words f.old) page ≡ false → is_free p.old page ≡ true }
         ensures room { self.old.removing ≡ false → lack_of (want_of (claims_of t.now)) (words f.new) levels self.old.table 0 + used_of p.new + ahead_count self.old.ahead ≤ lack_of (want_of (claims_of t.now)) (words f.old) levels self.old.table 0 + used_of p.old + ahead_count self.new.ahead }
         ensures given { self.old.removing ≡ true → used_of p.new + 1 ≡ used_of p.old }
         ensures pool { IsPoolOf p.new f.new }

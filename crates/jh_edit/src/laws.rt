@@ -43,6 +43,14 @@ pub fn where_nothing_is_left_tables_stand()
     ensures left { (want : Wants) (word : ℕ → ℕ) (n table start : ℕ) → Stands want word n table start → turns_of want word n table start ≡ 0 }
 {}
 
+/// Where an edit to a target has no turn left, it has no page ahead, and the tables stand as they are wanted.
+pub fn a_finished_edit_stands()
+    ensures ahead { (edit : EditView) (want : Wants) (word : ℕ → ℕ) → edit.removing ≡ false → Plans edit want word → edit.left ≡ 0 → edit.ahead ≡ None }
+    ensures stands { (edit : EditView) (want : Wants) (word : ℕ → ℕ) → WantsPagesAtTheEnd want → edit.removing ≡ false → Plans edit want word → edit.left ≡ 0 → Stands want word levels edit.table 0 }
+{
+    where_nothing_is_left_tables_stand();
+}
+
 /// Where tables stand as they are wanted, a walk gives each address what the wants alone give it.
 pub fn standing_tables_walk_as_wanted()
     ensures { (want : Wants) (word : ℕ → ℕ) (n table start at : ℕ) → Stands want word n table start → walk_of word n table at ≡ walked want n start at }

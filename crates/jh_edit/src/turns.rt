@@ -2,7 +2,7 @@
 ghost use Rattle.std.specs.Prelude.{◌≡◌, ℕ, ◌+◌, ◌<◌, ◌≤◌, ◌⊎◌, ◌↔◌, ◌||◌, Some, true, false, length};
 ghost use Rattle.jh_desc.specs.declared.descriptor.Hit.{Hit as AnyHit};
 ghost use Rattle.jh_frames.specs.Memory.{FramesView};
-ghost use Rattle.jh_pool.specs.Pages.{used_of, IsTakenPage, PoolView};
+ghost use Rattle.jh_pool.specs.Pages.{is_free, used_of, IsTakenPage, PoolView};
 ghost use Rattle.jh_shape.specs.Wanted.{Wants};
 ghost use Rattle.jh_edit.specs.Plans.{ahead_count, EditView, EmptySlot, IsEmptySlot, Plans};
 ghost use Rattle.jh_edit.specs.Trees.{lack_of, walked};
@@ -57,12 +57,15 @@ pub fn turns_link_what_lacks()
 {}
 
 /// The pages of the pool that are taken after a turn are those that were, but for the edit's own; and the edit's own now. So
-/// a turn takes and gives back its own pages alone, and no page of the edit is free. Towards a target the tables that lack
+/// a turn takes and gives back its own pages alone, and no page of the edit is free; what is newly its own was free. Towards a target the tables that lack
 /// and the pages taken, but for the page ahead, are together no more than before; a removal gives one page back.
 pub fn turns_account_for_pages()
     ensures taken { (frames frames' : FramesView) (old new : EditView) (want : Wants) (move : AnyMove) (pool pool' : PoolView) → AreTables frames old.table → Plans old want (words frames) → HasTaken old (words frames) pool
         → IsTurn old new want (words frames) (words frames') move → IsPoolAfter old.table move pool pool'
         → (page : ℕ) → IsTakenPage pool' page ↔ ((IsTakenPage pool page × (is_mine old (words frames) page ≡ false)) ⊎ (is_mine new (words frames') page ≡ true)) }
+    ensures fresh { (frames frames' : FramesView) (old new : EditView) (want : Wants) (move : AnyMove) (pool pool' : PoolView) → AreTables frames old.table → Plans old want (words frames)
+        → IsTurn old new want (words frames) (words frames') move → IsPoolAfter old.table move pool pool'
+        → (page : ℕ) → is_mine new (words frames') page ≡ true → is_mine old (words frames) page ≡ false → is_free pool page ≡ true }
     ensures room { (frames frames' : FramesView) (old new : EditView) (want : Wants) (move : AnyMove) (pool pool' : PoolView) → AreTables frames old.table → old.removing ≡ false
         → IsTurn old new want (words frames) (words frames') move → IsPoolAfter old.table move pool pool'
         → lack_of want (words frames') levels old.table 0 + used_of pool' + ahead_count old.ahead ≤ lack_of want (words frames) levels old.table 0 + used_of pool + ahead_count new.ahead }

@@ -1,5 +1,5 @@
 -- What the step does is one turn, and the laws of turns say what it leaves.
-use Rattle.std.proofs.Common.{◌≡◌, ℕ, ◌-◌}
+use Rattle.std.proofs.Common.{◌-◌}
 use Rattle.jh_shape.specs.Claims.{claims_of}
 use Rattle.jh_shape.specs.Shapes.{want_of}
 use Rattle.jh_edit.specs.Plans.{EditView}
@@ -111,6 +111,19 @@ returns-clause-pages c =
     let f' = c.step.new.f in
     let turn : IsTurn old new want (words f) (words f') move = step_turn c.args.tag want old c.step.new.self seen f f' c.args.p.now c.step.new.p c.args.c.now c.step.new.c move c.requires.left step c.self.view_is in
     c.turns_account_for_pages.ensures.taken f f' old new want move c.args.p.now c.step.new.p c.requires.tables c.requires.plan c.requires.taken turn step.pool
+
+pub returns-clause-fresh : goal.returns-clause-fresh
+returns-clause-fresh c =
+    let want = want_of (claims_of c.args.t.now) in
+    let move = c.step.ensures.0 in
+    let step = c.step.ensures.1 in
+    let old : EditView = c.args.self.now in
+    let seen : EditView = record { table = c.self.inside.table; left = c.self.inside.left; removing = c.self.inside.removing; ahead = c.self.inside.ahead; cursor = c.self.inside.cursor } in
+    let new : EditView = record seen { left = seen.left - 1 } in
+    let f = c.args.f.now in
+    let f' = c.step.new.f in
+    let turn : IsTurn old new want (words f) (words f') move = step_turn c.args.tag want old c.step.new.self seen f f' c.args.p.now c.step.new.p c.args.c.now c.step.new.c move c.requires.left step c.self.view_is in
+    c.turns_account_for_pages.ensures.fresh f f' old new want move c.args.p.now c.step.new.p c.requires.tables c.requires.plan turn step.pool
 
 pub returns-clause-room : goal.returns-clause-room
 returns-clause-room c =
