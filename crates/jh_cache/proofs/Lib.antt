@@ -1,3 +1,4 @@
+pub mod Public
 mod ListLemmas
 mod LawLemmas
 mod MemberLemmas

@@ -2,7 +2,7 @@
 use Rattle.std.proofs.Common.{◌≡◌, ◌≢◌, ℕ, ◌+◌, ◌<◌, ◌≤◌, ◌↔◌, ap, ◌∙◌, sym, subst, Bool, true, false, not, ◌&&◌, ◌||◌, nat_eq, List, sum_by, Option, Some, None, if◌then◌else◌, arith, refl, ⊎_elim}
 use Rattle.std.specs.Prelude.{AllPairs, Contains, IsSome, vec_capacity}
 use Rattle.std.specs.List.{filter}
-use Rattle.std.proofs.lemmas.Bool.{cases_Bool, cases_eq, eq-eqb, eqb-true, false≢true, ne_eqb, not-true, or_from}
+use Rattle.std.proofs.lemmas.Bool.{cases_Bool, cases_eq, eq-eqb, eqb-true, false≢true, ne_eqb, not-false, not-true, or_from}
 use Rattle.std.proofs.lemmas.Option.{none-some, same_Some}
 use Rattle.std.proofs.lemmas.List.Kept.{AllPairs-filter}
 use Rattle.jh_num.proofs.Public.{Contains_filter, IsFound_from_filter, filter_all}
@@ -26,6 +26,7 @@ use Rattle.jh_edit.specs.Tables.{is_ahead, words}
 use Rattle.jh_edit.specs.Trees.{Stands, WantsPagesAtTheEnd}
 use Rattle.jh_edit.proofs.ForestLemmas.{sum_alike}
 use Rattle.jh_edit.proofs.SeatLemmas.{one_root, one_seat, sum_filter}
+use Rattle.jh_edit.proofs.PartLemmas.{none_ahead}
 
 -- ---- wants that stay
 
@@ -65,9 +66,6 @@ pub record HasEnded (claims : Seat → Claims) (rootward coming : Claims) (editi
   pub bare : EndsBare
   pub stands : EndsStanding
   pub pages : (claims' : Claims) → WantsPagesAtTheEnd (want_of claims')
-
-none_ahead : (page : ℕ) (edit : EditView) → edit.ahead ≡ None → ahead_times page edit ≡ 0
-none_ahead page edit none = ap (λ (a : Option Ahead). if is_ahead a page then 1 else 0) none
 
 part_bare : EndsBare → (coming : Claims) (stage : Stage2) (part : CellPart) (lack page : ℕ) → IsCellPart coming stage part lack → part_left part ≡ 0 → part_ahead_times page part ≡ 0
 part_bare bare coming stage Unchanged lack page is none = refl
@@ -216,10 +214,6 @@ gone_tree claims rootward coming editing stage e seat sits removed =
 abbrev pub with_seats : Stage2 → Stage2 → Stage2
 with_seats stage after = record stage { seats = after.seats; editing = None }
 
-not_left : (b : Bool) → not b ≡ false → b ≡ true
-not_left true e = refl
-not_left false e = sym e
-
 record Closing (claims : Seat → Claims) (rootward coming : Claims) (editing : Editing) (stage : Stage2) (after : Stage2) : Type 0 where
   pub ended : HasEnded claims rootward coming editing stage
   pub on : stage.editing ≡ Some editing
@@ -240,10 +234,10 @@ closed_uses claims rootward coming editing stage after k page =
     let gone : (s : Seat) → is_gone stage.editing s ≡ is_removed editing.cell s.id = λ s. ap (λ e. is_gone e s) k.on ∙ and_true (is_removed editing.cell s.id) (nat_eq (left_of editing) 0) (eq-eqb (left_of editing) 0 none) in
     let tables : sum_by T after.seats.items ≡ sum_by T stage.seats.items =
     ap (sum_by T) k.left
-    ∙ sum_filter T p stage.seats.items (λ s among not'. ap (tree_times (words stage.frames) page) (gone_tree claims rootward coming editing stage k.ended s among (not_left (is_removed editing.cell s.id) not')))
+    ∙ sum_filter T p stage.seats.items (λ s among not'. ap (tree_times (words stage.frames) page) (gone_tree claims rootward coming editing stage k.ended s among (not-false (is_removed editing.cell s.id) not')))
     in
     let comms : sum_by G (filter p stage.seats.items) ≡ sum_by G stage.seats.items =
-    sum_filter G p stage.seats.items (λ s among not'. ap (λ b. if b then 0 else comm_times page s.comm) (gone s ∙ not_left (is_removed editing.cell s.id) not'))
+    sum_filter G p stage.seats.items (λ s among not'. ap (λ b. if b then 0 else comm_times page s.comm) (gone s ∙ not-false (is_removed editing.cell s.id) not'))
     in
     let kept : sum_by C (filter p stage.seats.items) ≡ sum_by G (filter p stage.seats.items) =
     sum_alike C G (filter p stage.seats.items)

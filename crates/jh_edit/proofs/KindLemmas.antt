@@ -27,7 +27,7 @@ use Rattle.jh_edit.proofs.ForestLemmas.{sum_up, used_page}
 use Rattle.jh_edit.proofs.LoneLemmas.{out_by}
 use Rattle.jh_edit.proofs.MoveSlotLemmas.{slot_lacks}
 use Rattle.jh_edit.proofs.MoveTableLemmas.{not_over}
-use Rattle.jh_edit.proofs.PartLemmas.{cell_comm, cell_stays, fit_after, kept_after, root_stays, root_beside, beside_lack}
+use Rattle.jh_edit.proofs.PartLemmas.{beside_lack, cell_comm, cell_stays, fit_after, kept_after, none_ahead, root_beside, root_stays}
 use Rattle.jh_edit.proofs.SeatLemmas.{one_seat, untreed_comm, untreed_id, untreed_if, untreed_none, untreed_still}
 use Rattle.jh_edit.proofs.TurnedLemmas.{turned_forest}
 use Rattle.jh_edit.proofs.TurningLemmas.{Turning, ahead_left}
@@ -274,9 +274,6 @@ build_edit tells claims rootward coming id edit edit' editing editing' old new o
     }
 
 -- ---- a turn of a removal
-
-none_ahead : (page : ℕ) (edit : EditView) → edit.ahead ≡ None → ahead_times page edit ≡ 0
-none_ahead page edit none = ap (λ (a : Option Ahead). if is_ahead a page then 1 else 0) none
 
 -- a removal has no page ahead while it goes on
 removed_ahead : (want : Wants) (edit : EditView) (stage : Stage2) (page : ℕ) → edit.removing ≡ true → (is_over edit ≡ false → Plans edit want (words stage.frames)) → ahead_left edit page ≡ 0

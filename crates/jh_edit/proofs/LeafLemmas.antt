@@ -217,16 +217,16 @@ found word (suc n) table start at leaf hit few begins among gives =
 
 -- ---- their order
 
-all_from : {X : Type 0} (P : X → Type 0) (xs : List X) → ((x : X) → Contains xs x → P x) → All P xs
-all_from P xs each = λ k d below. each (get_or xs k d) (k, below, sym (read_again xs k d below))
+all_from : {X : Type 0} (xs : List X) (P : X → Type 0) → ((x : X) → Contains xs x → P x) → All P xs
+all_from xs P each = λ k d below. each (get_or xs k d) (k, below, sym (read_again xs k d below))
 
 pairs_append : {X : Type 0} (R : X → X → Type 0) (xs ys : List X) → AllPairs R xs → AllPairs R ys → ((x y : X) → Contains xs x → Contains ys y → R x y) → AllPairs R (xs ++ ys)
 pairs_append R [] ys one other cross = other
 pairs_append R (x ∷ xs) ys one other cross =
     AllPairs-cons R x (xs ++ ys)
-    (all_from (R x) (xs ++ ys)
+    (all_from (xs ++ ys) (R x)
     (λ y among. ⊎_elim (λ (mine : Contains xs y). pairs_head R x xs y one mine) (λ (theirs : Contains ys y). cross x y (Contains_head x xs) theirs) (Contains-append_cases xs ys y among)))
-    (pairs_append R xs ys (pairs_rest R x xs one) other (λ z y mine theirs. cross z y (Contains_tail x xs z mine) theirs))
+    (pairs_append R xs ys (pairs_rest x xs R one) other (λ z y mine theirs. cross z y (Contains_tail x xs z mine) theirs))
 
 pairs_before : (leaves : ℕ → List LeafAt) (n : ℕ) → ((i : ℕ) → i < n → AllPairs Precedes (leaves i)) → ((i j : ℕ) (a b : LeafAt) → i < j → j < n → Contains (leaves i) a → Contains (leaves j) b → Precedes a b) → AllPairs Precedes (leaves_before leaves n)
 pairs_before leaves zero each cross = λ i j d less below. absurd (let wrong : ⊥ = omega arith in wrong)

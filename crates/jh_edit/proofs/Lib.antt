@@ -2,7 +2,6 @@ mod SumLemmas
 mod TagLemmas
 mod FoundLemmas
 mod PlanningLemmas
-mod MappedLemmas
 mod OneTurnLemmas
 mod DescriptorLemmas
 mod StandLemmas

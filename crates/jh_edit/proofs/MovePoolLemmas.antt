@@ -113,7 +113,7 @@ ends_with want word word' table removing a at is q =
 
 -- ---- the end of a removal
 
-pages_some : (word : ℕ → ℕ) (table : ℕ) → 0 < pages_reached word levels table
+pub pages_some : (word : ℕ → ℕ) (table : ℕ) → 0 < pages_reached word levels table
 pages_some word table = let all = pages_more word 3 table in omega arith
 
 -- only the last turn of a removal ends it
@@ -180,7 +180,7 @@ given_mine old new want word word' move is q given =
 -- ---- pages of the pool
 
 -- a page of the pool is one after, and the other way round
-same_range : (old new : PoolView) (q : ℕ) → new.base ≡ old.base → new.size ≡ old.size → IsPageOf old q → IsPageOf new q
+pub same_range : (old new : PoolView) (q : ℕ) → new.base ≡ old.base → new.size ≡ old.size → IsPageOf old q → IsPageOf new q
 same_range old new q base size is =
     let above : old.base ≤ q = is.above in
     let below : q < old.base + 4096 * old.size = is.below in

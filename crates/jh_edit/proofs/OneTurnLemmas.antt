@@ -35,6 +35,8 @@ use Rattle.jh_edit.proofs.FoundLemmas.{cell_comm_is}
 use Rattle.jh_edit.proofs.ForestLemmas.{sum_up, tables_of_seat}
 use Rattle.jh_edit.proofs.SeatLemmas.{pairs_map, sum_moved, untreed_comm, untreed_had, untreed_id}
 use Rattle.jh_edit.proofs.TurningLemmas.{mine_own}
+use Rattle.jh_edit.proofs.StandLemmas.{flag_down}
+use Rattle.jh_edit.proofs.MovePoolLemmas.{same_range}
 
 -- ---- communication pages
 
@@ -274,10 +276,6 @@ pub record IsSettled (gone : Option ℕ) (p p' : PoolView) : Type 0 where
   pub freed : (q : ℕ) → 0 < comm_times q gone → is_free p' q ≡ true
   pub used : used_of p' ≤ used_of p
 
-flag_none : (b : Bool) → turn_if b ≡ 0 → b ≡ false
-flag_none true none = absurd (omega arith)
-flag_none false none = refl
-
 flag_some : (b : Bool) → 0 < turn_if b → b ≡ true
 flag_some true some = refl
 flag_some false some = absurd (omega arith)
@@ -293,18 +291,12 @@ settled None p p' same = record {
 settled (Some page) p p' given = record {
   base = given.base;
   size = given.size;
-  kept = λ q none. given.free q ∙ ap (λ b. if b then true else is_free p q) (flag_none (nat_eq page q) none);
+  kept = λ q none. given.free q ∙ ap (λ b. if b then true else is_free p q) (flag_down (nat_eq page q) none);
   freed = λ q some. given.free q ∙ ap (λ b. if b then true else is_free p q) (flag_some (nat_eq page q) some);
   used = let u = given.used in omega arith;
 }
 
 -- ---- a turn among all cells
-
-same_pages : (p p' : PoolView) (q : ℕ) → p'.base ≡ p.base → p'.size ≡ p.size → IsPageOf p q → IsPageOf p' q
-same_pages p p' q base size is =
-    let above : p.base ≤ q = is.above in
-    let below : q < p.base + 4096 * p.size = is.below in
-    record { aligned = is.aligned; above = omega arith; below = omega arith }
 
 some_or_none : (n : ℕ) → (0 < n) ⊎ (n ≡ 0)
 some_or_none n = ⊎_elim (λ (some : 0 < n). inl some) (λ (few : n ≤ 0). inr (omega arith)) (cases_lt 0 n)
@@ -331,11 +323,11 @@ tree_turned want tag edit edit' old new p gone t s counted has = record {
   pages = λ page. (
     λ taken. ⊎_elim
         (λ some. absurd (false≢true (sym taken.taken ∙ s.freed page some)))
-        (λ none. ((t.pages page).0 (record { in_range = same_pages new.pool p page (sym s.base) (sym s.size) taken.in_range; taken = sym (s.kept page none) ∙ taken.taken }), counted page ∙ none))
+        (λ none. ((t.pages page).0 (record { in_range = same_range new.pool p page (sym s.base) (sym s.size) taken.in_range; taken = sym (s.kept page none) ∙ taken.taken }), counted page ∙ none))
         (some_or_none (comm_times page gone)),
     λ both.
         let is : IsTakenPage p page = (t.pages page).1 both.0 in
-        record { in_range = same_pages p new.pool page s.base s.size is.in_range; taken = s.kept page (sym (counted page) ∙ both.1) ∙ is.taken },
+        record { in_range = same_range p new.pool page s.base s.size is.in_range; taken = s.kept page (sym (counted page) ∙ both.1) ∙ is.taken },
   );
   fresh = t.fresh;
   room = λ aim. let r = t.room aim in let u = s.used in omega arith;
@@ -407,8 +399,8 @@ two_taken comm table p p1 p2 first second =
       comm_free = first.was_free;
       table_free = both.1;
       apart = apart;
-      comm_taken = record { in_range = same_pages p p2 comm base size first.from; taken = second.free comm ∙ (ap (λ b. if b then false else is_free p1 comm) (ne_eqb table comm (λ e. apart (sym e))) ∙ one) };
-      table_taken = record { in_range = same_pages p1 p2 table second.base second.size second.from; taken = second.free table ∙ ap (λ b. if b then false else is_free p1 table) (same_number table) };
+      comm_taken = record { in_range = same_range p p2 comm base size first.from; taken = second.free comm ∙ (ap (λ b. if b then false else is_free p1 comm) (ne_eqb table comm (λ e. apart (sym e))) ∙ one) };
+      table_taken = record { in_range = same_range p1 p2 table second.base second.size second.from; taken = second.free table ∙ ap (λ b. if b then false else is_free p1 table) (same_number table) };
       others = λ q no no'. second.free q ∙ (ap (λ b. if b then false else is_free p1 q) (ne_eqb table q (λ e. no' (sym e))) ∙ (first.free q ∙ ap (λ b. if b then false else is_free p q) (ne_eqb comm q (λ e. no (sym e)))));
       used = let a = first.used in let b = second.used in omega arith;
       base = base;

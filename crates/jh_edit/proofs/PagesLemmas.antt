@@ -111,7 +111,7 @@ once_at x (y ∷ ys) apart among =
     omega arith)
     (λ (later : Contains ys x).
     let here : one_at x y ≡ 0 = ap (λ (b : Bool). if b then 1 else 0) (ne_eqb x y (λ e. pairs_head Differ y ys x apart later (sym e))) in
-    let rest : sum_by (one_at x) ys ≡ 1 = once_at x ys (pairs_rest Differ y ys apart) later in
+    let rest : sum_by (one_at x) ys ≡ 1 = once_at x ys (pairs_rest y ys Differ apart) later in
     omega arith)
     (Contains_cases y ys x among)
 

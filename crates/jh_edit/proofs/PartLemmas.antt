@@ -124,7 +124,7 @@ root_stays claims want edit edit' old new t rootward root is cell counted =
       kept = kept_after rootward old.frames new.frames t.turn.base t.turn.size is.kept;
     }
 
-none_ahead : (page : ℕ) (edit : EditView) → edit.ahead ≡ None → ahead_times page edit ≡ 0
+pub none_ahead : (page : ℕ) (edit : EditView) → edit.ahead ≡ None → ahead_times page edit ≡ 0
 none_ahead page edit none = ap (λ (a : Option Ahead). if is_ahead a page then 1 else 0) none
 
 removed_beside : (claims : Seat → Claims) (want : Wants) (edit edit' : EditView) (old new : Stage2) → (t : Turning claims want edit edit' old new) → (id : ℕ) (other : EditView) (lack : ℕ) → (is : IsRemovePart old id other lack) → t.seat.id ≢ is.seat.id

@@ -134,9 +134,6 @@ edit_beside rootward coming editing stage is = record {
 abbrev pub LacksMore : Type 0
 LacksMore = (want other : Wants) (word : ℕ → ℕ) (n table start : ℕ) → WantsItsTables want other → Stands want word n table start → lack_of other word n table start + tables_under want n start ≡ tables_under other n start
 
-abbrev pub LacksNone : Type 0
-LacksNone = (want other : Wants) (word : ℕ → ℕ) (n table start : ℕ) → WantsItsTables other want → Stands want word n table start → lack_of other word n table start ≡ 0
-
 abbrev pub CountsFromTop : Type 0
 CountsFromTop = (claims : Claims) → tables_of claims ≡ tables_under (want_of claims) levels 0
 

@@ -29,6 +29,7 @@ use Rattle.jh_edit.proofs.DeedLemmas.{first_place}
 use Rattle.jh_edit.proofs.FoundLemmas.{cell_tree_is, root_tree_is}
 use Rattle.jh_edit.proofs.ForestLemmas.{tables_of_seat}
 use Rattle.jh_edit.proofs.SumLemmas.{count_more}
+use Rattle.jh_edit.proofs.MovePoolLemmas.{pages_some}
 
 -- ---- root
 
@@ -48,15 +49,6 @@ planned_enough rootward coming stage cell may edit same =
 
 -- ---- a cell that comes
 
-pub planned_fresh : (rootward coming : Claims) (stage : Stage2) (id tables : ℕ) → MayPlan rootward coming stage (Create id tables) → IsFreshPart coming stage id (2 * tables) (pages_planned coming (Create id tables))
-planned_fresh rootward coming stage id tables may = record {
-  allowed = ap (λ n. 2 * n) may.change.counted;
-  new = may.change.new;
-  room = may.change.room;
-  fit = may.change.fit;
-  lacks = refl;
-}
-
 -- ---- a cell that goes
 
 going_tree : (rootward coming : Claims) (stage : Stage2) (id : ℕ) → (may : MayPlan rootward coming stage (Destroy id)) → IsSome may.change.seat.tree
@@ -75,9 +67,6 @@ going_none rootward coming stage id may none = some_none may.change.seat.tree (g
 pub going_place : (rootward coming : Claims) (stage : Stage2) (id : ℕ) → MayPlan rootward coming stage (Destroy id) → IsWholePages stage.frames.own → (tree : Tree) → Some tree ≡ cell_tree id stage.seats.items → IsTablePlace tree.table
 going_place rootward coming stage id may whole tree is =
     first_place stage.frames tree.table (tables_of_seat may.claims stage may.forest may.change.seat tree may.change.sits (going_is rootward coming stage id may (Some tree) is)) whole
-
-pub pages_some : (word : ℕ → ℕ) (table : ℕ) → 0 < pages_reached word levels table
-pages_some word table = let e = count_more unmoved (λ s w n page. 1) word 3 None table in omega arith
 
 pub planned_removal : (rootward coming : Claims) (stage : Stage2) (id : ℕ) → MayPlan rootward coming stage (Destroy id) → (tree : Tree) → Some tree ≡ cell_tree id stage.seats.items → (edit : EditView) → edit.table ≡ tree.table → edit.removing ≡ true
     → edit.left ≡ pages_reached (words stage.frames) levels tree.table → Plans edit (want_of rootward) (words stage.frames) → IsRemovePart stage id edit 0
@@ -101,12 +90,6 @@ not_built (Create own tables) part is id = ap (λ p. is_built p id) is
 not_built (Destroy own) part is id = ap (λ p. is_built p id) is.1
 
 -- ---- the end
-
-pub nothing_left : (part : CellPart) (seats : List Seat) → removed_id part ≡ None → seats_left part seats ≡ seats
-nothing_left NoPart seats none = refl
-nothing_left (Fresh id bound) seats none = refl
-nothing_left (Build id edit) seats none = refl
-nothing_left (Remove id edit) seats none = absurd (none-some id (sym none))
 
 pub one_left : (part : CellPart) (seats : List Seat) (id : ℕ) → removed_id part ≡ Some id → filter (λ (seat : Seat). not (nat_eq seat.id id)) seats ≡ seats_left part seats
 one_left NoPart seats id is = absurd (none-some id is)

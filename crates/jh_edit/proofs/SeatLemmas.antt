@@ -14,8 +14,8 @@ use Rattle.jh_edit.proofs.ForestLemmas.{sum_alike, sum_up}
 
 -- ---- pairs
 
-pub pairs_rest : {X : Type 0} (R : X → X → Type 0) (x : X) (xs : List X) → AllPairs R (x ∷ xs) → AllPairs R xs
-pairs_rest R x xs all = λ i j d less below. all (suc i) (suc j) d (omega arith) (omega arith)
+pub pairs_rest : {X : Type 0} (x : X) (xs : List X) (R : X → X → Type 0) → AllPairs R (x ∷ xs) → AllPairs R xs
+pairs_rest x xs R all = λ i j d less below. all (suc i) (suc j) d (omega arith) (omega arith)
 
 pub pairs_head : {X : Type 0} (R : X → X → Type 0) (x : X) (xs : List X) (y : X) → AllPairs R (x ∷ xs) → Contains xs y → R x y
 pairs_head {X} R x xs y all (k, below, is) = let P : X → Type 0 = R x in subst P is (all zero (suc k) y (omega arith) (omega arith))
@@ -40,7 +40,7 @@ one_seat (seat ∷ seats) a b apart one other same =
     (Contains_cases seat seats b other))
     (λ (later : Contains seats a). ⊎_elim
     (λ (first' : seat ≡ b). absurd ((pairs_head AreApart seat seats a apart later).ids (ap (λ (s : Seat). s.id) first' ∙ sym same)))
-    (λ (later' : Contains seats b). one_seat seats a b (pairs_rest AreApart seat seats apart) later later' same)
+    (λ (later' : Contains seats b). one_seat seats a b (pairs_rest seat seats AreApart apart) later later' same)
     (Contains_cases seat seats b other))
     (Contains_cases seat seats a one)
 
@@ -58,7 +58,7 @@ two_terms f (seat ∷ seats) a b apart one other differ =
     (Contains_cases seat seats b other))
     (λ (later : Contains seats a). ⊎_elim
     (λ (first' : seat ≡ b). let e : f seat ≡ f b = ap f first' in let up : f a ≤ sum_by f seats = sum_up f seats a later in omega arith)
-    (λ (later' : Contains seats b). let both : f a + f b ≤ sum_by f seats = two_terms f seats a b (pairs_rest AreApart seat seats apart) later later' differ in omega arith)
+    (λ (later' : Contains seats b). let both : f a + f b ≤ sum_by f seats = two_terms f seats a b (pairs_rest seat seats AreApart apart) later later' differ in omega arith)
     (Contains_cases seat seats b other))
     (Contains_cases seat seats a one)
 
@@ -77,7 +77,7 @@ sum_moved f g (seat ∷ seats) a apart one same =
     in omega arith)
     (λ (later : Contains seats a).
     let here : g seat ≡ f seat = same seat (Contains_head seat seats) (pairs_head AreApart seat seats a apart later).ids in
-    let rest : sum_by g seats + f a ≡ sum_by f seats + g a = sum_moved f g seats a (pairs_rest AreApart seat seats apart) later (λ b among differ. same b (Contains_tail seat seats b among) differ) in
+    let rest : sum_by g seats + f a ≡ sum_by f seats + g a = sum_moved f g seats a (pairs_rest seat seats AreApart apart) later (λ b among differ. same b (Contains_tail seat seats b among) differ) in
     omega arith)
     (Contains_cases seat seats a one)
 

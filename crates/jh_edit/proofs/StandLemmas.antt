@@ -58,7 +58,7 @@ leaf_stands o r v (Leaf o' r' v') e =
 
 -- ---- from no turns to standing tables
 
-flag_down : (b : Bool) → turn_if b ≡ 0 → b ≡ false
+pub flag_down : (b : Bool) → turn_if b ≡ 0 → b ≡ false
 flag_down true e = absurd (let n : ⊥ = omega arith in n)
 flag_down false e = refl
 

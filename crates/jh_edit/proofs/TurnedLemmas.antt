@@ -50,10 +50,6 @@ edited_as (Some editing) seat now id comm =
     edited_by (not (is_some now.comm)) (not (is_some seat.comm)) (is_built editing.cell now.id) (is_built editing.cell seat.id) (is_removed editing.cell now.id) (is_removed editing.cell seat.id)
     (ap (λ (c : Option ℕ). not (is_some c)) comm) (ap (is_built editing.cell) id) (ap (is_removed editing.cell) id)
 
-coming_as : (e : Option Editing) (seat now : Seat) → now.id ≡ seat.id → is_coming e now ≡ is_coming e seat
-coming_as None seat now id = refl
-coming_as (Some editing) seat now id = ap (λ i. is_built editing.cell i) id
-
 was_edited : (claims : Seat → Claims) (want : Wants) (edit edit' : EditView) (old new : Stage2) → (t : Turning claims want edit edit' old new) → (now : Seat) → (was : WasSeat old (is_over edit') t.seat.id now) → is_edited new.editing now ≡ is_edited old.editing was.seat
 was_edited claims want edit edit' old new t now was =
     t.edited now

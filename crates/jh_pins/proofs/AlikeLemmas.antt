@@ -30,8 +30,9 @@ not_shorter has one other chip at of other_of is other_is last first lt =
     let Q : ℕ → Type 0 = λ c. has (pin_of c (one.last + 1)) ≡ false in
     both_ways (has (pin_of chip (one.last + 1))) (subst Q is of.behind) (subst P other_is (other_of.each (one.last + 1) (omega arith) (omega arith)))
 
-same_number : (m n : ℕ) → (m < n → ⊥) → (n < m → ⊥) → m ≡ n
-same_number m n up down = ⊎_elim (λ (e : m ≡ n). e) (λ o. ⊎_elim (λ (lt : m < n). absurd (up lt)) (λ (gt : n < m). absurd (down gt)) o) (cases_order m n)
+-- of two numbers of which neither is the lower
+same_number : (m n : ℕ) → ((m < n) ⊎ (n < m) → ⊥) → m ≡ n
+same_number m n differ = let up : m < n → ⊥ = λ lt. differ (inl lt) in let down : n < m → ⊥ = λ gt. differ (inr gt) in ⊎_elim (λ (e : m ≡ n). e) (λ o. ⊎_elim (λ (lt : m < n). absurd (up lt)) (λ (gt : n < m). absurd (down gt)) o) (cases_order m n)
 
 same_fields : (one other : PinRun) → one.chip ≡ other.chip → one.first ≡ other.first → one.last ≡ other.last → one ≡ other
 same_fields one other c f l = λ i. record { chip = c i; first = f i; last = l i }
@@ -45,8 +46,8 @@ same_run has one other pin of other_of is other_is =
     let other_high = other_is.last in
     let c : one.chip ≡ pin.chip = sym is.chip in
     let d : other.chip ≡ pin.chip = sym other_is.chip in
-    let first : one.first ≡ other.first = same_number one.first other.first (λ lt. not_earlier has one other pin.chip at of other_of c d high other_low lt) (λ gt. not_earlier has other one pin.chip at other_of of d c other_high low gt) in
-    let last : one.last ≡ other.last = same_number one.last other.last (λ lt. not_shorter has one other pin.chip at of other_of c d high other_low lt) (λ gt. not_shorter has other one pin.chip at other_of of d c other_high low gt) in
+    let first : one.first ≡ other.first = same_number one.first other.first (λ o. ⊎_elim (λ lt. not_earlier has one other pin.chip at of other_of c d high other_low lt) (λ gt. not_earlier has other one pin.chip at other_of of d c other_high low gt) o) in
+    let last : one.last ≡ other.last = same_number one.last other.last (λ o. ⊎_elim (λ lt. not_shorter has one other pin.chip at of other_of c d high other_low lt) (λ gt. not_shorter has other one pin.chip at other_of of d c other_high low gt) o) in
     same_fields one other (c ∙ sym d) first last
 
 same_member : (has : Pin → Bool) (runs others : List PinRun) (run : PinRun) → AreRuns has runs → AreRuns has others → Contains runs run → Contains others run

@@ -31,20 +31,6 @@ use Rattle.jh_pins.proofs.EditLemmas.{table_with}
 abbrev pub reached : List Entry → Bool → Reached
 reached entries full = record { entries = entries; full = full }
 
-pub made : (old new : BoardView) (cpu : ℕ) (entry : Option Entry) → MakesDue old cpu entry new → with_item old.image old.limit (reached old.entries false) cpu ≡ reached new.entries false
-made old new cpu None h = ap (with_due old.limit old.entries) h.0 ∙ ap (λ (v : BoardView). reached v.entries false) (sym h.1)
-made old new cpu (Some entry) h =
-    ap (with_due old.limit old.entries) h.0
-    ∙ ap (λ b. cond b (reached (old.entries ++ entry ∷ []) false) (reached old.entries true)) (lt-ltb (length old.entries) old.limit h.1)
-    ∙ ap (λ (v : BoardView). reached v.entries false) (sym h.2)
-
-full_by : (limit : ℕ) (entries : List Entry) (o : Option Entry) → IsSome o → length entries ≡ limit → with_due limit entries o ≡ reached entries true
-full_by limit entries None h at = absurd (false≢true h)
-full_by limit entries (Some entry) h at = ap (λ b. cond b (reached (entries ++ entry ∷ []) false) (reached entries true)) (le-ltb (length entries) limit (omega arith))
-
-pub stopped : (old new : BoardView) (cpu : ℕ) → IsSome (due old.image old.entries cpu) → length old.entries ≡ old.limit → new ≡ old → with_item old.image old.limit (reached old.entries false) cpu ≡ reached new.entries true
-stopped old new cpu some at same = full_by old.limit old.entries (due old.image old.entries cpu) some at ∙ ap (λ (v : BoardView). reached v.entries true) (sym same)
-
 -- ---- items
 
 pub items_none : (image : Image) (limit : ℕ) (start : List Entry) → items image limit [] start ≡ reached start false
@@ -112,14 +98,6 @@ one_cell_more root configs i cell table new at so_far is =
     ∙ ap (table_of root) (sym next)
 
 -- ---- the board stays the image's
-
-pub same_image : (old new : BoardView) (cpu : ℕ) (entry : Option Entry) → MakesDue old cpu entry new → new.image ≡ old.image
-same_image old new cpu None h = ap (λ (v : BoardView). v.image) h.1
-same_image old new cpu (Some entry) h = ap (λ (v : BoardView). v.image) h.2
-
-pub same_limit : (old new : BoardView) (cpu : ℕ) (entry : Option Entry) → MakesDue old cpu entry new → new.limit ≡ old.limit
-same_limit old new cpu None h = ap (λ (v : BoardView). v.limit) h.1
-same_limit old new cpu (Some entry) h = ap (λ (v : BoardView). v.limit) h.2
 
 -- ---- the text of one cell more
 

@@ -1,7 +1,7 @@
 -- One seat more is mapped.
 use Rattle.std.proofs.Common.{None}
 use Rattle.jh_edit.specs.Stages.{untreed}
-use Rattle.jh_edit.proofs.MappedLemmas.{all_mapped, one_mapped}
+use Rattle.jh_cache.proofs.Public.{all_mapped, one_mapped}
 use Rattle.jh_edit.proofs.turning.untree.Goals as goal
 
 pub loop-seat-preserved : goal.loop-seat-preserved

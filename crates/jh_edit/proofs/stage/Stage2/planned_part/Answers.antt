@@ -8,7 +8,8 @@ use Rattle.jh_edit.specs.Seats.{cell_tree}
 use Rattle.jh_edit.specs.Tables.{words}
 use Rattle.jh_walk.specs.Pages.{pages_reached}
 use Rattle.jh_walk.specs.Walks.{levels}
-use Rattle.jh_edit.proofs.PlanningLemmas.{going_none, going_place, pages_some, planned_removal}
+use Rattle.jh_edit.proofs.MovePoolLemmas.{pages_some}
+use Rattle.jh_edit.proofs.PlanningLemmas.{going_none, going_place, planned_removal}
 use Rattle.jh_edit.proofs.stage.Stage2.planned_part.Goals as goal
 
 pub remove-edit-requires-clause-aligned : goal.remove-edit-requires-clause-aligned
