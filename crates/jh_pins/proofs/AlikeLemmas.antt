@@ -1,7 +1,7 @@
 -- Two lists of the runs of one set are the same list, and so are two lists of the clashes of the same cells, and two
 -- texts of the same pins.
 use Rattle.std.proofs.Common.{◌≡◌, ℕ, suc, ◌+◌, ◌-◌, ◌<◌, ◌≤◌, Bool, true, false, List, [], ◌∷◌, ◌++◌, refl, sym, ap, subst, ◌∙◌, ⊎_elim, inl, inr, arith}
-use Rattle.std.specs.Prelude.{AllPairs, Contains, map}
+use Rattle.std.specs.Prelude.{◌⊎◌, AllPairs, Contains, map}
 use Rattle.std.proofs.lemmas.Bool.{both_ways, cases_order}
 use Rattle.std.proofs.lemmas.List.Elements.{All-contains}
 use Rattle.jh_num.proofs.Public.{Contains_cases, Contains_head, Contains_tail}
