@@ -10,6 +10,7 @@ use Rattle.jh_cellcfg.specs.declared.live.Live.{Live}
 use Rattle.jh_cellcfg.specs.declared.region.Region.{Region}
 use Rattle.jh_cellcfg.specs.Cells.{name_of}
 use Rattle.jh_script.specs.declared.image.Image.{Image}
+use Rattle.jh_history.specs.declared.form.Form.{Form}
 use Rattle.jh_script.specs.declared.op.Op.{Op}
 use Rattle.jh_script.specs.declared.op.Op.TheVariants.{Read as ReadOp, Write as WriteOp, Fetch as FetchOp, Await as AwaitOp, Irq as IrqOp, Hvc as HvcOp}
 use Rattle.jh_script.specs.Operations.{IsWellFormed, is_width}
@@ -254,11 +255,11 @@ ends_made image f entry admitted sound (Calling phase) = phase_ends image f (f.c
 ends_made image f entry admitted sound (Running program) = ends_as_granted image f (f.cpu entry.cpu) entry.cpu program.op entry.act admitted sound program.at program.is
 
 -- each access of a legal journal ends as its cell is granted
-pub ends_at : (image : Image) (before rest : List Entry) (entry : Entry) → IsAdmitted image → IsLegal image (before ++ entry ∷ rest) → EndsAsGranted image (facts image before) entry.cell entry.act
-ends_at image before rest entry admitted legal =
-    let f : Facts = facts image before in
-    let sound = legal_sound image before admitted (IsLegal_begin image before (entry ∷ rest) legal) in
-    let due : due_at image f entry.cpu ≡ Some entry = due_split image before rest entry legal in
+pub ends_at : (image : Image) (form : Form) (before rest : List Entry) (entry : Entry) → IsAdmitted image → IsLegal image form (before ++ entry ∷ rest) → EndsAsGranted image (facts image form before) entry.cell entry.act
+ends_at image form before rest entry admitted legal =
+    let f : Facts = facts image form before in
+    let sound = legal_sound image form before admitted (IsLegal_begin image form before (entry ∷ rest) legal) in
+    let due : due_at image f entry.cpu ≡ Some entry = due_split image form before rest entry legal in
     let P : ℕ → Type 0 = λ id. EndsAsGranted image f id entry.act in
     subst P (sym (next_from_due image f entry due).cell) (ends_made image f entry admitted sound (made_by image f entry sound due))
 
@@ -311,8 +312,8 @@ made_small image f entry admitted (Running program) =
     op_small_holds image f state.owner program.op entry.act plain program.is
 
 -- the value that an entry of a legal journal writes has no more bytes than it writes
-pub small_at : (image : Image) (before rest : List Entry) (entry : Entry) → IsAdmitted image → IsLegal image (before ++ entry ∷ rest) → IsSmallAct entry.act
-small_at image before rest entry admitted legal =
-    let f : Facts = facts image before in
-    let sound = legal_sound image before admitted (IsLegal_begin image before (entry ∷ rest) legal) in
-    made_small image f entry admitted (made_by image f entry sound (due_split image before rest entry legal))
+pub small_at : (image : Image) (form : Form) (before rest : List Entry) (entry : Entry) → IsAdmitted image → IsLegal image form (before ++ entry ∷ rest) → IsSmallAct entry.act
+small_at image form before rest entry admitted legal =
+    let f : Facts = facts image form before in
+    let sound = legal_sound image form before admitted (IsLegal_begin image form before (entry ∷ rest) legal) in
+    made_small image f entry admitted (made_by image f entry sound (due_split image form before rest entry legal))

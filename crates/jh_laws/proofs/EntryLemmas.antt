@@ -11,6 +11,7 @@ use Rattle.jh_call.specs.Calls.{decoded, is_management}
 use Rattle.jh_call.specs.Answers.{answer_of}
 use Rattle.jh_ivshmem.specs.Links.{pending_of}
 use Rattle.jh_script.specs.declared.image.Image.{Image}
+use Rattle.jh_history.specs.declared.form.Form.{Form}
 use Rattle.jh_script.specs.declared.op.Op.{Op}
 use Rattle.jh_script.specs.declared.op.Op.TheVariants.{Read as ReadOp, Write as WriteOp, Fetch as FetchOp, Await as AwaitOp, Irq as IrqOp, Hvc as HvcOp}
 use Rattle.jh_history.specs.declared.access.Access.TheVariants.{Read as ToRead}
@@ -84,16 +85,16 @@ operation_by image f entry op is (Runs program) =
     let same : program.op ≡ op = same_Some program.op op (sym (op_by program.op entry.act (act_of image f owner program.op) (act_of_op image f owner program.op) program.is) ∙ is) in
     cell_of_op image f owner entry.cpu op (cell_in image f.cells owner) refl (program.at ∙ ap Some same)
 
-pub operation_at : (image : Image) (before rest : List Entry) (entry : Entry) (op : Op) → IsAdmitted image → IsLegal image (before ++ entry ∷ rest) → op_of_act entry.act ≡ Some op → IsOperationOf image (facts image before) entry.cell entry.cpu op
-operation_at image before rest entry op admitted legal is =
-    let f : Facts = facts image before in
-    let sound = legal_sound image before admitted (IsLegal_begin image before (entry ∷ rest) legal) in
-    let due : due_at image f entry.cpu ≡ Some entry = due_split image before rest entry legal in
+pub operation_at : (image : Image) (form : Form) (before rest : List Entry) (entry : Entry) (op : Op) → IsAdmitted image → IsLegal image form (before ++ entry ∷ rest) → op_of_act entry.act ≡ Some op → IsOperationOf image (facts image form before) entry.cell entry.cpu op
+operation_at image form before rest entry op admitted legal is =
+    let f : Facts = facts image form before in
+    let sound = legal_sound image form before admitted (IsLegal_begin image form before (entry ∷ rest) legal) in
+    let due : due_at image f entry.cpu ≡ Some entry = due_split image form before rest entry legal in
     let P : ℕ → Type 0 = λ id. IsOperationOf image f id entry.cpu op in
     subst P (sym (next_from_due image f entry due).cell) (operation_by image f entry op is (made_by image f entry sound due))
 
-pub cell_at : (image : Image) (before rest : List Entry) (entry : Entry) → IsLegal image (before ++ entry ∷ rest) → (is_on_board image entry.cpu ≡ true) × (entry.cell ≡ ((facts image before).cpu entry.cpu).owner)
-cell_at image before rest entry legal = let next = next_from_due image (facts image before) entry (due_split image before rest entry legal) in (next.board, next.cell)
+pub cell_at : (image : Image) (form : Form) (before rest : List Entry) (entry : Entry) → IsLegal image form (before ++ entry ∷ rest) → (is_on_board image entry.cpu ≡ true) × (entry.cell ≡ ((facts image form before).cpu entry.cpu).owner)
+cell_at image form before rest entry legal = let next = next_from_due image (facts image form before) entry (due_split image form before rest entry legal) in (next.board, next.cell)
 
 -- ---- whether it runs
 
@@ -106,9 +107,9 @@ runs_by image f entry sound due other (Calling phase) =
     let P : ℕ → Type 0 = λ k. IsCalm (f.cpu k) × ((f.cpu k).mode ≡ Running) in
     subst P of.caller (caller.calm, caller.running)
 
-pub runs_at : (image : Image) (before rest : List Entry) (entry : Entry) → IsAdmitted image → IsLegal image (before ++ entry ∷ rest) → is_stop_act entry.act ≡ false → IsCalm ((facts image before).cpu entry.cpu) × (((facts image before).cpu entry.cpu).mode ≡ Running)
-runs_at image before rest entry admitted legal other =
-    let f : Facts = facts image before in
-    let sound = legal_sound image before admitted (IsLegal_begin image before (entry ∷ rest) legal) in
-    let due : due_at image f entry.cpu ≡ Some entry = due_split image before rest entry legal in
+pub runs_at : (image : Image) (form : Form) (before rest : List Entry) (entry : Entry) → IsAdmitted image → IsLegal image form (before ++ entry ∷ rest) → is_stop_act entry.act ≡ false → IsCalm ((facts image form before).cpu entry.cpu) × (((facts image form before).cpu entry.cpu).mode ≡ Running)
+runs_at image form before rest entry admitted legal other =
+    let f : Facts = facts image form before in
+    let sound = legal_sound image form before admitted (IsLegal_begin image form before (entry ∷ rest) legal) in
+    let due : due_at image f entry.cpu ≡ Some entry = due_split image form before rest entry legal in
     runs_by image f entry sound due other (made_by image f entry sound due)

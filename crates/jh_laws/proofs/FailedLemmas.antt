@@ -8,6 +8,7 @@ use Rattle.jh_cpu.specs.declared.cpu.Mode.TheVariants.{Running, Failed}
 use Rattle.jh_cpu.specs.Changes.{resumed, moved, asked_of}
 use Rattle.jh_ivshmem.specs.declared.spec.EndpointSpec.{EndpointSpec}
 use Rattle.jh_script.specs.declared.image.Image.{Image}
+use Rattle.jh_history.specs.declared.form.Form.{Form}
 use Rattle.jh_history.specs.declared.call.OpenCall.{OpenCall}
 use Rattle.jh_history.specs.declared.entry.Entry.{Entry}
 use Rattle.jh_history.specs.declared.entry.Settled.{Settled}
@@ -112,15 +113,15 @@ failed_kept image cpu admitted f entry sound failed due other =
     (ap (λ (c : Cpu). c.mode) same ∙ rest.0 ∙ failed.0, ap (λ (c : Cpu). c.asked) same ∙ rest.1 ∙ failed.1)
 
 -- until a Commit it makes no entry
-pub failed_rests : (image : Image) (before middle rest : List Entry) (first last : Entry) → IsAdmitted image → IsLegal image (before ++ first ∷ (middle ++ last ∷ rest)) → is_violation first.act ≡ true
+pub failed_rests : (image : Image) (form : Form) (before middle rest : List Entry) (first last : Entry) → IsAdmitted image → IsLegal image form (before ++ first ∷ (middle ++ last ∷ rest)) → is_violation first.act ≡ true
     → All (λ (e : Entry). is_commit e.act ≡ false) middle → last.cpu ≢ first.cpu
-failed_rests image before middle rest first last admitted legal violates others =
-    let s = stretch image before middle rest first last admitted legal in
-    let f0 : Facts = facts image before in
+failed_rests image form before middle rest first last admitted legal violates others =
+    let s = stretch image form before middle rest first last admitted legal in
+    let f0 : Facts = facts image form before in
     let f1 : Facts = after image f0 first in
-    let own = own_ends image before (middle ++ last ∷ rest) first admitted legal violates in
-    let behind : f1.cpu first.cpu ≡ ended (f0.cpu first.cpu) = ap (λ (f : Facts). f.cpu first.cpu) (sym (facts_push image before first)) ∙ own in
-    let calm = (runs_at image before (middle ++ last ∷ rest) first admitted legal (violation_own first.act violates).1).0 in
+    let own = own_ends image form before (middle ++ last ∷ rest) first admitted legal violates in
+    let behind : f1.cpu first.cpu ≡ ended (f0.cpu first.cpu) = ap (λ (f : Facts). f.cpu first.cpu) (sym (facts_push image form before first)) ∙ own in
+    let calm = (runs_at image form before (middle ++ last ∷ rest) first admitted legal (violation_own first.act violates).1).0 in
     let failed : IsFailed first.cpu f1 = (ap (λ (c : Cpu). c.mode) behind, ap (λ (c : Cpu). c.asked) behind ∙ calm.asked) in
     let end = along image (IsFailed first.cpu) (λ (e : Entry). is_commit e.act ≡ false) (failed_kept image first.cpu admitted) f1 middle (sound_after image f0 first s.sound s.first_due) failed s.between others in
     not_made image (fold (after image) f1 middle) first.cpu last admitted end.0 end.1 s.last_due
@@ -136,10 +137,10 @@ fails_commits act violates =
     let P : Act → Type 0 = λ a. is_violation a ≡ true in
     ⊎_elim (λ (commits : act ≡ Commit). absurd (false≢true (subst P commits violates))) (λ (other : is_commit act ≡ false). other) (commit_or act)
 
-pub memory_kept : (image : Image) (before : List Entry) (entry : Entry) (place : ℕ) → is_violation entry.act ≡ true → (facts image (before ++ entry ∷ [])).byte (Physical place) ≡ (facts image before).byte (Physical place)
-memory_kept image before entry place violates =
-    let f : Facts = facts image before in
-    byte_behind image before entry (Physical place)
+pub memory_kept : (image : Image) (form : Form) (before : List Entry) (entry : Entry) (place : ℕ) → is_violation entry.act ≡ true → (facts image form (before ++ entry ∷ [])).byte (Physical place) ≡ (facts image form before).byte (Physical place)
+memory_kept image form before entry place violates =
+    let f : Facts = facts image form before in
+    byte_behind image form before entry (Physical place)
     ∙ physical_kept (page_write_by image f entry entry.act) (with_words (specs_changing f entry.act) (byte_written image f entry.cell entry.act)) place
     ∙ ap (λ (specs : List EndpointSpec). with_words specs (byte_written image f entry.cell entry.act) (Physical place)) (specs_none f entry.act (fails_commits entry.act violates))
     ∙ ap (λ (b : Place → ℕ). b (Physical place)) (fails_quiet image f entry.cell entry.act violates)

@@ -24,6 +24,7 @@ use Rattle.jh_cpu.specs.declared.cpu.Cpu.{Cpu}
 use Rattle.jh_call.specs.declared.call.Call.{Call}
 use Rattle.jh_call.specs.declared.call.Call.TheVariants.{Create, Start, Loadable, Destroy}
 use Rattle.jh_script.specs.declared.image.Image.{Image}
+use Rattle.jh_history.specs.declared.form.Form.{Form}
 use Rattle.jh_history.specs.declared.place.Place.{Place}
 use Rattle.jh_history.specs.declared.access.Access.TheVariants.{Read as ToRead, Write as ToWrite}
 use Rattle.jh_history.specs.declared.call.OpenCall.{OpenCall}
@@ -337,8 +338,8 @@ typed_after image f entry sound due typed = record {
   endpoints = registers_after image f entry typed.endpoints;
 }
 
-pub typed_start : (image : Image) → ArePreloadsBytes image → IsTypedBoard (start image)
-typed_start image bytes = record {
+pub typed_start : (image : Image) (form : Form) → ArePreloadsBytes image → IsTypedBoard (start image form)
+typed_start image form bytes = record {
   bytes = λ q. opening_small image q bytes;
   cells = λ config held. let below : held.0 < 0 = held.1 in absurd (omega arith);
   call = tt;
@@ -349,13 +350,13 @@ typed_from : (image : Image) (f : Facts) (entries : List Entry) → IsSound imag
 typed_from image f [] sound typed legal = typed
 typed_from image f (entry ∷ entries) sound typed legal = typed_from image (after image f entry) entries (sound_after image f entry sound legal.0) (typed_after image f entry sound legal.0 typed) legal.1
 
-pub legal_typed : (image : Image) (entries : List Entry) → IsAdmitted image → ArePreloadsBytes image → IsLegal image entries → IsTypedBoard (facts image entries)
+pub legal_typed : (image : Image) (form : Form) (entries : List Entry) → IsAdmitted image → ArePreloadsBytes image → IsLegal image form entries → IsTypedBoard (facts image form entries)
 unfolding IsLegal facts
-legal_typed image entries admitted bytes legal = typed_from image (start image) entries (sound_start image admitted) (typed_start image bytes) legal
+legal_typed image form entries admitted bytes legal = typed_from image (start image form) entries (sound_start image form admitted) (typed_start image form bytes) legal
 
-root_start : (image : Image) → IsAdmitted image → IsMadeOfBytes image → HasCpu image (start image).cpu
-root_start image admitted bytes =
-    let sound = sound_start image admitted in
+root_start : (image : Image) (form : Form) → IsAdmitted image → IsMadeOfBytes image → HasCpu image (start image form).cpu
+root_start image form admitted bytes =
+    let sound = sound_start image form admitted in
     let set = sound_set image.system.root.cpu_set (λ i. index_small image.system.root.cpu_set i bytes.set) (sound.cells.clean.cpus 0 image.system.root refl) in
     (set.some.0, set.some.1, refl)
 
@@ -365,9 +366,9 @@ root_from image f (entry ∷ entries) sound has legal =
     let next = sound_after image f entry sound legal.0 in
     root_from image (after image f entry) entries next (root_by image f entry entry.act refl next has) legal.1
 
-legal_root : (image : Image) (entries : List Entry) → IsAdmitted image → IsMadeOfBytes image → IsLegal image entries → HasCpu image (facts image entries).cpu
+legal_root : (image : Image) (form : Form) (entries : List Entry) → IsAdmitted image → IsMadeOfBytes image → IsLegal image form entries → HasCpu image (facts image form entries).cpu
 unfolding IsLegal facts
-legal_root image entries admitted bytes legal = root_from image (start image) entries (sound_start image admitted) (root_start image admitted bytes) legal
+legal_root image form entries admitted bytes legal = root_from image (start image form) entries (sound_start image form admitted) (root_start image form admitted bytes) legal
 
 -- ---- counting
 
@@ -407,12 +408,12 @@ few_typed image f sound typed =
     let apart : AllPairs AreTwo configs = λ i j d lt within. sound.cells.differ (suc i) (suc j) d (omega (arith, lt)) (omega (arith, within)) in
     picked_few (λ i. (f.cpu i).owner) configs (picked (λ i. (f.cpu i).owner) configs (λ config held. cell_cpu image f config sound typed held)) (each_apart configs image.system.root apart)
 
-pub few_cells : (image : Image) (entries : List Entry) → IsAdmitted image → IsMadeOfBytes image → IsLegal image entries → length (configs_of (facts image entries).cells) ≤ 15
-few_cells image entries admitted bytes legal =
-    let f : Facts = facts image entries in
-    let sound = legal_sound image entries admitted legal in
-    let typed = legal_typed image entries admitted bytes.preloads legal in
-    let root = legal_root image entries admitted bytes legal in
+pub few_cells : (image : Image) (form : Form) (entries : List Entry) → IsAdmitted image → IsMadeOfBytes image → IsLegal image form entries → length (configs_of (facts image form entries).cells) ≤ 15
+few_cells image form entries admitted bytes legal =
+    let f : Facts = facts image form entries in
+    let sound = legal_sound image form entries admitted legal in
+    let typed = legal_typed image form entries admitted bytes.preloads legal in
+    let root = legal_root image form entries admitted bytes legal in
     let all : List CellConfig = image.system.root ∷ configs_of f.cells in
     let at_most : length all ≤ 16 = picked_few (λ i. (f.cpu i).owner) all (picked (λ i. (f.cpu i).owner) all (λ config held. each_cpu image f config sound typed root held)) (each_apart all image.system.root sound.cells.differ) in
     omega (arith, at_most)

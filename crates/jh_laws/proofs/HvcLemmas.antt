@@ -17,6 +17,7 @@ use Rattle.jh_call.specs.Calls.{decoded, is_management}
 use Rattle.jh_call.specs.Answers.{answer_of, info_of, cpu_answer}
 use Rattle.jh_ivshmem.specs.Links.{pending_of}
 use Rattle.jh_script.specs.declared.image.Image.{Image}
+use Rattle.jh_history.specs.declared.form.Form.{Form}
 use Rattle.jh_script.specs.declared.op.Op.{Op}
 use Rattle.jh_script.specs.declared.op.Op.TheVariants.{Read as ReadOp, Write as WriteOp, Fetch as FetchOp, Await as AwaitOp, Irq as IrqOp, Hvc as HvcOp}
 use Rattle.jh_history.specs.declared.access.Access.TheVariants.{Read as ToRead}
@@ -160,11 +161,11 @@ answered_made image f entry sound (Calling phase) = phase_answered image f (f.cp
 answered_made image f entry sound (Runs program) =
     answered_by image f (f.cpu entry.cpu).owner entry.act (act_of image f (f.cpu entry.cpu).owner program.op) (op_answered image f (f.cpu entry.cpu).owner program.op sound) program.is
 
-pub answered_at : (image : Image) (before rest : List Entry) (entry : Entry) → IsAdmitted image → IsLegal image (before ++ entry ∷ rest) → IsAnswered image (facts image before) entry.cell entry.act
-answered_at image before rest entry admitted legal =
-    let f : Facts = facts image before in
-    let sound = legal_sound image before admitted (IsLegal_begin image before (entry ∷ rest) legal) in
-    let due : due_at image f entry.cpu ≡ Some entry = due_split image before rest entry legal in
+pub answered_at : (image : Image) (form : Form) (before rest : List Entry) (entry : Entry) → IsAdmitted image → IsLegal image form (before ++ entry ∷ rest) → IsAnswered image (facts image form before) entry.cell entry.act
+answered_at image form before rest entry admitted legal =
+    let f : Facts = facts image form before in
+    let sound = legal_sound image form before admitted (IsLegal_begin image form before (entry ∷ rest) legal) in
+    let due : due_at image f entry.cpu ≡ Some entry = due_split image form before rest entry legal in
     let P : ℕ → Type 0 = λ id. IsAnswered image f id entry.act in
     subst P (sym (next_from_due image f entry due).cell) (answered_made image f entry sound.cells (made_by image f entry sound due))
 

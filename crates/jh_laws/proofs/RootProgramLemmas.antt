@@ -17,6 +17,7 @@ use Rattle.jh_cpu.specs.Changes.{is_failed, asked_of, stopped_of, resumed, moved
 use Rattle.jh_call.specs.declared.call.Call.{Call}
 use Rattle.jh_call.specs.declared.call.Call.TheVariants.{Create, Start, Loadable, Destroy}
 use Rattle.jh_script.specs.declared.image.Image.{Image}
+use Rattle.jh_history.specs.declared.form.Form.{Form}
 use Rattle.jh_script.specs.declared.op.Op.{Op}
 use Rattle.jh_history.specs.declared.call.OpenCall.{OpenCall}
 use Rattle.jh_history.specs.declared.call.Phase.{Phase}
@@ -163,7 +164,7 @@ is_begin (Begin code a b) = true
 is_begin _ = false
 
 call_behind : (m : AdmittedMoment) → (facts_behind m).call ≡ call_by (facts_before m).cells (coming_of m.image (facts_before m)) (facts_before m).call m.entry m.entry.act
-call_behind m = ap (λ (f : Facts). f.call) (facts_push m.image m.before m.entry) ∙ after_call m.image (facts_before m) m.entry
+call_behind m = ap (λ (f : Facts). f.call) (facts_push m.image m.form m.before m.entry) ∙ after_call m.image (facts_before m) m.entry
 
 pend_map : (call : Option OpenCall) (g : OpenCall → Phase) (cpu : ℕ) → pending (option_map (λ (o : OpenCall). record { caller = o.caller; call = o.call; phase = g o }) call) cpu ≡ pending call cpu
 pend_map None g cpu = refl
@@ -182,8 +183,8 @@ pend_same m cpu unlike more =
 none_open : (m : AdmittedMoment) (code a b : ℕ) (call : Option OpenCall) → m.entry.act ≡ Begin code a b → (facts_before m).call ≡ call → call ≡ None
 none_open m code a b None act is = refl
 none_open m code a b (Some o) act is =
-    let alone : begun m.before ≡ None = begins_alone m.image m.before m.rest m.entry code a b m.admitted m.legal act in
-    absurd (none-some o.call (ap (option_map (λ (first : Entry). call_of_begin first.act)) (sym alone) ∙ call_of_open m.image m.before o is))
+    let alone : begun m.before ≡ None = begins_alone m.image m.form m.before m.rest m.entry code a b m.admitted m.legal act in
+    absurd (none-some o.call (ap (option_map (λ (first : Entry). call_of_begin first.act)) (sym alone) ∙ call_of_open m.image m.form m.before o is))
 
 begin_pends : (m : AdmittedMoment) (code a b cpu : ℕ) → m.entry.act ≡ Begin code a b → (pending (facts_before m).call cpu ≡ 0) × (pending (facts_behind m).call cpu ≡ cond (eqb m.entry.cpu cpu) 1 0)
 begin_pends m code a b cpu act = (
@@ -264,7 +265,7 @@ keeps_at : (m : AdmittedMoment) (cpu n : ℕ) → IsAt m.image cpu n (facts_befo
 keeps_at m cpu n h keeps same =
     let P : Cpu → Type 0 = KeepsPlace m.image.system.root.id ((facts_before m).cpu cpu) in
     kept_at m.image cpu n ((facts_before m).cpu cpu) ((facts_behind m).cpu cpu) (pending (facts_before m).call cpu) (pending (facts_behind m).call cpu) h
-    (subst P (sym (behind_cpu m.image m.before m.entry cpu)) keeps) same
+    (subst P (sym (behind_cpu m.image m.form m.before m.entry cpu)) keeps) same
 
 -- ---- a Commit
 
@@ -358,10 +359,10 @@ commits_at m cpu n act h =
     let f : Facts = facts_before m in
     let of = phase_of_due m.image f m.entry (sound_at m) (due_of m) (ap is_phase act) in
     let call : Call = of.o.call in
-    let at = committing_at m call (call_of_open m.image m.before of.o of.opens) act in
+    let at = committing_at m call (call_of_open m.image m.form m.before of.o of.opens) act in
     let o : OpenCall = record { caller = m.entry.cpu; call = call; phase = at.phase } in
     let same : (facts_behind m).cpu cpu ≡ cpu_by_commit m.image call at.phase cpu (f.cpu cpu) =
-    behind_cpu m.image m.before m.entry cpu
+    behind_cpu m.image m.form m.before m.entry cpu
     ∙ ap (λ (c : Option OpenCall). acted m.image c m.entry.act m.entry.cpu cpu (f.cpu cpu)) at.opens
     ∙ ap (λ (a : Act). acted m.image (Some o) a m.entry.cpu cpu (f.cpu cpu)) act in
     let P : Cpu → Type 0 = λ c. IsAtBy m.image cpu n c (pending f.call cpu) in
@@ -400,7 +401,7 @@ record IsMoved (m : AdmittedMoment) (n : ℕ) : Type 0 where
 
 begins_moved : (m : AdmittedMoment) (n code a b : ℕ) → m.entry.act ≡ Begin code a b → ((facts_before m).cpu m.entry.cpu).owner ≡ m.image.system.root.id → ((facts_before m).cpu m.entry.cpu).position ≡ n → IsMoved m n
 begins_moved m n code a b act owner there =
-    let same : (facts_behind m).cpu m.entry.cpu ≡ (facts_before m).cpu m.entry.cpu = (begin_cpus m.image m.before m.entry code a b m.entry.cpu act).caller refl in
+    let same : (facts_behind m).cpu m.entry.cpu ≡ (facts_before m).cpu m.entry.cpu = (begin_cpus m.image m.form m.before m.entry code a b m.entry.cpu act).caller refl in
     let position : ((facts_behind m).cpu m.entry.cpu).position ≡ n = ap (λ (c : Cpu). c.position) same ∙ there in
     let more : pending (facts_behind m).call m.entry.cpu ≡ 1 = (begin_pends m code a b m.entry.cpu act).1 ∙ ap (λ (x : Bool). cond x 1 0) (same_number m.entry.cpu) in
     record { owner = ap (λ (c : Cpu). c.owner) same ∙ owner; next = omega (arith, position, more) }
@@ -414,8 +415,8 @@ runs_moved m n op is unlike owner there none =
     let more : pending (facts_behind m).call m.entry.cpu ≡ 0 = pend_same m m.entry.cpu unlike (op_ends m.entry.act op is) ∙ none in
     let moves : (behind.owner ≡ before.owner) × (behind.position ≡ before.position + 1) =
     ⊎_elim
-    (λ (violates : is_violation m.entry.act ≡ true). let e = own_ends m.image m.before m.rest m.entry m.admitted m.legal violates in (ap (λ (c : Cpu). c.owner) e, ap (λ (c : Cpu). c.position) e))
-    (λ (good : is_violation m.entry.act ≡ false). let e = own_steps m.image m.before m.rest m.entry m.admitted m.legal alone.0 alone.1 good in (ap (λ (c : Cpu). c.owner) e, ap (λ (c : Cpu). c.position) e))
+    (λ (violates : is_violation m.entry.act ≡ true). let e = own_ends m.image m.form m.before m.rest m.entry m.admitted m.legal violates in (ap (λ (c : Cpu). c.owner) e, ap (λ (c : Cpu). c.position) e))
+    (λ (good : is_violation m.entry.act ≡ false). let e = own_steps m.image m.form m.before m.rest m.entry m.admitted m.legal alone.0 alone.1 good in (ap (λ (c : Cpu). c.owner) e, ap (λ (c : Cpu). c.position) e))
     (cases_Bool (is_violation m.entry.act)) in
     record { owner = moves.0 ∙ owner; next = omega (arith, moves.1, there, more) }
 
@@ -424,7 +425,7 @@ made_at m n op is root h =
     let f : Facts = facts_before m in
     let state : Cpu = f.cpu m.entry.cpu in
     let ops : List Op = root_program m.image m.entry.cpu in
-    let operation = operation_at m.image m.before m.rest m.entry op m.admitted m.legal is in
+    let operation = operation_at m.image m.form m.before m.rest m.entry op m.admitted m.legal is in
     let cell : operation.0 ≡ m.image.system.root =
     ⊎_elim
     (λ (same : operation.0 ≡ m.image.system.root). same)
@@ -432,8 +433,8 @@ made_at m n op is root h =
     operation.1 in
     let at : slice_get ops state.position ≡ Some op = ap (λ (c : CellConfig). slice_get (program_ops m.image (name_of c) m.entry.cpu) state.position) (sym cell) ∙ operation.3 in
     let within : state.position < length ops = slice_get_within ops state.position op at in
-    let owner : state.owner ≡ m.image.system.root.id = sym (cell_at m.image m.before m.rest m.entry m.legal).1 ∙ root in
-    let running = (runs_at m.image m.before m.rest m.entry m.admitted m.legal (op_moves m.entry.act op is)).1 in
+    let owner : state.owner ≡ m.image.system.root.id = sym (cell_at m.image m.form m.before m.rest m.entry m.legal).1 ∙ root in
+    let running = (runs_at m.image m.form m.before m.rest m.entry m.admitted m.legal (op_moves m.entry.act op is)).1 in
     let none : pending f.call m.entry.cpu ≡ 0 = op_pends m op f.call is refl in
     let there : state.position ≡ n =
     ⊎_elim
@@ -468,7 +469,7 @@ finishes_at : (m : AdmittedMoment) (n : ℕ) (is : (answer : ℤ) × (m.entry.ac
 finishes_at m n is h =
     let before : Cpu = (facts_before m).cpu m.entry.cpu in
     let ops : List Op = root_program m.image m.entry.cpu in
-    let same : (facts_behind m).cpu m.entry.cpu ≡ stepped before = (finish_cpus m.image m.before m.rest m.entry is.0 m.entry.cpu m.admitted m.legal is.1).caller refl in
+    let same : (facts_behind m).cpu m.entry.cpu ≡ stepped before = (finish_cpus m.image m.form m.before m.rest m.entry is.0 m.entry.cpu m.admitted m.legal is.1).caller refl in
     let pends = finish_pends m m.entry.cpu is in
     let one : pending (facts_before m).call m.entry.cpu ≡ 1 = pends.0 ∙ ap (λ (b : Bool). cond b 1 0) (same_number m.entry.cpu) in
     let e : before.position + pending (facts_before m).call m.entry.cpu ≡ (before.position + 1) + 0 = omega (arith, one) in
@@ -486,9 +487,9 @@ own_none m n none unlike h (Other begins ends) =
 own_foreign : (m : AdmittedMoment) (n : ℕ) (op : Op) → op_of_act m.entry.act ≡ Some op → m.entry.cell ≢ m.image.system.root.id → IsAt m.image m.entry.cpu n (facts_before m) → IsAt m.image m.entry.cpu n (facts_behind m)
 own_foreign m n op is other h =
     let f : Facts = facts_before m in
-    let foreign : (f.cpu m.entry.cpu).owner ≢ m.image.system.root.id = λ root. other ((cell_at m.image m.before m.rest m.entry m.legal).1 ∙ root) in
+    let foreign : (f.cpu m.entry.cpu).owner ≢ m.image.system.root.id = λ root. other ((cell_at m.image m.form m.before m.rest m.entry m.legal).1 ∙ root) in
     let keeps = foreign_place m.image m.image.system.root.id f.call m.entry.act m.entry.cpu (f.cpu m.entry.cpu) op is foreign in
-    let same : (facts_behind m).cpu m.entry.cpu ≡ acted m.image f.call m.entry.act m.entry.cpu m.entry.cpu (f.cpu m.entry.cpu) = behind_cpu m.image m.before m.entry m.entry.cpu in
+    let same : (facts_behind m).cpu m.entry.cpu ≡ acted m.image f.call m.entry.act m.entry.cpu m.entry.cpu (f.cpu m.entry.cpu) = behind_cpu m.image m.form m.before m.entry m.entry.cpu in
     let A : ℕ → Type 0 = AtOrPast (root_program m.image m.entry.cpu) n in
     record {
       own = λ root good. absurd (foreign (sym (ap (λ (c : Cpu). c.owner) same ∙ keeps.owner) ∙ root));
@@ -530,16 +531,16 @@ step m cpu n h =
 
 -- ---- over the entries
 
-made_over : (image : Image) (before rest : List Entry) (cpu n : ℕ) → IsAdmitted image → IsLegal image (before ++ rest) → IsAt image cpu n (facts image before)
+made_over : (image : Image) (form : Form) (before rest : List Entry) (cpu n : ℕ) → IsAdmitted image → IsLegal image form (before ++ rest) → IsAt image cpu n (facts image form before)
     → (k : ℕ) × (operations_in image.system.root.id cpu rest ≡ take k (drop n (root_program image cpu)))
-made_over image before [] cpu n admitted legal h = (0, refl)
-made_over image before (entry ∷ rest) cpu n admitted legal h =
-    let m : AdmittedMoment = record { image = image; before = before; entry = entry; rest = rest; admitted = admitted; legal = legal } in
+made_over image form before [] cpu n admitted legal h = (0, refl)
+made_over image form before (entry ∷ rest) cpu n admitted legal h =
+    let m : AdmittedMoment = record { image = image; form = form; before = before; entry = entry; rest = rest; admitted = admitted; legal = legal } in
     let ops : List Op = root_program image cpu in
     let root : ℕ = image.system.root.id in
     let split : (before ++ entry ∷ []) ++ rest ≡ before ++ entry ∷ rest = append_assoc before (entry ∷ []) rest in
-    let P : List Entry → Type 0 = IsLegal image in
-    let later : (j : ℕ) → IsAt image cpu j (facts_behind m) → (k : ℕ) × (operations_in root cpu rest ≡ take k (drop j ops)) = λ j at. made_over image (before ++ entry ∷ []) rest cpu j admitted (subst P (sym split) legal) at in
+    let P : List Entry → Type 0 = IsLegal image form in
+    let later : (j : ℕ) → IsAt image cpu j (facts_behind m) → (k : ℕ) × (operations_in root cpu rest ≡ take k (drop j ops)) = λ j at. made_over image form (before ++ entry ∷ []) rest cpu j admitted (subst P (sym split) legal) at in
     ⊎_elim
     (λ (made : (op : Op) × (op_in root cpu entry ≡ Some op) × (slice_get ops n ≡ Some op) × IsAt image cpu (n + 1) (facts_behind m)).
     let op : Op = made.0 in
@@ -553,13 +554,13 @@ made_over image before (entry ∷ rest) cpu n admitted legal h =
     (more.0, ap (λ (o : Option Op). with_op o (operations_in root cpu rest)) none.0 ∙ more.1))
     (step m cpu n h)
 
-opens_at : (image : Image) (cpu : ℕ) → IsAt image cpu 0 (facts image [])
-opens_at image cpu =
+opens_at : (image : Image) (form : Form) (cpu : ℕ) → IsAt image cpu 0 (facts image form [])
+opens_at image form cpu =
     let P : Facts → Type 0 = IsAt image cpu 0 in
-    subst P (sym (facts_nil image)) (record { own = λ owner good. inl refl; lent = λ other good. absurd (other refl) })
+    subst P (sym (facts_nil image form)) (record { own = λ owner good. inl refl; lent = λ other good. absurd (other refl) })
 
-pub operations_go_on : (image : Image) (entries : List Entry) (cpu : ℕ) → IsAdmitted image → IsLegal image entries → (n : ℕ) × (operations_in image.system.root.id cpu entries ≡ take n (program_in image image.system.root cpu))
-operations_go_on image entries cpu admitted legal = made_over image [] entries cpu 0 admitted legal (opens_at image cpu)
+pub operations_go_on : (image : Image) (form : Form) (entries : List Entry) (cpu : ℕ) → IsAdmitted image → IsLegal image form entries → (n : ℕ) × (operations_in image.system.root.id cpu entries ≡ take n (program_in image image.system.root cpu))
+operations_go_on image form entries cpu admitted legal = made_over image form [] entries cpu 0 admitted legal (opens_at image form cpu)
 
 take_none : (k : ℕ) → take {A = Op} k [] ≡ []
 take_none zero = refl
@@ -569,10 +570,10 @@ take_none (suc k) = refl
 pub violation_ends : (m : AdmittedMoment) → is_violation m.entry.act ≡ true → m.entry.cell ≡ m.image.system.root.id → operations_in m.image.system.root.id m.entry.cpu m.rest ≡ []
 violation_ends m violates root =
     let ops : List Op = root_program m.image m.entry.cpu in
-    let behind = own_ends m.image m.before m.rest m.entry m.admitted m.legal violates in
-    let owner : ((facts_behind m).cpu m.entry.cpu).owner ≡ m.image.system.root.id = ap (λ (c : Cpu). c.owner) behind ∙ sym (cell_at m.image m.before m.rest m.entry m.legal).1 ∙ root in
+    let behind = own_ends m.image m.form m.before m.rest m.entry m.admitted m.legal violates in
+    let owner : ((facts_behind m).cpu m.entry.cpu).owner ≡ m.image.system.root.id = ap (λ (c : Cpu). c.owner) behind ∙ sym (cell_at m.image m.form m.before m.rest m.entry m.legal).1 ∙ root in
     let at : IsAt m.image m.entry.cpu (length ops) (facts_behind m) = record { own = λ own good. absurd (good (ap (λ (c : Cpu). c.mode) behind)); lent = λ other good. absurd (other owner) } in
     let split : (m.before ++ m.entry ∷ []) ++ m.rest ≡ m.before ++ m.entry ∷ m.rest = append_assoc m.before (m.entry ∷ []) m.rest in
-    let P : List Entry → Type 0 = IsLegal m.image in
-    let made = made_over m.image (m.before ++ m.entry ∷ []) m.rest m.entry.cpu (length ops) m.admitted (subst P (sym split) m.legal) at in
+    let P : List Entry → Type 0 = IsLegal m.image m.form in
+    let made = made_over m.image m.form (m.before ++ m.entry ∷ []) m.rest m.entry.cpu (length ops) m.admitted (subst P (sym split) m.legal) at in
     made.1 ∙ ap (take made.0) (drop_all (length ops) ops (omega arith)) ∙ take_none made.0

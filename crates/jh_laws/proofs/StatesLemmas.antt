@@ -15,6 +15,7 @@ use Rattle.jh_call.specs.declared.call.Call.{Call}
 use Rattle.jh_call.specs.declared.call.Call.TheVariants.{Create, Start, Loadable, Destroy}
 use Rattle.jh_call.specs.Calls.{is_management}
 use Rattle.jh_script.specs.declared.image.Image.{Image}
+use Rattle.jh_history.specs.declared.form.Form.{Form}
 use Rattle.jh_script.specs.declared.op.Op.{Op}
 use Rattle.jh_script.specs.declared.op.Op.TheVariants.{Hvc as HvcOp}
 use Rattle.jh_history.specs.declared.call.OpenCall.{OpenCall}
@@ -46,8 +47,8 @@ use Rattle.jh_laws.proofs.FactsLemmas.{cpu_after_holds}
 use Rattle.jh_laws.proofs.HvcLemmas.{not_failed}
 
 -- CPU i behind an entry
-pub behind_cpu : (image : Image) (before : List Entry) (entry : Entry) (i : ℕ) → (facts image (before ++ entry ∷ [])).cpu i ≡ acted image (facts image before).call entry.act entry.cpu i ((facts image before).cpu i)
-behind_cpu image before entry i = ap (λ (f : Facts). f.cpu i) (facts_push image before entry) ∙ ap (λ (c : ℕ → Cpu). c i) (cpu_after_holds image (facts image before) entry)
+pub behind_cpu : (image : Image) (form : Form) (before : List Entry) (entry : Entry) (i : ℕ) → (facts image form (before ++ entry ∷ [])).cpu i ≡ acted image (facts image form before).call entry.act entry.cpu i ((facts image form before).cpu i)
+behind_cpu image form before entry i = ap (λ (f : Facts). f.cpu i) (facts_push image form before entry) ∙ ap (λ (c : ℕ → Cpu). c i) (cpu_after_holds image (facts image form before) entry)
 
 -- ---- a CPU's own entry
 
@@ -107,28 +108,28 @@ position_by image f entry admitted a b (Stopping is) = absurd (both_ways (is_sto
 position_by image f entry admitted a b (Calling phase) = absurd (both_ways (is_of_call entry.act) a (phase_call entry.act phase))
 position_by image f entry admitted a b (Runs program) = within_ops image entry.cpu (cell_in image f.cells (f.cpu entry.cpu).owner) (f.cpu entry.cpu).position program.op admitted program.at
 
-position_few : (image : Image) (before rest : List Entry) (entry : Entry) → IsAdmitted image → IsLegal image (before ++ entry ∷ rest) → is_of_call entry.act ≡ false → is_stop_act entry.act ≡ false → ((facts image before).cpu entry.cpu).position < 4096
-position_few image before rest entry admitted legal a b =
-    let f : Facts = facts image before in
-    let sound = legal_sound image before admitted (IsLegal_begin image before (entry ∷ rest) legal) in
-    position_by image f entry admitted a b (made_by image f entry sound (due_split image before rest entry legal))
+position_few : (image : Image) (form : Form) (before rest : List Entry) (entry : Entry) → IsAdmitted image → IsLegal image form (before ++ entry ∷ rest) → is_of_call entry.act ≡ false → is_stop_act entry.act ≡ false → ((facts image form before).cpu entry.cpu).position < 4096
+position_few image form before rest entry admitted legal a b =
+    let f : Facts = facts image form before in
+    let sound = legal_sound image form before admitted (IsLegal_begin image form before (entry ∷ rest) legal) in
+    position_by image f entry admitted a b (made_by image f entry sound (due_split image form before rest entry legal))
 
-pub own_steps : (image : Image) (before rest : List Entry) (entry : Entry) → IsAdmitted image → IsLegal image (before ++ entry ∷ rest) → is_of_call entry.act ≡ false → is_stop_act entry.act ≡ false → is_violation entry.act ≡ false
-    → (facts image (before ++ entry ∷ [])).cpu entry.cpu ≡ stepped ((facts image before).cpu entry.cpu)
-own_steps image before rest entry admitted legal a b c =
-    let f : Facts = facts image before in
-    behind_cpu image before entry entry.cpu ∙ own_by image f.call entry.act entry.cpu (f.cpu entry.cpu) (position_few image before rest entry admitted legal a b) a b c
+pub own_steps : (image : Image) (form : Form) (before rest : List Entry) (entry : Entry) → IsAdmitted image → IsLegal image form (before ++ entry ∷ rest) → is_of_call entry.act ≡ false → is_stop_act entry.act ≡ false → is_violation entry.act ≡ false
+    → (facts image form (before ++ entry ∷ [])).cpu entry.cpu ≡ stepped ((facts image form before).cpu entry.cpu)
+own_steps image form before rest entry admitted legal a b c =
+    let f : Facts = facts image form before in
+    behind_cpu image form before entry entry.cpu ∙ own_by image f.call entry.act entry.cpu (f.cpu entry.cpu) (position_few image form before rest entry admitted legal a b) a b c
 
-pub own_ends : (image : Image) (before rest : List Entry) (entry : Entry) → IsAdmitted image → IsLegal image (before ++ entry ∷ rest) → is_violation entry.act ≡ true → (facts image (before ++ entry ∷ [])).cpu entry.cpu ≡ ended ((facts image before).cpu entry.cpu)
-own_ends image before rest entry admitted legal c =
-    let f : Facts = facts image before in
+pub own_ends : (image : Image) (form : Form) (before rest : List Entry) (entry : Entry) → IsAdmitted image → IsLegal image form (before ++ entry ∷ rest) → is_violation entry.act ≡ true → (facts image form (before ++ entry ∷ [])).cpu entry.cpu ≡ ended ((facts image form before).cpu entry.cpu)
+own_ends image form before rest entry admitted legal c =
+    let f : Facts = facts image form before in
     let kind = violation_own entry.act c in
-    behind_cpu image before entry entry.cpu ∙ fails_by image f.call entry.act entry.cpu (f.cpu entry.cpu) (position_few image before rest entry admitted legal kind.0 kind.1) c
+    behind_cpu image form before entry entry.cpu ∙ fails_by image f.call entry.act entry.cpu (f.cpu entry.cpu) (position_few image form before rest entry admitted legal kind.0 kind.1) c
 
-pub own_stops : (image : Image) (before : List Entry) (entry : Entry) → entry.act ≡ Stop → (facts image (before ++ entry ∷ [])).cpu entry.cpu ≡ stopped_of ((facts image before).cpu entry.cpu)
-own_stops image before entry act =
-    let f : Facts = facts image before in
-    behind_cpu image before entry entry.cpu ∙ ap (λ (x : Act). acted image f.call x entry.cpu entry.cpu (f.cpu entry.cpu)) act ∙ own_cpu Halt entry.cpu (f.cpu entry.cpu)
+pub own_stops : (image : Image) (form : Form) (before : List Entry) (entry : Entry) → entry.act ≡ Stop → (facts image form (before ++ entry ∷ [])).cpu entry.cpu ≡ stopped_of ((facts image form before).cpu entry.cpu)
+own_stops image form before entry act =
+    let f : Facts = facts image form before in
+    behind_cpu image form before entry entry.cpu ∙ ap (λ (x : Act). acted image f.call x entry.cpu entry.cpu (f.cpu entry.cpu)) act ∙ own_cpu Halt entry.cpu (f.cpu entry.cpu)
 
 -- ---- other CPUs
 
@@ -148,8 +149,8 @@ others_by image call (Note id) own i cpu a other = other_cpu Stay own i cpu othe
 others_by image call (Noted id how) own i cpu a other = other_cpu Stay own i cpu other
 others_by image call _ own i cpu a other = absurd (false≢true (sym a))
 
-pub others_kept : (image : Image) (before : List Entry) (entry : Entry) (i : ℕ) → changes_others entry.act ≡ false → i ≢ entry.cpu → (facts image (before ++ entry ∷ [])).cpu i ≡ (facts image before).cpu i
-others_kept image before entry i a other = behind_cpu image before entry i ∙ others_by image (facts image before).call entry.act entry.cpu i ((facts image before).cpu i) a other
+pub others_kept : (image : Image) (form : Form) (before : List Entry) (entry : Entry) (i : ℕ) → changes_others entry.act ≡ false → i ≢ entry.cpu → (facts image form (before ++ entry ∷ [])).cpu i ≡ (facts image form before).cpu i
+others_kept image form before entry i a other = behind_cpu image form before entry i ∙ others_by image (facts image form before).call entry.act entry.cpu i ((facts image form before).cpu i) a other
 
 -- ---- what changes no CPU
 
@@ -167,8 +168,8 @@ stay_by image call (Note id) own i cpu h = stay_own own i cpu
 stay_by image call (Noted id how) own i cpu h = stay_own own i cpu
 stay_by image call _ own i cpu h = absurd (false≢true h)
 
-pub cpus_stay : (image : Image) (before : List Entry) (entry : Entry) (i : ℕ) → changes_none entry.act ≡ true → (facts image (before ++ entry ∷ [])).cpu i ≡ (facts image before).cpu i
-cpus_stay image before entry i h = behind_cpu image before entry i ∙ stay_by image (facts image before).call entry.act entry.cpu i ((facts image before).cpu i) h
+pub cpus_stay : (image : Image) (form : Form) (before : List Entry) (entry : Entry) (i : ℕ) → changes_none entry.act ≡ true → (facts image form (before ++ entry ∷ [])).cpu i ≡ (facts image form before).cpu i
+cpus_stay image form before entry i h = behind_cpu image form before entry i ∙ stay_by image (facts image form before).call entry.act entry.cpu i ((facts image form before).cpu i) h
 
 -- ---- the beginning and the end of a call
 
@@ -194,11 +195,11 @@ begins image own i cpu =
       rests = λ other. asked_if (a && b && c && d) cpu (and_right (a && b && c) d (not_running cpu.mode other));
     }
 
-pub begin_cpus : (image : Image) (before : List Entry) (entry : Entry) (code x y i : ℕ) → entry.act ≡ Begin code x y → HasBegun image entry.cpu i ((facts image before).cpu i) ((facts image (before ++ entry ∷ [])).cpu i)
-begin_cpus image before entry code x y i act =
-    let f : Facts = facts image before in
+pub begin_cpus : (image : Image) (form : Form) (before : List Entry) (entry : Entry) (code x y i : ℕ) → entry.act ≡ Begin code x y → HasBegun image entry.cpu i ((facts image form before).cpu i) ((facts image form (before ++ entry ∷ [])).cpu i)
+begin_cpus image form before entry code x y i act =
+    let f : Facts = facts image form before in
     let P : Cpu → Type 0 = HasBegun image entry.cpu i (f.cpu i) in
-    let same = behind_cpu image before entry i ∙ ap (λ (a : Act). acted image f.call a entry.cpu i (f.cpu i)) act in
+    let same = behind_cpu image form before entry i ∙ ap (λ (a : Act). acted image f.call a entry.cpu i (f.cpu i)) act in
     subst P (sym same) (begins image entry.cpu i (f.cpu i))
 
 finishes : (image : Image) (own i : ℕ) (cpu : Cpu) → (i ≡ own → (cpu.position < 4096) × (cpu.stopped ≡ false) × (cpu.owner ≡ image.system.root.id)) → HasFinished image own i cpu (cpu_by_finish image own i cpu)
@@ -222,11 +223,11 @@ finishes image own i cpu caller =
           e ∙ ap (λ (b : Bool). cond b (resumed cpu) cpu) (ne_eqb cpu.owner root other);
     }
 
-pub finish_cpus : (image : Image) (before rest : List Entry) (entry : Entry) (answer : ℤ) (i : ℕ) → IsAdmitted image → IsLegal image (before ++ entry ∷ rest) → entry.act ≡ Finish answer → HasFinished image entry.cpu i ((facts image before).cpu i) ((facts image (before ++ entry ∷ [])).cpu i)
-finish_cpus image before rest entry answer i admitted legal act =
-    let f : Facts = facts image before in
-    let sound = legal_sound image before admitted (IsLegal_begin image before (entry ∷ rest) legal) in
-    let of = phase_of_due image f entry sound (due_split image before rest entry legal) (ap is_phase act) in
+pub finish_cpus : (image : Image) (form : Form) (before rest : List Entry) (entry : Entry) (answer : ℤ) (i : ℕ) → IsAdmitted image → IsLegal image form (before ++ entry ∷ rest) → entry.act ≡ Finish answer → HasFinished image entry.cpu i ((facts image form before).cpu i) ((facts image form (before ++ entry ∷ [])).cpu i)
+finish_cpus image form before rest entry answer i admitted legal act =
+    let f : Facts = facts image form before in
+    let sound = legal_sound image form before admitted (IsLegal_begin image form before (entry ∷ rest) legal) in
+    let of = phase_of_due image f entry sound (due_split image form before rest entry legal) (ap is_phase act) in
     let Q : ℕ → Type 0 = λ k. IsCaller image k of.o.call (f.cpu k) in
     let made : IsCaller image entry.cpu of.o.call (f.cpu entry.cpu) = subst Q of.caller (call_open image f of.o sound of.opens).caller in
     let few : length (program_ops image (name_of image.system.root) entry.cpu) ≤ 4096 = few_operations image (name_of image.system.root) entry.cpu admitted in
@@ -234,7 +235,7 @@ finish_cpus image before rest entry answer i admitted legal act =
     let R : ℕ → Type 0 = λ k. ((f.cpu k).position < 4096) × ((f.cpu k).stopped ≡ false) × ((f.cpu k).owner ≡ image.system.root.id) in
     let own : R entry.cpu = (omega (arith, few, within), made.calm.stopped, made.owner) in
     let P : Cpu → Type 0 = HasFinished image entry.cpu i (f.cpu i) in
-    let same = behind_cpu image before entry i ∙ ap (λ (a : Act). acted image f.call a entry.cpu i (f.cpu i)) act in
+    let same = behind_cpu image form before entry i ∙ ap (λ (a : Act). acted image f.call a entry.cpu i (f.cpu i)) act in
     subst P (sym same) (finishes image entry.cpu i (f.cpu i) (λ is. subst R (sym is) own))
 
 -- ---- the Settle and the Commit
@@ -247,21 +248,21 @@ agrees call cpu = record {
 }
 
 -- the call of a phase that is made
-pub record IsPhaseBegun (image : Image) (before : List Entry) (entry : Entry) (call : Call) : Type 0 where
+pub record IsPhaseBegun (image : Image) (form : Form) (before : List Entry) (entry : Entry) (call : Call) : Type 0 where
   pub phase : Phase
-  pub opens : (facts image before).call ≡ Some (record { caller = entry.cpu; call = call; phase = phase })
+  pub opens : (facts image form before).call ≡ Some (record { caller = entry.cpu; call = call; phase = phase })
   pub expects : Expects phase entry.act
-  pub holds : IsInPhase image (configs_of (facts image before).cells) (facts image before).cpu entry.cpu call phase
+  pub holds : IsInPhase image (configs_of (facts image form before).cells) (facts image form before).cpu entry.cpu call phase
   pub manages : is_management call ≡ true
 
-pub phase_begun : (image : Image) (before rest : List Entry) (entry : Entry) (call : Call) → IsAdmitted image → IsLegal image (before ++ entry ∷ rest) → begun_call before ≡ Some call → is_phase entry.act ≡ true → IsPhaseBegun image before entry call
-phase_begun image before rest entry call admitted legal is phase =
-    let f : Facts = facts image before in
-    let sound = legal_sound image before admitted (IsLegal_begin image before (entry ∷ rest) legal) in
-    let of = phase_of_due image f entry sound (due_split image before rest entry legal) phase in
+pub phase_begun : (image : Image) (form : Form) (before rest : List Entry) (entry : Entry) (call : Call) → IsAdmitted image → IsLegal image form (before ++ entry ∷ rest) → begun_call before ≡ Some call → is_phase entry.act ≡ true → IsPhaseBegun image form before entry call
+phase_begun image form before rest entry call admitted legal is phase =
+    let f : Facts = facts image form before in
+    let sound = legal_sound image form before admitted (IsLegal_begin image form before (entry ∷ rest) legal) in
+    let of = phase_of_due image f entry sound (due_split image form before rest entry legal) phase in
     let o : OpenCall = of.o in
     let opens = call_open image f o sound of.opens in
-    let same : o.call ≡ call = same_call image before o call of.opens is in
+    let same : o.call ≡ call = same_call image form before o call of.opens is in
     let whole : record { caller = o.caller; call = o.call; phase = o.phase } ≡ record { caller = entry.cpu; call = call; phase = o.phase } =
     ap (λ (k : ℕ). record { caller = k; call = o.call; phase = o.phase }) of.caller ∙ ap (λ (c : Call). record { caller = entry.cpu; call = c; phase = o.phase }) same in
     let P : Call → Type 0 = λ k. IsInPhase image (configs_of f.cells) f.cpu entry.cpu k o.phase in
@@ -284,13 +285,13 @@ agreement_phase : (act : Act) → is_undenied_settle act ≡ true → is_phase a
 agreement_phase (Settle how) h = refl
 agreement_phase _ h = absurd (false≢true h)
 
-pub settle_cpus : (image : Image) (before rest : List Entry) (entry : Entry) (call : Call) (i : ℕ) → IsAdmitted image → IsLegal image (before ++ entry ∷ rest) → begun_call before ≡ Some call → is_undenied_settle entry.act ≡ true
-    → HasSettled call ((facts image before).cpu i) ((facts image (before ++ entry ∷ [])).cpu i)
-settle_cpus image before rest entry call i admitted legal is agreed =
-    let f : Facts = facts image before in
-    let of = phase_begun image before rest entry call admitted legal is (agreement_phase entry.act agreed) in
+pub settle_cpus : (image : Image) (form : Form) (before rest : List Entry) (entry : Entry) (call : Call) (i : ℕ) → IsAdmitted image → IsLegal image form (before ++ entry ∷ rest) → begun_call before ≡ Some call → is_undenied_settle entry.act ≡ true
+    → HasSettled call ((facts image form before).cpu i) ((facts image form (before ++ entry ∷ [])).cpu i)
+settle_cpus image form before rest entry call i admitted legal is agreed =
+    let f : Facts = facts image form before in
+    let of = phase_begun image form before rest entry call admitted legal is (agreement_phase entry.act agreed) in
     let P : Cpu → Type 0 = HasSettled call (f.cpu i) in
-    subst P (sym (behind_cpu image before entry i)) (settle_by image f.call (record { caller = entry.cpu; call = call; phase = of.phase }) entry.act entry.cpu i (f.cpu i) of.opens agreed)
+    subst P (sym (behind_cpu image form before entry i)) (settle_by image f.call (record { caller = entry.cpu; call = call; phase = of.phase }) entry.act entry.cpu i (f.cpu i) of.opens agreed)
 
 is_lent : (id : ℕ) (cpu : Cpu) → IsLentTo id cpu (lent id cpu)
 is_lent id cpu = record {
@@ -351,21 +352,21 @@ commit_by image cells made cpu caller i (Destroy id) phase manages e h is =
     (λ own. subst P (sym (back.0 own)) (is_given_back root end (cpu i)), back.1)
 commit_by image cells made cpu caller i _ phase manages e h is = both_ways false refl manages
 
-pub commit_cpus : (image : Image) (before rest : List Entry) (entry : Entry) (call : Call) (i : ℕ) → IsAdmitted image → IsLegal image (before ++ entry ∷ rest) → begun_call before ≡ Some call → entry.act ≡ Commit
-    → HasCommitted image (configs_of (facts image before).cells) (configs_of (facts image (before ++ entry ∷ [])).cells) call i ((facts image before).cpu i) ((facts image (before ++ entry ∷ [])).cpu i)
-commit_cpus image before rest entry call i admitted legal is act =
-    let f : Facts = facts image before in
-    let of = phase_begun image before rest entry call admitted legal is (ap is_phase act) in
+pub commit_cpus : (image : Image) (form : Form) (before rest : List Entry) (entry : Entry) (call : Call) (i : ℕ) → IsAdmitted image → IsLegal image form (before ++ entry ∷ rest) → begun_call before ≡ Some call → entry.act ≡ Commit
+    → HasCommitted image (configs_of (facts image form before).cells) (configs_of (facts image form (before ++ entry ∷ [])).cells) call i ((facts image form before).cpu i) ((facts image form (before ++ entry ∷ [])).cpu i)
+commit_cpus image form before rest entry call i admitted legal is act =
+    let f : Facts = facts image form before in
+    let of = phase_begun image form before rest entry call admitted legal is (ap is_phase act) in
     let o : OpenCall = record { caller = entry.cpu; call = call; phase = of.phase } in
-    let made : List Live = (facts image (before ++ entry ∷ [])).cells in
+    let made : List Live = (facts image form (before ++ entry ∷ [])).cells in
     let E : Act → Type 0 = Expects of.phase in
     let cells : made ≡ committed_cells call of.phase f.cells =
-    ap (λ (g : Facts). g.cells) (facts_push image before entry)
+    ap (λ (g : Facts). g.cells) (facts_push image form before entry)
     ∙ after_cells image f entry
     ∙ ap (λ (c : Option OpenCall). cells_by c f.cells entry.act) of.opens
     ∙ ap (cells_by (Some o) f.cells) act in
-    let same : (facts image (before ++ entry ∷ [])).cpu i ≡ cpu_by_commit image call of.phase i (f.cpu i) =
-    behind_cpu image before entry i
+    let same : (facts image form (before ++ entry ∷ [])).cpu i ≡ cpu_by_commit image call of.phase i (f.cpu i) =
+    behind_cpu image form before entry i
     ∙ ap (λ (c : Option OpenCall). acted image c entry.act entry.cpu i (f.cpu i)) of.opens
     ∙ ap (λ (a : Act). acted image (Some o) a entry.cpu i (f.cpu i)) act in
     let P : Cpu → Type 0 = HasCommitted image (configs_of f.cells) (configs_of made) call i (f.cpu i) in

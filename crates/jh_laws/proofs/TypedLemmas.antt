@@ -26,6 +26,7 @@ use Rattle.jh_ivshmem.specs.Endpoint.{fresh_vector}
 use Rattle.jh_ivshmem.specs.Links.{pending_of}
 use Rattle.jh_ivshmem.proofs.Public.{named_device}
 use Rattle.jh_script.specs.declared.image.Image.{Image}
+use Rattle.jh_history.specs.declared.form.Form.{Form}
 use Rattle.jh_script.specs.declared.op.Op.{Op}
 use Rattle.jh_script.specs.declared.op.Op.TheVariants.{Read as ReadOp, Write as WriteOp, Fetch as FetchOp, Await as AwaitOp, Irq as IrqOp, Hvc as HvcOp}
 use Rattle.jh_script.specs.Operations.{IsWellFormed}
@@ -255,27 +256,27 @@ made_told image f entry admitted sound typed due (Running program) =
     let plain = ops_well_formed image entry.cpu (cell_in image f.cells state.owner) state.position program.op admitted program.at in
     told_by entry.act (act_of image f state.owner program.op) (op_told image f state.owner program.op sound typed plain) program.is
 
-pub told_at : (image : Image) (before rest : List Entry) (entry : Entry) → IsAdmitted image → IsTypedImage image → IsLegal image (before ++ entry ∷ rest) → HasTypedAct entry.act
-told_at image before rest entry admitted opens legal =
-    let f : Facts = facts image before in
-    let early : IsLegal image before = IsLegal_begin image before (entry ∷ rest) legal in
-    let sound = legal_sound image before admitted early in
-    let due : due_at image f entry.cpu ≡ Some entry = due_split image before rest entry legal in
-    made_told image f entry admitted sound (legal_typed image before admitted opens.bytes early) due (made_by image f entry sound due)
+pub told_at : (image : Image) (form : Form) (before rest : List Entry) (entry : Entry) → IsAdmitted image → IsTypedImage image → IsLegal image form (before ++ entry ∷ rest) → HasTypedAct entry.act
+told_at image form before rest entry admitted opens legal =
+    let f : Facts = facts image form before in
+    let early : IsLegal image form before = IsLegal_begin image form before (entry ∷ rest) legal in
+    let sound = legal_sound image form before admitted early in
+    let due : due_at image f entry.cpu ≡ Some entry = due_split image form before rest entry legal in
+    made_told image f entry admitted sound (legal_typed image form before admitted opens.bytes early) due (made_by image f entry sound due)
 
-pub cell_small : (image : Image) (before rest : List Entry) (entry : Entry) → IsAdmitted image → IsTypedImage image → IsLegal image (before ++ entry ∷ rest) → entry.cell < 2 ^ 32
-cell_small image before rest entry admitted opens legal =
-    let f : Facts = facts image before in
-    let early : IsLegal image before = IsLegal_begin image before (entry ∷ rest) legal in
-    let sound = legal_sound image before admitted early in
-    let typed = legal_typed image before admitted opens.bytes early in
-    let next = next_from_due image f entry (due_split image before rest entry legal) in
+pub cell_small : (image : Image) (form : Form) (before rest : List Entry) (entry : Entry) → IsAdmitted image → IsTypedImage image → IsLegal image form (before ++ entry ∷ rest) → entry.cell < 2 ^ 32
+cell_small image form before rest entry admitted opens legal =
+    let f : Facts = facts image form before in
+    let early : IsLegal image form before = IsLegal_begin image form before (entry ∷ rest) legal in
+    let sound = legal_sound image form before admitted early in
+    let typed = legal_typed image form before admitted opens.bytes early in
+    let next = next_from_due image f entry (due_split image form before rest entry legal) in
     let P : ℕ → Type 0 = λ id. id < 2 ^ 32 in
     subst P (sym next.cell)
     (⊎_elim (λ root. subst P (sym root) opens.root) (λ cell. subst P (sym cell.2) (typed.cells cell.0 cell.1).id) (sound.cpus.others entry.cpu))
 
-pub cpu_small : (image : Image) (before rest : List Entry) (entry : Entry) → IsAdmitted image → IsLegal image (before ++ entry ∷ rest) → entry.cpu < 16
-cpu_small image before rest entry admitted legal =
-    let f : Facts = facts image before in
-    let sound = legal_sound image before admitted (IsLegal_begin image before (entry ∷ rest) legal) in
-    board_few image (configs_of f.cells) sound.cells.clean entry.cpu (next_from_due image f entry (due_split image before rest entry legal)).board
+pub cpu_small : (image : Image) (form : Form) (before rest : List Entry) (entry : Entry) → IsAdmitted image → IsLegal image form (before ++ entry ∷ rest) → entry.cpu < 16
+cpu_small image form before rest entry admitted legal =
+    let f : Facts = facts image form before in
+    let sound = legal_sound image form before admitted (IsLegal_begin image form before (entry ∷ rest) legal) in
+    board_few image (configs_of f.cells) sound.cells.clean entry.cpu (next_from_due image f entry (due_split image form before rest entry legal)).board

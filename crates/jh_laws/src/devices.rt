@@ -34,7 +34,7 @@ pub fn devices_do_what_their_cells_write()
 /// At opening each device of root is fresh, and behind the Commit of a create or a start each device of its cell.
 pub fn devices_begin_fresh()
     ensures opening { (image : TheImage) (id n : ℕ) (e : TheEndpoint) →
-        endpoint_at id n (facts image []).endpoints ≡ Some e → IsFresh e }
+        endpoint_at id n (facts image form []).endpoints ≡ Some e → IsFresh e }
     ensures begins { (m : AdmittedMoment) (config : TheConfig) (e : TheEndpoint) → BeginsDevices m config →
         Contains (facts_behind m).endpoints e → e.spec.cell ≡ config.id → IsFresh e }
 {}

@@ -19,26 +19,26 @@ pub fn items_run_until_one_is_cut_short()
         (items image limit cpus before ≡ record { entries = after; full = true }) ↔
         IsCutShort image limit cpus before after }
     ensures few { (image : TheImage) (limit : ℕ) (cpus : List ℕ) (before : List TheEntry) →
-        length before ≤ limit → length (items image limit cpus before).entries ≤ limit }
+        length before ≤ limit → length (items image form limit cpus before).entries ≤ limit }
 {}
 
 /// What a schedule makes is legal.
 pub fn played_journals_are_legal()
     ensures made { (image : TheImage) (limit : ℕ) (cpus : List ℕ) (before : List TheEntry) →
-        IsLegal image before → IsLegal image (items image limit cpus before).entries }
+        IsLegal image form before → IsLegal image form (items image form limit cpus before).entries }
     ensures schedule { (image : TheImage) (limit : ℕ) (schedule : List ℕ) →
-        IsLegal image (played image limit schedule).entries }
+        IsLegal image form (played image form limit schedule).entries }
 {}
 
 /// A schedule and the rounds after it end full exactly where the journal has `limit` entries and is not
 /// quiet. Else it is quiet.
 pub fn played_journals_are_quiet_or_full()
     ensures quiet { (image : TheImage) (limit : ℕ) (schedule : List ℕ) → IsAdmitted image →
-        (played image limit schedule).full ≡ false → IsQuiet image (played image limit schedule).entries }
+        (played image form limit schedule).full ≡ false → IsQuiet image form (played image form limit schedule).entries }
     ensures full { (image : TheImage) (limit : ℕ) (schedule : List ℕ) →
-        (played image limit schedule).full ≡ true → (cpu : ℕ) × IsSome (due image (played image limit schedule).entries cpu) }
+        (played image form limit schedule).full ≡ true → (cpu : ℕ) × IsSome (due image form (played image form limit schedule).entries cpu) }
     ensures reached { (image : TheImage) (limit : ℕ) (schedule : List ℕ) →
-        (played image limit schedule).full ≡ true → length (played image limit schedule).entries ≡ limit }
+        (played image form limit schedule).full ≡ true → length (played image form limit schedule).entries ≡ limit }
 {}
 
 /// A round is one item of each CPU of the board, in rising order, and more rounds than a schedule is
@@ -48,5 +48,5 @@ pub fn rounds_are_of_the_boards_cpus()
         IsTrue (is_on_board image cpu) ↔ Contains (cpus_of image) cpu }
     ensures rising { (image : TheImage) → IsStrictlyIncreasing (cpus_of image) }
     ensures enough { (image : TheImage) (limit n : ℕ) (schedule : List ℕ) → IsAdmitted image → limit < n →
-        items image limit (schedule ++ rounds n (cpus_of image)) [] ≡ played image limit schedule }
+        items image form limit (schedule ++ rounds n (cpus_of image)) [] ≡ played image form limit schedule }
 {}

@@ -4,7 +4,7 @@ use Rattle.jh_laws.proofs.HvcLemmas.{answered_at, hvc_answered, begin_roots}
 use Rattle.jh_laws.proofs.hypercalls.hypercalls_are_answered_by_their_cause.Goals as goal
 
 pub returns-clause-answer : goal.returns-clause-answer
-returns-clause-answer c = λ m code a b answer is. hvc_answered m.image (facts_before m) m.entry.cell m.entry.act code a b answer is (answered_at m.image m.before m.rest m.entry m.admitted m.legal)
+returns-clause-answer c = λ m code a b answer is. hvc_answered m.image (facts_before m) m.entry.cell m.entry.act code a b answer is (answered_at m.image m.form m.before m.rest m.entry m.admitted m.legal)
 
 pub returns-clause-begins : goal.returns-clause-begins
-returns-clause-begins c = λ m code a b is. begin_roots m.image (facts_before m) m.entry.cell m.entry.act code a b is (answered_at m.image m.before m.rest m.entry m.admitted m.legal)
+returns-clause-begins c = λ m code a b is. begin_roots m.image (facts_before m) m.entry.cell m.entry.act code a b is (answered_at m.image m.form m.before m.rest m.entry m.admitted m.legal)
