@@ -19,7 +19,6 @@ use Rattle.jh_ivshmem.specs.declared.endpoint.Endpoint.{Endpoint}
 use Rattle.jh_ivshmem.specs.Links.{pending_of}
 use Rattle.jh_ivshmem.specs.Registers.{register_of}
 use Rattle.jh_call.specs.Calls.{decoded, is_management}
-use Rattle.jh_call.specs.Answers.{answer_of}
 use Rattle.jh_history.specs.declared.place.Place.{Place}
 use Rattle.jh_history.specs.declared.place.Place.TheVariants.{Physical}
 use Rattle.jh_history.specs.declared.access.Access.{Access}
@@ -33,7 +32,7 @@ use Rattle.jh_history.specs.Devices.{function_at}
 use Rattle.jh_history.specs.Facts.{Facts}
 use Rattle.jh_history.specs.Lives.{cell_in, ops_in, program_ops}
 use Rattle.jh_history.specs.Grants.{granted, reach, devices_of}
-use Rattle.jh_history.specs.Hypercalls.{seen_of}
+use Rattle.jh_history.specs.Hypercalls.{call_in, answered}
 use Rattle.jh_shape.specs.Lives.{configs_of}
 use Rattle.jh_history.specs.History.{facts}
 use Rattle.jh_history.specs.Due.{due_at, act_of, await_of, got_by, IsLegal}
@@ -221,7 +220,7 @@ op_ends image f id (FetchOp at) sound plain = got_of_cell image f id ToFetch at 
 op_ends image f id (AwaitOp width at value) sound plain = await_ends image f id at width value (got_by image f id ToRead at width) (got_of_cell image f id ToRead at width sound (width_some width plain.0))
 op_ends image f id IrqOp sound plain = irq_ends image f id (pending_of id f.endpoints)
 op_ends image f id (HvcOp code a b) sound plain =
-    cond_both (eqb id image.system.root.id && is_management (decoded code a b)) (Begin code a b) (Hvc code a b (answer_of (decoded code a b) (seen_of image f id (decoded code a b))))
+    cond_both (eqb id image.system.root.id && is_management (decoded code a b)) (Begin code a b) (Hvc code a b (answered image f id (call_in f.form (decoded code a b))))
     (EndsAsGranted image f id) (λ _. tt) (λ _. tt)
 
 ends_by : (image : Image) (f : Facts) (id : ℕ) (act : Act) (o : Option Act) → Ends image f id o → o ≡ Some act → EndsAsGranted image f id act
@@ -289,7 +288,7 @@ op_small image f id (FetchOp at) plain = tt
 op_small image f id (AwaitOp width at value) plain = await_small width at value (got_by image f id ToRead at width)
 op_small image f id IrqOp plain = irq_small (pending_of id f.endpoints)
 op_small image f id (HvcOp code a b) plain =
-    cond_both (eqb id image.system.root.id && is_management (decoded code a b)) (Begin code a b) (Hvc code a b (answer_of (decoded code a b) (seen_of image f id (decoded code a b)))) IsSmallAct (λ _. tt) (λ _. tt)
+    cond_both (eqb id image.system.root.id && is_management (decoded code a b)) (Begin code a b) (Hvc code a b (answered image f id (call_in f.form (decoded code a b)))) IsSmallAct (λ _. tt) (λ _. tt)
 
 small_by : (act : Act) (o : Option Act) → Small o → o ≡ Some act → IsSmallAct act
 small_by act None h is = absurd (none-some act is)

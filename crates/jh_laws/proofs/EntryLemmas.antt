@@ -8,7 +8,6 @@ use Rattle.jh_cellcfg.specs.declared.config.CellConfig.{CellConfig}
 use Rattle.jh_cellcfg.specs.Cells.{name_of}
 use Rattle.jh_cpu.specs.declared.cpu.Mode.TheVariants.{Running}
 use Rattle.jh_call.specs.Calls.{decoded, is_management}
-use Rattle.jh_call.specs.Answers.{answer_of}
 use Rattle.jh_ivshmem.specs.Links.{pending_of}
 use Rattle.jh_script.specs.declared.image.Image.{Image}
 use Rattle.jh_history.specs.declared.form.Form.{Form}
@@ -20,7 +19,7 @@ use Rattle.jh_history.specs.declared.entry.Act.{Act}
 use Rattle.jh_history.specs.declared.entry.Act.TheVariants.{Await, Irq, Hvc, Begin, Decide, Settle, Commit, Note, Noted, Finish}
 use Rattle.jh_history.specs.Facts.{Facts}
 use Rattle.jh_history.specs.Lives.{is_on_board, program_ops, cell_in}
-use Rattle.jh_history.specs.Hypercalls.{seen_of}
+use Rattle.jh_history.specs.Hypercalls.{call_in, answered}
 use Rattle.jh_history.specs.History.{facts}
 use Rattle.jh_history.specs.Due.{due_at, act_of, await_of, got_by, IsLegal}
 use Rattle.jh_history.specs.Admitted.{IsAdmitted}
@@ -53,7 +52,7 @@ act_of_op image f cell (FetchOp at) = refl
 act_of_op image f cell (AwaitOp width at value) = await_of_op (AwaitOp width at value) width at value (got_by image f cell ToRead at width) refl
 act_of_op image f cell IrqOp = irq_of_op (pending_of cell f.endpoints)
 act_of_op image f cell (HvcOp code a b) =
-    cond_both (eqb cell image.system.root.id && is_management (decoded code a b)) (Begin code a b) (Hvc code a b (answer_of (decoded code a b) (seen_of image f cell (decoded code a b)))) (IsOfOp (HvcOp code a b)) (λ _. refl) (λ _. refl)
+    cond_both (eqb cell image.system.root.id && is_management (decoded code a b)) (Begin code a b) (Hvc code a b (answered image f cell (call_in f.form (decoded code a b)))) (IsOfOp (HvcOp code a b)) (λ _. refl) (λ _. refl)
 
 op_by : (op : Op) (act : Act) (o : Option Act) → IfSome o (IsOfOp op) → o ≡ Some act → op_of_act act ≡ Some op
 op_by op act None h is = absurd (none-some act is)

@@ -7,16 +7,17 @@ use Rattle.jh_cpu.specs.declared.cpu.Cpu.{Cpu}
 use Rattle.jh_cpu.specs.declared.cpu.Mode.TheVariants.{Running, Failed}
 use Rattle.jh_cpu.specs.Changes.{resumed, moved, asked_of}
 use Rattle.jh_ivshmem.specs.declared.spec.EndpointSpec.{EndpointSpec}
+use Rattle.jh_call.specs.Calls.{decoded}
 use Rattle.jh_script.specs.declared.image.Image.{Image}
 use Rattle.jh_history.specs.declared.form.Form.{Form}
 use Rattle.jh_history.specs.declared.call.OpenCall.{OpenCall}
 use Rattle.jh_history.specs.declared.entry.Entry.{Entry}
 use Rattle.jh_history.specs.declared.entry.Settled.{Settled}
 use Rattle.jh_history.specs.declared.entry.Act.{Act}
-use Rattle.jh_history.specs.declared.entry.Act.TheVariants.{Read, Write, Fetch, Await, Begin, Settle, Commit, Finish}
+use Rattle.jh_history.specs.declared.entry.Act.TheVariants.{Read, Write, Fetch, Await, Hvc, Begin, Settle, Commit, Finish}
 use Rattle.jh_history.specs.Facts.{Facts}
 use Rattle.jh_history.specs.Calls.{is_named}
-use Rattle.jh_history.specs.Cpus.{acted, cpu_by_settle, cpu_by_finish, resumed_of_root, is_running, is_undenied}
+use Rattle.jh_history.specs.Cpus.{acted, cpu_by_settle, cpu_by_finish, resumed_of_root, runs_by_start, is_running, is_undenied}
 use Rattle.jh_history.specs.Pages.{failing, page_write_by}
 use Rattle.jh_history.specs.declared.place.Place.{Place}
 use Rattle.jh_history.specs.declared.place.Place.TheVariants.{Physical}
@@ -25,12 +26,13 @@ use Rattle.jh_history.specs.Endpoints.{specs_changing, with_words}
 use Rattle.jh_history.specs.History.{after, facts}
 use Rattle.jh_history.specs.Due.{due_at, IsLegal}
 use Rattle.jh_history.specs.Admitted.{IsAdmitted}
-use Rattle.jh_history.proofs.Public.{facts_push, sound_after, call_open}
+use Rattle.jh_history.proofs.Public.{facts_push, sound_after, call_open, called_spared}
 use Rattle.jh_history.specs.Sound.{IsSound}
 use Rattle.jh_laws.specs.Moves.{ended}
 use Rattle.jh_laws.specs.Outcomes.{is_violation}
 use Rattle.jh_laws.specs.Ready.{IsReadyAt, IsReadyCaller, IsReadyProgram}
 use Rattle.jh_laws.proofs.CallLemmas.{along, stretch}
+use Rattle.jh_laws.proofs.PowerLemmas.{Spares, spares_failed}
 use Rattle.jh_laws.proofs.StatesLemmas.{others_by, begins, own_ends, violation_own}
 use Rattle.jh_laws.proofs.PlacesHeldLemmas.{byte_behind, commit_or, physical_kept}
 use Rattle.jh_laws.proofs.WordLemmas.{specs_none}
@@ -96,20 +98,22 @@ finished_rest image own i cpu =
     let rest : SameRest there cpu = cond_both (eqb cpu.owner image.system.root.id) (resumed cpu) cpu P (λ _. (refl, refl)) (λ _. (refl, refl)) in
     cond_both (eqb i own) (moved there) there P (λ _. rest) (λ _. rest)
 
-acted_rest : (image : Image) (call : Option OpenCall) (act : Act) (own i : ℕ) (cpu : Cpu) → is_commit act ≡ false → i ≢ own → cpu.mode ≡ Failed → SameRest (acted image call act own i cpu) cpu
-acted_rest image call (Begin code a b) own i cpu other apart mode =
+acted_rest : (image : Image) (runs : Bool) (call : Option OpenCall) (act : Act) (own i : ℕ) (cpu : Cpu) → is_commit act ≡ false → i ≢ own → cpu.mode ≡ Failed → Spares i act → SameRest (acted image runs call act own i cpu) cpu
+acted_rest image runs call (Begin code a b) own i cpu other apart mode spares =
     let e = (begins image own i cpu).rests (λ runs_is. failed_runs cpu mode runs_is) in (ap (λ (c : Cpu). c.mode) e, ap (λ (c : Cpu). c.asked) e)
-acted_rest image call (Settle how) own i cpu other apart mode =
+acted_rest image runs call (Hvc code a b answer) own i cpu other apart mode spares =
+    let e = called_spared (decoded code a b) answer own i cpu apart spares in (ap (λ (c : Cpu). c.mode) e, ap (λ (c : Cpu). c.asked) e)
+acted_rest image runs call (Settle how) own i cpu other apart mode spares =
     let e = settled_failed how call cpu mode in (ap (λ (c : Cpu). c.mode) e, ap (λ (c : Cpu). c.asked) e)
-acted_rest image call (Finish answer) own i cpu other apart mode = finished_rest image own i cpu
-acted_rest image call Commit own i cpu other apart mode = absurd (false≢true (sym other))
-acted_rest image call act own i cpu other apart mode = let e = others_by image call act own i cpu refl apart in (ap (λ (c : Cpu). c.mode) e, ap (λ (c : Cpu). c.asked) e)
+acted_rest image runs call (Finish answer) own i cpu other apart mode spares = finished_rest image own i cpu
+acted_rest image runs call Commit own i cpu other apart mode spares = absurd (false≢true (sym other))
+acted_rest image runs call act own i cpu other apart mode spares = let e = others_by image runs call act own i cpu refl apart in (ap (λ (c : Cpu). c.mode) e, ap (λ (c : Cpu). c.asked) e)
 
 failed_kept : (image : Image) (cpu : ℕ) → IsAdmitted image → (f : Facts) (entry : Entry) → IsSound image f → IsFailed cpu f → due_at image f entry.cpu ≡ Some entry → is_commit entry.act ≡ false → IsFailed cpu (after image f entry)
 failed_kept image cpu admitted f entry sound failed due other =
     let apart : cpu ≢ entry.cpu = λ e. not_made image f cpu entry admitted sound failed due (sym e) in
-    let same : (after image f entry).cpu cpu ≡ acted image f.call entry.act entry.cpu cpu (f.cpu cpu) = ap (λ (c : ℕ → Cpu). c cpu) (cpu_after_holds image f entry) in
-    let rest = acted_rest image f.call entry.act entry.cpu cpu (f.cpu cpu) other apart failed.0 in
+    let same : (after image f entry).cpu cpu ≡ acted image (runs_by_start f cpu) f.call entry.act entry.cpu cpu (f.cpu cpu) = ap (λ (c : ℕ → Cpu). c cpu) (cpu_after_holds image f entry) in
+    let rest = acted_rest image (runs_by_start f cpu) f.call entry.act entry.cpu cpu (f.cpu cpu) other apart failed.0 (spares_failed image f entry cpu sound due failed.0) in
     (ap (λ (c : Cpu). c.mode) same ∙ rest.0 ∙ failed.0, ap (λ (c : Cpu). c.asked) same ∙ rest.1 ∙ failed.1)
 
 -- until a Commit it makes no entry

@@ -22,6 +22,7 @@ use Rattle.jh_check.proofs.Public.{sound_set}
 use Rattle.jh_comm.specs.declared.words.TheConstants.{STATE_RUNNING, STATE_SHUT_DOWN, STATE_FAILED, MESSAGE_SHUTDOWN_REQUEST}
 use Rattle.jh_cpu.specs.declared.cpu.Cpu.{Cpu}
 use Rattle.jh_call.specs.declared.call.Call.{Call}
+use Rattle.jh_call.specs.Calls.{decoded}
 use Rattle.jh_call.specs.declared.call.Call.TheVariants.{Create, Start, Loadable, Destroy}
 use Rattle.jh_script.specs.declared.image.Image.{Image}
 use Rattle.jh_history.specs.declared.form.Form.{Form}
@@ -36,7 +37,7 @@ use Rattle.jh_history.specs.declared.entry.Settled.{Settled}
 use Rattle.jh_history.specs.declared.entry.Settled.TheVariants.{Agreed, Denied, Timeout}
 use Rattle.jh_history.specs.declared.entry.Heard.TheVariants.{Timeout as Unheard}
 use Rattle.jh_history.specs.declared.entry.Act.{Act}
-use Rattle.jh_history.specs.declared.entry.Act.TheVariants.{Read, Write, Fetch, Await, Begin, Decide, Settle, Commit, Note, Noted, Finish}
+use Rattle.jh_history.specs.declared.entry.Act.TheVariants.{Read, Write, Fetch, Await, Hvc, Begin, Decide, Settle, Commit, Note, Noted, Finish}
 use Rattle.jh_history.specs.Access.{places_from}
 use Rattle.jh_history.specs.Facts.{Facts}
 use Rattle.jh_history.specs.Lives.{is_on_board, live_in}
@@ -47,7 +48,7 @@ use Rattle.jh_history.specs.Calls.{is_named, counted, telling, first_recipient, 
 use Rattle.jh_num.specs.Numbers.{counted_up}
 use Rattle.jh_history.specs.Commits.{cells_by, committed_cells, is_other, is_commit}
 use Rattle.jh_history.specs.Configs.{bytes_at, read_whole, read_behind, read_from, read_at, config_read}
-use Rattle.jh_history.specs.Cpus.{acted, changed, change_of, cpu_by_settle, is_undenied, cpu_after}
+use Rattle.jh_history.specs.Cpus.{acted, changed, change_of, cpu_by_settle, is_undenied, runs_by_start, cpu_after}
 use Rattle.jh_history.specs.History.{start, after, facts, coming_by, coming_of}
 use Rattle.jh_history.specs.Pages.{is_unfailed_of, failing, unless_good, asking, committing, named_cell, page_write_by, on_page}
 use Rattle.jh_shape.specs.Lives.{configs_of, marked}
@@ -55,7 +56,7 @@ use Rattle.jh_shape.proofs.Public.{configs_marked}
 use Rattle.jh_history.specs.Due.{due_at, IsLegal, IsLegalFrom}
 use Rattle.jh_history.specs.Admitted.{IsAdmitted}
 use Rattle.jh_history.specs.Sound.{IsMadeOfBytes, IsSound}
-use Rattle.jh_history.proofs.Public.{configs_joined, configs_others, is_other_config, changed_owner, board_few, found_live, settled_owner, begun_owner, finished_owner, sound_start, sound_after, legal_sound, after_call, call_open, two_ids}
+use Rattle.jh_history.proofs.Public.{configs_joined, configs_others, is_other_config, changed_owner, called_owner, board_few, found_live, settled_owner, begun_owner, finished_owner, sound_start, sound_after, legal_sound, after_call, call_open, two_ids}
 use Rattle.jh_laws.proofs.FewLemmas.{IsTyped, ArePreloadsBytes, MayWriteBytes, page_write_small_holds, write_small, words_small, opening_small, config_typed, read_bytes, picked, picked_few, index_small, length_map, get_map}
 use Rattle.jh_laws.proofs.RegisterLemmas.{HaveRegisters, registers_after, registers_open}
 use Rattle.jh_laws.proofs.RefusalLemmas.{FitsRefusal, refusal_fits}
@@ -292,14 +293,15 @@ settle_owner : (call : Option OpenCall) (how : Settled) (cpu : Cpu) → (option_
 settle_owner None how cpu = refl
 settle_owner (Some o) how cpu = settled_owner (is_undenied how) o.call cpu
 
-acted_owner : (image : Image) (call : Option OpenCall) (act : Act) (own i : ℕ) (cpu : Cpu) → is_commit act ≡ false → (acted image call act own i cpu).owner ≡ cpu.owner
-acted_owner image call (Begin code a b) own i cpu other = begun_owner image own i cpu
-acted_owner image call (Settle how) own i cpu other = settle_owner call how cpu
-acted_owner image call Commit own i cpu other = absurd (both_ways true other refl)
-acted_owner image call (Finish answer) own i cpu other = finished_owner image own i cpu
-acted_owner image call act own i cpu other = one_owner act own i cpu
+acted_owner : (image : Image) (runs : Bool) (call : Option OpenCall) (act : Act) (own i : ℕ) (cpu : Cpu) → is_commit act ≡ false → (acted image runs call act own i cpu).owner ≡ cpu.owner
+acted_owner image runs call (Begin code a b) own i cpu other = begun_owner image own i cpu
+acted_owner image runs call (Hvc code a b answer) own i cpu other = called_owner (decoded code a b) answer own i cpu
+acted_owner image runs call (Settle how) own i cpu other = settle_owner call how cpu
+acted_owner image runs call Commit own i cpu other = absurd (both_ways true other refl)
+acted_owner image runs call (Finish answer) own i cpu other = finished_owner image own i cpu
+acted_owner image runs call act own i cpu other = one_owner act own i cpu
 
-cpus_after : (image : Image) (f : Facts) (entry : Entry) (i : ℕ) → (after image f entry).cpu i ≡ acted image f.call entry.act entry.cpu i (f.cpu i)
+cpus_after : (image : Image) (f : Facts) (entry : Entry) (i : ℕ) → (after image f entry).cpu i ≡ acted image (runs_by_start f i) f.call entry.act entry.cpu i (f.cpu i)
 unfolding after
 cpus_after image f entry i = refl
 
@@ -308,8 +310,8 @@ root_commit : (image : Image) (f : Facts) (entry : Entry) (call : Option OpenCal
 root_commit image f entry None is act sound has =
     let same : (after image f entry).cpu has.0 ≡ f.cpu has.0 =
     cpus_after image f entry has.0
-    ∙ ap (λ (c : Option OpenCall). acted image c entry.act entry.cpu has.0 (f.cpu has.0)) is
-    ∙ ap (λ (x : Act). acted image None x entry.cpu has.0 (f.cpu has.0)) act in
+    ∙ ap (λ (c : Option OpenCall). acted image (runs_by_start f has.0) c entry.act entry.cpu has.0 (f.cpu has.0)) is
+    ∙ ap (λ (x : Act). acted image (runs_by_start f has.0) None x entry.cpu has.0 (f.cpu has.0)) act in
     (has.0, has.1, ap (λ (c : Cpu). c.owner) same ∙ has.2)
 root_commit image f entry (Some o) is act sound has =
     let next : OpenCall = record { caller = o.caller; call = o.call; phase = after_commit o.call o.phase f.cells } in
@@ -321,7 +323,7 @@ root_commit image f entry (Some o) is act sound has =
     (o.caller, caller.board, caller.owner)
 
 root_kept : (image : Image) (f : Facts) (entry : Entry) → is_commit entry.act ≡ false → HasCpu image f.cpu → HasCpu image (after image f entry).cpu
-root_kept image f entry other has = (has.0, has.1, ap (λ (c : Cpu). c.owner) (cpus_after image f entry has.0) ∙ acted_owner image f.call entry.act entry.cpu has.0 (f.cpu has.0) other ∙ has.2)
+root_kept image f entry other has = (has.0, has.1, ap (λ (c : Cpu). c.owner) (cpus_after image f entry has.0) ∙ acted_owner image (runs_by_start f has.0) f.call entry.act entry.cpu has.0 (f.cpu has.0) other ∙ has.2)
 
 root_by : (image : Image) (f : Facts) (entry : Entry) (act : Act) → entry.act ≡ act → IsSound image (after image f entry) → HasCpu image f.cpu → HasCpu image (after image f entry).cpu
 root_by image f entry Commit is sound has = root_commit image f entry f.call refl is sound has

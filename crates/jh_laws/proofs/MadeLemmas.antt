@@ -38,7 +38,7 @@ use Rattle.jh_history.specs.Endpoints.{function_put, endpoints_put, endpoints_ch
 use Rattle.jh_history.specs.Facts.{Facts}
 use Rattle.jh_history.specs.Lives.{is_on_board, op_at, program_ops}
 use Rattle.jh_history.specs.Grants.{reach}
-use Rattle.jh_history.specs.Cpus.{change_of, changed, is_running}
+use Rattle.jh_history.specs.Cpus.{change_of, changed, is_running, switches, runs_by_start}
 use Rattle.jh_history.specs.Alone.{IsAlone, IsByRoot}
 use Rattle.jh_history.specs.History.{start, after, facts}
 use Rattle.jh_history.specs.Due.{due_at, act_of, await_of, irq_of, got_by, entry_by, IsLegal, IsLegalFrom}
@@ -227,6 +227,14 @@ access_own image f cell (Fetch at got) access = refl
 access_own image f cell (Await width at value ok) access = refl
 access_own image f cell _ access = absurd access
 
+-- nor does it switch a CPU on or off
+access_kept : (image : Image) (f : Facts) (cell : ℕ) (act : Act) → IsAccess image f cell act → switches act ≡ false
+access_kept image f cell (Read width at got) access = refl
+access_kept image f cell (Write width at value ok) access = refl
+access_kept image f cell (Fetch at got) access = refl
+access_kept image f cell (Await width at value ok) access = refl
+access_kept image f cell _ access = absurd access
+
 roots_done : (image : Image) (b : Bool) (state : Cpu) → IsRoots image state → IsRoots image (done_by b state)
 roots_done image true state roots = record { owner = roots.owner; asked = roots.asked; stopped = roots.stopped }
 roots_done image false state roots = record { owner = roots.owner; asked = roots.asked; stopped = roots.stopped }
@@ -252,7 +260,8 @@ by_root image f entry admitted roots made = record {
 cpu_is : (image : Image) (f : Facts) (entry : Entry) (cpu : ℕ) → IsSilent image → IsNext image f entry → (after image f entry).cpu cpu ≡ cond (eqb cpu entry.cpu) (changed (change_of entry.act) (f.cpu cpu)) (f.cpu cpu)
 cpu_is image f entry cpu admitted made =
     ap (λ (g : ℕ → Cpu). g cpu) (cpu_after_holds image f entry)
-    ∙ acted_own image f.call entry.act entry.cpu cpu (f.cpu cpu) (access_own image f image.system.root.id entry.act (made_access image f entry.cpu entry made admitted).access)
+    ∙ acted_own image (runs_by_start f cpu) f.call entry.act entry.cpu cpu (f.cpu cpu) (access_own image f image.system.root.id entry.act (made_access image f entry.cpu entry made admitted).access)
+    (access_kept image f image.system.root.id entry.act (made_access image f entry.cpu entry made admitted).access)
 
 -- its CPU after it, and the others
 pub own_after : (image : Image) (f : Facts) (entry : Entry) → IsSilent image → IsNext image f entry → (after image f entry).cpu entry.cpu ≡ done_by (is_violation entry.act) (f.cpu entry.cpu)

@@ -29,7 +29,7 @@ use Rattle.jh_history.specs.declared.entry.Act.{Act}
 use Rattle.jh_history.specs.declared.entry.Act.TheVariants.{Read, Write, Fetch, Await, Decide, Settle, Commit, Note, Noted, Finish}
 use Rattle.jh_history.specs.Calls.{is_named}
 use Rattle.jh_history.specs.Commits.{cells_by, committed_cells, is_commit}
-use Rattle.jh_history.specs.Cpus.{acted}
+use Rattle.jh_history.specs.Cpus.{acted, runs_by_start}
 use Rattle.jh_history.specs.Due.{due_at}
 use Rattle.jh_history.specs.Facts.{Facts}
 use Rattle.jh_history.specs.Lives.{is_on_board, live_in}
@@ -116,13 +116,13 @@ is_failed_mode Parked h = absurd (false≢true h)
 pub loses_write : (m : AdmittedMoment) (id : ℕ) → LosesItsCpus m id → page_write_by m.image (facts_before m) m.entry m.entry.act ≡ Some (record { cell = id; change = State 3 })
 loses_write m id h =
     let f : Facts = facts_before m in
-    let test : ℕ → Bool = λ i. is_on_board m.image i && is_unfailed_of m.entry.cell (acted m.image f.call m.entry.act m.entry.cpu i (f.cpu i)) in
+    let test : ℕ → Bool = λ i. is_on_board m.image i && is_unfailed_of m.entry.cell (acted m.image (runs_by_start f i) f.call m.entry.act m.entry.cpu i (f.cpu i)) in
     let root : eqb m.entry.cell m.image.system.root.id ≡ false = ne_eqb m.entry.cell m.image.system.root.id (λ e. h.cell (sym h.own ∙ e)) in
     let none : any_below test 16 ≡ false =
     false_from_ne_true (any_below test 16)
     (λ yes.
     let one = below_of test 16 yes in
-    let state : Cpu = acted m.image f.call m.entry.act m.entry.cpu one.0 (f.cpu one.0) in
+    let state : Cpu = acted m.image (runs_by_start f one.0) f.call m.entry.act m.entry.cpu one.0 (f.cpu one.0) in
     let parts = and_parts (is_on_board m.image one.0) (is_unfailed_of m.entry.cell state) one.2 in
     let more = and_parts (eqb state.owner m.entry.cell) (not (is_failed state.mode)) parts.1 in
     let same : state_behind m one.0 ≡ state = behind_cpu m.image m.form m.before m.entry one.0 in
@@ -225,7 +225,7 @@ loses_by m w violates is = by_left left refl is
     f = facts_before m
 
     test : ℕ → Bool
-    test i = is_on_board m.image i && is_unfailed_of m.entry.cell (acted m.image f.call m.entry.act m.entry.cpu i (f.cpu i))
+    test i = is_on_board m.image i && is_unfailed_of m.entry.cell (acted m.image (runs_by_start f i) f.call m.entry.act m.entry.cpu i (f.cpu i))
 
     left : Bool
     left = eqb m.entry.cell m.image.system.root.id || any_below test 16
@@ -240,7 +240,7 @@ loses_by m w violates is = by_left left refl is
           violates = violates;
           cell = λ root. both_ways (eqb m.entry.cell m.image.system.root.id) parts.0 (eq-eqb m.entry.cell m.image.system.root.id (own ∙ root));
           failed = λ cpu on owner.
-              let state : Cpu = acted m.image f.call m.entry.act m.entry.cpu cpu (f.cpu cpu) in
+              let state : Cpu = acted m.image (runs_by_start f cpu) f.call m.entry.act m.entry.cpu cpu (f.cpu cpu) in
               let same : state_behind m cpu ≡ state = behind_cpu m.image m.form m.before m.entry cpu in
               let owned : state.owner ≡ m.entry.cell = ap (λ (c : Cpu). c.owner) (sym same) ∙ owner ∙ sym own in
               ap (λ (c : Cpu). c.mode) same

@@ -3,7 +3,7 @@ use Rattle.jh_laws.proofs.StatesLemmas.{own_steps, own_ends, own_stops, others_k
 use Rattle.jh_laws.proofs.states.entries_change_their_cpu.Goals as goal
 
 pub returns-clause-moved : goal.returns-clause-moved
-returns-clause-moved c = λ m call stop good. own_steps m.image m.form m.before m.rest m.entry m.admitted m.legal call stop good
+returns-clause-moved c = λ m call stop good off. own_steps m.image m.form m.before m.rest m.entry m.admitted m.legal call stop good off
 
 pub returns-clause-failed : goal.returns-clause-failed
 returns-clause-failed c = λ m fails. own_ends m.image m.form m.before m.rest m.entry m.admitted m.legal fails
