@@ -16,6 +16,7 @@ use Rattle.jh_cpu.specs.declared.cpu.Mode.TheVariants.{Failed}
 use Rattle.jh_cpu.specs.Changes.{is_failed, asked_of, stopped_of, resumed, moved, lent, parked, restarted, returned}
 use Rattle.jh_call.specs.declared.call.Call.{Call}
 use Rattle.jh_call.specs.declared.call.Call.TheVariants.{Create, Start, Loadable, Destroy}
+use Rattle.jh_call.specs.Calls.{decoded}
 use Rattle.jh_script.specs.declared.image.Image.{Image}
 use Rattle.jh_history.specs.declared.form.Form.{Form}
 use Rattle.jh_script.specs.declared.op.Op.{Op}
