@@ -15,9 +15,9 @@ ghost use Rattle.jh_laws.specs.RootAlone.{byte_at, cpu_at};
 /// communication page is 0.
 pub fn memory_opens_with_the_preloads()
     ensures words { (image : TheImage) (form : TheForm) (place : ℕ) → IsInStateWord image place → byte_at image form [] (Physical place) ≡ 0 }
-    ensures put { (image : TheImage) (place byte : ℕ) → IsAdmitted image → (IsInStateWord image place → ⊥) →
+    ensures put { (image : TheImage) (form : TheForm) (place byte : ℕ) → IsAdmitted image → (IsInStateWord image place → ⊥) →
         IsPreloaded image place byte → byte_at image form [] (Physical place) ≡ byte }
-    ensures zero { (image : TheImage) (place : ℕ) →
+    ensures zero { (image : TheImage) (form : TheForm) (place : ℕ) →
         ((byte : ℕ) → IsPreloaded image place byte → ⊥) → byte_at image form [] (Physical place) ≡ 0 }
     ensures pages { (image : TheImage) (form : TheForm) (cell offset : ℕ) → byte_at image form [] (Page cell offset) ≡ 0 }
 {}

@@ -30,7 +30,7 @@ pub fn bytes_of_root_alone_are_the_last_written()
     ensures last { (m : RootAloneMoment) (place : ThePlace) (byte : ℕ) → WritesByteAlone m.image (own_cell m) m.entry.act place byte →
         All (WritesNot m.image (own_cell m) place) m.rest → byte_at m.image m.form (entries_of m) place ≡ byte }
     ensures opening { (j : RootAloneJournal) (place : ThePlace) → All (WritesNot j.image (root_of j) place) j.entries →
-        byte_at j.image j.entries place ≡ byte_at j.image [] place }
+        byte_at j.image j.form j.entries place ≡ byte_at j.image j.form [] place }
 {}
 
 /// An entry moves its CPU's position by one, a violation too; one that is no violation changes nothing
@@ -52,16 +52,16 @@ pub fn violations_of_root_alone_end_their_cpu()
     ensures last { (m : RootAloneMoment) → is_violation m.entry.act ≡ true →
         All (λ (later : TheEntry). later.cpu ≢ m.entry.cpu) m.rest }
     ensures never { (m : RootAloneMoment) → is_violation m.entry.act ≡ true →
-        due m.image (entries_of m) m.entry.cpu ≡ None }
+        due m.image m.form (entries_of m) m.entry.cpu ≡ None }
 {}
 
 /// The entries of a CPU are, as operations, a beginning of its program: as many as its position tells.
 pub fn entries_of_root_alone_follow_the_program()
     ensures operations { (j : RootAloneJournal) (cpu : ℕ) →
         operations_by cpu j.entries ≡
-        take (cpu_at j.image j.entries cpu).position (program_in j.image (root_of j) cpu) }
+        take (cpu_at j.image j.form j.entries cpu).position (program_in j.image (root_of j) cpu) }
     ensures position { (j : RootAloneJournal) (cpu : ℕ) →
-        (cpu_at j.image j.entries cpu).position ≡ length (operations_by cpu j.entries) }
+        (cpu_at j.image j.form j.entries cpu).position ≡ length (operations_by cpu j.entries) }
 {}
 
 /// An entry is due to a CPU exactly where the board has it, it runs, is neither asked to stop nor stopped, and its
@@ -70,7 +70,7 @@ pub fn entries_of_root_alone_follow_the_program()
 /// where no CPU is ready so.
 pub fn ready_cpus_of_root_alone_have_an_entry_due()
     ensures ready { (j : RootAloneJournal) (cpu : ℕ) →
-        IsSome (due j.image j.entries cpu) ↔ IsReady j.image j.entries (root_of j) cpu }
+        IsSome (due j.image j.form j.entries cpu) ↔ IsReady j.image j.form j.entries (root_of j) cpu }
     ensures quiet { (j : RootAloneJournal) →
         IsQuiet j.image j.form j.entries ↔ ((cpu : ℕ) → IsReady j.image j.form j.entries (root_of j) cpu → ⊥) }
 {}
@@ -82,5 +82,5 @@ pub fn due_entries_of_root_alone_are_their_cpus_own()
         due j.image j.form j.entries cpu ≡ Some entry → IsCpusOwn j.image j.form j.entries (root_of j) cpu entry }
     ensures only { (j : RootAloneJournal) (cpu : ℕ) (entry : TheEntry) →
         IsReady j.image j.form j.entries (root_of j) cpu → IsCpusOwn j.image j.form j.entries (root_of j) cpu entry →
-        due j.image j.entries cpu ≡ Some entry }
+        due j.image j.form j.entries cpu ≡ Some entry }
 {}

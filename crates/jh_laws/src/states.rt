@@ -80,7 +80,7 @@ pub fn entries_are_their_cpus_own()
 /// it has no call open, goes on with its program and its operation is due.
 pub fn cpus_that_are_ready_have_an_entry_due()
     ensures { (j : AdmittedJournal) (cpu : ℕ) →
-        IsSome (due j.image j.entries cpu) ↔ IsReadyAt j.image (facts_of j) cpu }
+        IsSome (due j.image j.form j.entries cpu) ↔ IsReadyAt j.image (facts_of j) cpu }
 {}
 
 /// A violation ends its CPU: it makes no entry before a Commit, which may start its cell or give the CPU back to

@@ -15,7 +15,7 @@ ghost use Rattle.jh_laws.specs.Vectors.{HasPending, IsPendingIn, IsNextVector, R
 /// that has one pending.
 pub fn interrupts_are_due_where_a_vector_is_pending()
     ensures due { (j : AdmittedJournal) (cpu : ℕ) → IsAtInterrupt j.image (facts_of j) cpu →
-        IsSome (due j.image j.entries cpu) ↔ HasPending (facts_of j) (owner_of j cpu) }
+        IsSome (due j.image j.form j.entries cpu) ↔ HasPending (facts_of j) (owner_of j cpu) }
     ensures next { (m : AdmittedMoment) (n v : ℕ) → m.entry.act ≡ Irq n v →
         IsNextVector (facts_before m) m.entry.cell n v }
 {}

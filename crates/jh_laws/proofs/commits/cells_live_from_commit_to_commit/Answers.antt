@@ -7,7 +7,7 @@ use Rattle.jh_laws.proofs.CommitLemmas.{cells_kept, commit_of, commit_create, co
 use Rattle.jh_laws.proofs.commits.cells_live_from_commit_to_commit.Goals as goal
 
 pub returns-clause-opening : goal.returns-clause-opening
-returns-clause-opening c = λ image. ap (λ (f : Facts). f.cells) (facts_nil image form)
+returns-clause-opening c = λ image form. ap (λ (f : Facts). f.cells) (facts_nil image form)
 
 pub returns-clause-create : goal.returns-clause-create
 returns-clause-create c = λ m at is act. commit_create m.image m.form m.before m.entry at (commit_of m.image m.form m.before m.rest m.entry (Create at) m.admitted m.legal is act)
