@@ -33,6 +33,16 @@ pub IsLegal_push : (image : Image) (form : Form) (entries : List Entry) (entry :
 unfolding IsLegal facts
 IsLegal_push image form entries entry legal h = legal_more image (start image form) entries entry legal h
 
+-- no entry changes the form
+form_from : (image : Image) (f : Facts) (entries : List Entry) → (fold (after image) f entries).form ≡ f.form
+unfolding after
+form_from image f [] = refl
+form_from image f (entry ∷ entries) = form_from image (after image f entry) entries
+
+pub facts_form : (image : Image) (form : Form) (entries : List Entry) → (facts image form entries).form ≡ form
+unfolding facts
+facts_form image form entries = form_from image (start image form) entries
+
 pub IsLegal_nil : (image : Image) (form : Form) → IsLegal image form []
 unfolding IsLegal
 IsLegal_nil image form = tt

@@ -81,6 +81,20 @@ called_none call answer own i c h =
     (λ yes. switched_none call own i made (and_other (is_granted answer) (is_switch call) h yes))
     (λ _. refl)
 
+-- a CPU that didn't make the call, and that isn't the one that it switches on, stays as it is
+switched_other : (call : Call) (own i : ℕ) (c : Cpu) → i ≢ own → ((on : ℕ) → call ≡ CpuOn on → i ≢ on) → switched call own i c ≡ c
+switched_other CpuOff own i c apart other = rw (ne_eqb i own apart) refl
+switched_other (CpuOn on) own i c apart other = rw (ne_eqb i on (other on refl)) refl
+switched_other _ own i c apart other = refl
+
+pub called_spared : (call : Call) (answer : ℤ) (own i : ℕ) (c : Cpu) → i ≢ own → (is_granted answer ≡ true → (on : ℕ) → call ≡ CpuOn on → i ≢ on) → cpu_by_call call answer own i c ≡ c
+called_spared call answer own i c apart spares =
+    let made : Cpu = cond (eqb i own) (moved c) c in
+    let same : made ≡ c = rw (ne_eqb i own apart) refl in
+    cond_both (is_granted answer) (switched call own i made) made (λ (x : Cpu). x ≡ c)
+    (λ yes. switched_other call own i made apart (spares yes) ∙ same)
+    (λ _. same)
+
 -- ---- whose CPU is switched
 
 -- where the call was granted, a CPU that it switches on is of the caller's cell
@@ -88,20 +102,10 @@ abbrev pub IsGrantedOwn : (ℕ → Cpu) → ℕ → Call → ℤ → Type 0
 IsGrantedOwn cpu own call answer = is_granted answer ≡ true → (on : ℕ) → call ≡ CpuOn on → (cpu on).owner ≡ (cpu own).owner
 
 -- a CPU of another cell than the caller's stays as it is
-switched_other : (call : Call) (own i : ℕ) (c : Cpu) → i ≢ own → ((on : ℕ) → call ≡ CpuOn on → i ≢ on) → switched call own i c ≡ c
-switched_other CpuOff own i c apart other = rw (ne_eqb i own apart) refl
-switched_other (CpuOn on) own i c apart other = rw (ne_eqb i on (other on refl)) refl
-switched_other _ own i c apart other = refl
-
 pub called_other : (cpu : ℕ → Cpu) (own i : ℕ) (call : Call) (answer : ℤ) → IsGrantedOwn cpu own call answer → (cpu i).owner ≢ (cpu own).owner → cpu_by_call call answer own i (cpu i) ≡ cpu i
 called_other cpu own i call answer granted other =
     let owner : ℕ → ℕ = λ k. (cpu k).owner in
-    let apart : i ≢ own = λ e. other (ap owner e) in
-    let made : Cpu = cond (eqb i own) (moved (cpu i)) (cpu i) in
-    let same : made ≡ cpu i = rw (ne_eqb i own apart) refl in
-    cond_both (is_granted answer) (switched call own i made) made (λ (x : Cpu). x ≡ cpu i)
-    (λ yes. switched_other call own i made apart (λ on is e. other (ap owner e ∙ granted yes on is)) ∙ same)
-    (λ _. same)
+    called_spared call answer own i (cpu i) (λ e. other (ap owner e)) (λ yes on is e. other (ap owner e ∙ granted yes on is))
 
 -- ---- beside an open call
 

@@ -276,10 +276,10 @@ mark_sound : (image : Image) (rest : Rest) (cpu : ℕ → Cpu) (cells : List Liv
     → ((x : ℕ) → is_named call x ≡ eqb x id) → ((i : ℕ) (c : Cpu) → (change i c).owner ≡ c.owner) → ((i : ℕ) (c : Cpu) → IsHalted c → IsCalm (change i c))
     → AreSoundCells image.system (configs_of cells) → AreOwned image (configs_of cells) cpu → IsOpen image (configs_of cells) cpu (opened_call caller call ToCommit)
     → any_below (λ k. keeps_commit image call k (cpu k)) 16 ≡ false
-    → IsSoundBut image (board rest (λ i. cond (eqb (cpu i).owner id) (change (cpu i)) (cpu i)) (map (marked id loadable) cells) (Some (opened_call caller call (ToFinish answer))))
+    → IsSoundBut image (board rest (λ i. cond (eqb (cpu i).owner id) (change i (cpu i)) (cpu i)) (map (marked id loadable) cells) (Some (opened_call caller call (ToFinish answer))))
 mark_sound image rest cpu cells caller id call loadable change answer about kept calm sound owned opens none =
-    let same : cell_changed change call cpu ≡ (λ (i : ℕ). cond (eqb (cpu i).owner id) (change (cpu i)) (cpu i)) =
-    same_function (cell_changed change call cpu) (λ (i : ℕ). cond (eqb (cpu i).owner id) (change (cpu i)) (cpu i)) (λ i. ap (λ (b : Bool). cond b (change (cpu i)) (cpu i)) (about (cpu i).owner)) in
+    let same : cell_changed change call cpu ≡ (λ (i : ℕ). cond (eqb (cpu i).owner id) (change i (cpu i)) (cpu i)) =
+    same_function (cell_changed change call cpu) (λ (i : ℕ). cond (eqb (cpu i).owner id) (change i (cpu i)) (cpu i)) (λ i. ap (λ (b : Bool). cond b (change i (cpu i)) (cpu i)) (about (cpu i).owner)) in
     let P : (ℕ → Cpu) → Type 0 = λ c. IsSoundBut image (board rest c (map (marked id loadable) cells) (Some (opened_call caller call (ToFinish answer)))) in
     subst P same
     (sound_by image rest (cell_changed change call cpu) (map (marked id loadable) cells) (configs_of cells) (opened_call caller call (ToFinish answer))

@@ -234,14 +234,7 @@ fn answered(call: &Call, answer: i64, own: u8, i: u8, cpu: &mut Cpu)
 
 /// Changes CPU `i` as the entry does; `call` is the call that was open before it, and `runs` says whether a start lets the
 /// CPU run.
-fn act_on(
-    image: &Image,
-    runs: bool,
-    call: Option<&OpenCall>,
-    entry: &Entry,
-    i: u8,
-    cpu: &mut Cpu,
-)
+fn act_on(image: &Image, runs: bool, call: Option<&OpenCall>, entry: &Entry, i: u8, cpu: &mut Cpu)
     requires { IsAdmitted image.now }
     ensures { cpu.new ≡ acted image.now runs (option_copied call.entry) entry.now.act entry.now.cpu i cpu.old }
 {

@@ -4,7 +4,7 @@ use Rattle.std.specs.Prelude.{slice_get}
 use Rattle.std.proofs.lemmas.Bool.{eq-eqb, ne_eqb}
 use Rattle.std.proofs.lemmas.Option.{get_or_from_slice_get}
 use Rattle.jh_num.specs.Below.{any_below}
-use Rattle.jh_num.proofs.Public.{below_at, below_more}
+use Rattle.jh_num.proofs.Public.{below_at, below_more, below_none}
 use Rattle.jh_cpu.specs.declared.cpu.Cpu.{Cpu}
 use Rattle.jh_cpu.specs.Changes.{opened}
 use Rattle.jh_history.proofs.change.has_lower.Goals as goal
@@ -15,7 +15,10 @@ owner_at cpus state k n is at =
     ap (λ (m : ℕ). (get_or cpus m (opened 0)).owner) is ∙ ap (λ (c : Cpu). c.owner) (get_or_from_slice_get cpus k (state k) (opened 0) at)
 
 pub loop-k-init : goal.loop-k-init
-loop-k-init c = λ state h. (owner_at c.args.cpus.now state c.args.i c.from.result c.from.ensures (h c.args.i c.requires), refl)
+loop-k-init c = λ state h. (
+  owner_at c.args.cpus.now state c.args.i c.from.result c.from.ensures (h c.args.i c.requires),
+  below_none (λ k. (state k).owner == (get_or c.args.cpus.now c.from.result (opened 0)).owner) 0 refl,
+)
 
 pub returns-then-cpus-from : goal.returns-then-cpus-from
 returns-then-cpus-from c = λ state h.
