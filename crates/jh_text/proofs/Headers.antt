@@ -1,9 +1,8 @@
 -- The header of a text, and what stands behind it.
-use Rattle.std.proofs.Common.{◌≡◌, ℕ, ◌+◌, ◌<◌, ◌^◌, ◌≤◌, Bool, true, false, List, [], ◌∷◌, ◌++◌, length, take, drop, codes, Option, Some, None, refl, sym, ap, ◌∙◌, inl, inr, ◌⊎◌, ⊎_elim, arith, append_assoc}
-use Rattle.std.specs.List.{AllByRecursion, join_with_byte}
-use Rattle.std.specs.Str.{bytes_eq}
+use Rattle.std.proofs.Common.{◌≡◌, ℕ, ◌+◌, ◌≤◌, Bool, true, false, List, [], ◌∷◌, ◌++◌, length, take, drop, codes, Some, None, refl, sym, ap, ◌∙◌, inl, inr, ◌⊎◌, ⊎_elim, arith}
+use Rattle.std.specs.List.{AllByRecursion}
 use Rattle.std.specs.Fmt.{decimal}
-use Rattle.std.proofs.lemmas.Bool.{cases_Bool, both_ways, false_from_ne_true}
+use Rattle.std.proofs.lemmas.Bool.{false_from_ne_true}
 use Rattle.std.proofs.lemmas.List.{take-append-drop}
 use Rattle.std.proofs.lemmas.Option.{none-some, same_Some}
 use Rattle.std.proofs.lemmas.Slice.Eq.{bytes_eq-Decides}
@@ -11,13 +10,13 @@ use Rattle.jh_history.specs.declared.entry.Entry.{Entry}
 use Rattle.jh_history.specs.declared.form.Form.{Form}
 use Rattle.jh_history.specs.declared.form.Form.TheVariants.{One, Two}
 use Rattle.jh_text.specs.Ranges.{IsReadable, IsTyped}
-use Rattle.jh_text.specs.Text.{act_words, entry_text, line, lines_text, header, has_header, header_lines, form_by, form_of, body_of, journal_text}
+use Rattle.jh_text.specs.Text.{entry_text, line, lines_text, header, has_header, header_lines, form_by, form_of, body_of, journal_text}
 use Rattle.jh_text.specs.Faults.{IsJournalText, IsFirstBadLine, IsTooLong, HasAnswer}
 use Rattle.jh_text.specs.Private.Reading.{number_until, digits_until, front_entry}
 use Rattle.jh_text.proofs.Acts.{entry_again}
-use Rattle.jh_text.proofs.Bodies.{IsBody, IsBadBody, IsLongBody, HasBodyAnswer}
+use Rattle.jh_text.proofs.Bodies.{IsBody, IsBadBody, IsLongBody}
 use Rattle.jh_text.proofs.EveryText.{every_text}
-use Rattle.jh_text.proofs.Splits.{Lacks, split_once, split_once_front}
+use Rattle.jh_text.proofs.Splits.{split_once, split_once_front}
 use Rattle.jh_text.proofs.Texts.{one_journal, journal_not_bad, journal_not_long, bad_not_long, one_bad_line}
 use Rattle.jh_text.proofs.TypedTexts.{typed_journals, line_split, first_word, number}
 
