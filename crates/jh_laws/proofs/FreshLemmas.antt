@@ -13,7 +13,6 @@ use Rattle.jh_history.specs.declared.call.OpenCall.{OpenCall}
 use Rattle.jh_history.specs.declared.call.Phase.TheVariants.{ToCreate}
 use Rattle.jh_history.specs.declared.device_change.DeviceChange.TheVariants.{Join}
 use Rattle.jh_history.specs.Devices.{specs_of}
-use Rattle.jh_history.specs.Due.{due_at}
 use Rattle.jh_history.specs.Endpoints.{endpoints_after, endpoints_changed}
 use Rattle.jh_history.specs.Facts.{Facts}
 use Rattle.jh_history.specs.History.{facts}

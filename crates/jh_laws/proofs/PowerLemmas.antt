@@ -1,5 +1,5 @@
 -- What a call of the power interface switched, where it was granted.
-use Rattle.std.proofs.Common.{◌≡◌, ◌≢◌, ℕ, ℤ, negsuc, Bool, true, false, ◌&&◌, Some, refl, sym, ap, subst, ◌∙◌, inl, inr, ⊎_elim}
+use Rattle.std.proofs.Common.{◌≡◌, ◌≢◌, ℕ, ℤ, negsuc, true, false, ◌&&◌, Some, refl, sym, ap, subst, ◌∙◌, inl, inr, ⊎_elim}
 use Rattle.std.proofs.lemmas.Bool.{both_ways, and_parts, false≢true, false_from_ne_true, cases_Bool, cases_eq}
 use Rattle.jh_num.specs.declared.error.TheConstants.{ENOSYS}
 use Rattle.jh_cpu.specs.declared.cpu.Mode.{Mode}
@@ -13,7 +13,7 @@ use Rattle.jh_history.specs.declared.form.Form.{Form}
 use Rattle.jh_history.specs.declared.form.Form.TheVariants.{One, Two}
 use Rattle.jh_history.specs.declared.entry.Entry.{Entry}
 use Rattle.jh_history.specs.declared.entry.Act.{Act}
-use Rattle.jh_history.specs.declared.entry.Act.TheVariants.{Hvc, Stop}
+use Rattle.jh_history.specs.declared.entry.Act.TheVariants.{Hvc}
 use Rattle.jh_history.specs.Facts.{Facts}
 use Rattle.jh_history.specs.Lives.{is_on_board}
 use Rattle.jh_history.specs.Cpus.{is_granted, is_running}

@@ -33,7 +33,7 @@ use Rattle.jh_history.specs.Admitted.{IsAdmitted}
 use Rattle.jh_history.specs.Calls.{is_named, is_of_call, phase_after, call_by}
 use Rattle.jh_history.specs.Commits.{is_commit}
 use Rattle.jh_history.specs.Cpus.{acted, changed, change_of, cpu_by_call, runs_by_start, cpu_by_settle, cpu_by_commit, cpu_by_finish, resumed_of_root, is_running, is_undenied}
-use Rattle.jh_history.specs.Due.{due_at, is_idle_but, IsLegal}
+use Rattle.jh_history.specs.Due.{is_idle_but, IsLegal}
 use Rattle.jh_history.specs.Facts.{Facts}
 use Rattle.jh_history.specs.History.{facts, coming_of}
 use Rattle.jh_history.specs.Lives.{is_on_board, program_ops}

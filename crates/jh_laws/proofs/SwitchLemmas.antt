@@ -1,5 +1,5 @@
 -- What the calls of the power interface do to CPUs, and where they are unknown.
-use Rattle.std.proofs.Common.{◌≡◌, ◌≢◌, ℕ, ℤ, pos, negsuc, List, [], ◌∷◌, ◌++◌, Bool, true, false, cond, refl, sym, ap, subst, ◌∙◌}
+use Rattle.std.proofs.Common.{◌≡◌, ◌≢◌, ℕ, ℤ, pos, negsuc, ◌∷◌, Bool, true, cond, refl, sym, ap, subst, ◌∙◌}
 use Rattle.std.proofs.lemmas.Bool.{ne_eqb, false≢true}
 use Rattle.jh_num.proofs.Public.{same_number}
 use Rattle.jh_cpu.specs.declared.cpu.Cpu.{Cpu}
@@ -41,7 +41,7 @@ behind_call m code a b cpu answer is =
 begins_on : (own on : ℕ) (c : Cpu) → on ≢ own → cpu_by_call (CpuOn on) (pos 0) own on c ≡ restarted c
 begins_on own on c other = rw (ne_eqb on own other, same_number on) refl
 
-on_of : Call → ℕ
+abbrev on_of : Call → ℕ
 on_of (CpuOn on) = on
 on_of _ = 0
 

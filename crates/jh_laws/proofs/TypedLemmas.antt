@@ -166,8 +166,8 @@ cpu_fits kind Foreign = permission_fits
 cpu_fits kind Fine = cond_both (eqb kind 0) (pos 0) EINVAL Fits (λ _. number_fits 0 (omega arith)) (λ _. invalid_fits)
 cpu_fits kind Failed = cond_both (eqb kind 0) (pos 2) EINVAL Fits (λ _. number_fits 2 (omega arith)) (λ _. invalid_fits)
 
-zero_fits : Fits (pos 0)
-zero_fits = number_fits 0 (omega arith)
+success_fits : Fits (pos 0)
+success_fits = number_fits 0 (omega arith)
 
 one_fits : Fits (pos 1)
 one_fits = number_fits 1 (omega arith)
@@ -184,12 +184,12 @@ already_fits = record { sfits = omega arith }
 on_fits : (power : PowerSeen) → Fits (on_answer power)
 on_fits NotOwned = parameters_fit
 on_fits On = already_fits
-on_fits Off = zero_fits
+on_fits Off = success_fits
 on_fits IsDown = denied_fits
 
 affinity_fits : (level : ℕ) (power : PowerSeen) → Fits (affinity_answer level power)
 affinity_fits level NotOwned = parameters_fit
-affinity_fits level On = cond_both (eqb level 0) AFFINITY_ON INVALID_PARAMETERS Fits (λ _. zero_fits) (λ _. parameters_fit)
+affinity_fits level On = cond_both (eqb level 0) AFFINITY_ON INVALID_PARAMETERS Fits (λ _. success_fits) (λ _. parameters_fit)
 affinity_fits level Off = cond_both (eqb level 0) AFFINITY_OFF INVALID_PARAMETERS Fits (λ _. one_fits) (λ _. parameters_fit)
 affinity_fits level IsDown = cond_both (eqb level 0) AFFINITY_OFF INVALID_PARAMETERS Fits (λ _. one_fits) (λ _. parameters_fit)
 
@@ -197,7 +197,7 @@ answer_fits : (call : Call) (seen : Seen) → IsFewSeen seen → Fits (answer_of
 answer_fits (Info kind) seen few = info_fits kind seen few
 answer_fits (State id) seen few = cond_both seen.root (state_answer seen.state) EPERM Fits (λ _. state_fits seen.state) (λ _. permission_fits)
 answer_fits (CpuInfo cpu kind) seen few = cpu_fits kind seen.cpu
-answer_fits CpuOff seen few = cond_both seen.root ENOSYS SUCCESS Fits (λ _. unknown_fits) (λ _. zero_fits)
+answer_fits CpuOff seen few = cond_both seen.root ENOSYS SUCCESS Fits (λ _. unknown_fits) (λ _. success_fits)
 answer_fits (CpuOn cpu) seen few = cond_both seen.root ENOSYS (on_answer seen.power) Fits (λ _. unknown_fits) (λ _. on_fits seen.power)
 answer_fits (Affinity cpu level) seen few = cond_both seen.root ENOSYS (affinity_answer level seen.power) Fits (λ _. unknown_fits) (λ _. affinity_fits level seen.power)
 answer_fits Unknown seen few = unknown_fits
