@@ -169,7 +169,7 @@ owner_if true change cpu = changed_owner change cpu
 owner_if false change cpu = refl
 
 -- it changes no owner
-pub acted_owner : (image : Image) (runs : Bool) (call : Option OpenCall) (act : Act) (own i : ℕ) (cpu : Cpu) → is_of_call act ≡ false → (acted image runs call act own i cpu).owner ≡ cpu.owner
+acted_owner : (image : Image) (runs : Bool) (call : Option OpenCall) (act : Act) (own i : ℕ) (cpu : Cpu) → is_of_call act ≡ false → (acted image runs call act own i cpu).owner ≡ cpu.owner
 acted_owner image runs call (Read width at got) own i cpu h = owner_if (eqb i own) (change_of (Read width at got)) cpu
 acted_owner image runs call (Write width at value ok) own i cpu h = owner_if (eqb i own) (change_of (Write width at value ok)) cpu
 acted_owner image runs call (Fetch at got) own i cpu h = owner_if (eqb i own) (change_of (Fetch at got)) cpu

@@ -69,7 +69,7 @@ switched_none CpuOff own i c h = absurd (both_ways true h refl)
 switched_none (CpuOn on) own i c h = absurd (both_ways true h refl)
 switched_none _ own i c h = refl
 
-and_other : (a b : Bool) → (a && b) ≡ false → a ≡ true → b ≡ false
+pub and_other : (a b : Bool) → (a && b) ≡ false → a ≡ true → b ≡ false
 and_other true b h is = h
 and_other false b h is = absurd (both_ways false refl is)
 

@@ -39,7 +39,7 @@ use Rattle.jh_history.specs.Cpus.{acted, changed, is_granted, switched, cpu_by_c
 use Rattle.jh_history.specs.History.{facts}
 use Rattle.jh_shape.specs.Lives.{configs_of}
 use Rattle.jh_history.specs.Due.{is_idle_but, IsLegal}
-use Rattle.jh_history.proofs.Public.{facts_push, facts_form, called_spared, due_split, IsLegal_begin, configs_joined, legal_sound, after_cells, call_open, few_operations}
+use Rattle.jh_history.proofs.Public.{facts_push, facts_form, and_other, called_spared, due_split, IsLegal_begin, configs_joined, legal_sound, after_cells, call_open, few_operations}
 use Rattle.jh_history.specs.Sound.{IsCaller, IsInPhase}
 use Rattle.jh_laws.specs.Ways.{is_phase, is_undenied_settle, begun_call}
 use Rattle.jh_laws.specs.Moves.{stepped, ended, IsLentTo, IsGivenBack}
@@ -77,10 +77,6 @@ switched_own : (call : Call) (own : ℕ) (c : Cpu) → is_off call ≡ false →
 switched_own CpuOff own c off apart = absurd (false≢true (sym off))
 switched_own (CpuOn on) own c off apart = rw (ne_eqb own on (apart on refl)) refl
 switched_own _ own c off apart = refl
-
-and_other : (a b : Bool) → (a && b) ≡ false → a ≡ true → b ≡ false
-and_other true b h is = h
-and_other false b h is = absurd (false≢true is)
 
 called_own : (call : Call) (answer : ℤ) (own : ℕ) (c : Cpu) → (is_granted answer && is_off call) ≡ false → (is_granted answer ≡ true → (on : ℕ) → call ≡ CpuOn on → own ≢ on) → cpu_by_call call answer own own c ≡ moved c
 called_own call answer own c off apart =

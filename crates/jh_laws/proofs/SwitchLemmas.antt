@@ -1,5 +1,5 @@
 -- What the calls of the power interface do to CPUs, and where they are unknown.
-use Rattle.std.proofs.Common.{◌≡◌, ◌≢◌, ℕ, ℤ, pos, negsuc, ◌∷◌, Bool, true, cond, refl, sym, ap, subst, ◌∙◌}
+use Rattle.std.proofs.Common.{◌≡◌, ◌≢◌, ℕ, ℤ, pos, negsuc, Bool, true, cond, refl, sym, ap, subst, ◌∙◌}
 use Rattle.std.proofs.lemmas.Bool.{ne_eqb, false≢true}
 use Rattle.jh_num.proofs.Public.{same_number}
 use Rattle.jh_cpu.specs.declared.cpu.Cpu.{Cpu}
@@ -16,18 +16,15 @@ use Rattle.jh_history.specs.Facts.{Facts}
 use Rattle.jh_history.specs.Calls.{is_of_call}
 use Rattle.jh_history.specs.Cpus.{acted, cpu_by_call, runs_by_start}
 use Rattle.jh_history.specs.Hypercalls.{call_in}
-use Rattle.jh_history.specs.Sound.{IsSound}
-use Rattle.jh_history.proofs.Public.{called_spared, facts_form, legal_sound, due_split, IsLegal_begin}
+use Rattle.jh_history.proofs.Public.{called_spared, facts_form}
 use Rattle.jh_laws.specs.Hypercalls.{IsAnswer}
 use Rattle.jh_laws.specs.Moments.{AdmittedMoment, facts_before, state_before, state_behind}
 use Rattle.jh_laws.specs.Outcomes.{is_violation}
 use Rattle.jh_laws.specs.States.{is_on, is_off, switches_off, changes_others, is_stop_act, HasSwitchedOn, HasSwitchedOff}
 use Rattle.jh_laws.proofs.EntryLemmas.{cell_at}
+use Rattle.jh_laws.proofs.PageCauseLemmas.{due_of, sound_at}
 use Rattle.jh_laws.proofs.PowerLemmas.{due_answered, due_on, due_off, on_other}
 use Rattle.jh_laws.proofs.StatesLemmas.{behind_cpu, moved_stepped, position_few, own_steps, others_kept}
-
-sound_of : (m : AdmittedMoment) → IsSound m.image (facts_before m)
-sound_of m = legal_sound m.image m.form m.before m.admitted (IsLegal_begin m.image m.form m.before (m.entry ∷ m.rest) m.legal)
 
 -- a CPU behind a hypercall that was answered
 behind_call : (m : AdmittedMoment) (code a b cpu : ℕ) (answer : ℤ) → m.entry.act ≡ Hvc code a b answer → state_behind m cpu ≡ cpu_by_call (decoded code a b) answer m.entry.cpu cpu (state_before m cpu)
@@ -49,10 +46,10 @@ pub switched_on : (m : AdmittedMoment) (code a b on : ℕ) → m.entry.act ≡ H
 switched_on m code a b on is call =
     let f : Facts = facts_before m in
     let own : ℕ = m.entry.cpu in
-    let due = due_split m.image m.form m.before m.rest m.entry m.legal in
-    let h = due_on m.image f m.entry code a b on (pos 0) (sound_of m) due is call refl in
+    let due = due_of m in
+    let h = due_on m.image f m.entry code a b on (pos 0) (sound_at m) due is call refl in
     let cell = (cell_at m.image m.form m.before m.rest m.entry m.legal).1 in
-    let other : on ≢ own = on_other m.image f m.entry code a b on (pos 0) (sound_of m) due is h in
+    let other : on ≢ own = on_other m.image f m.entry code a b on (pos 0) (sound_at m) due is h in
     record {
       cell = λ e. h.foreign (sym cell ∙ e);
       board = h.board;
@@ -75,8 +72,8 @@ pub switched_off : (m : AdmittedMoment) (code a b : ℕ) → m.entry.act ≡ Hvc
 switched_off m code a b is call =
     let f : Facts = facts_before m in
     let own : ℕ = m.entry.cpu in
-    let due = due_split m.image m.form m.before m.rest m.entry m.legal in
-    let foreign = due_off m.image f m.entry code a b (pos 0) (sound_of m) due is call refl in
+    let due = due_of m in
+    let foreign = due_off m.image f m.entry code a b (pos 0) (sound_at m) due is call refl in
     let cell = (cell_at m.image m.form m.before m.rest m.entry m.legal).1 in
     let few = position_few m.image m.form m.before m.rest m.entry m.admitted m.legal (ap is_of_call is) (ap is_stop_act is) in
     record {
@@ -104,7 +101,7 @@ unknown_root image f cell _ answer Two power own h = absurd (false≢true power)
 
 answer_of_due : (m : AdmittedMoment) (code a b : ℕ) (answer : ℤ) → m.entry.act ≡ Hvc code a b answer
     → IsAnswer m.image (facts_before m) ((facts_before m).cpu m.entry.cpu).owner (call_in (facts_before m).form (decoded code a b)) answer
-answer_of_due m code a b answer is = due_answered m.image (facts_before m) m.entry code a b answer (sound_of m) (due_split m.image m.form m.before m.rest m.entry m.legal) is
+answer_of_due m code a b answer is = due_answered m.image (facts_before m) m.entry code a b answer (sound_at m) (due_of m) is
 
 pub one_unknown : (m : AdmittedMoment) (code a b : ℕ) (answer : ℤ) → m.entry.act ≡ Hvc code a b answer → is_power (decoded code a b) ≡ true → m.form ≡ One → answer ≡ negsuc 37
 one_unknown m code a b answer is power one =

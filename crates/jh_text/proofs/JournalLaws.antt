@@ -8,10 +8,6 @@ use Rattle.jh_text.specs.Faults.{IsJournalText, IsFirstBadLine, IsTooLong}
 abbrev pub OneJournal : Type 0
 OneJournal = (text : List ℕ) (form other : Form) (a b : List Entry) → IsJournalText text form a → IsJournalText text other b → a ≡ b
 
--- nor of two forms
-abbrev pub OneForm : Type 0
-OneForm = (text : List ℕ) (form other : Form) (a b : List Entry) → IsJournalText text form a → IsJournalText text other b → form ≡ other
-
 -- no text is a journal's and has a bad line
 abbrev pub NoBadLine : Type 0
 NoBadLine = (text : List ℕ) (form : Form) (entries : List Entry) (number : ℕ) → IsJournalText text form entries → IsFirstBadLine text number → ⊥
