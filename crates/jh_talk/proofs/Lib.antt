@@ -8,6 +8,7 @@ mod PlaceLemmas
 mod ProgramLemmas
 mod ReachLemmas
 mod ReadLemmas
+mod RegisterLemmas
 mod SectionLemmas
 mod SetupLemmas
 mod SoundLemmas
