@@ -3,6 +3,7 @@ mod CpuLemmas
 mod FaultLemmas
 mod ImageLemmas
 mod JoinLemmas
+mod MemoryLemmas
 mod PairLemmas
 mod PlaceLemmas
 mod ProgramLemmas
