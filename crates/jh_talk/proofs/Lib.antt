@@ -1,5 +1,6 @@
 mod AddressLemmas
 mod CpuLemmas
+mod CreateLemmas
 mod FaultLemmas
 mod ImageLemmas
 mod JoinLemmas
