@@ -11,6 +11,7 @@ mod ProgramLemmas
 mod ReachLemmas
 mod ReadLemmas
 mod RegisterLemmas
+mod RingLemmas
 mod SectionLemmas
 mod SetupLemmas
 mod SoundLemmas
