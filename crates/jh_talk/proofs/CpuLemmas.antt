@@ -1,6 +1,6 @@
 -- CPUs that are sought from the lowest on.
 use Rattle.std.proofs.Common.{◌≡◌, ℕ, ◌+◌, ◌<◌, ◌≤◌, inl, inr, Bool, true, false, not, refl, sym, ap, ◌∙◌, arith}
-use Rattle.std.proofs.lemmas.Bool.{cases_lt, both_ways, and_parts, and_from, false_from_ne_true}
+use Rattle.std.proofs.lemmas.Bool.{not-true, cases_lt, both_ways, and_parts, and_from, false_from_ne_true}
 use Rattle.jh_cellcfg.specs.declared.config.CellConfig.{CellConfig}
 use Rattle.jh_cellcfg.specs.Cells.{is_cpu_set}
 use Rattle.jh_talk.specs.Cpus.{is_left, NamesForeignCpu}
@@ -31,14 +31,10 @@ few_left root cell few cpu is = few cpu (and_parts (is_cpu_set root.cpu_set cpu)
 pub few_foreign : (root cell : CellConfig) → HasFewCpus cell → (cpu : ℕ) → is_foreign root cell cpu ≡ true → cpu < 16
 few_foreign root cell few cpu is = few cpu (and_parts (is_cpu_set cell.cpu_set cpu) (not (is_cpu_set root.cpu_set cpu)) is).0
 
-not_true : (b : Bool) → not b ≡ true → b ≡ false
-not_true true e = sym e
-not_true false e = refl
-
 pub foreign_from : (root cell : CellConfig) (cpu : ℕ) → is_foreign root cell cpu ≡ true → NamesForeignCpu root cell
 foreign_from root cell cpu is =
     let parts = and_parts (is_cpu_set cell.cpu_set cpu) (not (is_cpu_set root.cpu_set cpu)) is in
-    record { cpu = cpu; named = parts.0; lacking = not_true (is_cpu_set root.cpu_set cpu) parts.1 }
+    record { cpu = cpu; named = parts.0; lacking = not-true (is_cpu_set root.cpu_set cpu) parts.1 }
 
 pub none_foreign : (root cell : CellConfig) → ((cpu : ℕ) → is_foreign root cell cpu ≡ false) → NamesForeignCpu root cell → ⊥
 none_foreign root cell none foreign =

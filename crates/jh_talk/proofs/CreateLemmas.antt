@@ -1,7 +1,7 @@
 -- The create of the cell is accepted: its configuration is read where it stands, and nothing speaks against it.
-use Rattle.std.proofs.Common.{◌≡◌, ℕ, zero, suc, ◌+◌, ◌<◌, ◌≤◌, Bool, true, false, ◌&&◌, not, nat_eq, nat_lt, cond, List, [], ◌∷◌, ◌++◌, Option, Some, None, option_map, map, take, get_or, length, refl, sym, ap, subst, ◌∙◌, inl, inr, arith}
+use Rattle.std.proofs.Common.{◌≡◌, ℕ, zero, suc, ◌+◌, ◌<◌, ◌≤◌, Bool, true, false, ◌&&◌, not, nat_eq, cond, List, [], ◌∷◌, Some, None, option_map, map, take, get_or, length, refl, sym, ap, subst, ◌∙◌, inl, inr, arith}
 use Rattle.std.specs.List.{list_any}
-use Rattle.std.proofs.lemmas.Bool.{both_ways, cases_lt, and_parts, and_from, eq-eqb, eqb-true, ne_eqb, false_from_ne_true, true_from_ne_false}
+use Rattle.std.proofs.lemmas.Bool.{not-true, both_ways, cases_lt, and_parts, and_from, eq-eqb, ne_eqb, false_from_ne_true, true_from_ne_false}
 use Rattle.std.proofs.lemmas.List.{take_all}
 use Rattle.jh_cellcfg.specs.declared.config.CellConfig.{CellConfig}
 use Rattle.jh_cellcfg.specs.declared.live.Live.{Live}
@@ -22,10 +22,8 @@ use Rattle.jh_history.specs.declared.access.Access.TheVariants.{Read}
 use Rattle.jh_history.specs.declared.call.Creation.TheVariants.{Accepted, Refused}
 use Rattle.jh_history.specs.declared.place.Place.{Place}
 use Rattle.jh_history.specs.declared.place.Place.TheVariants.{Physical}
-use Rattle.jh_history.specs.declared.reading.ReadCell.{ReadCell}
 use Rattle.jh_history.specs.declared.reading.ReadCell.TheVariants.{Reads}
 use Rattle.jh_num.specs.declared.error.TheConstants.{EPERM}
-use Rattle.jh_history.specs.Access.{places_from}
 use Rattle.jh_history.specs.Admitted.{pool_pages}
 use Rattle.jh_history.specs.Configs.{bytes_at, read_at, read_behind, read_from, read_whole}
 use Rattle.jh_history.specs.Facts.{Facts}
@@ -99,13 +97,9 @@ given image f config leader cpu roots none lowest named =
     let board : is_on_board image cpu ≡ true = true_from_ne_false (is_on_board image cpu) (λ lacking. none Cpu (omega arith) (inl (record { cpu = cpu; named = named; lacking = lacking }))) in
     let unnamed = (and_parts (is_cpu_set image.system.root.cpu_set leader) (not (is_cpu_set config.cpu_set leader)) lowest.passes).1 in
     let Named : ℕ → Type 0 = λ c. is_cpu_set config.cpu_set c ≡ true in
-    let other : not (nat_eq cpu leader) ≡ true = ap not (ne_eqb cpu leader (λ e. both_ways (is_cpu_set config.cpu_set leader) (not_true (is_cpu_set config.cpu_set leader) unnamed) (subst Named e named))) in
+    let other : not (nat_eq cpu leader) ≡ true = ap not (ne_eqb cpu leader (λ e. both_ways (is_cpu_set config.cpu_set leader) (not-true (is_cpu_set config.cpu_set leader) unnamed) (subst Named e named))) in
     let own = eq-eqb (f.cpu cpu).owner image.system.root.id (roots cpu board) in
     and_from (is_on_board image cpu && not (nat_eq cpu leader)) (nat_eq (f.cpu cpu).owner image.system.root.id) (and_from (is_on_board image cpu) (not (nat_eq cpu leader)) board other) own
-  where
-    not_true : (b : Bool) → not b ≡ true → b ≡ false
-    not_true true e = sym e
-    not_true false e = refl
 
 accepted : (image : Image) (f : Facts) (config : CellConfig) (leader : ℕ) → AreRoots image f → IsFaultlessBelow image.system config 4 → IsLowest (is_left image.system.root config) leader → IsAccepted image.system [] config (may_give image f leader) (pages_of image.system.root.memory_regions (config ∷ [])) (pool_pages image.system)
 accepted image f config leader roots none lowest = record {

@@ -1,7 +1,7 @@
 -- What the pair's sections are as memory: each side reaches the places of a section at its addresses.
-use Rattle.std.proofs.Common.{◌≡◌, ◌≢◌, ℕ, ◌+◌, ◌-◌, ◌<◌, ◌≤◌, Bool, true, false, ◌&&◌, ◌||◌, not, nat_eq, nat_lt, nat_le, cond, List, [], ◌∷◌, zero, suc, Option, Some, None, option_map, option_and_then, find, get_or, map, slice_get, length, refl, sym, ap, subst, ◌∙◌, inl, inr, arith}
+use Rattle.std.proofs.Common.{◌≡◌, ◌≢◌, ℕ, ◌+◌, ◌-◌, ◌<◌, ◌≤◌, Bool, true, false, ◌&&◌, ◌||◌, not, nat_eq, nat_lt, nat_le, cond, List, [], ◌∷◌, zero, suc, Some, None, option_map, option_and_then, find, get_or, map, slice_get, refl, sym, ap, subst, ◌∙◌, inl, inr, arith}
 use Rattle.std.specs.List.{list_all, list_any}
-use Rattle.std.proofs.lemmas.Bool.{false≢true, both_ways, and_parts, and_from, and_left, or_cases, or_right, cases_Bool, leb-true, ltb-true, le-leb, lt-ltb, eqb-true, ne_eqb, not_from_true, false_from_ne_true}
+use Rattle.std.proofs.lemmas.Bool.{not-true, both_ways, and_parts, and_from, and_left, or_cases, leb-true, ltb-true, le-leb, lt-ltb, eqb-true, ne_eqb, false_from_ne_true}
 use Rattle.std.proofs.lemmas.Option.{same_Some, slice_get-get_or}
 use Rattle.jh_num.specs.declared.address.TheConstants.{ADDRESS_END}
 use Rattle.jh_cellcfg.specs.declared.region.Region.{Region}
@@ -12,14 +12,11 @@ use Rattle.jh_cellcfg.specs.declared.live.Live.{Live}
 use Rattle.jh_cellcfg.specs.Regions.{has_address, has_flags, has_place, is_comm, is_loadable, is_page_mapped, is_unshared, phys_end, place_in, virt_end}
 use Rattle.jh_check.specs.Clean.{IsClean, IsSection}
 use Rattle.jh_check.specs.Devices.{sections_of}
-use Rattle.jh_check.specs.Laws.{IsItem}
-use Rattle.jh_shape.specs.Claims.{Holder}
 use Rattle.jh_shape.specs.Shapes.{holder_of_live, is_closed, takes}
 use Rattle.jh_ivshmem.specs.declared.endpoint.Endpoint.{Endpoint}
 use Rattle.jh_script.specs.declared.image.Image.{Image}
 use Rattle.jh_history.specs.declared.access.Access.{Access}
 use Rattle.jh_history.specs.declared.access.Reach.TheVariants.{Memory}
-use Rattle.jh_history.specs.declared.place.Place.{Place}
 use Rattle.jh_history.specs.declared.place.Place.TheVariants.{Physical, Page}
 use Rattle.jh_history.specs.Access.{gives, memory_or_nothing, or_behind, place_in_cell, place_of, region_of, right_of}
 use Rattle.jh_history.specs.Grants.{behind_in, granted_in, is_closed_to, reach_in, unless}
@@ -81,7 +78,7 @@ memory_reached image cells endpoints id access r x at width holds free =
     let closed = is_closed_to image cells id in
     let each : (k : ℕ) → k < width → granted_in image cells id access (at + k) ≡ Some (Physical (place_in x at + k)) =
     λ k below. ap (option_and_then (unless closed)) (placed id (regions_in image cells id) r x access at width k holds below)
-        ∙ ap (λ b. cond b None (Some (Physical (place_in x at + k)))) (free k below) in
+    ∙ ap (λ b. cond b None (Some (Physical (place_in x at + k)))) (free k below) in
     let places = places_from_row (granted_in image cells id access) (Physical (place_in x at)) at width each in
     let memory = reach_by_within (granted_in image cells id access) at width holds.within ∙ ap memory_or_nothing places in
     ap (λ reach. or_behind reach (behind_in image cells endpoints id access at width)) memory
@@ -152,19 +149,15 @@ section_open system cell pair loadable k p x clean is left section has =
     let unshared = and_parts (not (is_comm y)) (not (has_flags 0x80 y)) parts.0 in
     let good = clean.devices 1 cell refl pair.other_number pair.other is.other (talks_shmem pair.other_number pair.other is.other_talks) in
     let plain = (good.sections k z twin.section).no_comm in
-    let number : w.0 ≡ pair.other.shmem_regions_start + k = clean.places 1 cell refl w.0 (pair.other.shmem_regions_start + k) y z w.2 twin.section.item (not_true (is_comm y) unshared.0) plain p there twin.has in
+    let number : w.0 ≡ pair.other.shmem_regions_start + k = clean.places 1 cell refl w.0 (pair.other.shmem_regions_start + k) y z w.2 twin.section.item (not-true (is_comm y) unshared.0) plain p there twin.has in
     let At : ℕ → Type 0 = λ n. slice_get cell.memory_regions n ≡ Some y in
     let same : y ≡ z = same_Some y z (sym (subst At number w.2) ∙ twin.section.item) in
     let shared = all_at is_left_to_root (sections_of cell.memory_regions pair.other) left k z (section_in_list cell pair.other k z twin.section) in
     let some = has_size_of z p twin.has in
     elim (or_cases (nat_eq z.size 0) (has_flags 0x80 z) shared) as (λ v. ⊥) [
       | inl none ↦ let e = eqb-true z.size 0 none in absurd (omega arith)
-      | inr rootshared ↦ both_ways (has_flags 0x80 y) (not_true (has_flags 0x80 y) unshared.1) (ap (has_flags 0x80) same ∙ rootshared)
+      | inr rootshared ↦ both_ways (has_flags 0x80 y) (not-true (has_flags 0x80 y) unshared.1) (ap (has_flags 0x80) same ∙ rootshared)
     ])
-  where
-    not_true : (b : Bool) → not b ≡ true → b ≡ false
-    not_true true e = sym e
-    not_true false e = refl
 
 -- so it is open to root beside the cell alone
 pub open_to_root : (image : Image) (live : Live) (pair : Pair) (k p : ℕ) (x : Region) → IsClean image.system (live.config ∷ []) → IsPair image.system.root live.config pair → are_left_to_root live.config pair.other ≡ true → IsSection image.system.root pair.device k x → has_place x p ≡ true → is_closed_to image (live ∷ []) image.system.root.id (Physical p) ≡ false

@@ -2,7 +2,7 @@
 use Rattle.std.proofs.Common.{◌≡◌, ℕ, ◌+◌, ◌-◌, ◌<◌, ◌≤◌, Bool, true, false, ◌&&◌, not, nat_lt, nat_le, Option, Some, None, refl, sym, ap, subst, ◌∙◌, inl, inr, cond, length, arith}
 use Rattle.std.specs.Prelude.{IfSome, MatchOption}
 use Rattle.std.specs.List.{list_any}
-use Rattle.std.proofs.lemmas.Bool.{ltb-true, leb-true, lt-ltb, le-leb, lt-leb, cases_eq, cases_lt, both_ways, and_parts, and_from, false_from_ne_true}
+use Rattle.std.proofs.lemmas.Bool.{not-true, ltb-true, leb-true, lt-ltb, le-leb, lt-leb, cases_eq, cases_lt, both_ways, and_parts, and_from, false_from_ne_true}
 use Rattle.std.proofs.lemmas.Option.{same_Some, slice_get_within}
 use Rattle.jh_cellcfg.specs.declared.region.Region.{Region}
 use Rattle.jh_cellcfg.specs.declared.config.CellConfig.{CellConfig}
@@ -69,15 +69,11 @@ record Serves (root : CellConfig) (count number : ℕ) (region : Region) : Type 
   room : count ≤ region.size
   free : has_section root number ≡ false
 
-not_true : (b : Bool) → not b ≡ true → b ≡ false
-not_true true e = sym e
-not_true false e = refl
-
 serves_to : (root : CellConfig) (count number : ℕ) (region : Region) → is_room root count number region ≡ true → Serves root count number region
 serves_to root count number region e =
     let p = and_parts (may_hold region) (nat_le count region.size && not (has_section root number)) e in
     let q = and_parts (nat_le count region.size) (not (has_section root number)) p.1 in
-    record { holds = p.0; room = leb-true count region.size q.0; free = not_true (has_section root number) q.1 }
+    record { holds = p.0; room = leb-true count region.size q.0; free = not-true (has_section root number) q.1 }
 
 serves_from : (root : CellConfig) (count number : ℕ) (region : Region) → Serves root count number region → is_room root count number region ≡ true
 serves_from root count number region s =

@@ -1,19 +1,18 @@
 -- What accesses reach where no region has their address: configuration space, and the windows of devices.
-use Rattle.std.proofs.Common.{◌≡◌, ℕ, zero, suc, ◌+◌, ◌-◌, ◌*◌, ◌/◌, ◌%◌, ◌<◌, ◌≤◌, Bool, true, false, ◌&&◌, ◌||◌, not, nat_eq, nat_lt, nat_le, cond, List, [], ◌∷◌, Option, Some, None, option_map, option_and_then, find, slice_get, refl, sym, ap, subst, ◌∙◌, inl, inr, arith}
+use Rattle.std.proofs.Common.{◌≡◌, ℕ, zero, suc, ◌+◌, ◌-◌, ◌%◌, ◌<◌, ◌≤◌, Bool, true, false, ◌&&◌, ◌||◌, not, nat_eq, nat_lt, nat_le, cond, List, [], ◌∷◌, Option, Some, None, option_map, option_and_then, find, slice_get, refl, sym, ap, subst, ◌∙◌, arith}
 use Rattle.std.specs.Prelude.{position}
-use Rattle.std.specs.List.{Contains, list_any}
+use Rattle.std.specs.List.{Contains}
 use Rattle.std.specs.Option.{option_map_or}
-use Rattle.std.proofs.lemmas.Bool.{both_ways, cases_lt, and_parts, and_from, and_left, leb-true, ltb-true, le-leb, lt-ltb, eq-eqb, false_from_ne_true}
+use Rattle.std.proofs.lemmas.Bool.{both_ways, and_parts, and_from, and_left, leb-true, ltb-true, le-leb, lt-ltb, eq-eqb, false_from_ne_true}
 use Rattle.jh_num.proofs.Public.{find_nothing, list_any_from_Contains}
 use Rattle.jh_num.specs.declared.address.TheConstants.{ADDRESS_END}
 use Rattle.jh_cellcfg.specs.declared.region.Region.{Region}
-use Rattle.jh_cellcfg.specs.declared.config.CellConfig.{CellConfig}
 use Rattle.jh_cellcfg.specs.declared.config.PciDevice.{PciDevice}
 use Rattle.jh_cellcfg.specs.declared.live.Live.{Live}
 use Rattle.jh_cellcfg.specs.Regions.{has_address, has_flags, has_size, is_page_mapped, virt_end, virt_meet}
 use Rattle.jh_mmio.specs.declared.hitting.Window.{Window as TheWindow}
 use Rattle.jh_mmio.specs.declared.hitting.Hitting.TheVariants.{Ecam, Bar, Nothing as HitsNothing}
-use Rattle.jh_mmio.specs.Dispatch.{by_ecam, by_window, has_whole, hitting_behind_regions, is_at_closed, lies_between, takes_all, window_has}
+use Rattle.jh_mmio.specs.Dispatch.{by_ecam, by_window, has_whole, is_at_closed, lies_between, takes_all, window_has}
 use Rattle.jh_mmio.proofs.Public.{lies_from, lies_parts}
 use Rattle.jh_ivshmem.specs.declared.endpoint.Endpoint.{Endpoint}
 use Rattle.jh_script.specs.declared.image.Image.{Image}
@@ -21,14 +20,14 @@ use Rattle.jh_history.specs.declared.access.Access.{Access}
 use Rattle.jh_history.specs.declared.access.Access.TheVariants.{Read, Write, Fetch}
 use Rattle.jh_history.specs.declared.access.Wanted.{Wanted}
 use Rattle.jh_history.specs.declared.access.Reach.{Reach}
-use Rattle.jh_history.specs.declared.access.Reach.TheVariants.{Config, Window, Nothing}
+use Rattle.jh_history.specs.declared.access.Reach.TheVariants.{Config, Nothing}
 use Rattle.jh_history.specs.declared.place.Place.{Place}
 use Rattle.jh_history.specs.declared.place.Place.TheVariants.{Physical}
 use Rattle.jh_history.specs.Access.{gives, memory_or_nothing, or_behind, place_in_cell, place_of, places_from, reach_by, right_of}
 use Rattle.jh_history.specs.Behind.{answer, asked_windows, by_device, by_region, ecam_start, ecam_end, in_window, unless_fetch, without_region, window_of_access, Windows}
 use Rattle.jh_history.specs.Devices.{devices_in, is_endpoint, number_from}
-use Rattle.jh_history.specs.Grants.{behind_in, behind_of, granted_in, is_closed_to, reach_in, unless}
-use Rattle.jh_history.specs.Lives.{cell_in, regions_in}
+use Rattle.jh_history.specs.Grants.{behind_in, granted_in, is_closed_to, reach_in, unless}
+use Rattle.jh_history.specs.Lives.{regions_in}
 use Rattle.jh_talk.specs.Addresses.{addresses_from, is_met}
 use Rattle.jh_talk.proofs.WindowLemmas.{meets_from, Meets}
 
@@ -182,6 +181,6 @@ numbered bdf n (suc k) (x ∷ devices) device at is first =
     let none : is_of_bdf bdf n x ≡ false = ap (λ m. is_of_bdf bdf m x) (let z : n ≡ n + 0 = omega arith in z) ∙ first 0 x (omega arith) refl in
     let Is : ℕ → Type 0 = λ m. is_of_bdf bdf m device ≡ true in
     let rest = numbered bdf (n + 1) k devices device at (subst Is e is) (λ j other below there.
-        let s : n + 1 + j ≡ n + suc j = omega arith in
-        ap (λ m. is_of_bdf bdf m other) s ∙ first (suc j) other (omega arith) there) in
+    let s : n + 1 + j ≡ n + suc j = omega arith in
+    ap (λ m. is_of_bdf bdf m other) s ∙ first (suc j) other (omega arith) there) in
     rw none (rest ∙ ap Some (sym e))

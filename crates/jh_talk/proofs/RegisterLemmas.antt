@@ -1,7 +1,7 @@
 -- The windows of the pair's device, where no other device of its cell has one, and what is reached in them.
-use Rattle.std.proofs.Common.{◌≡◌, ◌≢◌, ℕ, zero, suc, ◌+◌, ◌-◌, ◌*◌, ◌/◌, ◌%◌, ◌<◌, ◌≤◌, Bool, true, false, ◌&&◌, nat_lt, nat_eq, cond, List, [], ◌∷◌, ◌++◌, Option, Some, None, find, slice_get, refl, sym, ap, subst, ◌∙◌, arith}
+use Rattle.std.proofs.Common.{◌≡◌, ◌≢◌, ℕ, zero, suc, ◌+◌, ◌-◌, ◌*◌, ◌/◌, ◌%◌, ◌≤◌, true, false, cond, List, [], ◌∷◌, ◌++◌, Option, Some, None, find, slice_get, refl, ap, ◌∙◌, arith}
 use Rattle.std.specs.Option.{option_map_or}
-use Rattle.std.proofs.lemmas.Bool.{both_ways, lt-ltb, false_from_ne_true}
+use Rattle.std.proofs.lemmas.Bool.{false_from_ne_true}
 use Rattle.std.proofs.lemmas.List.{append-nil}
 use Rattle.jh_num.specs.declared.address.TheConstants.{ADDRESS_END}
 use Rattle.jh_cellcfg.specs.declared.config.PciDevice.{PciDevice}
@@ -15,8 +15,8 @@ use Rattle.jh_ivshmem.specs.Links.{endpoint_at}
 use Rattle.jh_script.specs.declared.image.Image.{Image}
 use Rattle.jh_history.specs.declared.access.Access.{Access}
 use Rattle.jh_history.specs.declared.access.Reach.TheVariants.{Window}
-use Rattle.jh_history.specs.Behind.{ecam_start, ecam_end, in_window}
-use Rattle.jh_history.specs.Devices.{Devices, device_windows, devices_in, is_endpoint, space_window, windows_from, windows_of}
+use Rattle.jh_history.specs.Behind.{ecam_start, ecam_end}
+use Rattle.jh_history.specs.Devices.{device_windows, devices_in, is_endpoint, space_window, windows_from, windows_of}
 use Rattle.jh_history.specs.Grants.{reach_in}
 use Rattle.jh_history.specs.Lives.{regions_in}
 use Rattle.jh_talk.proofs.ReachLemmas.{HasNone, IsData, window_reached}

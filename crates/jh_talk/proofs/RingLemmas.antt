@@ -1,5 +1,5 @@
 -- What a ring does to the peer that is set up: vector 1 becomes pending, and is taken; vector 0 stays masked throughout.
-use Rattle.std.proofs.Common.{◌≡◌, ℕ, zero, suc, ◌+◌, ◌*◌, ◌/◌, ◌%◌, ◌^◌, ◌<◌, ◌≤◌, Bool, true, false, ◌&&◌, ◌||◌, not, nat_lt, cond, List, Option, Some, None, refl, sym, ap, ◌∙◌, arith}
+use Rattle.std.proofs.Common.{◌≡◌, ℕ, zero, suc, ◌+◌, ◌*◌, ◌/◌, ◌%◌, ◌^◌, ◌<◌, ◌≤◌, Bool, true, false, ◌&&◌, ◌||◌, not, nat_lt, cond, List, Option, Some, None, refl, ap, ◌∙◌, arith}
 use Rattle.std.specs.Prelude.{slice_set}
 use Rattle.std.specs.Option.{option_map_or}
 use Rattle.std.proofs.lemmas.Bool.{lt-ltb}
@@ -10,7 +10,7 @@ use Rattle.jh_ivshmem.specs.declared.vector.Vector.{Vector}
 use Rattle.jh_ivshmem.specs.Endpoint.{fresh_vector, is_open, pending_in, raised, taken}
 use Rattle.jh_ivshmem.specs.Links.{endpoint_at, rung, written}
 use Rattle.jh_ivshmem.specs.Specs.{vector_count}
-use Rattle.jh_history.specs.Devices.{Devices, InWindow}
+use Rattle.jh_history.specs.Devices.{Devices}
 use Rattle.jh_history.specs.Endpoints.{register_put}
 use Rattle.jh_talk.proofs.SetupLemmas.{open_vectors, prepared}
 
