@@ -1,5 +1,5 @@
 -- CPUs that are sought from the lowest on.
-use Rattle.std.proofs.Common.{◌≡◌, ℕ, ◌+◌, ◌<◌, ◌≤◌, inl, inr, Bool, true, false, not, refl, sym, ap, ◌∙◌, arith}
+use Rattle.std.proofs.Common.{◌≡◌, ℕ, ◌+◌, ◌<◌, ◌≤◌, inl, inr, Bool, true, false, not, ap, ◌∙◌, arith}
 use Rattle.std.proofs.lemmas.Bool.{not-true, cases_lt, both_ways, and_parts, and_from, false_from_ne_true}
 use Rattle.jh_cellcfg.specs.declared.config.CellConfig.{CellConfig}
 use Rattle.jh_cellcfg.specs.Cells.{is_cpu_set}

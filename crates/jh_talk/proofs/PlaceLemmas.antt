@@ -1,5 +1,5 @@
 -- A configuration may be put where a region begins that is no section, and nowhere else before.
-use Rattle.std.proofs.Common.{◌≡◌, ℕ, ◌+◌, ◌-◌, ◌<◌, ◌≤◌, Bool, true, false, ◌&&◌, not, nat_lt, nat_le, Option, Some, None, refl, sym, ap, subst, ◌∙◌, inl, inr, cond, length, arith}
+use Rattle.std.proofs.Common.{◌≡◌, ℕ, ◌+◌, ◌-◌, ◌<◌, ◌≤◌, true, false, ◌&&◌, not, nat_lt, nat_le, Option, Some, None, sym, ap, subst, ◌∙◌, inl, inr, cond, length, arith}
 use Rattle.std.specs.Prelude.{IfSome, MatchOption}
 use Rattle.std.specs.List.{list_any}
 use Rattle.std.proofs.lemmas.Bool.{not-true, ltb-true, leb-true, lt-ltb, le-leb, lt-leb, cases_eq, cases_lt, both_ways, and_parts, and_from, false_from_ne_true}
