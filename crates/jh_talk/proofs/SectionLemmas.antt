@@ -5,6 +5,7 @@ use Rattle.std.proofs.lemmas.Bool.{false≢true, or_cases, or_left, or_right, an
 use Rattle.jh_cellcfg.specs.declared.region.Region.{Region}
 use Rattle.jh_cellcfg.specs.declared.config.PciDevice.{PciDevice}
 use Rattle.jh_cellcfg.specs.declared.config.CellConfig.{CellConfig}
+use Rattle.jh_check.specs.Clean.{IsSection}
 use Rattle.jh_check.specs.Devices.{is_section, section_count, sections_of}
 use Rattle.jh_check.specs.Laws.{IsItem}
 
@@ -76,3 +77,8 @@ number_in_sections config device number x item is =
     let e : start + (number - start) ≡ number = omega arith in
     take_get (section_count device) (drop start regions) (number - start) x few
     (get_drop start regions (number - start) ∙ ap (slice_get regions) e ∙ item)
+
+-- a section stands among the sections at its index
+pub section_in_list : (config : CellConfig) (device : PciDevice) (k : ℕ) (x : Region) → IsSection config device k x → slice_get (sections_of config.memory_regions device) k ≡ Some x
+section_in_list config device k x section =
+    take_get (section_count device) (drop device.shmem_regions_start config.memory_regions) k x section.number (get_drop device.shmem_regions_start config.memory_regions k ∙ section.item)
