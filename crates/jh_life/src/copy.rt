@@ -14,7 +14,7 @@ fn copy_of<T: Copy>(alloc: Global, items: &Seq<T>) -> Result<Seq<T>, NoMemory>
 }
 
 /// A copy of the cell's configuration.
-fn copy_of_cell(alloc: Global, cell: &CellConfig) -> Result<CellConfig, NoMemory>
+pub fn copy_of_cell(alloc: Global, cell: &CellConfig) -> Result<CellConfig, NoMemory>
     ensures { IfOk result (λ copy. copy ≡ cell.now) }
 {
     Ok(CellConfig {
@@ -31,7 +31,7 @@ fn copy_of_cell(alloc: Global, cell: &CellConfig) -> Result<CellConfig, NoMemory
 }
 
 /// A copy of the system's configuration, root's too.
-pub(crate) fn copy_of_system(alloc: Global, system: &SystemConfig) -> Result<SystemConfig, NoMemory>
+pub fn copy_of_system(alloc: Global, system: &SystemConfig) -> Result<SystemConfig, NoMemory>
     ensures { IfOk result (λ copy. copy ≡ system.now) }
 {
     Ok(SystemConfig {

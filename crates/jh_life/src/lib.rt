@@ -8,6 +8,7 @@ mod counting;
 mod laws;
 
 pub use cells::{Cells, live_cells_differ};
+pub use copy::{copy_of_cell, copy_of_system};
 pub use laws::{
     a_cell_is_as_it_was_last_set, a_cell_is_dropped_by_its_id,
     a_cell_is_let_in_where_nothing_holds, a_cell_is_marked_by_its_id,
