@@ -1,40 +1,26 @@
 -- A communication page that the hypervisor writes: that of a cell, or one that was just taken and is written whole.
-use Rattle.std.proofs.Common.{◌≡◌, ◌⊎◌, inl, inr, ℕ, zero, suc, ◌+◌, ◌-◌, ◌<◌, ◌≤◌, false, cond, List, [], ◌∷◌, length, Option, Some, None, nat_lt, refl, sym, ap, subst, ◌∙◌, arith}
+use Rattle.std.proofs.Common.{◌≡◌, ◌≢◌, ◌⊎◌, inl, inr, ℕ, zero, suc, ◌+◌, ◌-◌, ◌*◌, ◌%◌, ◌<◌, ◌≤◌, Bool, true, false, ◌&&◌, cond, eqb, List, [], ◌∷◌, ◌++◌, length, map, Option, Some, None, nat_lt, refl, sym, ap, subst, ◌∙◌, arith}
 use Rattle.std.specs.Prelude.{IsSome, slice_index}
-use Rattle.std.proofs.lemmas.Bool.{false≢true, cases_eq, cases_lt, false_from_ne_true, lt-ltb, ltb-true}
+use Rattle.std.proofs.lemmas.Bool.{true≢false, false≢true, cases_eq, cases_lt, eq-eqb, eqb-true, false_from_ne_true, lt-ltb, ltb-true}
+use Rattle.std.proofs.lemmas.List.{map-append}
 use Rattle.jh_num.specs.Memory.{stored}
 use Rattle.jh_num.proofs.Public.{stored_before, stored_behind, stored_in}
-use Rattle.jh_frames.specs.Memory.{FramesView, byte_at, holds}
+use Rattle.jh_frames.specs.Memory.{FramesView, byte_at, holds, is_own}
 use Rattle.jh_history.specs.declared.comm.PageChange.{PageChange}
 use Rattle.jh_history.specs.declared.comm.PageChange.TheVariants.{Fresh}
 use Rattle.jh_history.specs.declared.comm.PageWrite.{PageWrite}
 use Rattle.jh_history.specs.declared.place.Place.{Place}
 use Rattle.jh_history.specs.declared.place.Place.TheVariants.{Physical, Page}
-use Rattle.jh_history.specs.Pages.{page_after}
-use Rattle.jh_pool.specs.Pages.{PoolView}
-use Rattle.jh_board.specs.declared.seats.Seat.{Seat}
-use Rattle.jh_board.specs.Pages.{HoldsPlace, MemoryView, byte_of, comm_byte}
-use Rattle.jh_board.specs.Seats.{SeatsView, comm_of, joined_seats, IsInPool, IsSeated}
-use Rattle.jh_board.specs.Private.Pages.{IsFresh, MayChangePage}
-use Rattle.jh_board.proofs.PlaceLemmas.{IsChanged, pool_same}
-use Rattle.jh_board.proofs.SeatsLemmas.{comm_pushed}
+use Rattle.jh_history.specs.Pages.{page_after, with_page}
+use Rattle.jh_edit.specs.declared.stage.Seat.{Seat}
+use Rattle.jh_edit.specs.declared.stage.Stage2.{Stage2}
+use Rattle.jh_board.specs.Pages.{HoldsPlace, byte_of, comm_byte}
+use Rattle.jh_board.specs.Seats.{comm_of, ids_of, AreCellSeats, IsOwnPage, IsSeated}
+use Rattle.jh_board.specs.Private.Pages.{ids_joined, HasRoom, IsFresh, IsOtherPlace, MayChangePage}
+use Rattle.jh_board.proofs.PlaceLemmas.{own_same, past_by, IsChanged}
+use Rattle.jh_board.proofs.SeatsLemmas.{comm_last, comm_pushed}
 
-in_same_pool : (old new : PoolView) (page : ℕ) → new.base ≡ old.base → new.size ≡ old.size → IsInPool new page → IsInPool old page
-in_same_pool old new page base size inside =
-    let above = inside.above in
-    let below = inside.below in
-    record { above = omega arith; below = omega arith; within = inside.within }
-
--- the pool has a page for a cell that comes, and the seats room for one
-pub room_by : (seats : SeatsView) (write : PageWrite) → MayChangePage seats write → comm_of seats write.cell ≡ None → (length seats.list < seats.pool.size) × (length seats.list < 16)
-room_by seats write (inl seated) none = let P : Option ℕ → Type 0 = IsSome in absurd (false≢true (subst P none seated))
-room_by seats write (inr coming) none = (coming.pages, coming.few)
-
--- all other cells have the pages that they had
-joined_others : (old new : SeatsView) (o : Option ℕ) (id cell page : ℕ) → comm_of old cell ≡ o → new.list ≡ joined_seats o cell page old.list → (id ≡ cell → ⊥) → comm_of new id ≡ comm_of old id
-joined_others old new None id cell page none list other = comm_pushed old new cell id page other list
-joined_others old new (Some own) id cell page some list other =
-    let P : List Seat → Type 0 = λ l. comm_of (record { pool = new.pool; list = l }) id ≡ comm_of old id in subst P (sym list) refl
+-- ---- the page of a cell
 
 index_past : (xs : List ℕ) (k : ℕ) → length xs ≤ k → slice_index xs k ≡ 0
 index_past [] k le = refl
@@ -45,66 +31,88 @@ past_end : (j : ℕ) → 4096 ≤ j → nat_lt j 4096 ≡ false
 past_end j past = false_from_ne_true (nat_lt j 4096) (λ lt. let below = ltb-true j 4096 lt in absurd (omega arith))
 
 -- the bytes that were on the page of a cell
-before_by : (old : MemoryView) (cell page : ℕ) (before : List ℕ) (j : ℕ) → comm_of old.seats cell ≡ Some page → length before ≡ 4096 → ((k : ℕ) → k < 4096 → slice_index before k ≡ byte_at old.frames (page + k)) → slice_index before j ≡ byte_of old (Page cell j)
+before_by : (old : Stage2) (cell page : ℕ) (before : List ℕ) (j : ℕ) → comm_of old cell ≡ Some page → length before ≡ 4096 → ((k : ℕ) → k < 4096 → slice_index before k ≡ byte_at old.frames (page + k)) → slice_index before j ≡ byte_of old (Page cell j)
 before_by old cell page before j own len bytes = elim (cases_lt j 4096) [
   | inl lt ↦ bytes j lt ∙ sym (ap (λ (o : Option ℕ). comm_byte old.frames o j) own ∙ ap (λ b. cond b (byte_at old.frames (page + j)) 0) (lt-ltb j 4096 lt))
   | inr past ↦ index_past before j (omega arith) ∙ sym (ap (λ (o : Option ℕ). comm_byte old.frames o j) own ∙ ap (λ b. cond b (byte_at old.frames (page + j)) 0) (past_end j past))
 ]
+
+-- what the page that is written back tells
+pub written_back : (old new : Stage2) (write : PageWrite) (page : ℕ) (before after : List ℕ) → new.seats ≡ old.seats → new.frames.own.base ≡ old.frames.own.base → length new.frames.own.bytes ≡ length old.frames.own.bytes
+    → comm_of old write.cell ≡ Some page → IsOwnPage old.frames.own page
+    → ((id other : ℕ) → (id ≡ write.cell → ⊥) → comm_of old id ≡ Some other → (page + 4096 ≤ other) ⊎ (other + 4096 ≤ page))
+    → length before ≡ 4096 → ((k : ℕ) → k < 4096 → slice_index before k ≡ byte_at old.frames (page + k))
+    → length after ≡ 4096 → ((k : ℕ) → k < 4096 → slice_index after k ≡ page_after write.change (λ j. slice_index before j) k)
+    → ((q : ℕ) → byte_at new.frames q ≡ stored (byte_at old.frames) page after q)
+    → IsChanged old new write.cell page write.change
+written_back old new write page before after seats base size own inside apart len bytes whole changed put =
+    let comm : (id : ℕ) → comm_of new id ≡ comm_of old id = λ id. ap (λ s. comm_of (record old { seats = s }) id) seats in
+    record {
+      base = base;
+      size = size;
+      inside = inside;
+      own = comm write.cell ∙ own;
+      others = λ id other. comm id;
+      apart = λ id other differ there. apart id other differ (sym (comm id) ∙ there);
+      put = λ k lt.
+          let e : page + k - page ≡ k = omega arith in
+          put (page + k)
+          ∙ stored_in (byte_at old.frames) page after (page + k) (omega arith) (omega arith)
+          ∙ ap (slice_index after) e
+          ∙ changed k lt
+          ∙ ap (λ (f : ℕ → ℕ). page_after write.change f k) (λ i j. before_by old write.cell page before j own len bytes i);
+      kept = λ q beside. put q ∙ (elim beside [
+        | inl below ↦ stored_before (byte_at old.frames) page after q below
+        | inr behind ↦ stored_behind (byte_at old.frames) page after q (omega arith)
+      ]);
+    }
+
+-- what was held is held
+pub held_back : (old new : Stage2) (write : PageWrite) (page : ℕ) → IsChanged old new write.cell page write.change → new.seats ≡ old.seats → ((q : ℕ) → holds new.frames q ≡ holds old.frames q) → (q : Place) → HoldsPlace old q → HoldsPlace new q
+held_back old new write page h seats same (Physical a) held = (held.0, same a ∙ held.1, own_same old.frames.own new.frames.own a h.base h.size ∙ held.2)
+held_back old new write page h seats same (Page id k) held = let P : Option ℕ → Type 0 = λ o. IsSome o × (k < 4096) in subst P (sym (ap (λ s. comm_of (record old { seats = s }) id) seats)) held
+
+-- ---- a cell that comes
 
 -- a fresh page is the same whatever was there
 fresh_alike : (change : PageChange) (f g : ℕ → ℕ) (k : ℕ) → IsFresh change → page_after change f k ≡ page_after change g k
 fresh_alike (Fresh state console window) f g k is = refl
 fresh_alike change f g k is = absurd is
 
-some_by : (o : Option ℕ) → IsSome o → (page : ℕ) × (o ≡ Some page)
-some_by None there = absurd (false≢true there)
-some_by (Some page) there = (page, refl)
+fresh_in : (b c : Bool) (change : PageChange) (f g : ℕ → ℕ) (k x y : ℕ) → IsFresh change → (b ≡ false → x ≡ y) → (c ≡ false → x ≡ y) → cond (b && c) (page_after change f k) x ≡ cond (b && c) (page_after change g k) y
+fresh_in true true change f g k x y is other past = fresh_alike change f g k is
+fresh_in true false change f g k x y is other past = past refl
+fresh_in false c change f g k x y is other past = other refl
 
-after_by : (old : MemoryView) (write : PageWrite) (page : ℕ) (before : List ℕ) (k : ℕ) → MayChangePage old.seats write → ((own : ℕ) → comm_of old.seats write.cell ≡ Some own → page ≡ own) → length before ≡ 4096 → ((j : ℕ) → j < 4096 → slice_index before j ≡ byte_at old.frames (page + j))
-    → page_after write.change (λ j. slice_index before j) k ≡ page_after write.change (λ j. byte_of old (Page write.cell j)) k
-after_by old write page before k (inl seated) kept len bytes =
-    let own = some_by (comm_of old.seats write.cell) seated in
-    let same : comm_of old.seats write.cell ≡ Some page = own.1 ∙ ap Some (sym (kept own.0 own.1)) in
-    ap (λ (f : ℕ → ℕ). page_after write.change f k) (λ i j. before_by old write.cell page before j same len bytes i)
-after_by old write page before k (inr coming) kept len bytes = fresh_alike write.change (λ j. slice_index before j) (λ j. byte_of old (Page write.cell j)) k coming.fresh
+-- so a page that the cell has just got is written whole
+pub fresh_whole : (old middle : Stage2) (write : PageWrite) → IsFresh write.change → ((q : Place) → IsOtherPlace write.cell q → byte_of middle q ≡ byte_of old q) → (q : Place) → with_page write (byte_of middle) q ≡ with_page write (byte_of old) q
+fresh_whole old middle write is bytes (Physical p) = bytes (Physical p) tt
+fresh_whole old middle write is bytes (Page id k) =
+    fresh_in (eqb id write.cell) (nat_lt k 4096) write.change (λ j. byte_of middle (Page id j)) (λ j. byte_of old (Page id j)) k (byte_of middle (Page id k)) (byte_of old (Page id k)) is
+    (λ differ. bytes (Page id k) (λ e. true≢false (sym (eq-eqb id write.cell e) ∙ differ)))
+    (λ past. past_by (comm_of middle id) middle.frames k past ∙ sym (past_by (comm_of old id) old.frames k past))
 
--- what the page that is written back tells
-pub written_back : (old : MemoryView) (seats : SeatsView) (frames : FramesView) (write : PageWrite) (page : ℕ) (before after : List ℕ) → MayChangePage old.seats write
-    → seats.pool.base ≡ old.seats.pool.base → seats.pool.size ≡ old.seats.pool.size → seats.list ≡ joined_seats (comm_of old.seats write.cell) write.cell page old.seats.list → comm_of seats write.cell ≡ Some page
-    → ((own : ℕ) → comm_of old.seats write.cell ≡ Some own → page ≡ own)
-    → IsInPool seats.pool page
-    → ((id other : ℕ) → (id ≡ write.cell → ⊥) → comm_of seats id ≡ Some other → (page + 4096 ≤ other) ⊎ (other + 4096 ≤ page))
-    → length before ≡ 4096 → ((k : ℕ) → k < 4096 → slice_index before k ≡ byte_at old.frames (page + k))
-    → length after ≡ 4096 → ((k : ℕ) → k < 4096 → slice_index after k ≡ page_after write.change (λ j. slice_index before j) k)
-    → ((q : ℕ) → byte_at frames q ≡ stored (byte_at old.frames) page after q)
-    → IsChanged old (record { frames = frames; seats = seats }) write.cell page write.change
-written_back old seats frames write page before after may base size list own kept inside apart len bytes whole changed put = record {
-  base = base;
-  size = size;
-  inside = in_same_pool old.seats.pool seats.pool page base size inside;
-  own = own;
-  others = λ id other. joined_others old.seats seats (comm_of old.seats write.cell) id write.cell page refl list other;
-  apart = apart;
-  put = λ k lt.
-      let e : page + k - page ≡ k = omega arith in
-      put (page + k)
-      ∙ stored_in (byte_at old.frames) page after (page + k) (omega arith) (omega arith)
-      ∙ ap (slice_index after) e
-      ∙ changed k lt
-      ∙ after_by old write page before k may kept len bytes;
-  kept = λ q beside. put q ∙ (elim beside [
-    | inl below ↦ stored_before (byte_at old.frames) page after q below
-    | inr behind ↦ stored_behind (byte_at old.frames) page after q (omega arith)
-  ]);
-}
+-- what the seat of the cell changes: nothing at other places
+pub joined_bytes : (old new : Stage2) (id page : ℕ) → new.frames ≡ old.frames → new.seats.items ≡ old.seats.items ++ record { id = id; comm = Some page; tree = None } ∷ []
+    → (q : Place) → IsOtherPlace id q → byte_of new q ≡ byte_of old q
+joined_bytes old new id page frames list (Physical a) other = ap (λ (f : FramesView). cond (is_own f.own a) 0 (byte_at f a)) frames
+joined_bytes old new id page frames list (Page cell k) other =
+    ap (λ (f : FramesView). comm_byte f (comm_of new cell) k) frames ∙ ap (λ (o : Option ℕ). comm_byte old.frames o k) (comm_pushed old new id cell page other list)
 
--- what was held is held
-seated_by : (old new : SeatsView) (cell page id : ℕ) → comm_of new cell ≡ Some page → ((n : ℕ) → (n ≡ cell → ⊥) → comm_of new n ≡ comm_of old n) → IsSeated old id → IsSeated new id
-seated_by old new cell page id own others h = elim (cases_eq id cell) [
-  | inl same ↦ let P : ℕ → Type 0 = λ n. IsSome (comm_of new n) in let Q : Option ℕ → Type 0 = IsSome in subst P (sym same) (subst Q (sym own) refl)
-  | inr other ↦ let Q : Option ℕ → Type 0 = IsSome in subst Q (sym (others id other)) h
+joined_seated : (old new : Stage2) (id cell page : ℕ) → AreCellSeats old → comm_of old id ≡ None → new.seats.items ≡ old.seats.items ++ record { id = id; comm = Some page; tree = None } ∷ [] → IsSeated old cell → IsSeated new cell
+joined_seated old new id cell page all none list h = elim (cases_eq cell id) [
+  | inl same ↦ let P : ℕ → Type 0 = λ n. IsSome (comm_of new n) in let Q : Option ℕ → Type 0 = IsSome in subst P (sym same) (subst Q (sym (comm_last old new id page all none list)) refl)
+  | inr other ↦ let Q : Option ℕ → Type 0 = IsSome in subst Q (sym (comm_pushed old new id cell page other list)) h
 ]
 
-pub held_back : (old new : MemoryView) (write : PageWrite) (page : ℕ) → IsChanged old new write.cell page write.change → ((q : ℕ) → holds new.frames q ≡ holds old.frames q) → (q : Place) → HoldsPlace old q → HoldsPlace new q
-held_back old new write page h same (Physical a) held = (held.0, same a ∙ held.1, pool_same old.seats.pool new.seats.pool a h.base h.size ∙ held.2)
-held_back old new write page h same (Page id k) held = (seated_by old.seats new.seats write.cell page id h.own h.others held.0, held.1)
+pub joined_held : (old new : Stage2) (id page : ℕ) → AreCellSeats old → comm_of old id ≡ None → new.frames ≡ old.frames → new.seats.items ≡ old.seats.items ++ record { id = id; comm = Some page; tree = None } ∷ []
+    → (q : Place) → HoldsPlace old q → HoldsPlace new q
+joined_held old new id page all none frames list (Physical a) h = (h.0, ap (λ (f : FramesView). holds f a) frames ∙ h.1, ap (λ (f : FramesView). is_own f.own a) frames ∙ h.2)
+joined_held old new id page all none frames list (Page cell k) h = (joined_seated old new id cell page all none list h.0, h.1)
+
+-- and the ids are one more
+pub ids_pushed : (old new : Stage2) (id page : ℕ) → comm_of old id ≡ None → new.seats.items ≡ old.seats.items ++ record { id = id; comm = Some page; tree = None } ∷ [] → ids_of new ≡ ids_joined (comm_of old id) id (ids_of old)
+ids_pushed old new id page none list =
+    ap (λ (l : List Seat). map (λ (seat : Seat). seat.id) l) list
+    ∙ map-append (λ (seat : Seat). seat.id) old.seats.items (record { id = id; comm = Some page; tree = None } ∷ [])
+    ∙ ap (λ (o : Option ℕ). ids_joined o id (ids_of old)) (sym none)

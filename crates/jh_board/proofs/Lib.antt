@@ -1,6 +1,8 @@
 mod ListLemmas
 mod SeatsLemmas
 mod PlaceLemmas
+mod TablesLemmas
+mod SoundLemmas
 mod ChangedLemmas
 mod BytesLemmas
 mod PieceLemmas

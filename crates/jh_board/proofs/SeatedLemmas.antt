@@ -31,10 +31,12 @@ use Rattle.jh_history.specs.Facts.{Facts}
 use Rattle.jh_history.specs.Lives.{live_in}
 use Rattle.jh_history.specs.Pages.{committing, on_page, page_write_by}
 use Rattle.jh_history.proofs.Public.{two_ids}
-use Rattle.jh_board.specs.declared.seats.Seat.{Seat}
+use Rattle.jh_edit.specs.declared.stage.Seat.{Seat}
+use Rattle.jh_edit.specs.declared.stage.Stage2.{Stage2}
+use Rattle.jh_edit.specs.Seats.{comm_in, is_seat_of}
 use Rattle.jh_board.specs.declared.steps.CellsChange.{CellsChange}
 use Rattle.jh_board.specs.declared.steps.CellsChange.TheVariants.{Remove}
-use Rattle.jh_board.specs.Seats.{SeatsView, comm_of, ids_of, is_seat_of, IsSeated}
+use Rattle.jh_board.specs.Seats.{comm_of, ids_of, AreCellSeats, IsSeated}
 use Rattle.jh_board.specs.Private.Pages.{Stays, ids_but, ids_joined, ids_left, ids_written}
 use Rattle.jh_board.specs.Private.Steps.{change_of_call, change_of_cells}
 use Rattle.jh_board.proofs.WrittenLemmas.{live_page}
@@ -66,63 +68,63 @@ seated_same None id ids there = absurd (false≢true there)
 seated_same (Some page) id ids there = refl
 
 -- one into the page of a cell that has a page seats none
-written_same : (write : Option PageWrite) (seats : SeatsView) → ((w : PageWrite) → write ≡ Some w → IsSeated seats w.cell) → ids_written write seats ≡ ids_of seats
-written_same None seats there = refl
-written_same (Some w) seats there = seated_same (comm_of seats w.cell) w.cell (ids_of seats) (there w refl)
+written_same : (write : Option PageWrite) (stage : Stage2) → ((w : PageWrite) → write ≡ Some w → IsSeated stage w.cell) → ids_written write stage ≡ ids_of stage
+written_same None stage there = refl
+written_same (Some w) stage there = seated_same (comm_of stage w.cell) w.cell (ids_of stage) (there w refl)
 
 live_by : (cells : List Live) (id : ℕ) (o : Option Live) (config : CellConfig) → find (has_id id) cells ≡ o → option_map (λ (live : Live). live.config) o ≡ Some config → IsLive cells config.id
 live_by cells id None config is h = absurd (none-some config h)
 live_by cells id (Some live) config is h = (live, (IsFound_from_find (has_id id) cells live is).among, ap (λ (c : CellConfig). c.id) (same_Some live.config config h))
 
-live_written : (seats : SeatsView) (cells : List Live) (id : ℕ) (change : CellConfig → PageChange) (o : Option CellConfig) → ids_of seats ≡ map id_of cells → live_in cells id ≡ o
-    → ids_written (option_map (λ (c : CellConfig). on_page (change c) c) o) seats ≡ ids_of seats
-live_written seats cells id change None same is = refl
-live_written seats cells id change (Some config) same is =
-    seated_same (comm_of seats config.id) config.id (ids_of seats) (live_page seats cells config.id same (live_by cells id (find (has_id id) cells) config refl is))
+live_written : (stage : Stage2) (cells : List Live) (id : ℕ) (change : CellConfig → PageChange) (o : Option CellConfig) → AreCellSeats stage → ids_of stage ≡ map id_of cells → live_in cells id ≡ o
+    → ids_written (option_map (λ (c : CellConfig). on_page (change c) c) o) stage ≡ ids_of stage
+live_written stage cells id change None all same is = refl
+live_written stage cells id change (Some config) all same is =
+    seated_same (comm_of stage config.id) config.id (ids_of stage) (live_page stage cells config.id all same (live_by cells id (find (has_id id) cells) config refl is))
 
 -- ---- the Commit
 
-committed : (window : ℕ) (cells : List Live) (seats : SeatsView) (call : Call) (phase : Phase) → ids_of seats ≡ map id_of cells → ((config : CellConfig) → created call phase ≡ Some config → comm_of seats config.id ≡ None)
-    → ids_left (change_of_call call) (ids_written (committing window cells call phase) seats) ≡ map id_of (committed_cells call phase cells)
-committed window cells seats (Create at) (ToCreate config) same unknown =
-    ap (λ (o : Option ℕ). ids_joined o config.id (ids_of seats)) (unknown config refl) ∙ ap (λ (ids : List ℕ). ids ++ config.id ∷ []) same ∙ sym (map-append id_of cells (new_live config ∷ []))
-committed window cells seats (Start id) phase same unknown =
-    live_written seats cells id (λ c. Fresh STATE_RUNNING c.console window) (live_in cells id) same refl ∙ same ∙ sym (ids_marked id false cells)
-committed window cells seats (Loadable id) phase same unknown =
-    live_written seats cells id (λ c. State STATE_SHUT_DOWN) (live_in cells id) same refl ∙ same ∙ sym (ids_marked id true cells)
-committed window cells seats (Destroy id) phase same unknown = ap (ids_but id) same ∙ sym (ids_others id cells)
-committed window cells seats call phase same unknown = same
+committed : (window : ℕ) (cells : List Live) (stage : Stage2) (call : Call) (phase : Phase) → AreCellSeats stage → ids_of stage ≡ map id_of cells → ((config : CellConfig) → created call phase ≡ Some config → comm_of stage config.id ≡ None)
+    → ids_left (change_of_call call) (ids_written (committing window cells call phase) stage) ≡ map id_of (committed_cells call phase cells)
+committed window cells stage (Create at) (ToCreate config) all same unknown =
+    ap (λ (o : Option ℕ). ids_joined o config.id (ids_of stage)) (unknown config refl) ∙ ap (λ (ids : List ℕ). ids ++ config.id ∷ []) same ∙ sym (map-append id_of cells (new_live config ∷ []))
+committed window cells stage (Start id) phase all same unknown =
+    live_written stage cells id (λ c. Fresh STATE_RUNNING c.console window) (live_in cells id) all same refl ∙ same ∙ sym (ids_marked id false cells)
+committed window cells stage (Loadable id) phase all same unknown =
+    live_written stage cells id (λ c. State STATE_SHUT_DOWN) (live_in cells id) all same refl ∙ same ∙ sym (ids_marked id true cells)
+committed window cells stage (Destroy id) phase all same unknown = ap (ids_but id) same ∙ sym (ids_others id cells)
+committed window cells stage call phase all same unknown = same
 
-at_commit : (window : ℕ) (cells : List Live) (seats : SeatsView) (call : Option OpenCall) → ids_of seats ≡ map id_of cells → ((config : CellConfig) → created_by call Commit ≡ Some config → comm_of seats config.id ≡ None)
-    → ids_left (change_of_cells call Commit) (ids_written (option_and_then (λ (o : OpenCall). committing window cells o.call o.phase) call) seats) ≡ map id_of (cells_by call cells Commit)
-at_commit window cells seats None same unknown = same
-at_commit window cells seats (Some o) same unknown = committed window cells seats o.call o.phase same unknown
+at_commit : (window : ℕ) (cells : List Live) (stage : Stage2) (call : Option OpenCall) → AreCellSeats stage → ids_of stage ≡ map id_of cells → ((config : CellConfig) → created_by call Commit ≡ Some config → comm_of stage config.id ≡ None)
+    → ids_left (change_of_cells call Commit) (ids_written (option_and_then (λ (o : OpenCall). committing window cells o.call o.phase) call) stage) ≡ map id_of (cells_by call cells Commit)
+at_commit window cells stage None all same unknown = same
+at_commit window cells stage (Some o) all same unknown = committed window cells stage o.call o.phase all same unknown
 
 -- ---- an entry
 
-seated_by : (image : Image) (f : Facts) (entry : Entry) (seats : SeatsView) (act : Act) → ids_of seats ≡ map id_of f.cells → ((write : PageWrite) → page_write_by image f entry act ≡ Some write → HasPage f act write.cell) → is_commit act ≡ false
-    → ids_written (page_write_by image f entry act) seats ≡ map id_of f.cells
-seated_by image f entry seats act same law other =
-    written_same (page_write_by image f entry act) seats (λ write is.
-    ⊎_elim (λ (live : IsLive f.cells write.cell). live_page seats f.cells write.cell same live)
+seated_by : (image : Image) (f : Facts) (entry : Entry) (stage : Stage2) (act : Act) → AreCellSeats stage → ids_of stage ≡ map id_of f.cells → ((write : PageWrite) → page_write_by image f entry act ≡ Some write → HasPage f act write.cell) → is_commit act ≡ false
+    → ids_written (page_write_by image f entry act) stage ≡ map id_of f.cells
+seated_by image f entry stage act all same law other =
+    written_same (page_write_by image f entry act) stage (λ write is.
+    ⊎_elim (λ (live : IsLive f.cells write.cell). live_page stage f.cells write.cell all same live)
     (λ (made : IsCreated f act write.cell). absurd (true≢false (sym (ap is_commit made.commits) ∙ other))) (law write is)) ∙ same
 
-pub seats_made : (image : Image) (f : Facts) (entry : Entry) (seats : SeatsView) (act : Act) → ids_of seats ≡ map id_of f.cells → ((write : PageWrite) → page_write_by image f entry act ≡ Some write → HasPage f act write.cell)
-    → ((config : CellConfig) → created_by f.call act ≡ Some config → comm_of seats config.id ≡ None)
-    → ids_left (change_of_cells f.call act) (ids_written (page_write_by image f entry act) seats) ≡ map id_of (cells_by f.call f.cells act)
-seats_made image f entry seats Commit same law unknown = at_commit image.system.platform.pci_mmconfig_base f.cells seats f.call same unknown
-seats_made image f entry seats act same law unknown = seated_by image f entry seats act same law refl
+pub seats_made : (image : Image) (f : Facts) (entry : Entry) (stage : Stage2) (act : Act) → AreCellSeats stage → ids_of stage ≡ map id_of f.cells → ((write : PageWrite) → page_write_by image f entry act ≡ Some write → HasPage f act write.cell)
+    → ((config : CellConfig) → created_by f.call act ≡ Some config → comm_of stage config.id ≡ None)
+    → ids_left (change_of_cells f.call act) (ids_written (page_write_by image f entry act) stage) ≡ map id_of (cells_by f.call f.cells act)
+seats_made image f entry stage Commit all same law unknown = at_commit image.system.platform.pci_mmconfig_base f.cells stage f.call all same unknown
+seats_made image f entry stage act all same law unknown = seated_by image f entry stage act all same law refl
 
 -- ---- a cell that comes has no page yet
 
-unseated : (o : Option Seat) → o ≡ None → option_map (λ (seat : Seat). seat.comm) o ≡ None
-unseated o is = ap (option_map (λ (seat : Seat). seat.comm)) is
+unseated : (o : Option Seat) → o ≡ None → comm_in o ≡ None
+unseated o is = ap comm_in is
 
-pub no_page_yet : (image : Image) (cells : List Live) (config : CellConfig) (seats : SeatsView) → ids_of seats ≡ map id_of cells → MayLive image cells config → comm_of seats config.id ≡ None
-no_page_yet image cells config seats same may =
-    unseated (find (is_seat_of config.id) seats.list) (find_nothing (is_seat_of config.id) seats.list (λ seat there.
+pub no_page_yet : (image : Image) (cells : List Live) (config : CellConfig) (stage : Stage2) → ids_of stage ≡ map id_of cells → MayLive image cells config → comm_of stage config.id ≡ None
+no_page_yet image cells config stage same may =
+    unseated (find (is_seat_of config.id) stage.seats.items) (find_nothing (is_seat_of config.id) stage.seats.items (λ seat there.
     let P : List ℕ → Type 0 = λ ids. Contains ids seat.id in
-    let live = Contains_from_map id_of cells seat.id (subst P same (Contains_map (λ (s : Seat). s.id) seats.list seat there)) in
+    let live = Contains_from_map id_of cells seat.id (subst P same (Contains_map (λ (s : Seat). s.id) stage.seats.items seat there)) in
     let among = Contains_tail image.system.root (configs_of cells) live.0.config (Contains_map (λ (l : Live). l.config) cells live.0 live.1) in
     let other = two_ids live.0.config config (list_any_false (is_namesake config) (all_cells image.system.root cells) live.0.config may.unknown among) in
     ne_eqb seat.id config.id (λ e. other (live.2 ∙ e))))

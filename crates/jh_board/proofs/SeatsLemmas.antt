@@ -1,78 +1,85 @@
 -- The seats of cells: whose page is whose, where the pages lie, one seat more, and one less.
-use Rattle.std.proofs.Common.{◌≡◌, ◌⊎◌, inl, inr, ⊎_elim, ℕ, suc, ◌+◌, ◌*◌, ◌%◌, ◌≤◌, Bool, true, false, not, cond, eqb, List, [], ◌∷◌, ◌++◌, length, map, Option, Some, None, refl, sym, ap, subst, ◌∙◌, arith}
-use Rattle.std.specs.Prelude.{filter, find, Contains, option_map}
-use Rattle.std.proofs.lemmas.Bool.{true≢false, cases_lt, eqb-true, eq-eqb, ne_eqb}
+use Rattle.std.proofs.Common.{◌≡◌, ◌⊎◌, inl, inr, ⊎_elim, ℕ, suc, ◌+◌, ◌-◌, ◌*◌, ◌%◌, ◌<◌, ◌≤◌, Bool, true, false, not, cond, eqb, List, [], ◌∷◌, ◌++◌, length, map, sum_by, Option, Some, None, if◌then◌else◌, refl, sym, ap, subst, ◌∙◌, arith}
+use Rattle.std.specs.Prelude.{IsSome, filter, find, Contains}
+use Rattle.std.proofs.lemmas.Bool.{true≢false, false≢true, cases_lt, eqb-true, eq-eqb, ne_eqb}
 use Rattle.std.proofs.lemmas.Option.{none-some, same_Some}
 use Rattle.std.proofs.lemmas.List.Elements.{Contains-push_cases}
+use Rattle.std.proofs.lemmas.List.Sums.{get_or-le-sum_by}
 use Rattle.jh_num.specs.declared.address.TheConstants.{ADDRESS_END}
 use Rattle.jh_num.proofs.Public.{Contains_head, Contains_tail, Contains_cases, IsFound_from_find, IsFound_from_filter, filter_all, find_None, find_kept}
+use Rattle.jh_frames.specs.Memory.{OwnView}
 use Rattle.jh_pool.specs.Pages.{PoolView, IsTakenPage, is_free}
-use Rattle.jh_board.specs.Seats.{SeatsView, comm_of, is_other_seat, is_seat_of, IsInPool}
+use Rattle.jh_edit.specs.declared.stage.Editing.{Editing}
+use Rattle.jh_edit.specs.declared.stage.Seat.{Seat}
+use Rattle.jh_edit.specs.declared.stage.Stage2.{Stage2}
+use Rattle.jh_edit.specs.Forest.{comm_times, comm_uses, is_gone}
+use Rattle.jh_edit.specs.Seats.{comm_in, is_seat_of}
+use Rattle.jh_edit.specs.Tables.{IsPoolOf}
+use Rattle.jh_board.specs.Seats.{comm_of, is_other_seat, AreCellSeats, IsOwnPage}
 use Rattle.jh_board.specs.Private.Pages.{ids_but}
-use Rattle.jh_board.specs.Private.Seated.{AreSeated, AreTwoSeats}
-use Rattle.jh_board.specs.declared.seats.Seat.{Seat}
+use Rattle.jh_board.specs.Private.Seated.{AreSeated, AreTwoSeats, HasTakenPage, IsSoundMemory}
 
 -- ---- each seat
 
-seated_taken : (pool : PoolView) (list : List Seat) (seat : Seat) → AreSeated pool list → Contains list seat → IsTakenPage pool seat.comm
+seated_taken : (pool : PoolView) (list : List Seat) (seat : Seat) → AreSeated pool list → Contains list seat → HasTakenPage pool seat
 seated_taken pool [] seat h there = absurd (let lt = there.1 in omega arith)
 seated_taken pool (s ∷ rest) seat h there =
-    let P : Seat → Type 0 = λ x. IsTakenPage pool x.comm in
+    let P : Seat → Type 0 = HasTakenPage pool in
     ⊎_elim (λ (own : s ≡ seat). subst P own h.0) (λ (other : Contains rest seat). seated_taken pool rest seat h.2 other) (Contains_cases s rest seat there)
 
-two_by : (pool : PoolView) (s : Seat) (rest : List Seat) (a b : Seat) → AreSeated pool (s ∷ rest) → (a.id ≡ b.id → ⊥) → (s ≡ a) ⊎ Contains rest a → (s ≡ b) ⊎ Contains rest b
-    → (Contains rest a → Contains rest b → a.comm ≡ b.comm → ⊥) → a.comm ≡ b.comm → ⊥
-two_by pool s rest a b h other (inl e) (inl f) more same = other (ap (λ (x : Seat). x.id) (sym e ∙ f))
-two_by pool s rest a b h other (inl e) (inr there) more same = (h.1 b there).pages (ap (λ (x : Seat). x.comm) e ∙ same)
-two_by pool s rest a b h other (inr there) (inl f) more same = (h.1 a there).pages (ap (λ (x : Seat). x.comm) f ∙ sym same)
-two_by pool s rest a b h other (inr first) (inr second) more same = more first second same
+two_by : (pool : PoolView) (s : Seat) (rest : List Seat) (a b : Seat) (page : ℕ) → AreSeated pool (s ∷ rest) → (a.id ≡ b.id → ⊥) → (s ≡ a) ⊎ Contains rest a → (s ≡ b) ⊎ Contains rest b
+    → (Contains rest a → Contains rest b → ⊥) → a.comm ≡ Some page → b.comm ≡ Some page → ⊥
+two_by pool s rest a b page h other (inl e) (inl f) more first second = other (ap (λ (x : Seat). x.id) (sym e ∙ f))
+two_by pool s rest a b page h other (inl e) (inr there) more first second = (h.1 b there).pages page (ap (λ (x : Seat). x.comm) e ∙ first) second
+two_by pool s rest a b page h other (inr there) (inl f) more first second = (h.1 a there).pages page (ap (λ (x : Seat). x.comm) f ∙ second) first
+two_by pool s rest a b page h other (inr there) (inr behind) more first second = more there behind
 
 -- two cells have two pages
-two_pages : (pool : PoolView) (list : List Seat) (a b : Seat) → AreSeated pool list → Contains list a → Contains list b → (a.id ≡ b.id → ⊥) → a.comm ≡ b.comm → ⊥
-two_pages pool [] a b h first second other same = absurd (let lt = first.1 in omega arith)
-two_pages pool (s ∷ rest) a b h first second other same =
-    two_by pool s rest a b h other (Contains_cases s rest a first) (Contains_cases s rest b second) (λ f g. two_pages pool rest a b h.2 f g other) same
+two_pages : (pool : PoolView) (list : List Seat) (a b : Seat) (page : ℕ) → AreSeated pool list → Contains list a → Contains list b → (a.id ≡ b.id → ⊥) → a.comm ≡ Some page → b.comm ≡ Some page → ⊥
+two_pages pool [] a b page h there behind other first second = absurd (let lt = there.1 in omega arith)
+two_pages pool (s ∷ rest) a b page h there behind other first second =
+    two_by pool s rest a b page h other (Contains_cases s rest a there) (Contains_cases s rest b behind) (λ f g. two_pages pool rest a b page h.2 f g other first second) first second
 
 -- the seat of the cell with the id, whose page begins there
-record IsSeat (list : List Seat) (id page : ℕ) : Type 0 where
+pub record IsSeat (list : List Seat) (id page : ℕ) : Type 0 where
   pub one : Seat
+  pub is : find (is_seat_of id) list ≡ Some one
   pub among : Contains list one
   pub named : one.id ≡ id
-  pub begins : one.comm ≡ page
+  pub begins : one.comm ≡ Some page
 
-seat_by : (list : List Seat) (id page : ℕ) (o : Option Seat) → find (is_seat_of id) list ≡ o → option_map (λ (seat : Seat). seat.comm) o ≡ Some page → IsSeat list id page
+seat_by : (list : List Seat) (id page : ℕ) (o : Option Seat) → find (is_seat_of id) list ≡ o → comm_in o ≡ Some page → IsSeat list id page
 seat_by list id page None is h = absurd (none-some page h)
 seat_by list id page (Some seat) is h =
     let found = IsFound_from_find (is_seat_of id) list seat is in
-    record { one = seat; among = found.among; named = eqb-true seat.id id found.passes; begins = same_Some seat.comm page h }
+    record { one = seat; is = is; among = found.among; named = eqb-true seat.id id found.passes; begins = h }
 
-seat_at : (seats : SeatsView) (id page : ℕ) → comm_of seats id ≡ Some page → IsSeat seats.list id page
-seat_at seats id page h = seat_by seats.list id page (find (is_seat_of id) seats.list) refl h
+pub seat_at : (stage : Stage2) (id page : ℕ) → comm_of stage id ≡ Some page → IsSeat stage.seats.items id page
+seat_at stage id page h = seat_by stage.seats.items id page (find (is_seat_of id) stage.seats.items) refl h
 
-pub comm_found : (seats : SeatsView) (list : List Seat) (id : ℕ) (seat : Seat) → list ≡ seats.list → Some seat ≡ find (is_seat_of id) list → comm_of seats id ≡ Some seat.comm
-comm_found seats list id seat same is =
-    ap (option_map (λ (s : Seat). s.comm)) (sym (is ∙ ap (λ (l : List Seat). find (is_seat_of id) l) same))
+pub comm_found : (stage : Stage2) (list : List Seat) (id : ℕ) (seat : Seat) → list ≡ stage.seats.items → Some seat ≡ find (is_seat_of id) list → comm_of stage id ≡ seat.comm
+comm_found stage list id seat same is = ap comm_in (sym (is ∙ ap (λ (l : List Seat). find (is_seat_of id) l) same))
 
--- a page that is taken lies in the pool
-pub taken_within : (pool : PoolView) (page : ℕ) → pool.base % 4096 ≡ 0 → pool.base + 4096 * pool.size ≤ ADDRESS_END → IsTakenPage pool page → IsInPool pool page
-taken_within pool page aligned place taken =
+-- a page that is taken is one of the hypervisor's
+pub taken_within : (stage : Stage2) (page : ℕ) → IsPoolOf stage.pool stage.frames → IsTakenPage stage.pool page → IsOwnPage stage.frames.own page
+taken_within stage page inside taken =
     let own = taken.in_range.aligned in
     let above = taken.in_range.above in
     let below = taken.in_range.below in
-    record { above = above; below = omega arith; within = omega arith }
-
-pub seat_within : (seats : SeatsView) (id page : ℕ) → seats.pool.base % 4096 ≡ 0 → seats.pool.base + 4096 * seats.pool.size ≤ ADDRESS_END → AreSeated seats.pool seats.list → comm_of seats id ≡ Some page → IsInPool seats.pool page
-seat_within seats id page aligned place seated h =
-    let seat = seat_at seats id page h in
-    let P : ℕ → Type 0 = IsInPool seats.pool in
-    subst P seat.begins (taken_within seats.pool seat.one.comm aligned place (seated_taken seats.pool seats.list seat.one seated seat.among))
+    let aligned = inside.aligned in
+    let base = inside.base in
+    let size = inside.size in
+    let end = inside.end in
+    record { above = omega arith; below = omega arith; within = omega arith }
 
 -- and so is that of each cell
-pub seated_page : (seats : SeatsView) (id page : ℕ) → AreSeated seats.pool seats.list → comm_of seats id ≡ Some page → IsTakenPage seats.pool page
-seated_page seats id page seated h =
-    let seat = seat_at seats id page h in
-    let P : ℕ → Type 0 = IsTakenPage seats.pool in
-    subst P seat.begins (seated_taken seats.pool seats.list seat.one seated seat.among)
+pub seated_page : (stage : Stage2) (id page : ℕ) → AreSeated stage.pool stage.seats.items → comm_of stage id ≡ Some page → IsTakenPage stage.pool page
+seated_page stage id page seated h =
+    let seat = seat_at stage id page h in
+    seated_taken stage.pool stage.seats.items seat.one seated seat.among page seat.begins
+
+pub seat_within : (stage : Stage2) (id page : ℕ) → IsPoolOf stage.pool stage.frames → AreSeated stage.pool stage.seats.items → comm_of stage id ≡ Some page → IsOwnPage stage.frames.own page
+seat_within stage id page inside seated h = taken_within stage page inside (seated_page stage id page seated h)
 
 -- two pages of the pool have no byte in common
 pages_apart : (pool : PoolView) (page other : ℕ) → IsTakenPage pool page → IsTakenPage pool other → (page ≡ other → ⊥) → (page + 4096 ≤ other) ⊎ (other + 4096 ≤ page)
@@ -84,19 +91,34 @@ pages_apart pool page other first second two =
       | inr above ↦ inr (omega arith)
     ]
 
-pub seats_apart : (seats : SeatsView) (id cell page other : ℕ) → AreSeated seats.pool seats.list → (id ≡ cell → ⊥) → comm_of seats id ≡ Some page → comm_of seats cell ≡ Some other → (page + 4096 ≤ other) ⊎ (other + 4096 ≤ page)
-seats_apart seats id cell page other seated differ first second =
-    let a = seat_at seats id page first in
-    let b = seat_at seats cell other second in
-    let two : a.one.comm ≡ b.one.comm → ⊥ = two_pages seats.pool seats.list a.one b.one seated a.among b.among (λ same. differ (sym a.named ∙ same ∙ b.named)) in
-    let P : ℕ → Type 0 = λ p. (p + 4096 ≤ b.one.comm) ⊎ (b.one.comm + 4096 ≤ p) in
-    let Q : ℕ → Type 0 = λ q. (page + 4096 ≤ q) ⊎ (q + 4096 ≤ page) in
-    subst Q b.begins (subst P a.begins (pages_apart seats.pool a.one.comm b.one.comm (seated_taken seats.pool seats.list a.one seated a.among) (seated_taken seats.pool seats.list b.one seated b.among) two))
+pub seats_apart : (stage : Stage2) (id cell page other : ℕ) → AreSeated stage.pool stage.seats.items → (id ≡ cell → ⊥) → comm_of stage id ≡ Some page → comm_of stage cell ≡ Some other → (page + 4096 ≤ other) ⊎ (other + 4096 ≤ page)
+seats_apart stage id cell page other seated differ first second =
+    let a = seat_at stage id page first in
+    let b = seat_at stage cell other second in
+    pages_apart stage.pool page other (seated_page stage id page seated first) (seated_page stage cell other seated second)
+    (λ same. two_pages stage.pool stage.seats.items a.one b.one page seated a.among b.among (λ e. differ (sym a.named ∙ e ∙ b.named)) a.begins (b.begins ∙ ap Some (sym same)))
+
+-- ---- a communication page has a use
+
+in_sum : (f : Seat → ℕ) (list : List Seat) (seat : Seat) → Contains list seat → f seat ≤ sum_by f list
+in_sum f list seat (k, lt, is) = let P : Seat → Type 0 = λ s. f s ≤ sum_by f list in subst P is (get_or-le-sum_by f list k seat lt)
+
+counted : (editing : Option Editing) (seat : Seat) (page : ℕ) → editing ≡ None → seat.comm ≡ Some page → (if is_gone editing seat then 0 else comm_times page seat.comm) ≡ 1
+counted editing seat page still begins =
+    let P : Option Editing → Type 0 = λ e. (if is_gone e seat then 0 else comm_times page seat.comm) ≡ 1 in
+    subst P (sym still) (ap (comm_times page) begins ∙ ap (λ b. if b then 1 else 0) (eq-eqb page page refl))
+
+pub comm_counts : (stage : Stage2) (id page : ℕ) → stage.editing ≡ None → comm_of stage id ≡ Some page → comm_uses stage page ≡ 0 → ⊥
+comm_counts stage id page still h none =
+    let seat = seat_at stage id page h in
+    let one = counted stage.editing seat.one page still seat.begins in
+    let le = in_sum (λ (s : Seat). if is_gone stage.editing s then 0 else comm_times page s.comm) stage.seats.items seat.one seat.among in
+    omega arith
 
 -- ---- another pool
 
 -- seats keep their pages where these stay taken
-seated_kept : (old new : PoolView) (list : List Seat) → ((seat : Seat) → Contains list seat → IsTakenPage old seat.comm → IsTakenPage new seat.comm) → AreSeated old list → AreSeated new list
+seated_kept : (old new : PoolView) (list : List Seat) → ((seat : Seat) → Contains list seat → HasTakenPage old seat → HasTakenPage new seat) → AreSeated old list → AreSeated new list
 seated_kept old new [] keep h = tt
 seated_kept old new (s ∷ rest) keep h = (keep s (Contains_head s rest) h.0, h.1, seated_kept old new rest (λ seat there. keep seat (Contains_tail s rest seat there)) h.2)
 
@@ -116,7 +138,7 @@ taken_kept old new page q same other taken =
 
 -- ---- one seat more
 
-seated_push : (pool : PoolView) (list : List Seat) (new : Seat) → AreSeated pool list → IsTakenPage pool new.comm → ((seat : Seat) → Contains list seat → AreTwoSeats seat new) → AreSeated pool (list ++ new ∷ [])
+seated_push : (pool : PoolView) (list : List Seat) (new : Seat) → AreSeated pool list → HasTakenPage pool new → ((seat : Seat) → Contains list seat → AreTwoSeats seat new) → AreSeated pool (list ++ new ∷ [])
 seated_push pool [] new h taken two = (taken, (λ other there. absurd (let lt = there.1 in omega arith)), tt)
 seated_push pool (s ∷ rest) new h taken two = (
   h.0,
@@ -126,23 +148,37 @@ seated_push pool (s ∷ rest) new h taken two = (
   seated_push pool rest new h.2 taken (λ seat there. two seat (Contains_tail s rest seat there)),
 )
 
-no_seat : (o : Option Seat) → option_map (λ (seat : Seat). seat.comm) o ≡ None → o ≡ None
-no_seat None h = refl
-no_seat (Some seat) h = absurd (none-some seat.comm (sym h))
+-- where each seat has a page, a cell without one has no seat
+no_seat_by : (list : List Seat) (id : ℕ) (o : Option Seat) → find (is_seat_of id) list ≡ o → ((seat : Seat) → Contains list seat → IsSome seat.comm) → comm_in o ≡ None → o ≡ None
+no_seat_by list id None is all none = refl
+no_seat_by list id (Some seat) is all none =
+    let there = all seat (IsFound_from_find (is_seat_of id) list seat is).among in
+    let P : Option ℕ → Type 0 = IsSome in absurd (false≢true (subst P none there))
+
+pub no_seat : (stage : Stage2) (id : ℕ) → AreCellSeats stage → comm_of stage id ≡ None → find (is_seat_of id) stage.seats.items ≡ None
+no_seat stage id all none = no_seat_by stage.seats.items id (find (is_seat_of id) stage.seats.items) refl all none
 
 -- the seat of a cell that had none, with a page that was free
-pub one_more : (old new : PoolView) (seats : SeatsView) (id page : ℕ) → seats.pool ≡ old → AreSeated old seats.list → comm_of seats id ≡ None → IsSameBut old new page → is_free old page ≡ true → IsTakenPage new page
-    → AreSeated new (seats.list ++ record { id = id; comm = page } ∷ [])
-one_more old new seats id page own h none same free taken =
-    let differs : (seat : Seat) → Contains seats.list seat → seat.comm ≡ page → ⊥ =
-    λ seat there e. true≢false (sym free ∙ ap (is_free old) (sym e) ∙ (seated_taken old seats.list seat h there).taken) in
-    seated_push new seats.list (record { id = id; comm = page })
-    (seated_kept old new seats.list (λ seat there was. taken_kept old new page seat.comm same (differs seat there) was) h)
-    taken
+pub one_more : (stage : Stage2) (new : PoolView) (id page : ℕ) → AreSeated stage.pool stage.seats.items → AreCellSeats stage → comm_of stage id ≡ None → IsSameBut stage.pool new page → is_free stage.pool page ≡ true → IsTakenPage new page
+    → AreSeated new (stage.seats.items ++ record { id = id; comm = Some page; tree = None } ∷ [])
+one_more stage new id page h all none same free taken =
+    let old = stage.pool in
+    let list = stage.seats.items in
+    let P : ℕ → Type 0 = IsTakenPage new in
+    let differs : (seat : Seat) → Contains list seat → (q : ℕ) → seat.comm ≡ Some q → q ≡ page → ⊥ =
+    λ seat there q is e. true≢false (sym free ∙ ap (is_free old) (sym e) ∙ (seated_taken old list seat h there q is).taken) in
+    seated_push new list (record { id = id; comm = Some page; tree = None })
+    (seated_kept old new list (λ seat there was q is. taken_kept old new page q same (differs seat there q is) (was q is)) h)
+    (λ q is. subst P (same_Some page q is) taken)
     (λ seat there. record {
-      ids = λ e. true≢false (sym (eq-eqb seat.id id e) ∙ find_None (is_seat_of id) seats.list seat (no_seat (find (is_seat_of id) seats.list) none) there);
-      pages = differs seat there;
+      ids = λ e. true≢false (sym (eq-eqb seat.id id e) ∙ find_None (is_seat_of id) list seat (no_seat stage id all none) there);
+      pages = λ q is e. differs seat there q is (sym (same_Some page q e));
     })
+
+pub all_more : (list : List Seat) (id page : ℕ) → ((seat : Seat) → Contains list seat → IsSome seat.comm) → (seat : Seat) → Contains (list ++ record { id = id; comm = Some page; tree = None } ∷ []) seat → IsSome seat.comm
+all_more list id page all seat there =
+    let P : Seat → Type 0 = λ s. IsSome s.comm in
+    ⊎_elim (λ (held : Contains list seat). all seat held) (λ (own : record { id = id; comm = Some page; tree = None } ≡ seat). subst P own refl) (Contains-push_cases list (record { id = id; comm = Some page; tree = None }) seat there)
 
 cond_push : (b : Bool) (s : Seat) (r r' : Option Seat) → r ≡ r' → cond b (Some s) r ≡ cond b (Some s) r'
 cond_push b s r r' same = ap (λ (o : Option Seat). cond b (Some s) o) same
@@ -160,22 +196,22 @@ find_last p [] seat none own = ap (λ b. cond b (Some seat) None) own
 find_last p (s ∷ rest) seat none own = own_by (p s) s seat (find p rest) (find p (rest ++ seat ∷ [])) none (λ n. find_last p rest seat n own)
 
 -- the cell has that page then
-pub comm_last : (old new : SeatsView) (id page : ℕ) → comm_of old id ≡ None → new.list ≡ old.list ++ record { id = id; comm = page } ∷ [] → comm_of new id ≡ Some page
-comm_last old new id page none is =
-    let seat : Seat = record { id = id; comm = page } in
-    ap (λ (list : List Seat). option_map (λ (s : Seat). s.comm) (find (is_seat_of id) list)) is
-    ∙ ap (option_map (λ (s : Seat). s.comm)) (find_last (is_seat_of id) old.list seat (no_seat (find (is_seat_of id) old.list) none) (eq-eqb id id refl))
+pub comm_last : (old new : Stage2) (id page : ℕ) → AreCellSeats old → comm_of old id ≡ None → new.seats.items ≡ old.seats.items ++ record { id = id; comm = Some page; tree = None } ∷ [] → comm_of new id ≡ Some page
+comm_last old new id page all none is =
+    let seat : Seat = record { id = id; comm = Some page; tree = None } in
+    ap (λ (list : List Seat). comm_in (find (is_seat_of id) list)) is
+    ∙ ap comm_in (find_last (is_seat_of id) old.seats.items seat (no_seat old id all none) (eq-eqb id id refl))
 
 -- and all others have theirs
-pub comm_pushed : (old new : SeatsView) (id cell page : ℕ) → (cell ≡ id → ⊥) → new.list ≡ old.list ++ record { id = id; comm = page } ∷ [] → comm_of new cell ≡ comm_of old cell
+pub comm_pushed : (old new : Stage2) (id cell page : ℕ) → (cell ≡ id → ⊥) → new.seats.items ≡ old.seats.items ++ record { id = id; comm = Some page; tree = None } ∷ [] → comm_of new cell ≡ comm_of old cell
 comm_pushed old new id cell page other is =
-    let seat : Seat = record { id = id; comm = page } in
-    ap (λ (list : List Seat). option_map (λ (s : Seat). s.comm) (find (is_seat_of cell) list)) is
-    ∙ ap (option_map (λ (s : Seat). s.comm)) (find_push (is_seat_of cell) old.list seat (ne_eqb id cell (λ e. other (sym e))))
+    let seat : Seat = record { id = id; comm = Some page; tree = None } in
+    ap (λ (list : List Seat). comm_in (find (is_seat_of cell) list)) is
+    ∙ ap comm_in (find_push (is_seat_of cell) old.seats.items seat (ne_eqb id cell (λ e. other (sym e))))
 
 -- ---- one seat less
 
-seated_if : (pool : PoolView) (b : Bool) (s : Seat) (list : List Seat) → IsTakenPage pool s.comm → ((other : Seat) → Contains list other → AreTwoSeats s other) → AreSeated pool list → AreSeated pool (cond b (s ∷ list) list)
+seated_if : (pool : PoolView) (b : Bool) (s : Seat) (list : List Seat) → HasTakenPage pool s → ((other : Seat) → Contains list other → AreTwoSeats s other) → AreSeated pool list → AreSeated pool (cond b (s ∷ list) list)
 seated_if pool true s list taken two h = (taken, two, h)
 seated_if pool false s list taken two h = h
 
@@ -189,14 +225,16 @@ other_by true h e = true≢false (sym h)
 other_by false h e = true≢false (sym e)
 
 -- the seats of all but the cell with the id, whose page is given back
-pub one_less : (old new : PoolView) (list : List Seat) (id page : ℕ) (seat : Seat) → find (is_seat_of id) list ≡ Some seat → seat.comm ≡ page → AreSeated old list → IsSameBut old new page → AreSeated new (filter (is_other_seat id) list)
-one_less old new list id page seat is begins h same =
-    let found = IsFound_from_find (is_seat_of id) list seat is in
-    seated_kept old new (filter (is_other_seat id) list) (λ s there was.
+pub one_less : (old new : PoolView) (list : List Seat) (id page : ℕ) → IsSeat list id page → AreSeated old list → IsSameBut old new page → AreSeated new (filter (is_other_seat id) list)
+one_less old new list id page seat h same =
+    seated_kept old new (filter (is_other_seat id) list) (λ s there was q is.
     let kept = IsFound_from_filter (is_other_seat id) list s there in
-    taken_kept old new page s.comm same (λ e.
-    two_pages old list s seat h kept.among found.among (λ ids. other_by (is_seat_of id s) kept.passes (eq-eqb s.id id (ids ∙ eqb-true seat.id id found.passes))) (e ∙ sym begins)) was)
+    taken_kept old new page q same (λ e.
+    two_pages old list s seat.one page h kept.among seat.among (λ ids. other_by (is_seat_of id s) kept.passes (eq-eqb s.id id (ids ∙ seat.named))) (is ∙ ap Some e) seat.begins) (was q is))
     (seated_filter old (is_other_seat id) list h)
+
+pub all_less : (list : List Seat) (p : Seat → Bool) → ((seat : Seat) → Contains list seat → IsSome seat.comm) → (seat : Seat) → Contains (filter p list) seat → IsSome seat.comm
+all_less list p all seat there = all seat (IsFound_from_filter p list seat there).among
 
 left_by : (b : Bool) (id : ℕ) (s seat : Seat) (rest : List Seat) → eqb s.id id ≡ b → ((other : Seat) → Contains rest other → AreTwoSeats s other) → cond b (Some s) (find (is_seat_of id) rest) ≡ Some seat
     → (find (is_seat_of id) rest ≡ Some seat → length (filter (is_other_seat id) rest) + 1 ≡ length rest)
@@ -216,22 +254,8 @@ one_fewer pool [] id seat h is = absurd (none-some seat is)
 one_fewer pool (s ∷ rest) id seat h is = left_by (is_seat_of id s) id s seat rest refl h.1 is (one_fewer pool rest id seat h.2)
 
 -- all of them, where the cell has none
-pub none_less : (seats : SeatsView) (id : ℕ) → comm_of seats id ≡ None → seats.list ≡ filter (is_other_seat id) seats.list
-none_less seats id none =
-    sym (filter_all (is_other_seat id) seats.list (λ seat there. ap not (find_None (is_seat_of id) seats.list seat (no_seat (find (is_seat_of id) seats.list) none) there)))
-
--- the seat whose page it is
-pub record IsFoundSeat (list : List Seat) (id page : ℕ) : Type 0 where
-  pub one : Seat
-  pub is : find (is_seat_of id) list ≡ Some one
-  pub begins : one.comm ≡ page
-
-found_by : (list : List Seat) (id page : ℕ) (o : Option Seat) → find (is_seat_of id) list ≡ o → option_map (λ (seat : Seat). seat.comm) o ≡ Some page → IsFoundSeat list id page
-found_by list id page None is h = absurd (none-some page h)
-found_by list id page (Some seat) is h = record { one = seat; is = is; begins = same_Some seat.comm page h }
-
-pub found_seat : (seats : SeatsView) (id page : ℕ) → comm_of seats id ≡ Some page → IsFoundSeat seats.list id page
-found_seat seats id page h = found_by seats.list id page (find (is_seat_of id) seats.list) refl h
+pub none_less : (stage : Stage2) (id : ℕ) → AreCellSeats stage → comm_of stage id ≡ None → stage.seats.items ≡ filter (is_other_seat id) stage.seats.items
+none_less stage id all none = sym (filter_all (is_other_seat id) stage.seats.items (λ seat there. ap not (find_None (is_seat_of id) stage.seats.items seat (no_seat stage id all none) there)))
 
 -- ---- ids
 
@@ -249,6 +273,5 @@ ids_filter id (s ∷ rest) =
 find_left : (list : List Seat) (id cell : ℕ) → (cell ≡ id → ⊥) → find (is_seat_of cell) (filter (is_other_seat id) list) ≡ find (is_seat_of cell) list
 find_left list id cell other = find_kept (is_seat_of cell) (is_other_seat id) list (λ seat own. ap not (ne_eqb seat.id id (λ e. other (sym (eqb-true seat.id cell own) ∙ e))))
 
-pub comm_left : (old new : SeatsView) (id cell : ℕ) → (cell ≡ id → ⊥) → new.list ≡ filter (is_other_seat id) old.list → comm_of new cell ≡ comm_of old cell
-comm_left old new id cell other is =
-    ap (λ (list : List Seat). option_map (λ (s : Seat). s.comm) (find (is_seat_of cell) list)) is ∙ ap (option_map (λ (s : Seat). s.comm)) (find_left old.list id cell other)
+pub comm_left : (old new : Stage2) (id cell : ℕ) → (cell ≡ id → ⊥) → new.seats.items ≡ filter (is_other_seat id) old.seats.items → comm_of new cell ≡ comm_of old cell
+comm_left old new id cell other is = ap (λ (list : List Seat). comm_in (find (is_seat_of cell) list)) is ∙ ap comm_in (find_left old.seats.items id cell other)

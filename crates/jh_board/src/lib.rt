@@ -13,7 +13,6 @@ mod laws;
 mod memory;
 mod overview;
 mod page;
-mod seats;
 mod state;
 mod steps;
 mod turn;
