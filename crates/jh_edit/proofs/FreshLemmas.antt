@@ -207,13 +207,13 @@ fresh_range coming id bound edit' editing editing' old new r page other other' =
     let size : new.pool.size ≡ old.pool.size = r.pool_size in
     let same : is_free new.pool page ≡ is_free old.pool page = r.others page (λ e. other (sym e)) (λ e. other' (sym e)) in (
       λ taken.
-      let above : new.pool.base ≤ page = taken.in_range.above in
-      let below : page < new.pool.base + 4096 * new.pool.size = taken.in_range.below in
-      record { in_range = record { aligned = taken.in_range.aligned; above = omega arith; below = omega arith }; taken = sym same ∙ taken.taken },
+          let above : new.pool.base ≤ page = taken.in_range.above in
+          let below : page < new.pool.base + 4096 * new.pool.size = taken.in_range.below in
+          record { in_range = record { aligned = taken.in_range.aligned; above = omega arith; below = omega arith }; taken = sym same ∙ taken.taken },
       λ taken.
-      let above : old.pool.base ≤ page = taken.in_range.above in
-      let below : page < old.pool.base + 4096 * old.pool.size = taken.in_range.below in
-      record { in_range = record { aligned = taken.in_range.aligned; above = omega arith; below = omega arith }; taken = same ∙ taken.taken },
+          let above : old.pool.base ≤ page = taken.in_range.above in
+          let below : page < old.pool.base + 4096 * old.pool.size = taken.in_range.below in
+          record { in_range = record { aligned = taken.in_range.aligned; above = omega arith; below = omega arith }; taken = same ∙ taken.taken },
     )
 
 fresh_taken : (claims : Seat → Claims) (rootward coming : Claims) (id bound : ℕ) (edit' : EditView) (editing editing' : Editing) (old new : Stage2) → (f : Freshening claims rootward coming id bound edit' editing editing' old new)

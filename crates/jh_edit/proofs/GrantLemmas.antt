@@ -27,7 +27,7 @@ pub record IsInSlot (n start at : ℕ) : Type 0 where
   pub size : slot_size (LAST_LEVEL - n) ≡ 2 ^ (12 + 9 * n)
   pub within : at % slot_size (LAST_LEVEL - n) < slot_size (LAST_LEVEL - n)
 
-in_slot : (n start at : ℕ) → n ≤ 3 → start % 2 ^ (12 + 9 * suc n) ≡ 0 → start ≤ at → at < start + 2 ^ (12 + 9 * suc n) → IsInSlot n start at
+pub in_slot : (n start at : ℕ) → n ≤ 3 → start % 2 ^ (12 + 9 * suc n) ≡ 0 → start ≤ at → at < start + 2 ^ (12 + 9 * suc n) → IsInSlot n start at
 in_slot zero start at few begins low high = record { offset = omega arith; begins = omega arith; size = refl; within = omega arith }
 in_slot (suc zero) start at few begins low high = record { offset = omega arith; begins = omega arith; size = refl; within = omega arith }
 in_slot (suc (suc zero)) start at few begins low high = record { offset = omega arith; begins = omega arith; size = refl; within = omega arith }

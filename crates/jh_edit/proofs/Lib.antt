@@ -1,6 +1,7 @@
 mod SumLemmas
 mod TagLemmas
 mod FoundLemmas
+mod PlanningLemmas
 mod MappedLemmas
 mod OneTurnLemmas
 mod DescriptorLemmas
@@ -42,5 +43,9 @@ mod TurnedLemmas
 mod PartLemmas
 mod KindLemmas
 mod FreshLemmas
+mod EndingLemmas
+mod PagesLemmas
+mod PlannedLemmas
+mod LeafLemmas
 mod StepLemmas
 mod DeedLemmas

@@ -29,7 +29,8 @@ out_by own place none =
 
 -- what stands after opening
 pub record IsOpened (claims : Claims) (stage : Stage2) : Type 0 where
-  pub lone : IsLoneRoot stage
+  pub id : ℕ
+  pub lone : IsLoneRoot id stage
   pub inside : IsPoolOf stage.pool stage.frames
   pub stands : Stands (want_of claims) (words stage.frames) levels lone.table 0
   pub tables : AreTables stage.frames lone.table
@@ -41,34 +42,34 @@ pub record IsOpened (claims : Claims) (stage : Stage2) : Type 0 where
 abbrev pub lone_tree : ℕ → Tree
 lone_tree table = record { table = table; tag = 0 }
 
-abbrev pub lone_seat : ℕ → Seat
-lone_seat table = record { id = 0; comm = None; tree = Some (lone_tree table) }
+abbrev pub lone_seat : ℕ → ℕ → Seat
+lone_seat id table = record { id = id; comm = None; tree = Some (lone_tree table) }
 
 -- the one seat is root's
-lone_is : (claims : Claims) (stage : Stage2) → (is : IsOpened claims stage) → (seat : Seat) → HasSeat stage seat → lone_seat is.lone.table ≡ seat
+lone_is : (claims : Claims) (stage : Stage2) → (is : IsOpened claims stage) → (seat : Seat) → HasSeat stage seat → lone_seat is.id is.lone.table ≡ seat
 lone_is claims stage is seat sits =
     let P : List Seat → Type 0 = λ seats. Contains seats seat in
-    let among : Contains (lone_seat is.lone.table ∷ []) seat = subst P is.lone.seats sits in
-    ⊎_elim (λ same. same) (λ (past : Contains [] seat). absurd (omega (arith, past.1))) (Contains_cases (lone_seat is.lone.table) [] seat among)
+    let among : Contains (lone_seat is.id is.lone.table ∷ []) seat = subst P is.lone.seats sits in
+    ⊎_elim (λ same. same) (λ (past : Contains [] seat). absurd (omega (arith, past.1))) (Contains_cases (lone_seat is.id is.lone.table) [] seat among)
 
 abbrev table_in : Option Tree → ℕ → ℕ
 table_in None other = other
 table_in (Some tree) other = tree.table
 
-lone_table : (table : ℕ) (tree : Tree) (seat : Seat) → lone_seat table ≡ seat → seat.tree ≡ Some tree → table ≡ tree.table
-lone_table table tree seat same has =
+lone_table : (id table : ℕ) (tree : Tree) (seat : Seat) → lone_seat id table ≡ seat → seat.tree ≡ Some tree → table ≡ tree.table
+lone_table id table tree seat same has =
     let e : Some (lone_tree table) ≡ Some tree = ap (λ (s : Seat). s.tree) same ∙ has in
     ap (λ o. table_in o table) e
 
-lone_sum : (f : Seat → ℕ) (stage : Stage2) (table : ℕ) → stage.seats.items ≡ lone_seat table ∷ [] → sum_by f stage.seats.items ≡ f (lone_seat table)
-lone_sum f stage table is = let one = sum_by-cons f (lone_seat table) [] in ap (sum_by f) is ∙ (one ∙ omega arith)
+lone_sum : (f : Seat → ℕ) (stage : Stage2) (id table : ℕ) → stage.seats.items ≡ lone_seat id table ∷ [] → sum_by f stage.seats.items ≡ f (lone_seat id table)
+lone_sum f stage id table is = let one = sum_by-cons f (lone_seat id table) [] in ap (sum_by f) is ∙ (one ∙ omega arith)
 
 lone_uses : (claims : Claims) (stage : Stage2) → (is : IsOpened claims stage) → (page : ℕ) → uses stage page ≡ times (words stage.frames) levels is.lone.table page
 lone_uses claims stage is page =
-    let tables : table_uses stage page ≡ times (words stage.frames) levels is.lone.table page = lone_sum (λ (seat : Seat). tree_times (words stage.frames) page seat.tree) stage is.lone.table is.lone.seats in
-    let gone : is_gone stage.editing (lone_seat is.lone.table) ≡ false = ap (λ e. is_gone e (lone_seat is.lone.table)) is.lone.still in
+    let tables : table_uses stage page ≡ times (words stage.frames) levels is.lone.table page = lone_sum (λ (seat : Seat). tree_times (words stage.frames) page seat.tree) stage is.id is.lone.table is.lone.seats in
+    let gone : is_gone stage.editing (lone_seat is.id is.lone.table) ≡ false = ap (λ e. is_gone e (lone_seat is.id is.lone.table)) is.lone.still in
     let comms : comm_uses stage page ≡ 0 =
-    lone_sum (λ (seat : Seat). if is_gone stage.editing seat then 0 else comm_times page seat.comm) stage is.lone.table is.lone.seats ∙ ap (λ b. if b then 0 else 0) gone
+    lone_sum (λ (seat : Seat). if is_gone stage.editing seat then 0 else comm_times page seat.comm) stage is.id is.lone.table is.lone.seats ∙ ap (λ b. if b then 0 else 0) gone
     in
     let ahead : ahead_uses stage.editing page ≡ 0 = ap (λ e. ahead_uses e page) is.lone.still in
     omega arith
@@ -76,7 +77,7 @@ lone_uses claims stage is page =
 pub lone_forest : (claims : Claims) (stage : Stage2) → IsOpened claims stage → IsForest (λ seat. claims) stage
 lone_forest claims stage is =
     let used = lone_uses claims stage is in
-    let found : (seat : Seat) (tree : Tree) → HasSeat stage seat → seat.tree ≡ Some tree → is.lone.table ≡ tree.table = λ seat tree sits has. lone_table is.lone.table tree seat (lone_is claims stage is seat sits) has in
+    let found : (seat : Seat) (tree : Tree) → HasSeat stage seat → seat.tree ≡ Some tree → is.lone.table ≡ tree.table = λ seat tree sits has. lone_table is.id is.lone.table tree seat (lone_is claims stage is seat sits) has in
     record {
       inside = is.inside;
       once = λ page. let P : ℕ → Type 0 = λ n. n ≤ 1 in subst P (sym (used page)) (is.tables.once page);

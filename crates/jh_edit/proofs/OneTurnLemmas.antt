@@ -23,11 +23,12 @@ use Rattle.jh_edit.specs.declared.stage.Seat.{Seat}
 use Rattle.jh_edit.specs.declared.stage.Stage2.{Stage2}
 use Rattle.jh_edit.specs.declared.stage.Tree.{Tree}
 use Rattle.jh_edit.specs.Forest.{AreApart, HasSeat, IsCellPart, IsEdit, IsEditOf, IsForest, IsRemovePart, ahead_times, ahead_uses, comm_times, comm_uses, is_gone, is_removed, is_root, left_of, part_ahead_times, part_left, table_uses, tree_times, uses, with_comm}
-use Rattle.jh_edit.specs.OneTurn.{gone_comm, removed_comm}
+use Rattle.jh_edit.specs.OneTurn.{gone_comm, removed_comm, with_editing, IsCellTurn, IsKept, IsTurnBy}
 use Rattle.jh_edit.specs.Plans.{EditView, Plans, ahead_count}
 use Rattle.jh_edit.specs.Seats.{cell_comm}
-use Rattle.jh_edit.specs.Stages.{IsTreeTurn, gone_uses, untreed}
+use Rattle.jh_edit.specs.Stages.{IsBuildTurn, IsFreshTurn, IsRemoveTurn, IsRootTurn, IsTreeTurn, gone_uses, untreed}
 use Rattle.jh_edit.specs.Tables.{AreTables, HasTaken, is_ahead, is_mine, is_over, words}
+use Rattle.jh_edit.specs.Turns.{turn_if}
 use Rattle.jh_edit.specs.Private.Steps.{IsGivenBack, IsTakenFrom}
 use Rattle.jh_edit.specs.Private.Turned.{IsEditTurn, IsReady}
 use Rattle.jh_edit.proofs.EndLemmas.{edit_ends}
@@ -157,7 +158,7 @@ ready_build claims rootward coming stage root id edit comm on forest is same som
       enough = λ aim. let h = is.enough in let l = part.lacks in omega arith;
     })
 
-ahead_of_none : (page : ℕ) (edit : EditView) (n : ℕ) → edit.ahead ≡ None → ahead_times page edit ≤ n
+pub ahead_of_none : (page : ℕ) (edit : EditView) (n : ℕ) → edit.ahead ≡ None → ahead_times page edit ≤ n
 ahead_of_none page edit n none = let e : ahead_times page edit ≡ 0 = ap (λ a. if is_ahead a page then 1 else 0) none in omega arith
 
 pub ready_remove : (claims : Seat → Claims) (rootward coming other : Claims) (stage : Stage2) (root : EditView) (id : ℕ) (edit : EditView) → IsForest claims stage → IsEdit rootward coming stage (removing root id edit) → 0 < edit.left
@@ -168,10 +169,10 @@ ready_remove claims rootward coming other stage root id edit forest is some =
     record {
       sound = λ not. absurd (true≢false (sym part.aim ∙ not));
       tables = own_tables claims stage forest edit part.seat of;
-      plan = record { target = λ not. absurd (true≢false (sym part.aim ∙ not)); removal = λ yes. record { turns = part.turns some; ahead = part.ahead } };
+      plan = record { target = λ not. absurd (true≢false (sym part.aim ∙ not)); removal = λ away. record { turns = part.turns some; ahead = part.ahead some } };
       left = some;
       pool = forest.inside;
-      taken = own_taken claims stage forest edit part.seat of (λ page. ahead_of_none page edit (ahead_uses stage.editing page) part.ahead);
+      taken = own_taken claims stage forest edit part.seat of (λ page. ahead_of_none page edit (ahead_uses stage.editing page) (part.ahead some));
       enough = λ not. absurd (true≢false (sym part.aim ∙ not));
     }
 
@@ -252,6 +253,10 @@ gone_seat seats apart root (Build id edit) has page is = absurd (none-some page 
 gone_seat seats apart root (Remove id edit) has page is =
     (has.0, (has.1.0, sym (cell_comm_is seats apart has.0 id has.1.0 has.1.1) ∙ if_some (nat_eq (root.left + edit.left) 0) (cell_comm id seats) page is))
 
+pub removed_page : (seats : List Seat) → AllPairs AreApart seats → (root : EditView) (id : ℕ) (edit : EditView) (seat : Seat) → Contains seats seat → seat.id ≡ id → (page : ℕ) → gone_comm (removing root id edit) seats ≡ Some page → seat.comm ≡ Some page
+removed_page seats apart root id edit seat sits named page is =
+    sym (cell_comm_is seats apart seat id sits named) ∙ if_some (nat_eq (root.left + edit.left) 0) (cell_comm id seats) page is
+
 -- the page of a cell that goes stays taken through a turn of other tables
 pub stays_taken : (claims : Seat → Claims) (stage : Stage2) (editing : Editing) → stage.editing ≡ Some editing → IsForest claims stage → (want : Wants) (tag : ℕ) (edit edit' : EditView) (f' : FramesView) (p' : PoolView) (c' : List (List Translation))
     → (owner : Seat) → IsEditOf stage edit owner → ((q : ℕ) → ahead_times q edit ≤ ahead_uses stage.editing q) → 0 < left_of editing → IsEditTurn want tag edit edit' stage.frames f' stage.pool p' stage.cache c'
@@ -270,11 +275,11 @@ pub record IsSettled (gone : Option ℕ) (p p' : PoolView) : Type 0 where
   pub freed : (q : ℕ) → 0 < comm_times q gone → is_free p' q ≡ true
   pub used : used_of p' ≤ used_of p
 
-flag_none : (b : Bool) → (if b then 1 else 0) ≡ 0 → b ≡ false
+flag_none : (b : Bool) → turn_if b ≡ 0 → b ≡ false
 flag_none true none = absurd (omega arith)
 flag_none false none = refl
 
-flag_some : (b : Bool) → 0 < (if b then 1 else 0) → b ≡ true
+flag_some : (b : Bool) → 0 < turn_if b → b ≡ true
 flag_some true some = refl
 flag_some false some = absurd (omega arith)
 
@@ -325,14 +330,14 @@ tree_turned want tag edit edit' old new p gone t s counted has = record {
   right = t.right;
   left_alone = t.left_alone;
   pages = λ page. (
-      λ taken. ⊎_elim
-          (λ some. absurd (false≢true (sym taken.taken ∙ s.freed page some)))
-          (λ none. ((t.pages page).0 (record { in_range = same_pages new.pool p page (sym s.base) (sym s.size) taken.in_range; taken = sym (s.kept page none) ∙ taken.taken }), counted page ∙ none))
-          (some_or_none (comm_times page gone)),
-      λ both.
-          let is : IsTakenPage p page = (t.pages page).1 both.0 in
-          record { in_range = same_pages p new.pool page s.base s.size is.in_range; taken = s.kept page (sym (counted page) ∙ both.1) ∙ is.taken },
-    );
+    λ taken. ⊎_elim
+        (λ some. absurd (false≢true (sym taken.taken ∙ s.freed page some)))
+        (λ none. ((t.pages page).0 (record { in_range = same_pages new.pool p page (sym s.base) (sym s.size) taken.in_range; taken = sym (s.kept page none) ∙ taken.taken }), counted page ∙ none))
+        (some_or_none (comm_times page gone)),
+    λ both.
+        let is : IsTakenPage p page = (t.pages page).1 both.0 in
+        record { in_range = same_pages p new.pool page s.base s.size is.in_range; taken = s.kept page (sym (counted page) ∙ both.1) ∙ is.taken },
+  );
   fresh = t.fresh;
   room = λ aim. let r = t.room aim in let u = s.used in omega arith;
   given = λ away. let g = t.given away in let u = s.used in omega arith;
@@ -410,3 +415,29 @@ two_taken comm table p p1 p2 first second =
       base = base;
       size = size;
     }
+
+-- ---- turns of all kinds
+
+-- the relation of one turn keeps the tables of all cells and the edit
+abbrev pub KeepsBy : Claims → Claims → (Editing → Editing → Stage2 → Stage2 → Type 0) → Type 0
+KeepsBy rootward coming T =
+    (claims : Seat → Claims) (editing editing' : Editing) (stage stage' : Stage2) → stage.editing ≡ Some editing → IsForest claims stage → IsEdit rootward coming stage editing → T editing editing' stage stage'
+    → IsKept claims rootward coming editing editing' stage'
+
+cell_kept : (rootward coming : Claims) → ((id bound : ℕ) (edit' : EditView) → KeepsBy rootward coming (IsFreshTurn coming id bound edit')) → ((id : ℕ) (edit edit' : EditView) → KeepsBy rootward coming (IsBuildTurn coming id edit edit'))
+    → ((id : ℕ) (edit edit' : EditView) → KeepsBy rootward coming (IsRemoveTurn (want_of rootward) id edit edit')) → (part : CellPart) → KeepsBy rootward coming (IsCellTurn rootward coming part)
+cell_kept rootward coming fresh build remove Unchanged claims editing editing' stage stage' on forest edit turn = absurd turn
+cell_kept rootward coming fresh build remove (Fresh id bound) claims editing editing' stage stage' on forest edit turn = fresh id bound turn.0 claims editing editing' stage stage' on forest edit turn.1
+cell_kept rootward coming fresh build remove (Build id own) claims editing editing' stage stage' on forest edit turn = build id own turn.0 claims editing editing' stage stage' on forest edit turn.1
+cell_kept rootward coming fresh build remove (Remove id own) claims editing editing' stage stage' on forest edit turn = remove id own turn.0 claims editing editing' stage stage' on forest edit turn.1
+
+pub turn_kept : (rootward coming : Claims) → KeepsBy rootward coming (IsRootTurn rootward) → ((id bound : ℕ) (edit' : EditView) → KeepsBy rootward coming (IsFreshTurn coming id bound edit')) → ((id : ℕ) (edit edit' : EditView) → KeepsBy rootward coming (IsBuildTurn coming id edit edit'))
+    → ((id : ℕ) (edit edit' : EditView) → KeepsBy rootward coming (IsRemoveTurn (want_of rootward) id edit edit')) → (b : Bool) → KeepsBy rootward coming (IsTurnBy b rootward coming)
+turn_kept rootward coming root fresh build remove true claims editing editing' stage stage' on forest edit turn = root claims editing editing' stage stage' on forest edit turn
+turn_kept rootward coming root fresh build remove false claims editing editing' stage stage' on forest edit turn = cell_kept rootward coming fresh build remove editing.cell claims editing editing' stage stage' on forest edit turn
+
+-- ---- the edit in its place
+
+-- the stage is the one with the edit that it has
+pub editing_there : (stage : Stage2) (editing : Editing) → stage.editing ≡ Some editing → with_editing stage editing ≡ stage
+editing_there stage editing on = ap (λ (o : Option Editing). record stage { editing = o }) (sym on)

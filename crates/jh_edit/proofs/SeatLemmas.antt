@@ -1,6 +1,7 @@
 -- Sums over the seats of all cells, of which no two have the same id, and what changes of one of them.
-use Rattle.std.proofs.Common.{◌≡◌, ◌≢◌, ℕ, ◌+◌, ◌<◌, ◌≤◌, ◌⊎◌, inl, inr, zero, suc, ap, ◌∙◌, sym, subst, Bool, true, false, ◌&&◌, nat_eq, List, [], ◌∷◌, ◌++◌, length, get_or, map, sum_by, Option, Some, None, if◌then◌else◌, arith, refl, ⊎_elim}
+use Rattle.std.proofs.Common.{◌≡◌, ◌≢◌, ℕ, ◌+◌, ◌<◌, ◌≤◌, ◌⊎◌, inl, inr, zero, suc, ap, ◌∙◌, sym, subst, Bool, true, false, ◌&&◌, nat_eq, List, [], ◌∷◌, ◌++◌, length, get_or, map, sum_by, Option, Some, None, if◌then◌else◌, cond, arith, refl, ⊎_elim}
 use Rattle.std.specs.Prelude.{AllPairs, Contains}
+use Rattle.std.specs.List.{filter}
 use Rattle.std.proofs.lemmas.Bool.{eq-eqb, false≢true, ne_eqb}
 use Rattle.std.proofs.lemmas.List.{get_or-map, length-map, map-id}
 use Rattle.std.proofs.lemmas.List.Sums.{sum_by-cons}
@@ -138,3 +139,27 @@ untreed_none false id seat over is = absurd (false≢true over)
 pub untreed_still : (over : Bool) (id : ℕ) (seats : List Seat) → over ≡ false → map (untreed_if over id) seats ≡ seats
 untreed_still true id seats over = absurd (false≢true (sym over))
 untreed_still false id seats over = map-id seats
+
+-- root is one
+pub one_root : (seats : List Seat) (a b : Seat) → AllPairs AreApart seats → Contains seats a → Contains seats b → is_root a ≡ true → is_root b ≡ true → a ≡ b
+one_root [] a b apart (k, below, is) other root root' = absurd (omega arith)
+one_root (seat ∷ seats) a b apart one other root root' =
+    ⊎_elim
+    (λ (first : seat ≡ a). ⊎_elim
+    (λ (first' : seat ≡ b). sym first ∙ first')
+    (λ (later : Contains seats b). absurd (false≢true (sym (pairs_head AreApart seat seats b apart later).cell ∙ root')))
+    (Contains_cases seat seats b other))
+    (λ (later : Contains seats a). absurd (false≢true (sym (pairs_head AreApart seat seats a apart later).cell ∙ root)))
+    (Contains_cases seat seats a one)
+
+sum_kept : (f : Seat → ℕ) (seat : Seat) (seats : List Seat) (rest : ℕ) (b : Bool) → sum_by f seats ≡ rest → (b ≡ false → f seat ≡ 0) → sum_by f (cond b (seat ∷ seats) seats) ≡ f seat + rest
+sum_kept f seat seats rest true same none = let one = sum_by-cons f seat seats in omega arith
+sum_kept f seat seats rest false same none = let zero' = none refl in omega arith
+
+-- a sum without terms that are 0
+pub sum_filter : (f : Seat → ℕ) (p : Seat → Bool) (seats : List Seat) → ((s : Seat) → Contains seats s → p s ≡ false → f s ≡ 0) → sum_by f (filter p seats) ≡ sum_by f seats
+sum_filter f p [] none = refl
+sum_filter f p (seat ∷ seats) none =
+    let rest : sum_by f (filter p seats) ≡ sum_by f seats = sum_filter f p seats (λ s among. none s (Contains_tail seat seats s among)) in
+    let all : sum_by f (seat ∷ seats) ≡ f seat + sum_by f seats = sum_by-cons f seat seats in
+    sum_kept f seat (filter p seats) (sum_by f seats) (p seat) rest (none seat (Contains_head seat seats)) ∙ sym all

@@ -330,9 +330,9 @@ turned_taken claims want edit edit' old new t page =
     let once : uses old page ≤ 1 = t.forest.once page in
     let all = all_once claims want edit edit' old new t page in (
       λ taken.
-      let told = (t.turn.pages page).0 taken in
-      let stays : gone_uses new page ≡ 0 = told.1 in
-      ⊎_elim
+          let told = (t.turn.pages page).0 taken in
+          let stays : gone_uses new page ≡ 0 = told.1 in
+          ⊎_elim
           (λ (before : IsTakenPage old.pool page × (is_mine edit (words old.frames) page ≡ false)).
           let some : 0 < uses old page = (t.forest.taken page).0 before.0 in
           let none = not_own edit (words old.frames) page before.1 in
@@ -340,15 +340,18 @@ turned_taken claims want edit edit' old new t page =
           (λ (now : is_mine edit' (words new.frames) page ≡ true). let some = mine_own edit' (words new.frames) page now in omega arith)
           told.0,
       λ some. (t.turn.pages page).1 (
-      ⊎_elim
-          (λ (now : is_mine edit' (words new.frames) page ≡ true). inr now)
-          (λ (not : is_mine edit' (words new.frames) page ≡ false).
-          let none = not_own edit' (words new.frames) page not in
-          inl ((t.forest.taken page).1 (omega arith),
-          ⊎_elim
-          (λ (mine : is_mine edit (words old.frames) page ≡ true). let own = mine_own edit (words old.frames) page mine in absurd (let no : ⊥ = omega arith in no))
-          (λ (other : is_mine edit (words old.frames) page ≡ false). other)
-          (cases_Bool (is_mine edit (words old.frames) page))))
-          (cases_Bool (is_mine edit' (words new.frames) page)),
-      omega arith),
+        ⊎_elim
+            (λ (now : is_mine edit' (words new.frames) page ≡ true). inr now)
+            (λ (not : is_mine edit' (words new.frames) page ≡ false).
+            let none = not_own edit' (words new.frames) page not in
+            inl (
+              (t.forest.taken page).1 (omega arith),
+              ⊎_elim
+                  (λ (mine : is_mine edit (words old.frames) page ≡ true). let own = mine_own edit (words old.frames) page mine in absurd (let no : ⊥ = omega arith in no))
+                  (λ (other : is_mine edit (words old.frames) page ≡ false). other)
+                  (cases_Bool (is_mine edit (words old.frames) page)),
+            ))
+            (cases_Bool (is_mine edit' (words new.frames) page)),
+        omega arith,
+      ),
     )

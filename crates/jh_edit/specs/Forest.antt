@@ -259,8 +259,8 @@ with_frames stage after = record stage { frames = after }
 
 -- ---- opening
 
--- root has its tables, with the tag 0, and no other cell has a seat; no edit is under way
-pub record IsLoneRoot (stage : Stage2) : Type 0 where
+-- root, with the id, has its tables, with the tag 0, and no other cell has a seat; no edit is under way
+pub record IsLoneRoot (id : ℕ) (stage : Stage2) : Type 0 where
   pub table : ℕ
-  pub seats : stage.seats.items ≡ record { id = 0; comm = None; tree = Some (record { table = table; tag = 0 }) } ∷ []
+  pub seats : stage.seats.items ≡ record { id = id; comm = None; tree = Some (record { table = table; tag = 0 }) } ∷ []
   pub still : stage.editing ≡ None

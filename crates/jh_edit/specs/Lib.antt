@@ -5,6 +5,9 @@ pub mod Tables
 pub mod Moves
 pub mod Forest
 pub mod Stages
+pub mod Ends
+pub mod Leaves
 pub mod Seats
 pub mod OneTurn
+pub mod Planned
 pub mod Private

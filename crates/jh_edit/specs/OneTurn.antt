@@ -1,5 +1,5 @@
 -- The next turn of an edit of the tables of all cells: whose it is, and what it does.
-use Rattle.std.specs.Prelude.{◌≡◌, ℕ, ◌&&◌, not, Bool, true, false, nat_eq, nat_lt, List, Option, Some, None, if◌then◌else◌}
+use Rattle.std.specs.Prelude.{◌≡◌, ℕ, ◌<◌, ◌&&◌, not, Bool, true, false, nat_eq, nat_lt, List, Option, Some, None, if◌then◌else◌}
 use Rattle.jh_shape.specs.Claims.{Claims}
 use Rattle.jh_shape.specs.Shapes.{want_of}
 use Rattle.jh_edit.specs.declared.stage.CellPart.{CellPart}
@@ -49,6 +49,25 @@ IsTurnBy false rootward coming editing editing' old new = IsCellTurn rootward co
 -- one turn of the edit
 abbrev pub IsOneTurn : Claims → Claims → Editing → Editing → Stage2 → Stage2 → Type 0
 IsOneTurn rootward coming editing editing' old new = IsTurnBy (is_root_next editing) rootward coming editing editing' old new
+
+-- a stage whose edit has a turn left
+pub record HasTurn (rootward coming : Claims) (stage : Stage2) : Type 0 where
+  pub editing : Editing
+  pub now : stage.editing ≡ Some editing
+  pub under : IsUnderWay rootward coming stage editing
+  pub left : 0 < left_of editing
+
+-- the stage after a turn of the edit
+pub record IsTurned (rootward coming : Claims) (editing : Editing) (old new : Stage2) : Type 0 where
+  pub editing' : Editing
+  pub now : new.editing ≡ Some editing'
+  pub turn : IsOneTurn rootward coming editing editing' old new
+
+-- what a turn keeps: the tables of all cells, and the edit, with fewer turns left
+pub record IsKept (claims : Seat → Claims) (rootward coming : Claims) (editing editing' : Editing) (new : Stage2) : Type 0 where
+  pub forest : IsForest claims new
+  pub edit : IsEdit rootward coming new editing'
+  pub falls : left_of editing' < left_of editing
 
 -- ---- the page of a cell that is gone
 

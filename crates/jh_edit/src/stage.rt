@@ -87,13 +87,14 @@ pub fn left_of(editing: &Editing) -> u64
 }
 
 impl Stage2 {
-    /// Memory of so many pages from `base` on, in which root's tables stand as the target wants them. The pool has a page for
+    /// Memory of so many pages from `base` on, in which root's tables stand as the target wants them, and root has the id. The pool has a page for
     /// each of them, and they lead to no place of it. Only opening takes memory for cells: there is room for all.
     pub fn open(
         alloc: Global,
         base: u64,
         pages: u32,
         cpus: u8,
+        id: u32,
         root: &Target,
     ) -> Result<Self, NoMemory>
         requires aligned { base % 4096 ≡ 0 }
@@ -103,7 +104,7 @@ impl Stage2 {
         requires enough { tables_of (claims_of root.now) ≤ pages }
         requires apart { GrantsNothingOf (claims_of root.now) base (4096 * pages) }
         ensures forest { IfOk result (λ stage. IsForest (λ seat. claims_of root.now) stage) }
-        ensures root { IfOk result (λ stage. IsLoneRoot stage) }
+        ensures root { IfOk result (IsLoneRoot id) }
         ensures base { IfOk result (λ stage. stage.frames.own.base ≡ base) }
         ensures size { IfOk result (λ stage. stage.pool.size ≡ pages) }
         ensures cpus { IfOk result (λ stage. length stage.cache ≡ cpus) }
@@ -113,10 +114,10 @@ impl Stage2 {
         let mut frames = Frames::open(alloc, base, PAGE_SIZE * u64::from(pages))?;
         let mut pool = Pool::open(alloc, base, pages)?;
         let mut cache = Cache::open(alloc, cpus)?;
-        let mut seats = Vec::with_capacity(alloc, usize::from(MAX_CELLS))?;
+        let mut seats = Vec::with_capacity(alloc, MAX_CELLS as usize)?;
         let table = root_table(root, &mut frames, &mut pool, &mut cache, 0);
         seats.push_reserved(Seat {
-            id: 0,
+            id,
             comm: None,
             tree: Some(Tree { table, tag: 0 }),
         });

@@ -1,5 +1,5 @@
 //! One turn of the edit of a call.
-ghost use Rattle.std.specs.Prelude.{◌≡◌, ℕ, ◌+◌, ◌*◌, ◌%◌, ◌<◌, ◌≤◌, ◌⊎◌, false, true, length, map, Some, None, MatchOption, vec_capacity};
+ghost use Rattle.std.specs.Prelude.{◌≡◌, ℕ, ◌+◌, ◌*◌, ◌%◌, ◌<◌, ◌≤◌, ◌⊎◌, false, true, length, map, Some, None, IsSome, MatchOption, vec_capacity};
 ghost use Rattle.jh_num.specs.declared.address.TheConstants.{ADDRESS_END};
 ghost use Rattle.jh_frames.specs.Memory.{byte_at, AreOwnBytes};
 ghost use Rattle.jh_pool.specs.Pages.{used_of, IsTakenPage};
@@ -10,9 +10,11 @@ ghost use Rattle.jh_walk.specs.Walks.{levels};
 ghost use Rattle.jh_edit.specs.declared.stage.CellPart.{CellPart as AnyPart};
 ghost use Rattle.jh_edit.specs.declared.stage.Editing.{Editing as AnyEditing};
 ghost use Rattle.jh_edit.specs.declared.stage.Seat.{Seat as AnySeat};
-ghost use Rattle.jh_edit.specs.Forest.{left_of, with_comm, IsForest};
-ghost use Rattle.jh_edit.specs.OneTurn.{gone_comm, is_removing, is_root_next, with_editing, IsCellTurn, IsOneTurn, IsUnderWay};
+ghost use Rattle.jh_edit.specs.declared.stage.Stage2.{Stage2 as AnyStage};
+ghost use Rattle.jh_edit.specs.Forest.{left_of, IsEdit, IsForest};
+ghost use Rattle.jh_edit.specs.OneTurn.{gone_comm, is_removing, is_root_next, with_editing, HasTurn, IsCellTurn, IsKept, IsOneTurn, IsTurned, IsUnderWay};
 ghost use Rattle.jh_edit.specs.Plans.{EditView, Plans};
+ghost use Rattle.jh_edit.specs.Seats.{cell_comm};
 ghost use Rattle.jh_edit.specs.Stages.{untreed, IsBuildTurn, IsFreshTurn, IsRemoveTurn, IsRootTurn};
 ghost use Rattle.jh_edit.specs.Tables.{words};
 ghost use Rattle.jh_edit.specs.Turns.{turns_of};
@@ -21,6 +23,10 @@ ghost use Rattle.jh_edit.specs.Private.Turned.{IsEditTurn, IsReady};
 
 use crate::counting::LEVELS;
 use crate::edit::Edit;
+use crate::edits::{
+    a_fresh_cell_keeps_the_forest, turns_of_a_coming_cell_keep_the_forest,
+    turns_of_a_removal_keep_the_forest, turns_of_root_keep_the_forest,
+};
 use crate::seats::{cell_comm, cell_tree, lowest_tag, root_tree};
 use crate::stage::{CellPart, Editing, Seat, Stage2, Tree, left_of};
 use crate::writing::{Writing, write_table};
@@ -59,6 +65,18 @@ fn gone_comm(seats: &[Seat], editing: &Editing) -> Option<u64>
     match &editing.cell {
         CellPart::Remove { id, edit: _ } => cell_comm(seats, *id),
         _ => None,
+    }
+}
+
+/// The communication page of the cell with the id, which has one.
+fn cell_page(seats: &[Seat], id: u32) -> u64
+    requires { IsSome (cell_comm id seats.now) }
+    ensures { cell_comm id seats.now ≡ Some result }
+{
+    match cell_comm(seats, id) {
+        Some(page) => page,
+        // a cell besides root has a communication page
+        None => unreachable!(),
     }
 }
 
@@ -130,6 +148,17 @@ fn clear_table(t: &Target, f: &mut Frames, table: u64)
     write_table(t, f, Writing::Make, LEVELS, table, 0);
 }
 
+/// Each turn of an edit keeps the tables of all cells and the edit, with fewer turns left.
+pub fn turns_keep_the_forest()
+    ensures { (claims : AnySeat → Claims) (rootward coming : Claims) (editing editing' : AnyEditing) (stage stage' : AnyStage) → stage.editing ≡ Some editing → IsForest claims stage → IsEdit rootward coming stage editing
+        → IsOneTurn rootward coming editing editing' stage stage' → IsKept claims rootward coming editing editing' stage' }
+{
+    turns_of_root_keep_the_forest();
+    turns_of_a_coming_cell_keep_the_forest();
+    turns_of_a_removal_keep_the_forest();
+    a_fresh_cell_keeps_the_forest();
+}
+
 impl Stage2 {
     /// A turn of the tables of one cell.
     fn tree_turn(&mut self, edit: &mut Edit, tag: u8, t: &Target)
@@ -139,13 +168,7 @@ impl Stage2 {
         ensures seats { self.new.seats ≡ self.old.seats }
         ensures editing { self.new.editing ≡ self.old.editing }
     {
-        edit.turn(
-            t,
-            &mut self.frames,
-            &mut self.pool,
-            &mut self.cache,
-            tag,
-        );
+        edit.turn(t, &mut self.frames, &mut self.pool, &mut self.cache, tag);
     }
 
     /// A turn of root's tables.
@@ -196,15 +219,16 @@ impl Stage2 {
         ensures { (edit' : EditView) × IsBuildTurn (claims_of cell.now) id edit edit' (record { root = root; cell = AnyPart.Build id edit }) result (with_editing self.old (record { root = root; cell = AnyPart.Build id edit })) (with_editing self.new result) }
     {
         let seats = self.seats.as_slice();
-        match (cell_tree(seats, id), cell_comm(seats, id)) {
-            (Some(tree), Some(comm)) => {
+        match cell_tree(seats, id) {
+            Some(tree) => {
+                let comm = cell_page(seats, id);
                 let target = Target { comm, ..*cell };
                 self.tree_turn(&mut edit, tree.tag, &target);
                 let cell = CellPart::Build { id, edit };
                 Editing { root, cell }
             }
-            // a cell that is built has a seat
-            _ => unreachable!(),
+            // a cell that is built has tables
+            None => unreachable!(),
         }
     }
 
@@ -228,5 +252,68 @@ impl Stage2 {
         });
         let cell = CellPart::Build { id, edit };
         Editing { root, cell }
+    }
+
+    /// A turn of the cell's part.
+    fn cell_turn(&mut self, editing: Editing, root: &Target, cell: &Target) -> Editing
+        requires root { length root.now.cells.now ≤ 15 }
+        requires cell { length cell.now.cells.now ≤ 15 }
+        requires under { IsUnderWay (claims_of root.now) (claims_of cell.now) (with_editing self.old editing) editing }
+        requires left { 0 < left_of editing }
+        requires next { is_root_next editing ≡ false }
+        ensures { IsCellTurn (claims_of root.now) (claims_of cell.now) editing.cell editing result (with_editing self.old editing) (with_editing self.new result) }
+    {
+        let Editing {
+            root: rooted,
+            cell: part,
+        } = editing;
+        match part {
+            CellPart::Fresh { id, bound: _ } => self.fresh_turn(id, rooted, cell),
+            CellPart::Build { id, edit } => self.build_turn(id, edit, rooted, cell),
+            CellPart::Remove { id, edit } => self.remove_turn(id, edit, rooted, root),
+            // root's turns are all that there are
+            CellPart::Unchanged => unreachable!(),
+        }
+    }
+
+    /// One turn of the edit.
+    fn one_turn(&mut self, editing: Editing, root: &Target, cell: &Target) -> Editing
+        requires root { length root.now.cells.now ≤ 15 }
+        requires cell { length cell.now.cells.now ≤ 15 }
+        requires under { IsUnderWay (claims_of root.now) (claims_of cell.now) (with_editing self.old editing) editing }
+        requires left { 0 < left_of editing }
+        ensures { IsOneTurn (claims_of root.now) (claims_of cell.now) editing result (with_editing self.old editing) (with_editing self.new result) }
+    {
+        if editing.is_root_next() {
+            self.root_turn(editing, root)
+        } else {
+            self.cell_turn(editing, root, cell)
+        }
+    }
+
+    /// One turn of the edit under way, to what root and the cell that comes want; how many turns are left then. It takes no
+    /// memory. `cell` isn't looked at where none comes, and the communication page that a target of a cell has is that of its
+    /// seat, whatever `cell` says.
+    pub fn edit_turn(&mut self, root: &Target, cell: &Target) -> u64
+        requires root { length root.now.cells.now ≤ 15 }
+        requires cell { length cell.now.cells.now ≤ 15 }
+        requires under { HasTurn (claims_of root.now) (claims_of cell.now) self.old }
+        ensures turn { (editing : AnyEditing) → self.old.editing ≡ Some editing → IsTurned (claims_of root.now) (claims_of cell.now) editing self.old self.new }
+        ensures forest { (claims : AnySeat → Claims) → IsForest claims self.old → IsForest claims self.new }
+        ensures edit { (editing : AnyEditing) → self.new.editing ≡ Some editing → IsEdit (claims_of root.now) (claims_of cell.now) self.new editing }
+        ensures left { (editing : AnyEditing) → self.new.editing ≡ Some editing → result ≡ left_of editing }
+        ensures falls { (editing : AnyEditing) → self.old.editing ≡ Some editing → result < left_of editing }
+    {
+        turns_keep_the_forest();
+        match self.editing.take() {
+            Some(editing) => {
+                let editing = self.one_turn(editing, root, cell);
+                let left = left_of(&editing);
+                self.editing = Some(editing);
+                left
+            }
+            // an edit is under way
+            None => unreachable!(),
+        }
     }
 }

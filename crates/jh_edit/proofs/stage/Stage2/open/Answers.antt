@@ -20,9 +20,10 @@ returns-clause-forest c =
     let size : length f.own.bytes ≡ 4096 * c.args.pages = made.size ∙ (c.in_ok-frames.ensures.size ∙ ap (λ n. 4096 * n) c.from.ensures) in
     lone_forest claims stage
     (record {
+      id = c.args.id;
       lone = record {
         table = table;
-        seats = c.push_reserved.ensures.items ∙ ap (λ items. items ++ lone_seat table ∷ []) c.in_ok-seats.ensures.items;
+        seats = c.push_reserved.ensures.items ∙ ap (λ items. items ++ lone_seat c.args.id table ∷ []) c.in_ok-seats.ensures.items;
         still = refl;
       };
       inside = made.pool;
@@ -34,7 +35,7 @@ returns-clause-forest c =
           let walked = sym (c.standing_tables_walk_as_wanted.ensures (want_of claims) (words f) levels table 0 at made.stands) ∙ walk in
           let granted = c.walked_tells_grants.ensures.found claims at hit c.requires.sound low walked in
           out_by f.own hit.out (λ above below. c.requires.apart.apart at hit.out hit.rights hit.device low granted (omega arith) (omega arith));
-      room = let kept : vec_capacity c.push_reserved.new.self ≡ vec_capacity c.in_ok-seats.field-0 = c.push_reserved.ensures.capacity in let had = c.in_ok-seats.ensures.capacity in omega arith;
+      room = let kept : vec_capacity c.push_reserved.new.self ≡ vec_capacity c.in_ok-seats.seats = c.push_reserved.ensures.capacity in let had = c.in_ok-seats.ensures.capacity in omega arith;
     })
 
 pub returns-clause-cpus : goal.returns-clause-cpus
