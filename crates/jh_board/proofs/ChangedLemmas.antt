@@ -92,6 +92,12 @@ fresh_whole old middle write is bytes (Page id k) =
     (λ differ. bytes (Page id k) (λ e. true≢false (sym (eq-eqb id write.cell e) ∙ differ)))
     (λ past. past_by (comm_of middle id) middle.frames k past ∙ sym (past_by (comm_of old id) old.frames k past))
 
+-- and a write is the same whether the cell had its page or has just got it
+pub made_page : (old middle : Stage2) (write : PageWrite) → MayChangePage old write → ((q : Place) → IsOtherPlace write.cell q → byte_of middle q ≡ byte_of old q) → (IsSeated old write.cell → middle ≡ old)
+    → (q : Place) → with_page write (byte_of middle) q ≡ with_page write (byte_of old) q
+made_page old middle write (inl seated) bytes kept q = ap (λ (s : Stage2). with_page write (byte_of s) q) (kept seated)
+made_page old middle write (inr coming) bytes kept q = fresh_whole old middle write coming.0 bytes q
+
 -- what the seat of the cell changes: nothing at other places
 pub joined_bytes : (old new : Stage2) (id page : ℕ) → new.frames ≡ old.frames → new.seats.items ≡ old.seats.items ++ record { id = id; comm = Some page; tree = None } ∷ []
     → (q : Place) → IsOtherPlace id q → byte_of new q ≡ byte_of old q

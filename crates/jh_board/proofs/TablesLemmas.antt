@@ -1,8 +1,8 @@
 -- What keeps the tables of all cells: nothing that is done, one change behind another, and bytes that change beside tables.
-use Rattle.std.proofs.Common.{◌≡◌, ℕ, ◌+◌, ◌-◌, ◌%◌, ◌<◌, ◌≤◌, inl, inr, true, length, sum_by, List, Option, Some, None, if◌then◌else◌, refl, sym, ap, subst, ◌∙◌, arith}
+use Rattle.std.proofs.Common.{◌≡◌, ℕ, ◌+◌, ◌-◌, ◌%◌, ◌<◌, ◌≤◌, inl, inr, Bool, true, length, sum_by, List, Option, Some, None, if◌then◌else◌, refl, sym, ap, subst, ◌∙◌, arith}
 use Rattle.std.specs.Prelude.{Contains, IsSome, OnErr, OnOk, Result, Ok, Err}
 use Rattle.jh_num.specs.Memory.{stored}
-use Rattle.jh_frames.specs.Memory.{FramesView, OwnView, byte_at, is_own, own_byte, paged_byte}
+use Rattle.jh_frames.specs.Memory.{FramesView, OwnView, byte_at, is_own, own_byte}
 use Rattle.jh_edit.specs.declared.stage.Editing.{Editing}
 use Rattle.jh_edit.specs.declared.stage.Seat.{Seat}
 use Rattle.jh_edit.specs.declared.stage.Stage2.{Stage2}
@@ -57,14 +57,19 @@ pub writes_beside : (old : Stage2) (frames : FramesView) → frames.own.base ≡
     → WritesNoTable old frames
 writes_beside old frames base size same = record { base = base; size = size; bytes = λ place own none. same place own }
 
+then_by : (b : Bool) (x y : ℕ) → b ≡ true → (if b then x else y) ≡ x
+then_by b x y is = ap (λ c. if c then x else y) is
+
+byte_own : (frames : FramesView) (q : ℕ) → is_own frames.own q ≡ true → byte_at frames q ≡ own_byte frames.own q
+byte_own frames q own = then_by (is_own frames.own q) (own_byte frames.own q) _ own
+
 -- so are bytes that are stored beside it, or not for want of memory
 pub writes_by : {T E : Type 0} (result : Result T E) (old : Stage2) (frames : FramesView) (at : ℕ) (bytes : List ℕ) → frames.own.base ≡ old.frames.own.base → length frames.own.bytes ≡ length old.frames.own.bytes → IsBeside old.frames.own at (length bytes)
     → OnOk result ((q : ℕ) → byte_at frames q ≡ stored (byte_at old.frames) at bytes q) → OnErr result ((frames.own ≡ old.frames.own) × (frames.guest.pages ≡ old.frames.guest.pages)) → WritesNoTable old frames
 writes_by (Ok value) old frames at bytes base size beside put same = writes_beside old frames base size (stored_writes old (byte_at frames) at bytes beside put)
 writes_by (Err fault) old frames at bytes base size beside put same =
     writes_beside old frames base size (λ q own.
-    ap (λ (o : OwnView). if is_own o q then own_byte o q else paged_byte frames.guest.pages q) same.0
-    ∙ ap (λ pages. if is_own old.frames.own q then own_byte old.frames.own q else paged_byte pages q) same.1)
+    byte_own frames q (ap (λ (o : OwnView). is_own o q) same.0 ∙ own) ∙ ap (λ (o : OwnView). own_byte o q) same.0 ∙ sym (byte_own old.frames q own))
 
 -- and so is one of the communication page of a cell
 pub writes_comm : (old : Stage2) (frames : FramesView) (id page : ℕ) → old.editing ≡ None → comm_of old id ≡ Some page → page % 4096 ≡ 0 → frames.own.base ≡ old.frames.own.base → length frames.own.bytes ≡ length old.frames.own.bytes

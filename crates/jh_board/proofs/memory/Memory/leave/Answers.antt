@@ -1,13 +1,12 @@
 -- The seats and the pages of all other cells stay.
-use Rattle.std.proofs.Common.{◌≡◌, List, Option, Some, None, map, rules, refl, sym, ap, subst, ◌∙◌}
-use Rattle.std.specs.Prelude.{Contains, filter}
+use Rattle.std.proofs.Common.{◌≡◌, List, Option, Some, None, map, rules, refl, sym, ap, ◌∙◌}
+use Rattle.std.specs.Prelude.{filter}
 use Rattle.std.proofs.lemmas.Fn.{filter_same}
 use Rattle.jh_edit.specs.declared.stage.Seat.{Seat}
 use Rattle.jh_edit.specs.declared.stage.Stage2.{Stage2}
-use Rattle.jh_board.specs.Seats.{comm_of, ids_of, is_other_seat}
-use Rattle.jh_board.specs.Private.Pages.{ids_but}
+use Rattle.jh_board.specs.Seats.{comm_of, is_other_seat}
 use Rattle.jh_board.proofs.PlaceLemmas.{left_bytes, left_held}
-use Rattle.jh_board.proofs.SeatsLemmas.{all_less, ids_filter, none_less, seat_at, seated_page}
+use Rattle.jh_board.proofs.SeatsLemmas.{ids_filter, none_less, seat_at, seated_page}
 use Rattle.jh_board.proofs.SoundLemmas.{sound_left}
 use Rattle.jh_board.proofs.memory.Memory.leave.Goals as goal
 
@@ -45,14 +44,6 @@ returns-in-Some-clause-ids c =
     let new : Stage2 = record old { pool = c.give.new.self; seats = c.retain.new.self } in
     let left : c.retain.new.self.items ≡ filter (is_other_seat c.args.id) old.seats.items = filter_same _ _ _ (λ x b f' k. search rules) _ _ c.retain.ensures.filtered in
     rw (← c.self.view_is) (ap (λ (list : List Seat). map (λ (seat : Seat). seat.id) list) left ∙ ids_filter c.args.id old.seats.items)
-
-pub returns-in-Some-clause-comms : goal.returns-in-Some-clause-comms
-returns-in-Some-clause-comms c =
-    let old : Stage2 = c.self.inside.stage in
-    let left : c.retain.new.self.items ≡ filter (is_other_seat c.args.id) old.seats.items = filter_same _ _ _ (λ x b f' k. search rules) _ _ c.retain.ensures.filtered in
-    λ seat there.
-    let P : List Seat → Type 0 = λ list. Contains list seat in
-    all_less old.seats.items (is_other_seat c.args.id) c.self.invariant.cells seat (subst P left there)
 
 pub returns-in_default-clause-ids : goal.returns-in_default-clause-ids
 returns-in_default-clause-ids c =
