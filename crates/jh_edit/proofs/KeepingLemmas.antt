@@ -1,7 +1,6 @@
 -- What a turn keeps of all cells.
-use Rattle.std.proofs.Common.{◌≡◌, ◌≢◌, ℕ, ◌+◌, ◌-◌, ◌*◌, ◌%◌, ◌<◌, ◌≤◌, ◌⊎◌, inl, inr, ap, ◌∙◌, sym, subst, Bool, true, false, not, nat_eq, List, [], ◌∷◌, ◌++◌, length, map, sum_by, Option, Some, None, cond, if◌then◌else◌, arith, refl, ⊎_elim}
+use Rattle.std.proofs.Common.{◌≡◌, ◌≢◌, ℕ, ◌+◌, ◌%◌, ◌≤◌, ◌⊎◌, inl, inr, ap, ◌∙◌, sym, Bool, true, false, not, nat_eq, List, [], ◌∷◌, length, map, Some, cond, if◌then◌else◌, arith, refl}
 use Rattle.std.specs.Prelude.{filter}
-use Rattle.std.proofs.lemmas.Bool.{cases_lt}
 use Rattle.std.proofs.lemmas.List.{map-append}
 use Rattle.std.proofs.lemmas.Simd.{map-map}
 use Rattle.jh_num.proofs.Public.{same_number}
@@ -19,13 +18,13 @@ use Rattle.jh_edit.specs.Forest.{HasSeat, IsEdit, IsForest, comm_times, comm_use
 use Rattle.jh_edit.specs.Keeping.{KeepsCells, SeatsOneMore, Sitter, sitter, sitters, sitters_left}
 use Rattle.jh_edit.specs.OneTurn.{IsCellTurn, IsTurnBy}
 use Rattle.jh_edit.specs.Plans.{EditView}
-use Rattle.jh_edit.specs.Stages.{IsFreshTurn, untreed}
-use Rattle.jh_edit.specs.Tables.{is_over, words}
+use Rattle.jh_edit.specs.Stages.{IsFreshTurn}
+use Rattle.jh_edit.specs.Tables.{is_over}
 use Rattle.jh_edit.proofs.ForestLemmas.{sum_up, used_page}
 use Rattle.jh_edit.proofs.FreshLemmas.{Freshening, begun_gone, free_unused, fresh_seat, fresh_tree}
 use Rattle.jh_edit.proofs.KindLemmas.{TellsGrants, build_turning, part_is, pool_size, remove_turning, root_turning}
 use Rattle.jh_edit.proofs.SeatLemmas.{untreed_comm, untreed_id, untreed_if}
-use Rattle.jh_edit.proofs.TurningLemmas.{Turning, byte_apart, own_among, own_times, same_bytes}
+use Rattle.jh_edit.proofs.TurningLemmas.{Turning, byte_apart, own_among, same_bytes}
 
 -- a communication page that isn't gone is used as one
 comm_used : (stage : Stage2) (seat : Seat) (comm : ℕ) → HasSeat stage seat → seat.comm ≡ Some comm → is_gone stage.editing seat ≡ false → 1 ≤ comm_uses stage comm
