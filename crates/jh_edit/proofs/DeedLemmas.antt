@@ -1,5 +1,5 @@
 -- What one turn does is a step of the edit.
-use Rattle.std.proofs.Common.{◌≡◌, ℕ, ◌+◌, ◌-◌, ◌*◌, ◌%◌, ◌<◌, ◌≤◌, ◌||◌, inl, inr, suc, ap, ◌∙◌, sym, subst, ⊎_elim, nat_lt, arith, refl, true, false, Option, Some, None, IfSome}
+use Rattle.std.proofs.Common.{◌≡◌, ℕ, ◌+◌, ◌-◌, ◌*◌, ◌%◌, ◌<◌, ◌≤◌, suc, ap, ◌∙◌, sym, subst, ⊎_elim, nat_lt, arith, refl, true, false, Option, Some, None, IfSome}
 use Rattle.std.proofs.lemmas.Bool.{false≢true, lt-ltb, or_left}
 use Rattle.jh_num.specs.declared.address.TheConstants.{ADDRESS_END}
 use Rattle.jh_num.specs.declared.level.TheConstants.{LAST_LEVEL}
@@ -17,8 +17,8 @@ use Rattle.jh_edit.specs.declared.finding.Node.{Node}
 use Rattle.jh_edit.specs.declared.finding.Todo.{Todo}
 use Rattle.jh_edit.specs.declared.finding.Todo.TheVariants.{Prune, Empty, Fill, Make}
 use Rattle.jh_edit.specs.Trees.{staying}
-use Rattle.jh_edit.specs.Plans.{EditView, IsAhead, IsDoneBelow, Plans, PlansTarget, word_place}
-use Rattle.jh_edit.specs.Tables.{AreTables, HasTaken, IsPoolOf, is_ahead, is_mine, words}
+use Rattle.jh_edit.specs.Plans.{EditView, IsAhead, IsDoneBelow, Plans}
+use Rattle.jh_edit.specs.Tables.{AreTables, HasTaken, IsPoolOf, is_ahead, words}
 use Rattle.jh_edit.specs.Moves.{Move, Link as LinkPage, IsAtTurn}
 use Rattle.jh_edit.specs.Private.Slots.{IsTablePlace}
 use Rattle.jh_edit.specs.Private.Finding.{IsBegun, IsNode, IsTodo}

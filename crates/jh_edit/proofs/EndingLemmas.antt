@@ -1,17 +1,14 @@
 -- What the edit of a call leaves once none of its turns is left.
-use Rattle.std.proofs.Common.{◌≡◌, ◌≢◌, ℕ, ◌+◌, ◌-◌, ◌*◌, ◌%◌, ◌<◌, ◌≤◌, ◌⊎◌, ◌↔◌, inl, inr, zero, suc, ap, ◌∙◌, sym, subst, Bool, true, false, not, ◌&&◌, ◌||◌, nat_eq, List, [], ◌∷◌, ◌++◌, length, get_or, sum_by, Option, Some, None, if◌then◌else◌, arith, refl, ⊎_elim}
-use Rattle.std.specs.Prelude.{AllPairs, Contains, IfSome, IsSome, is_some, vec_capacity}
+use Rattle.std.proofs.Common.{◌≡◌, ◌≢◌, ℕ, ◌+◌, ◌<◌, ◌≤◌, ◌↔◌, ap, ◌∙◌, sym, subst, Bool, true, false, not, ◌&&◌, ◌||◌, nat_eq, List, sum_by, Option, Some, None, if◌then◌else◌, arith, refl, ⊎_elim}
+use Rattle.std.specs.Prelude.{AllPairs, Contains, IsSome, vec_capacity}
 use Rattle.std.specs.List.{filter}
-use Rattle.std.proofs.lemmas.Bool.{cases_Bool, cases_eq, cases_lt, eq-eqb, eqb-true, false≢true, ne_eqb, not-true, or_from}
+use Rattle.std.proofs.lemmas.Bool.{cases_Bool, cases_eq, eq-eqb, eqb-true, false≢true, ne_eqb, not-true, or_from}
 use Rattle.std.proofs.lemmas.Option.{none-some, same_Some}
 use Rattle.std.proofs.lemmas.List.Kept.{AllPairs-filter}
-use Rattle.std.proofs.lemmas.List.Sums.{sum_by-cons}
-use Rattle.jh_num.proofs.Public.{Contains_filter, Contains_head, Contains_tail, IsFound_from_filter, filter_all}
+use Rattle.jh_num.proofs.Public.{Contains_filter, IsFound_from_filter, filter_all}
 use Rattle.jh_cache.specs.declared.translation.Translation.{Translation}
-use Rattle.jh_cache.specs.Translations.{translations_of}
-use Rattle.jh_pool.specs.Pages.{IsTakenPage, PoolView}
-use Rattle.jh_frames.specs.Memory.{FramesView}
-use Rattle.jh_walk.specs.Walks.{levels, walk_of}
+use Rattle.jh_pool.specs.Pages.{IsTakenPage}
+use Rattle.jh_walk.specs.Walks.{levels}
 use Rattle.jh_shape.specs.Claims.{Claims}
 use Rattle.jh_shape.specs.Shapes.{want_of}
 use Rattle.jh_shape.specs.Wanted.{Wants}
@@ -23,9 +20,9 @@ use Rattle.jh_edit.specs.declared.stage.Seat.{Seat}
 use Rattle.jh_edit.specs.declared.stage.Stage2.{Stage2}
 use Rattle.jh_edit.specs.declared.stage.Tree.{Tree}
 use Rattle.jh_edit.specs.Ends.{IsClosed, came, claims_after, seats_left}
-use Rattle.jh_edit.specs.Forest.{AreApart, HasSeat, IsBuildPart, IsCellPart, IsEdit, IsForest, IsRemovePart, IsTrueTranslation, ahead_times, ahead_uses, comm_times, comm_uses, is_built, is_coming, is_edited, is_gone, is_removed, is_root, left_of, part_ahead_times, part_left, table_uses, tree_times, uses, with_comm}
+use Rattle.jh_edit.specs.Forest.{AreApart, HasSeat, IsBuildPart, IsCellPart, IsEdit, IsForest, IsRemovePart, IsTrueTranslation, ahead_times, ahead_uses, comm_times, is_built, is_edited, is_gone, is_removed, is_root, left_of, part_ahead_times, part_left, tree_times, uses, with_comm}
 use Rattle.jh_edit.specs.Plans.{EditView, Plans}
-use Rattle.jh_edit.specs.Tables.{IsPoolOf, is_ahead, words}
+use Rattle.jh_edit.specs.Tables.{is_ahead, words}
 use Rattle.jh_edit.specs.Trees.{Stands, WantsPagesAtTheEnd}
 use Rattle.jh_edit.proofs.ForestLemmas.{sum_alike}
 use Rattle.jh_edit.proofs.SeatLemmas.{one_root, one_seat, sum_filter}

@@ -1,6 +1,6 @@
 -- What a search finds, carried from a table to the one above it.
-use Rattle.std.proofs.Common.{◌≡◌, ℕ, ◌+◌, ◌-◌, ◌*◌, ◌/◌, ◌%◌, ◌<◌, ◌≤◌, ◌⊎◌, inl, inr, zero, suc, ap, ◌∙◌, sym, subst, ⊎_elim, arith, refl, Bool, true, false, not, if◌then◌else◌, Option, Some, None, IfSome, List, slice_get}
-use Rattle.std.proofs.lemmas.Bool.{false≢true, cases_lt, cases_eq, cases_Bool}
+use Rattle.std.proofs.Common.{◌≡◌, ℕ, ◌+◌, ◌-◌, ◌*◌, ◌/◌, ◌%◌, ◌<◌, ◌≤◌, ◌⊎◌, inl, inr, zero, suc, ap, ◌∙◌, sym, subst, ⊎_elim, arith, refl, Bool, true, false, if◌then◌else◌, Option, Some, None, IfSome, List}
+use Rattle.std.proofs.lemmas.Bool.{false≢true, cases_lt, cases_eq}
 use Rattle.std.proofs.lemmas.Nat.{pow_pos}
 use Rattle.std.proofs.Math.Nat.{mul-le-mul_left}
 use Rattle.jh_num.specs.declared.level.TheConstants.{LAST_LEVEL}
@@ -24,7 +24,7 @@ use Rattle.jh_edit.specs.Trees.{IsAsWanted, Stands, WantsPagesAtTheEnd, staying}
 use Rattle.jh_edit.specs.Turns.{has_lacking_leaf, has_wrong_leaf, is_wrong_leaf, lacks_leaf, HasNoTableTooMany}
 use Rattle.jh_edit.specs.Plans.{IsDoneBelow, IsDoneSlot}
 use Rattle.jh_edit.specs.Private.Slots.{IsTablePlace, IsTableStart, lacks_at, want_at, wrong_at}
-use Rattle.jh_edit.specs.Private.Finding.{begin_in, cursor_of, read_in, want_in, AreWantsOf, HasNoLink, IsDeepest, IsDone, IsFound, IsFoundIn, IsLink, IsLinkOf, IsNode, IsOwnTodo, IsTidy, IsTidySlot, IsTodo, IsToEmpty, IsToFill, IsToMake, IsToPrune, IsToTakeAway, KeepsNone, NodeStands, Reaches, SlotStands}
+use Rattle.jh_edit.specs.Private.Finding.{begin_in, cursor_of, read_in, want_in, AreWantsOf, HasNoLink, IsDeepest, IsDone, IsFound, IsFoundIn, IsLink, IsLinkOf, IsNode, IsOwnTodo, IsTidy, IsTidySlot, IsTodo, IsToPrune, IsToTakeAway, KeepsNone, NodeStands, Reaches, SlotStands}
 use Rattle.jh_edit.proofs.SumLemmas.{any_down, any_same, sum_none}
 use Rattle.jh_edit.proofs.BoundLemmas.{pages_more}
 use Rattle.jh_edit.proofs.StandLemmas.{leaf_stands, stand_down, stand_more}

@@ -1,9 +1,9 @@
 -- The seat that a search finds is the one that there is.
-use Rattle.std.proofs.Common.{◌≡◌, ◌⊎◌, inl, inr, ⊎_elim, ℕ, ◌<◌, ◌≤◌, Bool, true, false, List, Option, Some, None, refl, sym, ap, ◌∙◌, subst, get_or, length, arith}
-use Rattle.std.specs.Prelude.{AllPairs, Contains, find, nat_eq}
+use Rattle.std.proofs.Common.{◌≡◌, ◌⊎◌, inl, inr, ⊎_elim, ℕ, ◌<◌, ◌≤◌, Bool, true, false, List, Option, Some, sym, ap, ◌∙◌, get_or, length, arith}
+use Rattle.std.specs.Prelude.{AllPairs, Contains, find}
 use Rattle.std.proofs.lemmas.Bool.{cases_lt, eqb-true, eq-eqb, true≢false}
 use Rattle.std.proofs.lemmas.List.{get_or_default}
-use Rattle.jh_num.proofs.Public.{IsFound_from_find, IsFound_from_list_any, find_unique, list_any_false, same_number}
+use Rattle.jh_num.proofs.Public.{find_unique, list_any_false}
 use Rattle.jh_edit.specs.declared.stage.Seat.{Seat}
 use Rattle.jh_edit.specs.declared.stage.Tree.{Tree}
 use Rattle.jh_edit.specs.Forest.{AreApart, is_root}

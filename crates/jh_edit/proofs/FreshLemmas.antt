@@ -1,26 +1,23 @@
 -- The turn in which a cell gets its communication page and its first table.
-use Rattle.std.proofs.Common.{◌≡◌, ◌≢◌, ℕ, ◌+◌, ◌-◌, ◌*◌, ◌%◌, ◌/◌, ◌<◌, ◌≤◌, ◌⊎◌, ◌↔◌, inl, inr, zero, suc, ap, ◌∙◌, sym, subst, Bool, true, false, not, ◌&&◌, ◌||◌, nat_eq, List, [], ◌∷◌, ◌++◌, length, get_or, sum_by, Option, Some, None, if◌then◌else◌, arith, refl, ⊎_elim}
-use Rattle.std.specs.Prelude.{AllPairs, Contains, IfSome, IsSome, is_some, vec_capacity}
-use Rattle.std.proofs.lemmas.Bool.{and_from, and_left, and_right, cases_Bool, cases_eq, cases_lt, eq-eqb, false≢true, ne_eqb, or_left, or_right}
+use Rattle.std.proofs.Common.{◌≡◌, ◌≢◌, ℕ, ◌+◌, ◌*◌, ◌%◌, ◌/◌, ◌<◌, ◌≤◌, ◌⊎◌, ◌↔◌, inl, inr, ap, ◌∙◌, sym, subst, Bool, true, false, ◌||◌, nat_eq, List, [], ◌∷◌, ◌++◌, get_or, sum_by, Option, Some, None, if◌then◌else◌, arith, refl, ⊎_elim}
+use Rattle.std.specs.Prelude.{AllPairs, Contains, IfSome}
+use Rattle.std.proofs.lemmas.Bool.{and_left, cases_eq, cases_lt, eq-eqb, false≢true, ne_eqb}
 use Rattle.std.proofs.lemmas.Option.{none-some, same_Some}
 use Rattle.std.proofs.lemmas.List.Elements.{Contains-append_cases, Contains-append_left, Contains-append_right}
 use Rattle.std.proofs.lemmas.List.Quantifiers.{all_pairs_push}
 use Rattle.std.proofs.lemmas.List.Sums.{sum_by_push}
 use Rattle.jh_num.proofs.Public.{Contains_cases, Contains_head, read_again, same_number}
 use Rattle.jh_num.specs.declared.address.TheConstants.{ADDRESS_END}
-use Rattle.jh_num.specs.declared.level.TheConstants.{LAST_LEVEL}
 use Rattle.jh_num.specs.declared.rights.Rights.{Rights}
 use Rattle.jh_num.specs.Levels.{slot_size}
 use Rattle.jh_desc.specs.declared.descriptor.Descriptor.{Descriptor}
 use Rattle.jh_desc.specs.declared.descriptor.Descriptor.TheVariants.{Invalid}
-use Rattle.jh_desc.specs.declared.descriptor.Hit.{Hit}
 use Rattle.jh_desc.specs.Descriptors.{read_of}
-use Rattle.jh_frames.specs.Memory.{FramesView, byte_at, is_own}
-use Rattle.jh_pool.specs.Pages.{IsTakenPage, is_free, used_of}
+use Rattle.jh_frames.specs.Memory.{byte_at}
+use Rattle.jh_pool.specs.Pages.{IsTakenPage, is_free}
 use Rattle.jh_cache.specs.declared.translation.Translation.{Translation}
 use Rattle.jh_cache.specs.Translations.{translations_of}
-use Rattle.jh_walk.specs.Counts.{unmoved}
-use Rattle.jh_walk.specs.Pages.{HaveSameTables, pages_reached, times}
+use Rattle.jh_walk.specs.Pages.{HaveSameTables, times}
 use Rattle.jh_walk.specs.Walks.{levels, walk_of, walk_on}
 use Rattle.jh_desc.specs.Levels.{index_of}
 use Rattle.jh_walk.proofs.Public.{counts_same, index_small, walk_same}
@@ -28,26 +25,24 @@ use Rattle.jh_shape.specs.Claims.{Claims}
 use Rattle.jh_shape.specs.Pages.{tables_at, tables_of}
 use Rattle.jh_shape.specs.Shapes.{want_of}
 use Rattle.jh_shape.specs.SoundClaims.{AreSoundClaims, IsSlot}
-use Rattle.jh_shape.specs.Wanted.{Wants, slot_start, tables_under}
+use Rattle.jh_shape.specs.Wanted.{slot_start, tables_under}
 use Rattle.jh_shape.specs.declared.want.Want.{Want}
 use Rattle.jh_shape.specs.declared.want.Want.TheVariants.{Nothing, Table as WantTable, Leaf as WantLeaf}
 use Rattle.jh_edit.specs.declared.edit.Ahead.{Ahead}
-use Rattle.jh_edit.specs.declared.stage.CellPart.{CellPart}
 use Rattle.jh_edit.specs.declared.stage.CellPart.TheVariants.{Fresh, Build}
 use Rattle.jh_edit.specs.declared.stage.Editing.{Editing}
 use Rattle.jh_edit.specs.declared.stage.Seat.{Seat}
 use Rattle.jh_edit.specs.declared.stage.Stage2.{Stage2}
 use Rattle.jh_edit.specs.declared.stage.Tree.{Tree}
-use Rattle.jh_edit.specs.Forest.{AreApart, HasSeat, IsBuildPart, IsCellPart, IsEdit, IsEditOf, IsForest, IsFreshPart, IsKeptOut, IsRootPart, IsTrueTranslation, LeadsOutside, LeadsToComm, ahead_times, ahead_uses, comm_times, comm_uses, is_built, is_coming, is_edited, is_gone, is_removed, is_root, left_of, part_ahead_times, part_left, table_uses, tree_times, uses, with_comm}
-use Rattle.jh_edit.specs.Plans.{EditView, HasSameWords, IsMade, IsMadeTable, Plans, ahead_count}
+use Rattle.jh_edit.specs.Forest.{AreApart, HasSeat, IsBuildPart, IsCellPart, IsEdit, IsForest, IsFreshPart, IsKeptOut, IsRootPart, IsTrueTranslation, ahead_times, ahead_uses, comm_times, comm_uses, is_built, is_coming, is_edited, is_gone, is_removed, is_root, left_of, part_ahead_times, part_left, table_uses, tree_times, uses, with_comm}
+use Rattle.jh_edit.specs.Plans.{EditView, HasSameWords, IsMade, IsMadeTable, ahead_count}
 use Rattle.jh_edit.specs.Stages.{IsFreshTurn}
 use Rattle.jh_edit.specs.Tables.{IsPoolOf, is_ahead, words}
-use Rattle.jh_edit.specs.Trees.{Stands, lack_at, lack_of, staying}
+use Rattle.jh_edit.specs.Trees.{lack_at, lack_of, staying}
 use Rattle.jh_edit.specs.Turns.{turns_of}
 use Rattle.jh_edit.proofs.BlankLemmas.{IsClear, clear_lack, clear_times}
 use Rattle.jh_edit.proofs.ForestEditLemmas.{ahead_words}
 use Rattle.jh_edit.proofs.ForestLemmas.{same_stands, same_tree, sum_alike, sum_up, used_page}
-use Rattle.jh_edit.proofs.KindLemmas.{part_is}
 use Rattle.jh_edit.proofs.MadeLemmas.{made_turns}
 use Rattle.jh_edit.proofs.MoveLackLemmas.{lack_told}
 use Rattle.jh_edit.proofs.PartLemmas.{fit_after, kept_after}
@@ -137,7 +132,7 @@ fresh_table_uses claims rootward coming id bound edit' editing editing' old new 
 fresh_gone : (editing : Editing) (id : ℕ) (edit : EditView) (seat : Seat) → editing.cell ≡ Build id edit → is_gone (Some editing) seat ≡ false
 fresh_gone editing id edit seat is = and_left (is_removed editing.cell seat.id) (nat_eq (left_of editing) 0) (ap (λ part. is_removed part seat.id) is)
 
-begun_gone : (editing : Editing) (id bound : ℕ) (seat : Seat) → editing.cell ≡ Fresh id bound → is_gone (Some editing) seat ≡ false
+pub begun_gone : (editing : Editing) (id bound : ℕ) (seat : Seat) → editing.cell ≡ Fresh id bound → is_gone (Some editing) seat ≡ false
 begun_gone editing id bound seat is = and_left (is_removed editing.cell seat.id) (nat_eq (left_of editing) 0) (ap (λ part. is_removed part seat.id) is)
 
 fresh_comm_uses : (claims : Seat → Claims) (rootward coming : Claims) (id bound : ℕ) (edit' : EditView) (editing editing' : Editing) (old new : Stage2) → (f : Freshening claims rootward coming id bound edit' editing editing' old new)

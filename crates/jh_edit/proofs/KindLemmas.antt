@@ -1,12 +1,11 @@
 -- The turns of an edit, by the part that has them: each is a turn of one cell's tables among those of all, and keeps the edit.
-use Rattle.std.proofs.Common.{◌≡◌, ◌≢◌, ℕ, ◌+◌, ◌-◌, ◌*◌, ◌%◌, ◌<◌, ◌≤◌, ◌⊎◌, inl, inr, zero, suc, ap, ◌∙◌, sym, subst, Bool, true, false, not, ◌&&◌, ◌||◌, nat_eq, List, length, map, Option, Some, None, if◌then◌else◌, arith, refl, ⊎_elim}
+use Rattle.std.proofs.Common.{◌≡◌, ℕ, ◌+◌, ◌-◌, ◌%◌, ◌<◌, ◌≤◌, ◌⊎◌, inl, inr, ap, ◌∙◌, sym, subst, true, false, not, ◌||◌, nat_eq, length, map, Option, Some, None, if◌then◌else◌, arith, refl, ⊎_elim}
 use Rattle.std.specs.Prelude.{Contains, IfSome, is_some, vec_capacity}
-use Rattle.std.proofs.lemmas.Bool.{and_from, and_left, and_right, cases_Bool, cases_eq, cases_lt, eq-eqb, false≢true, ne_eqb, or_left, or_right}
+use Rattle.std.proofs.lemmas.Bool.{and_from, and_left, and_right, cases_Bool, cases_lt, eq-eqb, false≢true, ne_eqb, or_left, or_right}
 use Rattle.jh_num.proofs.Public.{Contains_map, same_number}
 use Rattle.jh_num.specs.declared.address.TheConstants.{ADDRESS_END}
 use Rattle.jh_desc.specs.declared.descriptor.Hit.{Hit}
-use Rattle.jh_frames.specs.Memory.{FramesView, is_own}
-use Rattle.jh_walk.specs.Pages.{pages_reached}
+use Rattle.jh_frames.specs.Memory.{is_own}
 use Rattle.jh_walk.specs.Walks.{levels}
 use Rattle.jh_shape.specs.Claims.{Claims}
 use Rattle.jh_shape.specs.Grants.{IsGranted}
@@ -15,11 +14,11 @@ use Rattle.jh_shape.specs.SoundClaims.{AreSoundClaims}
 use Rattle.jh_shape.specs.Wanted.{Wants}
 use Rattle.jh_edit.specs.declared.edit.Ahead.{Ahead}
 use Rattle.jh_edit.specs.declared.stage.CellPart.{CellPart}
-use Rattle.jh_edit.specs.declared.stage.CellPart.TheVariants.{Unchanged, Fresh, Build, Remove}
+use Rattle.jh_edit.specs.declared.stage.CellPart.TheVariants.{Build, Remove}
 use Rattle.jh_edit.specs.declared.stage.Editing.{Editing}
 use Rattle.jh_edit.specs.declared.stage.Seat.{Seat}
 use Rattle.jh_edit.specs.declared.stage.Stage2.{Stage2}
-use Rattle.jh_edit.specs.Forest.{GrantsNothingOf, HasSeat, IsCellPart, IsEdit, IsBuildPart, IsEditOf, IsFitToCome, IsForest, IsRemovePart, IsRootPart, LeadsOutside, LeadsToComm, ahead_times, ahead_uses, comm_times, comm_uses, is_built, is_coming, is_edited, is_gone, is_removed, is_root, left_of, part_ahead_times, part_left, uses, with_comm}
+use Rattle.jh_edit.specs.Forest.{HasSeat, IsCellPart, IsEdit, IsBuildPart, IsFitToCome, IsForest, IsRemovePart, IsRootPart, LeadsOutside, LeadsToComm, ahead_times, ahead_uses, comm_times, comm_uses, is_built, is_coming, is_edited, is_gone, is_removed, is_root, left_of, part_ahead_times, part_left, with_comm}
 use Rattle.jh_edit.specs.Plans.{EditView, IsAhead, Plans, ahead_count}
 use Rattle.jh_edit.specs.Stages.{IsBuildTurn, IsRemoveTurn, IsRootTurn, untreed}
 use Rattle.jh_edit.specs.Tables.{IsPoolOf, is_ahead, is_over, words}
@@ -56,7 +55,7 @@ coming_leads tells coming stage seat comm page aligned end fit at hit low found 
 -- ---- the edit of the call before and after
 
 -- while a turn is left no cell is gone
-not_gone : (stage : Stage2) (editing : Editing) (seat : Seat) → stage.editing ≡ Some editing → 0 < left_of editing → is_gone stage.editing seat ≡ false
+pub not_gone : (stage : Stage2) (editing : Editing) (seat : Seat) → stage.editing ≡ Some editing → 0 < left_of editing → is_gone stage.editing seat ≡ false
 not_gone stage editing seat on some =
     ap (λ e. is_gone e seat) on ∙ and_right (is_removed editing.cell seat.id) (nat_eq (left_of editing) 0) (ne_eqb (left_of editing) 0 (λ e. let none : left_of editing ≡ 0 = e in let no : ⊥ = omega arith in no))
 
@@ -69,12 +68,12 @@ on_ahead edit page on = ap (λ b. if b then 0 else ahead_times page edit) on
 aheads_of : (stage : Stage2) (editing : Editing) (page : ℕ) → stage.editing ≡ Some editing → ahead_uses stage.editing page ≡ ahead_times page editing.root + part_ahead_times page editing.cell
 aheads_of stage editing page on = ap (λ e. ahead_uses e page) on
 
-pool_size : (old new : Stage2) → IsPoolOf old.pool old.frames → IsPoolOf new.pool new.frames → length new.frames.own.bytes ≡ length old.frames.own.bytes → new.pool.size ≡ old.pool.size
+pub pool_size : (old new : Stage2) → IsPoolOf old.pool old.frames → IsPoolOf new.pool new.frames → length new.frames.own.bytes ≡ length old.frames.own.bytes → new.pool.size ≡ old.pool.size
 pool_size old new before after same = let a = before.size in let b = after.size in omega arith
 
 -- ---- a turn of root
 
-root_turning : TellsGrants → (claims : Seat → Claims) (rootward coming : Claims) (editing editing' : Editing) (old new : Stage2) → old.editing ≡ Some editing → IsForest claims old → IsEdit rootward coming old editing → IsRootTurn rootward editing editing' old new
+pub root_turning : TellsGrants → (claims : Seat → Claims) (rootward coming : Claims) (editing editing' : Editing) (old new : Stage2) → old.editing ≡ Some editing → IsForest claims old → IsEdit rootward coming old editing → IsRootTurn rootward editing editing' old new
     → Turning claims (want_of rootward) editing.root editing'.root old new
 root_turning tells claims rootward coming editing editing' old new on forest is r =
     let aims : is_over editing'.root ≡ false = aims_on editing'.root (r.turn.aim ∙ is.root.aim) in
@@ -159,7 +158,7 @@ comm_place claims stage seat comm forest sits page still =
 pub part_is : (rootward coming : Claims) (stage : Stage2) (editing : Editing) (part : CellPart) → editing.cell ≡ part → (is : IsEdit rootward coming stage editing) → IsCellPart coming stage part is.lack
 part_is rootward coming stage editing part was is = subst (λ p. IsCellPart coming stage p is.lack) was is.cell
 
-build_turning : TellsGrants → (claims : Seat → Claims) (rootward coming : Claims) (id : ℕ) (edit edit' : EditView) (editing editing' : Editing) (old new : Stage2) → old.editing ≡ Some editing → IsForest claims old → IsEdit rootward coming old editing
+pub build_turning : TellsGrants → (claims : Seat → Claims) (rootward coming : Claims) (id : ℕ) (edit edit' : EditView) (editing editing' : Editing) (old new : Stage2) → old.editing ≡ Some editing → IsForest claims old → IsEdit rootward coming old editing
     → (r : IsBuildTurn coming id edit edit' editing editing' old new) → Turning claims (want_of (with_comm coming r.comm)) edit edit' old new
 build_turning tells claims rootward coming id edit edit' editing editing' old new on forest is r =
     let part : IsBuildPart coming old id edit is.lack = part_is rootward coming old editing (Build id edit) r.was is in
@@ -337,7 +336,7 @@ removed_part want id edit edit' editing editing' old new r cell away =
     })
     (cases_lt 0 edit'.left)
 
-remove_turning : (claims : Seat → Claims) (rootward coming : Claims) (want : Wants) (id : ℕ) (edit edit' : EditView) (editing editing' : Editing) (old new : Stage2) → old.editing ≡ Some editing → IsForest claims old → IsEdit rootward coming old editing
+pub remove_turning : (claims : Seat → Claims) (rootward coming : Claims) (want : Wants) (id : ℕ) (edit edit' : EditView) (editing editing' : Editing) (old new : Stage2) → old.editing ≡ Some editing → IsForest claims old → IsEdit rootward coming old editing
     → (r : IsRemoveTurn want id edit edit' editing editing' old new) → Turning claims want edit edit' old new
 remove_turning claims rootward coming want id edit edit' editing editing' old new on forest is r =
     let part : IsRemovePart old id edit is.lack = part_is rootward coming old editing (Remove id edit) r.was is in

@@ -1,14 +1,13 @@
 -- The leaves of tables are what walks find.
-use Rattle.std.proofs.Common.{add-one, append_assoc, ◌≡◌, ◌≢◌, ℕ, ◌+◌, ◌-◌, ◌*◌, ◌/◌, ◌%◌, ◌^◌, ◌<◌, ◌≤◌, ◌⊎◌, inl, inr, zero, suc, ap, ◌∙◌, sym, subst, Bool, true, false, nat_lt, List, [], ◌∷◌, ◌++◌, length, get_or, Option, Some, None, if◌then◌else◌, arith, refl, ⊎_elim}
+use Rattle.std.proofs.Common.{add-one, append_assoc, ◌≡◌, ℕ, ◌+◌, ◌-◌, ◌*◌, ◌/◌, ◌%◌, ◌^◌, ◌<◌, ◌≤◌, zero, suc, ap, ◌∙◌, sym, subst, true, false, nat_lt, List, [], ◌∷◌, ◌++◌, get_or, Option, Some, None, if◌then◌else◌, arith, refl, ⊎_elim}
 use Rattle.std.specs.Prelude.{All, AllPairs, Contains, find}
-use Rattle.std.proofs.lemmas.Bool.{cases_Bool, cases_lt, lt-ltb, le-ltb}
+use Rattle.std.proofs.lemmas.Bool.{cases_Bool, cases_lt, lt-ltb}
 use Rattle.std.proofs.lemmas.List.Elements.{Contains-append_cases, Contains-append_left, Contains-append_right}
 use Rattle.std.proofs.lemmas.List.Kept.{AllPairs-cons}
 use Rattle.std.proofs.lemmas.Option.{none-some, same_Some}
 use Rattle.jh_num.proofs.Public.{Contains_cases, Contains_head, Contains_tail, IsFound_from_find, read_again}
 use Rattle.jh_num.specs.declared.address.TheConstants.{ADDRESS_END}
 use Rattle.jh_num.specs.declared.level.TheConstants.{LAST_LEVEL}
-use Rattle.jh_num.specs.declared.rights.Rights.{Rights}
 use Rattle.jh_num.specs.Levels.{slot_size}
 use Rattle.jh_desc.specs.declared.descriptor.Descriptor.{Descriptor}
 use Rattle.jh_desc.specs.declared.descriptor.Descriptor.TheVariants.{Invalid, Table, Leaf}
@@ -31,7 +30,7 @@ use Rattle.jh_edit.specs.declared.leaves.LeafAt.{LeafAt}
 use Rattle.jh_edit.specs.Leaves.{GivesHit, Precedes, leaves_before, leaves_of, leaves_on}
 use Rattle.jh_edit.proofs.DescriptorLemmas.{named_below}
 use Rattle.jh_edit.proofs.ForestLemmas.{tables_of_seat}
-use Rattle.jh_edit.proofs.GrantLemmas.{IsInSlot, in_slot}
+use Rattle.jh_edit.proofs.GrantLemmas.{in_slot}
 use Rattle.jh_edit.proofs.SeatLemmas.{pairs_head, pairs_rest}
 
 -- ---- lists of slots

@@ -47,5 +47,6 @@ mod EndingLemmas
 mod PagesLemmas
 mod PlannedLemmas
 mod LeafLemmas
+mod KeepingLemmas
 mod StepLemmas
 mod DeedLemmas

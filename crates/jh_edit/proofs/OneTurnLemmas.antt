@@ -1,10 +1,10 @@
 -- What the edit of a call asks before a turn of one cell's tables, and what stands once the page of a cell that is gone is
 -- given back.
-use Rattle.std.proofs.Common.{◌≡◌, ◌≢◌, ℕ, ◌+◌, ◌-◌, ◌*◌, ◌%◌, ◌<◌, ◌≤◌, ◌⊎◌, ◌↔◌, inl, inr, ⊎_elim, Bool, true, false, ◌&&◌, ◌||◌, nat_eq, List, [], ◌∷◌, length, map, sum_by, Option, Some, None, if◌then◌else◌, refl, sym, ap, subst, ◌∙◌, arith}
+use Rattle.std.proofs.Common.{◌≡◌, ◌≢◌, ℕ, ◌+◌, ◌*◌, ◌%◌, ◌<◌, ◌≤◌, ◌⊎◌, ◌↔◌, inl, inr, ⊎_elim, Bool, true, false, ◌&&◌, nat_eq, List, [], ◌∷◌, map, sum_by, Option, Some, None, if◌then◌else◌, refl, sym, ap, subst, ◌∙◌, arith}
 use Rattle.std.specs.Prelude.{AllPairs, Contains, MatchOption, is_some, not}
 use Rattle.std.proofs.lemmas.Bool.{and_right, cases_Bool, cases_lt, eq-eqb, false≢true, ne_eqb, true≢false}
 use Rattle.std.proofs.lemmas.List.Sums.{sum_by-cons}
-use Rattle.std.proofs.lemmas.Option.{none-some, same_Some}
+use Rattle.std.proofs.lemmas.Option.{none-some}
 use Rattle.jh_num.specs.declared.address.TheConstants.{ADDRESS_END}
 use Rattle.jh_num.proofs.Public.{Contains_map, same_number}
 use Rattle.jh_frames.specs.Memory.{FramesView}
@@ -21,9 +21,8 @@ use Rattle.jh_edit.specs.declared.stage.CellPart.TheVariants.{Unchanged, Fresh, 
 use Rattle.jh_edit.specs.declared.stage.Editing.{Editing}
 use Rattle.jh_edit.specs.declared.stage.Seat.{Seat}
 use Rattle.jh_edit.specs.declared.stage.Stage2.{Stage2}
-use Rattle.jh_edit.specs.declared.stage.Tree.{Tree}
-use Rattle.jh_edit.specs.Forest.{AreApart, HasSeat, IsCellPart, IsEdit, IsEditOf, IsForest, IsRemovePart, ahead_times, ahead_uses, comm_times, comm_uses, is_gone, is_removed, is_root, left_of, part_ahead_times, part_left, table_uses, tree_times, uses, with_comm}
-use Rattle.jh_edit.specs.OneTurn.{gone_comm, removed_comm, with_editing, IsCellTurn, IsKept, IsTurnBy}
+use Rattle.jh_edit.specs.Forest.{AreApart, HasSeat, IsCellPart, IsEdit, IsEditOf, IsForest, ahead_times, ahead_uses, comm_times, comm_uses, is_gone, is_removed, left_of, part_ahead_times, table_uses, tree_times, uses, with_comm}
+use Rattle.jh_edit.specs.OneTurn.{gone_comm, with_editing, IsCellTurn, IsKept, IsTurnBy}
 use Rattle.jh_edit.specs.Plans.{EditView, Plans, ahead_count}
 use Rattle.jh_edit.specs.Seats.{cell_comm}
 use Rattle.jh_edit.specs.Stages.{IsBuildTurn, IsFreshTurn, IsRemoveTurn, IsRootTurn, IsTreeTurn, gone_uses, untreed}
@@ -33,9 +32,9 @@ use Rattle.jh_edit.specs.Private.Steps.{IsGivenBack, IsTakenFrom}
 use Rattle.jh_edit.specs.Private.Turned.{IsEditTurn, IsReady}
 use Rattle.jh_edit.proofs.EndLemmas.{edit_ends}
 use Rattle.jh_edit.proofs.FoundLemmas.{cell_comm_is}
-use Rattle.jh_edit.proofs.ForestLemmas.{sum_alike, sum_up, tables_of_seat}
+use Rattle.jh_edit.proofs.ForestLemmas.{sum_up, tables_of_seat}
 use Rattle.jh_edit.proofs.SeatLemmas.{pairs_map, sum_moved, untreed_comm, untreed_had, untreed_id}
-use Rattle.jh_edit.proofs.TurningLemmas.{mine_own, own_times}
+use Rattle.jh_edit.proofs.TurningLemmas.{mine_own}
 
 -- ---- communication pages
 

@@ -1,18 +1,15 @@
 -- The pages of all cells, counted: of each its tables, which are those that are wanted, and a communication page but for root.
-use Rattle.std.proofs.Common.{◌≡◌, ◌≢◌, ℕ, ◌+◌, ◌-◌, ◌*◌, ◌/◌, ◌%◌, ◌<◌, ◌≤◌, ◌⊎◌, ◌↔◌, inl, inr, zero, suc, ap, ◌∙◌, sym, subst, Bool, true, false, not, nat_eq, List, [], ◌∷◌, length, get_or, map, sum_by, Option, Some, None, if◌then◌else◌, arith, refl, ⊎_elim}
+use Rattle.std.proofs.Common.{◌≡◌, ◌≢◌, ℕ, ◌+◌, ◌-◌, ◌*◌, ◌/◌, ◌%◌, ◌<◌, ◌≤◌, zero, suc, ap, ◌∙◌, sym, Bool, false, not, nat_eq, List, [], ◌∷◌, length, get_or, sum_by, Option, Some, None, if◌then◌else◌, arith, refl, ⊎_elim}
 use Rattle.std.specs.Prelude.{AllPairs, Contains, IsSome, is_some}
-use Rattle.std.specs.List.{range_with_len}
-use Rattle.std.proofs.lemmas.Bool.{cases_Bool, cases_eq, cases_lt, eq-eqb, ne_eqb}
+use Rattle.std.proofs.lemmas.Bool.{eq-eqb, ne_eqb}
 use Rattle.std.proofs.lemmas.List.FromFn.{get_or-map-range_with_len, length-map-range_with_len}
 use Rattle.std.proofs.lemmas.List.Sums.{sum_by-cons}
 use Rattle.jh_num.specs.declared.level.TheConstants.{LAST_LEVEL}
-use Rattle.jh_num.specs.declared.rights.Rights.{Rights}
 use Rattle.jh_num.specs.Below.{sum_below}
 use Rattle.jh_num.proofs.Public.{Contains_cases, Contains_head, Contains_tail, sum_same}
 use Rattle.jh_desc.specs.declared.descriptor.Descriptor.{Descriptor}
-use Rattle.jh_desc.specs.declared.descriptor.Descriptor.TheVariants.{Table}
 use Rattle.jh_desc.specs.Descriptors.{read_of}
-use Rattle.jh_pool.specs.Pages.{IsPageOf, IsTakenPage, PoolView, page_addresses, used_of}
+use Rattle.jh_pool.specs.Pages.{IsPageOf, PoolView, page_addresses}
 use Rattle.jh_walk.specs.Counts.{by_next}
 use Rattle.jh_walk.specs.Pages.{pages_reached, times}
 use Rattle.jh_walk.specs.Walks.{levels}

@@ -1,12 +1,10 @@
 -- What a turn of one cell's tables leaves of the other part of the edit.
-use Rattle.std.proofs.Common.{◌≡◌, ◌≢◌, ℕ, ◌+◌, ◌-◌, ◌*◌, ◌%◌, ◌<◌, ◌≤◌, ◌⊎◌, inl, inr, zero, suc, ap, ◌∙◌, sym, subst, Bool, true, false, not, ◌&&◌, ◌||◌, nat_eq, List, length, Option, Some, None, if◌then◌else◌, arith, refl, ⊎_elim}
+use Rattle.std.proofs.Common.{◌≡◌, ◌≢◌, ℕ, ◌+◌, ◌<◌, ◌≤◌, ap, ◌∙◌, sym, subst, Bool, true, false, not, length, Option, Some, None, if◌then◌else◌, arith, refl}
 use Rattle.std.specs.Prelude.{Contains, IfSome, is_some}
-use Rattle.std.proofs.lemmas.Bool.{cases_Bool, cases_eq, eqb-true, false≢true}
-use Rattle.jh_num.proofs.Public.{same_number}
-use Rattle.jh_num.specs.declared.address.TheConstants.{ADDRESS_END}
+use Rattle.std.proofs.lemmas.Bool.{false≢true}
 use Rattle.jh_frames.specs.Memory.{FramesView}
 use Rattle.jh_walk.specs.Counts.{unmoved}
-use Rattle.jh_walk.specs.Pages.{HaveSameTables, pages_reached, times}
+use Rattle.jh_walk.specs.Pages.{HaveSameTables, pages_reached}
 use Rattle.jh_walk.specs.Walks.{levels}
 use Rattle.jh_walk.proofs.Public.{counts_same}
 use Rattle.jh_shape.specs.Claims.{Claims}
@@ -15,10 +13,9 @@ use Rattle.jh_shape.specs.Wanted.{Wants}
 use Rattle.jh_edit.specs.declared.edit.Ahead.{Ahead}
 use Rattle.jh_edit.specs.declared.stage.CellPart.{CellPart}
 use Rattle.jh_edit.specs.declared.stage.CellPart.TheVariants.{Unchanged, Fresh, Build, Remove}
-use Rattle.jh_edit.specs.declared.stage.Editing.{Editing}
 use Rattle.jh_edit.specs.declared.stage.Seat.{Seat}
 use Rattle.jh_edit.specs.declared.stage.Stage2.{Stage2}
-use Rattle.jh_edit.specs.Forest.{GrantsNothingOf, HasSeat, IsCellPart, IsEditOf, IsFitToCome, IsForest, IsRemovePart, IsRootPart, ahead_times, ahead_uses, is_root, part_ahead_times, table_uses, uses, with_comm}
+use Rattle.jh_edit.specs.Forest.{GrantsNothingOf, HasSeat, IsCellPart, IsEditOf, IsFitToCome, IsForest, IsRemovePart, IsRootPart, ahead_times, ahead_uses, is_root, part_ahead_times, uses, with_comm}
 use Rattle.jh_edit.specs.Plans.{EditView, HasSameWords, Plans}
 use Rattle.jh_edit.specs.Tables.{is_ahead, words}
 use Rattle.jh_edit.specs.Trees.{lack_at, lack_of, staying}
@@ -27,7 +24,7 @@ use Rattle.jh_edit.proofs.MoveLackLemmas.{lack_told}
 use Rattle.jh_edit.proofs.PlanLemmas.{plan_stays}
 use Rattle.jh_edit.proofs.SeatLemmas.{one_seat}
 use Rattle.jh_edit.proofs.TurnedLemmas.{other_sits, same_own}
-use Rattle.jh_edit.proofs.TurningLemmas.{Turning, on_before, others_tables, own_among, own_on, own_used, same_page}
+use Rattle.jh_edit.proofs.TurningLemmas.{Turning, on_before, others_tables, own_on, own_used, same_page}
 
 -- ---- an edit of another cell's tables
 

@@ -1,6 +1,5 @@
 -- An edit that was just planned: what it leaves of the tables of all cells, and the pages that it takes.
-use Rattle.std.proofs.Common.{◌≡◌, ◌≢◌, ℕ, ◌+◌, ◌-◌, ◌*◌, ◌<◌, ◌≤◌, ◌↔◌, ap, ◌∙◌, sym, subst, Bool, true, false, not, ◌&&◌, ◌||◌, nat_eq, List, length, sum_by, Option, Some, None, if◌then◌else◌, arith, refl, ⊎_elim}
-use Rattle.std.specs.Prelude.{Contains, is_some}
+use Rattle.std.proofs.Common.{◌≡◌, ℕ, ◌+◌, ◌<◌, ◌≤◌, ◌↔◌, ap, ◌∙◌, sym, subst, Bool, true, false, nat_eq, sum_by, Option, Some, None, if◌then◌else◌, arith, refl, ⊎_elim}
 use Rattle.std.proofs.lemmas.Bool.{and_left, and_right, cases_Bool, eq-eqb, false≢true, ne_eqb}
 use Rattle.jh_pool.specs.Pages.{IsTakenPage, used_of}
 use Rattle.jh_walk.specs.Walks.{levels}
@@ -15,8 +14,8 @@ use Rattle.jh_edit.specs.declared.stage.Editing.{Editing}
 use Rattle.jh_edit.specs.declared.stage.Seat.{Seat}
 use Rattle.jh_edit.specs.declared.stage.Stage2.{Stage2}
 use Rattle.jh_edit.specs.declared.stage.Tree.{Tree}
-use Rattle.jh_edit.specs.Ends.{IsJustPlanned, came, claims_after, seat_pages}
-use Rattle.jh_edit.specs.Forest.{HasSeat, IsCellPart, IsEdit, IsEditOf, IsFitToCome, IsForest, IsTrueTranslation, ahead_times, ahead_uses, comm_times, comm_uses, is_built, is_coming, is_edited, is_gone, is_removed, is_root, left_of, part_ahead_times, table_uses, uses}
+use Rattle.jh_edit.specs.Ends.{IsJustPlanned, claims_after, seat_pages}
+use Rattle.jh_edit.specs.Forest.{HasSeat, IsCellPart, IsEdit, IsEditOf, IsForest, IsTrueTranslation, ahead_times, ahead_uses, comm_times, is_built, is_edited, is_gone, is_removed, is_root, left_of, part_ahead_times, uses}
 use Rattle.jh_edit.specs.OneTurn.{with_editing}
 use Rattle.jh_edit.specs.Plans.{EditView}
 use Rattle.jh_edit.specs.Tables.{is_ahead, words}

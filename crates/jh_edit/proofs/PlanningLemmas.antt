@@ -1,5 +1,5 @@
 -- The edit that is planned, and the seats once it is closed.
-use Rattle.std.proofs.Common.{◌≡◌, ℕ, ◌+◌, ◌*◌, ◌<◌, ◌≤◌, Bool, true, false, not, ◌||◌, nat_eq, List, Option, Some, None, IsSome, if◌then◌else◌, refl, sym, ap, subst, ◌∙◌, arith}
+use Rattle.std.proofs.Common.{◌≡◌, ℕ, ◌+◌, ◌*◌, ◌<◌, ◌≤◌, true, false, not, nat_eq, List, Option, Some, None, IsSome, refl, sym, ap, subst, ◌∙◌, arith}
 use Rattle.std.specs.Prelude.{filter}
 use Rattle.std.proofs.lemmas.Bool.{false≢true}
 use Rattle.std.proofs.lemmas.Option.{none-some, same_Some}
@@ -16,7 +16,7 @@ use Rattle.jh_edit.specs.declared.stage.CellPart.TheVariants.{Unchanged as NoPar
 use Rattle.jh_edit.specs.declared.stage.Seat.{Seat}
 use Rattle.jh_edit.specs.declared.stage.Stage2.{Stage2}
 use Rattle.jh_edit.specs.declared.stage.Tree.{Tree}
-use Rattle.jh_edit.specs.Forest.{HasSeat, IsFreshPart, IsRemovePart, is_built, is_edited}
+use Rattle.jh_edit.specs.Forest.{IsFreshPart, IsRemovePart, is_built, is_edited}
 use Rattle.jh_edit.specs.Ends.{seats_left}
 use Rattle.jh_edit.specs.Planned.{IsPartPlanned, MayPlan, pages_planned, removed_id}
 use Rattle.jh_edit.specs.Plans.{EditView, Plans, ahead_count}

@@ -1,11 +1,11 @@
 -- Sums over the seats of all cells, of which no two have the same id, and what changes of one of them.
-use Rattle.std.proofs.Common.{◌≡◌, ◌≢◌, ℕ, ◌+◌, ◌<◌, ◌≤◌, ◌⊎◌, inl, inr, zero, suc, ap, ◌∙◌, sym, subst, Bool, true, false, ◌&&◌, nat_eq, List, [], ◌∷◌, ◌++◌, length, get_or, map, sum_by, Option, Some, None, if◌then◌else◌, cond, arith, refl, ⊎_elim}
+use Rattle.std.proofs.Common.{◌≡◌, ◌≢◌, ℕ, ◌+◌, ◌≤◌, zero, suc, ap, ◌∙◌, sym, subst, Bool, true, false, nat_eq, List, [], ◌∷◌, length, get_or, map, sum_by, Some, None, if◌then◌else◌, cond, arith, refl, ⊎_elim}
 use Rattle.std.specs.Prelude.{AllPairs, Contains}
 use Rattle.std.specs.List.{filter}
 use Rattle.std.proofs.lemmas.Bool.{eq-eqb, false≢true, ne_eqb}
 use Rattle.std.proofs.lemmas.List.{get_or-map, length-map, map-id}
 use Rattle.std.proofs.lemmas.List.Sums.{sum_by-cons}
-use Rattle.jh_num.proofs.Public.{Contains_cases, Contains_from_map, Contains_head, Contains_map, Contains_tail}
+use Rattle.jh_num.proofs.Public.{Contains_cases, Contains_head, Contains_tail}
 use Rattle.jh_edit.specs.declared.stage.Seat.{Seat}
 use Rattle.jh_edit.specs.declared.stage.Tree.{Tree}
 use Rattle.jh_edit.specs.Forest.{AreApart, is_root}

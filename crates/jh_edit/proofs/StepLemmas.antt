@@ -1,5 +1,5 @@
 -- What the code of one turn writes is what its kind of turn does to words.
-use Rattle.std.proofs.Common.{◌≡◌, ◌≢◌, ℕ, ◌+◌, ◌-◌, ◌*◌, ◌%◌, ◌<◌, ◌≤◌, ◌⊎◌, inl, inr, zero, suc, ap, ◌∙◌, sym, subst, ⊎_elim, arith, refl, Bool, true, false, nat_eq, if◌then◌else◌, Some, Option, None, List, length, map, []}
+use Rattle.std.proofs.Common.{◌≡◌, ◌≢◌, ℕ, ◌+◌, ◌-◌, ◌*◌, ◌%◌, ◌<◌, ◌≤◌, inl, inr, zero, suc, ap, ◌∙◌, sym, subst, ⊎_elim, arith, refl, Bool, true, false, nat_eq, if◌then◌else◌, Some, Option, None, length, map, []}
 use Rattle.std.proofs.lemmas.Bool.{cases_eq, cases_lt, eqb-true, false≢true, ne_eqb}
 use Rattle.std.specs.Int.{w64, from_le_bytes}
 use Rattle.std.specs.Prelude.{◌∷◌}
@@ -7,7 +7,7 @@ use Rattle.jh_num.specs.declared.level.TheConstants.{LAST_LEVEL}
 use Rattle.jh_num.specs.declared.rights.Rights.{Rights}
 use Rattle.jh_num.proofs.Public.{same_number}
 use Rattle.jh_desc.specs.declared.descriptor.Descriptor.{Descriptor}
-use Rattle.jh_desc.specs.declared.descriptor.Descriptor.TheVariants.{Invalid, Table, Leaf}
+use Rattle.jh_desc.specs.declared.descriptor.Descriptor.TheVariants.{Invalid, Leaf}
 use Rattle.jh_desc.specs.Descriptors.{IsWritable, read_of, word_of}
 use Rattle.jh_frames.specs.Memory.{FramesView, AreOwnBytes, byte_at, word_in}
 use Rattle.jh_pool.specs.Pages.{IsPageOf, IsTakenPage, PoolView, is_free, used_of}
@@ -29,7 +29,7 @@ use Rattle.jh_edit.specs.declared.finding.Node.{Node}
 use Rattle.jh_edit.specs.declared.writing.Writing.{Writing}
 use Rattle.jh_edit.specs.declared.writing.Writing.TheVariants.{Empty, Fill, Make}
 use Rattle.jh_edit.specs.Trees.{staying}
-use Rattle.jh_edit.specs.Turns.{emptied, filled, is_wrong_leaf, lacks_leaf}
+use Rattle.jh_edit.specs.Turns.{filled, is_wrong_leaf, lacks_leaf}
 use Rattle.jh_edit.specs.declared.edit.Ahead.{Ahead}
 use Rattle.jh_edit.specs.Plans.{EmptySlot, IsEmptySlot, IsMade, IsMadeTable}
 use Rattle.jh_edit.specs.Tables.{AreTables, words}

@@ -1,9 +1,7 @@
 -- After a turn of the tables of one cell the tables of all cells are a forest again.
-use Rattle.std.proofs.Common.{◌≡◌, ◌≢◌, ℕ, ◌+◌, ◌-◌, ◌*◌, ◌%◌, ◌<◌, ◌≤◌, ◌⊎◌, ◌↔◌, inl, inr, zero, suc, ap, ◌∙◌, sym, subst, Bool, true, false, not, ◌&&◌, ◌||◌, nat_eq, nat_le, nat_lt, List, [], ◌∷◌, length, get_or, map, Option, Some, None, arith, refl, ⊎_elim}
-use Rattle.std.specs.Prelude.{AllPairs, Contains, IsSome, is_some, vec_capacity, ◌==◌}
-use Rattle.std.specs.List.{filter}
-use Rattle.std.proofs.lemmas.Bool.{cases_Bool, cases_eq, cases_lt, eq-eqb, false≢true, lt-ltb, not-true, or_left}
-use Rattle.std.proofs.lemmas.List.{get_or-map}
+use Rattle.std.proofs.Common.{◌≡◌, ◌≢◌, ℕ, ◌+◌, ◌<◌, ◌⊎◌, inl, inr, zero, suc, ap, ◌∙◌, sym, subst, Bool, true, false, not, ◌&&◌, ◌||◌, nat_le, nat_lt, List, [], ◌∷◌, length, map, Option, Some, None, arith, refl, ⊎_elim}
+use Rattle.std.specs.Prelude.{AllPairs, Contains, is_some, ◌==◌}
+use Rattle.std.proofs.lemmas.Bool.{cases_Bool, cases_eq, eq-eqb, false≢true, lt-ltb, not-true, or_left}
 use Rattle.jh_num.proofs.Public.{Contains_from_map, Contains_map, IsFound_from_filter}
 use Rattle.jh_num.specs.declared.address.TheConstants.{ADDRESS_END}
 use Rattle.jh_desc.specs.declared.descriptor.Hit.{Hit}
@@ -20,13 +18,13 @@ use Rattle.jh_edit.specs.declared.stage.Editing.{Editing}
 use Rattle.jh_edit.specs.declared.stage.Seat.{Seat}
 use Rattle.jh_edit.specs.declared.stage.Stage2.{Stage2}
 use Rattle.jh_edit.specs.declared.stage.Tree.{Tree}
-use Rattle.jh_edit.specs.Forest.{AreApart, HasSeat, IsForest, IsKeptOut, IsTrueTranslation, LeadsOutside, LeadsToComm, is_built, is_coming, is_edited, is_removed, is_root, uses}
+use Rattle.jh_edit.specs.Forest.{AreApart, HasSeat, IsForest, IsKeptOut, IsTrueTranslation, LeadsOutside, LeadsToComm, is_built, is_coming, is_edited, is_removed}
 use Rattle.jh_edit.specs.Plans.{EditView}
 use Rattle.jh_edit.specs.Tables.{is_ahead, is_mine, is_over, words}
-use Rattle.jh_edit.specs.Trees.{Stands, walked}
+use Rattle.jh_edit.specs.Trees.{walked}
 use Rattle.jh_edit.proofs.ForestLemmas.{same_stands}
 use Rattle.jh_edit.proofs.MoveTableLemmas.{mine_is}
-use Rattle.jh_edit.proofs.SeatLemmas.{one_seat, pairs_map, untreed_comm, untreed_had, untreed_id, untreed_if, untreed_none, untreed_other}
+use Rattle.jh_edit.proofs.SeatLemmas.{one_seat, pairs_map, untreed_comm, untreed_had, untreed_id, untreed_if, untreed_other}
 use Rattle.jh_edit.proofs.TurningLemmas.{Turning, all_once, mine_over, on_before, others_tables, seat_stays, turned_taken}
 
 -- ---- seats after

@@ -1,13 +1,12 @@
 -- A turn of the tables of one cell among those of all: the pages of the others, and what has a use after it.
-use Rattle.std.proofs.Common.{◌≡◌, ◌≢◌, ℕ, ◌+◌, ◌-◌, ◌*◌, ◌%◌, ◌<◌, ◌≤◌, ◌⊎◌, ◌↔◌, inl, inr, zero, suc, ap, ◌∙◌, sym, subst, Bool, true, false, ◌&&◌, ◌||◌, nat_eq, nat_lt, List, length, map, sum_by, Option, Some, None, if◌then◌else◌, arith, refl, ⊎_elim}
-use Rattle.std.specs.Prelude.{Contains, IfSome, vec_capacity}
-use Rattle.std.proofs.lemmas.Bool.{cases_Bool, cases_eq, cases_lt, eqb-true, false≢true, ltb-false, ltb-true, or_cases, or_parts}
-use Rattle.jh_num.proofs.Public.{same_number}
+use Rattle.std.proofs.Common.{◌≡◌, ◌≢◌, ℕ, ◌+◌, ◌*◌, ◌%◌, ◌<◌, ◌≤◌, ◌⊎◌, ◌↔◌, inl, inr, ap, ◌∙◌, sym, subst, Bool, true, false, ◌||◌, nat_lt, map, sum_by, Option, Some, None, if◌then◌else◌, arith, refl, ⊎_elim}
+use Rattle.std.specs.Prelude.{IfSome, vec_capacity}
+use Rattle.std.proofs.lemmas.Bool.{cases_Bool, cases_lt, eqb-true, false≢true, ltb-false, ltb-true, or_cases, or_parts}
 use Rattle.jh_desc.specs.declared.descriptor.Hit.{Hit}
-use Rattle.jh_frames.specs.Memory.{FramesView, byte_at}
-use Rattle.jh_pool.specs.Pages.{IsTakenPage, is_free, used_of}
+use Rattle.jh_frames.specs.Memory.{byte_at}
+use Rattle.jh_pool.specs.Pages.{IsTakenPage}
 use Rattle.jh_walk.specs.Pages.{HaveSameTables, times}
-use Rattle.jh_walk.specs.Walks.{levels, walk_of}
+use Rattle.jh_walk.specs.Walks.{levels}
 use Rattle.jh_num.specs.declared.address.TheConstants.{ADDRESS_END}
 use Rattle.jh_shape.specs.Claims.{Claims}
 use Rattle.jh_shape.specs.Wanted.{Wants}
@@ -22,7 +21,7 @@ use Rattle.jh_edit.specs.Trees.{walked}
 use Rattle.jh_edit.specs.Stages.{IsTreeTurn, gone_uses}
 use Rattle.jh_edit.proofs.ForestLemmas.{same_tree, sum_alike, sum_up, used_page}
 use Rattle.jh_edit.proofs.MoveTableLemmas.{mine_is, not_over}
-use Rattle.jh_edit.proofs.SeatLemmas.{sum_both, sum_map, sum_moved, two_terms, untreed_comm, untreed_id, untreed_if, untreed_none, untreed_other}
+use Rattle.jh_edit.proofs.SeatLemmas.{sum_both, sum_map, sum_moved, two_terms, untreed_comm, untreed_if, untreed_none, untreed_other}
 use Rattle.jh_edit.proofs.StepLemmas.{word_alike}
 
 -- ---- a turn among all cells
@@ -214,27 +213,50 @@ own_aligned claims want edit edit' old new t page either =
     (or_cases (is_mine edit (words old.frames) page) (is_mine edit' (words new.frames) page) either))
     (cases_Bool (is_mine edit (words old.frames) page))
 
--- a page that has a use and isn't the edit's has the same words after
-pub same_page : (claims : Seat → Claims) (want : Wants) (edit edit' : EditView) (old new : Stage2) → Turning claims want edit edit' old new → (page : ℕ)
-    → 0 < uses old page → own_times edit (words old.frames) page ≡ 0 → (slot : ℕ) → slot < 512 → words new.frames (page + 8 * slot) ≡ words old.frames (page + 8 * slot)
-same_page claims want edit edit' old new t page used others slot few =
+-- a page that has a use and isn't the edit's isn't the one that is written
+page_apart : (claims : Seat → Claims) (want : Wants) (edit edit' : EditView) (old new : Stage2) → (t : Turning claims want edit edit' old new) → (page : ℕ) → 0 < uses old page → own_times edit (words old.frames) page ≡ 0 → page ≢ t.turn.one_page.0
+page_apart claims want edit edit' old new t page used others is =
     let written = t.turn.one_page.0 in
     let either = t.turn.one_page.1.0 in
-    let begins : page % 4096 ≡ 0 = (used_page claims old t.forest page used).aligned in
-    let begins' : written % 4096 ≡ 0 = own_aligned claims want edit edit' old new t written either in
-    let apart : page ≢ written = λ is.
     ⊎_elim
-    (λ (before : is_mine edit (words old.frames) written ≡ true). let P : ℕ → Type 0 = λ q. is_mine edit (words old.frames) q ≡ true in let some = mine_own edit (words old.frames) page (subst P (sym is) before) in omega arith)
+    (λ (before : is_mine edit (words old.frames) written ≡ true). let P : ℕ → Type 0 = λ q. is_mine edit (words old.frames) q ≡ true in let some = mine_own edit (words old.frames) page (subst P (sym is) before) in let no' : ⊥ = omega arith in no')
     (λ (not : is_mine edit (words old.frames) written ≡ false). ⊎_elim
     (λ (before : is_mine edit (words old.frames) written ≡ true). absurd (false≢true (sym not ∙ before)))
     (λ (after : is_mine edit' (words new.frames) written ≡ true).
     let P : ℕ → Type 0 = λ q. uses old q ≡ 0 in
     let none : uses old page ≡ 0 = subst P (sym is) (new_unused claims want edit edit' old new t written not after) in
-    omega arith)
+    let no' : ⊥ = omega arith in no')
     (or_cases (is_mine edit (words old.frames) written) (is_mine edit' (words new.frames) written) either))
     (cases_Bool (is_mine edit (words old.frames) written))
-    in
-    word_alike (byte_at old.frames) (byte_at new.frames) (page + 8 * slot) (λ r from below. t.turn.one_page.1.1 r (apart_pages page written slot r begins begins' apart few from below))
+
+pub byte_apart : (page written k : ℕ) → page % 4096 ≡ 0 → written % 4096 ≡ 0 → page ≢ written → k < 4096 → (page + k < written) ⊎ (written + 4096 ≤ page + k)
+byte_apart page written k begins begins' apart few =
+    ⊎_elim
+    (λ (less : page + k < written). inl less)
+    (λ (more : written ≤ page + k). ⊎_elim
+    (λ (low : page + k < written + 4096). absurd (apart (omega arith)))
+    (λ (high : written + 4096 ≤ page + k). inr high)
+    (cases_lt (page + k) (written + 4096)))
+    (cases_lt (page + k) written)
+
+-- it has the same bytes after
+pub same_bytes : (claims : Seat → Claims) (want : Wants) (edit edit' : EditView) (old new : Stage2) → (t : Turning claims want edit edit' old new) → (page : ℕ)
+    → 0 < uses old page → own_times edit (words old.frames) page ≡ 0 → (k : ℕ) → k < 4096 → byte_at new.frames (page + k) ≡ byte_at old.frames (page + k)
+same_bytes claims want edit edit' old new t page used others k few =
+    let written = t.turn.one_page.0 in
+    let begins : page % 4096 ≡ 0 = (used_page claims old t.forest page used).aligned in
+    let begins' : written % 4096 ≡ 0 = own_aligned claims want edit edit' old new t written t.turn.one_page.1.0 in
+    t.turn.one_page.1.1 (page + k) (byte_apart page written k begins begins' (page_apart claims want edit edit' old new t page used others) few)
+
+-- and the same words
+pub same_page : (claims : Seat → Claims) (want : Wants) (edit edit' : EditView) (old new : Stage2) → Turning claims want edit edit' old new → (page : ℕ)
+    → 0 < uses old page → own_times edit (words old.frames) page ≡ 0 → (slot : ℕ) → slot < 512 → words new.frames (page + 8 * slot) ≡ words old.frames (page + 8 * slot)
+same_page claims want edit edit' old new t page used others slot few =
+    let written = t.turn.one_page.0 in
+    let begins : page % 4096 ≡ 0 = (used_page claims old t.forest page used).aligned in
+    let begins' : written % 4096 ≡ 0 = own_aligned claims want edit edit' old new t written t.turn.one_page.1.0 in
+    word_alike (byte_at old.frames) (byte_at new.frames) (page + 8 * slot)
+    (λ r from below. t.turn.one_page.1.1 r (apart_pages page written slot r begins begins' (page_apart claims want edit edit' old new t page used others) few from below))
 
 -- the tables of another cell have the same words after
 pub others_tables : (claims : Seat → Claims) (want : Wants) (edit edit' : EditView) (old new : Stage2) → (t : Turning claims want edit edit' old new) → (other : Seat) (tree : Tree)

@@ -1,5 +1,5 @@
 -- How the edit of a call begins, and what it leaves of the tables of all cells.
-use Rattle.std.specs.Prelude.{◌≡◌, ℕ, ◌+◌, ◌<◌, ◌≤◌, Bool, true, false, not, nat_eq, vec_capacity, List, filter, Option, Some, None, if◌then◌else◌}
+use Rattle.std.specs.Prelude.{◌≡◌, ℕ, ◌+◌, ◌<◌, ◌≤◌, true, false, not, nat_eq, vec_capacity, List, filter, Option, Some, None, if◌then◌else◌}
 use Rattle.jh_shape.specs.Claims.{Claims}
 use Rattle.jh_shape.specs.Pages.{tables_of}
 use Rattle.jh_edit.specs.declared.stage.CellPart.{CellPart}

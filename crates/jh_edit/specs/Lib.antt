@@ -7,6 +7,7 @@ pub mod Forest
 pub mod Stages
 pub mod Ends
 pub mod Leaves
+pub mod Keeping
 pub mod Seats
 pub mod OneTurn
 pub mod Planned

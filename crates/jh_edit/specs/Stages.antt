@@ -1,8 +1,8 @@
 -- What one turn of an edit does to the tables of all cells, by the part that has the turn.
-use Rattle.std.specs.Prelude.{◌≡◌, ◌≢◌, ℕ, ◌+◌, ◌*◌, ◌%◌, ◌<◌, ◌≤◌, ◌↔◌, ◌⊎◌, ◌||◌, Bool, true, false, nat_eq, length, [], ◌∷◌, ◌++◌, map, sum_by, vec_capacity, Option, Some, None, if◌then◌else◌}
+use Rattle.std.specs.Prelude.{◌≡◌, ◌≢◌, ℕ, ◌+◌, ◌*◌, ◌<◌, ◌≤◌, ◌↔◌, ◌⊎◌, ◌||◌, true, false, nat_eq, length, [], ◌∷◌, ◌++◌, map, sum_by, vec_capacity, Some, None, if◌then◌else◌}
 use Rattle.jh_desc.specs.declared.descriptor.Hit.{Hit}
 use Rattle.jh_frames.specs.Memory.{byte_at}
-use Rattle.jh_pool.specs.Pages.{IsPageOf, IsTakenPage, is_free, used_of}
+use Rattle.jh_pool.specs.Pages.{IsTakenPage, is_free, used_of}
 use Rattle.jh_cache.specs.Translations.{flushed}
 use Rattle.jh_walk.specs.Pages.{Grows}
 use Rattle.jh_walk.specs.Walks.{levels, walk_of}

@@ -32,7 +32,7 @@ pub fn a_planned_edit_keeps_the_forest()
 {}
 
 /// Where the pool has as many pages as the cells have after a call, with those of a cell that comes, it has those that the
-/// edit of the call takes; and where root wants no table more than before, its part takes none.
+/// edit of the call takes; and where root wants no table more than before, its part takes none, so the pool has enough.
 pub fn planned_edits_have_pages(pool: &Pool)
     ensures create { (claims : AnySeat → Claims) (rootward coming : Claims) (stage : AnyStage) (root : AnySeat) (tree : AnyTree) → stage.pool ≡ pool.now → stage.editing ≡ None → IsForest claims stage
         → HasSeat stage root → is_root root ≡ true → root.tree ≡ Some tree → WantsItsTables (want_of (claims root)) (want_of rootward)
@@ -40,6 +40,8 @@ pub fn planned_edits_have_pages(pool: &Pool)
         → lack_of (want_of rootward) (words stage.frames) levels tree.table 0 + ((tables_of coming + 1) + used_of stage.pool) ≤ stage.pool.size }
     ensures others { (claims : AnySeat → Claims) (rootward : Claims) (stage : AnyStage) (root : AnySeat) (tree : AnyTree) → stage.editing ≡ None → IsForest claims stage
         → HasSeat stage root → root.tree ≡ Some tree → WantsItsTables (want_of rootward) (want_of (claims root)) → lack_of (want_of rootward) (words stage.frames) levels tree.table 0 ≡ 0 }
+    ensures enough { (claims : AnySeat → Claims) (rootward : Claims) (stage : AnyStage) (root : AnySeat) (tree : AnyTree) → stage.editing ≡ None → IsForest claims stage
+        → HasSeat stage root → root.tree ≡ Some tree → WantsItsTables (want_of rootward) (want_of (claims root)) → lack_of (want_of rootward) (words stage.frames) levels tree.table 0 + used_of stage.pool ≤ stage.pool.size }
 {
     cells_take_their_pages(pool);
     standing_tables_lack_the_difference();

@@ -8,6 +8,7 @@ mod edits;
 mod ends;
 mod finding;
 mod forest;
+mod keeping;
 mod laws;
 mod leaves;
 mod mending;
@@ -32,6 +33,7 @@ pub use forest::{
     a_write_outside_tables_keeps_the_forest, cells_take_their_pages,
     each_cell_has_tables_of_its_own, forests_take_their_pages,
 };
+pub use keeping::{a_closed_edit_keeps_the_cells, turns_keep_the_cells};
 pub use laws::{
     a_filled_table_takes_a_turn_less, a_finished_edit_stands, a_linked_table_takes_two_turns_less,
     a_pruned_table_takes_a_turn_less, a_table_taken_out_is_one_turn_less, an_edit_is_bounded,

@@ -9,6 +9,8 @@ mod comm;
 #[cfg(test)]
 mod desc;
 #[cfg(test)]
+mod edit;
+#[cfg(test)]
 mod frames;
 #[cfg(test)]
 mod shape;

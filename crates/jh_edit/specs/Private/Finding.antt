@@ -10,7 +10,6 @@ use Rattle.jh_walk.specs.Pages.{pages_reached}
 use Rattle.jh_walk.specs.Walks.{levels}
 use Rattle.jh_shape.specs.declared.want.Want.{Want}
 use Rattle.jh_shape.specs.declared.want.Want.TheVariants.{Nothing, Table as WantTable, Leaf as WantLeaf}
-use Rattle.jh_shape.specs.Laws.{is_to_table}
 use Rattle.jh_shape.specs.Wanted.{Wants, slot_start}
 use Rattle.jh_edit.specs.declared.finding.Link.{Link}
 use Rattle.jh_edit.specs.declared.finding.Node.{Node}
@@ -19,7 +18,7 @@ use Rattle.jh_edit.specs.declared.finding.Todo.TheVariants.{Prune, Empty, Fill, 
 use Rattle.jh_edit.specs.Trees.{IsAsWanted, Stands, staying}
 use Rattle.jh_edit.specs.Turns.{has_lacking_leaf, has_wrong_leaf, HasNoTableTooMany}
 use Rattle.jh_edit.specs.Plans.{IsDoneBelow, IsDoneSlot}
-use Rattle.jh_edit.specs.Private.Slots.{IsTablePlace, IsTableStart, want_at}
+use Rattle.jh_edit.specs.Private.Slots.{IsTablePlace, IsTableStart}
 
 -- ---- links
 

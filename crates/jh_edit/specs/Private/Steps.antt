@@ -1,5 +1,5 @@
 -- What the code of one turn does, besides what it does to words.
-use Rattle.std.specs.Prelude.{◌≡◌, ℕ, ◌+◌, ◌-◌, ◌*◌, ◌%◌, ◌<◌, ◌≤◌, ◌⊎◌, Bool, true, false, nat_eq, length, List, map, Option, None, if◌then◌else◌}
+use Rattle.std.specs.Prelude.{◌≡◌, ℕ, ◌+◌, ◌-◌, ◌<◌, ◌≤◌, ◌⊎◌, Bool, true, false, nat_eq, length, List, map, Option, if◌then◌else◌}
 use Rattle.jh_frames.specs.Memory.{FramesView, byte_at}
 use Rattle.jh_pool.specs.Pages.{PoolView, is_free, used_of, IsPageOf}
 use Rattle.jh_cache.specs.declared.translation.Translation.{Translation}

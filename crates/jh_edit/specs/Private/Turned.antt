@@ -1,5 +1,5 @@
 -- What a turn of one cell's tables asks, and what it leaves, before the page of a cell that is gone is given back.
-use Rattle.std.specs.Prelude.{◌≡◌, ℕ, ◌+◌, ◌<◌, ◌≤◌, ◌↔◌, ◌⊎◌, ◌||◌, true, false, length, List, map, Option, Some}
+use Rattle.std.specs.Prelude.{◌≡◌, ℕ, ◌+◌, ◌<◌, ◌≤◌, ◌↔◌, ◌⊎◌, ◌||◌, true, false, length, List, map, Some}
 use Rattle.jh_desc.specs.declared.descriptor.Hit.{Hit}
 use Rattle.jh_frames.specs.Memory.{FramesView, byte_at}
 use Rattle.jh_pool.specs.Pages.{IsTakenPage, PoolView, is_free, used_of}

@@ -1,5 +1,5 @@
 -- A cell gets its first pages, which had no use.
-use Rattle.jh_edit.proofs.FreshLemmas.{Freshening, fresh_edit, fresh_forest, fresh_left}
+use Rattle.jh_edit.proofs.FreshLemmas.{fresh_edit, fresh_forest, fresh_left}
 use Rattle.jh_edit.proofs.KindLemmas.{part_is}
 use Rattle.jh_edit.specs.declared.stage.CellPart.TheVariants.{Fresh}
 use Rattle.jh_edit.proofs.edits.a_fresh_cell_keeps_the_forest.Goals as goal

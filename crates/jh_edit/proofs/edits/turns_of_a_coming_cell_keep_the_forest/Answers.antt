@@ -1,5 +1,5 @@
 -- A turn of the tables of the cell that comes.
-use Rattle.std.proofs.Common.{◌≡◌, ℕ, ◌+◌, ap, arith}
+use Rattle.std.proofs.Common.{◌≡◌, ◌+◌, ap, arith}
 use Rattle.jh_edit.specs.Forest.{part_left}
 use Rattle.jh_edit.specs.Plans.{EditView}
 use Rattle.jh_edit.proofs.KindLemmas.{build_edit, build_forest}

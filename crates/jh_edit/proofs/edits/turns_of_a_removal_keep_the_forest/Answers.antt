@@ -1,5 +1,5 @@
 -- A turn of a removal.
-use Rattle.std.proofs.Common.{◌≡◌, ℕ, ◌+◌, ap, arith}
+use Rattle.std.proofs.Common.{◌≡◌, ◌+◌, ap, arith}
 use Rattle.jh_edit.specs.Forest.{part_left}
 use Rattle.jh_edit.specs.Plans.{EditView}
 use Rattle.jh_edit.proofs.KindLemmas.{remove_edit, remove_forest}

@@ -1,5 +1,5 @@
 -- A turn of root's tables is one of one cell's among all, and leaves the part of the cell that the call names.
-use Rattle.std.proofs.Common.{◌≡◌, ℕ, ◌+◌, ap, arith}
+use Rattle.std.proofs.Common.{◌≡◌, ◌+◌, ap, arith}
 use Rattle.jh_edit.specs.Forest.{part_left}
 use Rattle.jh_edit.proofs.KindLemmas.{root_edit, root_forest}
 use Rattle.jh_edit.proofs.edits.turns_of_root_keep_the_forest.Goals as goal

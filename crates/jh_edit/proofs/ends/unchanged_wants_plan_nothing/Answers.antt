@@ -1,5 +1,5 @@
 -- Root's tables stand as they are wanted.
-use Rattle.std.proofs.Common.{◌≡◌, sym, subst}
+use Rattle.std.proofs.Common.{sym, subst}
 use Rattle.jh_walk.specs.Walks.{levels}
 use Rattle.jh_shape.specs.Shapes.{want_of}
 use Rattle.jh_shape.specs.Wanted.{Wants}

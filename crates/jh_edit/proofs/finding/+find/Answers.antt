@@ -1,11 +1,10 @@
 -- What is found below a slot is found from its table on, and so up to the first table.
-use Rattle.std.proofs.Common.{◌≡◌, ℕ, ◌+◌, ◌-◌, ◌*◌, ◌/◌, ◌<◌, ◌≤◌, ◌∙◌, sym, ap, subst, ⊎_elim, arith, refl, below_more}
-use Rattle.std.proofs.lemmas.Bool.{cases_lt, false≢true}
-use Rattle.jh_num.specs.declared.level.TheConstants.{LAST_LEVEL}
+use Rattle.std.proofs.Common.{◌+◌, ◌-◌, ◌*◌, ◌/◌, ◌<◌, ◌∙◌, sym, arith, refl, below_more}
+use Rattle.std.proofs.lemmas.Bool.{false≢true}
 use Rattle.jh_frames.specs.Memory.{byte_at, word_in}
 use Rattle.jh_shape.specs.Claims.{claims_of}
 use Rattle.jh_shape.specs.Shapes.{want_of}
-use Rattle.jh_edit.specs.Private.Finding.{begin_in, IsFound, IsFoundIn, SlotStands}
+use Rattle.jh_edit.specs.Private.Finding.{IsFound, IsFoundIn, SlotStands}
 use Rattle.jh_edit.proofs.FindingLemmas.{all_before, all_end, before_ends, begun_stands, begun_wants, found_by_slot, found_own, held_begins, lower_done, lower_found, lower_node, lower_stands, node_stands, other_stands, slot_before, slot_of_level, some_more, some_size, starts, tidy_begun, to_make, wanted_there, whole_of_level}
 use Rattle.jh_edit.proofs.finding.+find.Goals as goal
 

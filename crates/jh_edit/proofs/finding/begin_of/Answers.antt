@@ -1,5 +1,5 @@
 -- A slot begins below the end of addresses.
-use Rattle.std.proofs.Common.{◌≡◌, subst, arith}
+use Rattle.std.proofs.Common.{subst, arith}
 use Rattle.jh_edit.specs.Private.Finding.{IsBegun}
 use Rattle.jh_edit.proofs.FindingLemmas.{starts}
 use Rattle.jh_edit.proofs.finding.begin_of.Goals as goal

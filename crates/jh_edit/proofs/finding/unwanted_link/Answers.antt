@@ -1,5 +1,5 @@
 -- One slot more names no table where none is wanted.
-use Rattle.std.proofs.Common.{◌≡◌, ℕ, ◌<◌, false, subst, ⊎_elim, arith, refl}
+use Rattle.std.proofs.Common.{◌≡◌, false, subst, ⊎_elim, arith, refl}
 use Rattle.std.proofs.lemmas.Bool.{cases_lt}
 use Rattle.jh_desc.specs.declared.descriptor.Descriptor.TheVariants.{Table}
 use Rattle.jh_frames.specs.Memory.{byte_at, word_in}

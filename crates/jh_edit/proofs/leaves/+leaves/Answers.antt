@@ -1,8 +1,7 @@
 -- Slot by slot the leaves are put behind one another.
-use Rattle.std.proofs.Common.{◌≡◌, ℕ, ◌+◌, ◌-◌, ◌*◌, ◌++◌, ◌∙◌, ap, sym, subst, append-nil, arith, refl}
+use Rattle.std.proofs.Common.{◌≡◌, ◌+◌, ◌-◌, ◌*◌, ◌++◌, ◌∙◌, ap, sym, subst, append-nil, arith, refl}
 use Rattle.jh_num.specs.declared.level.TheConstants.{LAST_LEVEL}
 use Rattle.jh_frames.specs.Memory.{byte_at, word_in}
-use Rattle.jh_desc.specs.declared.descriptor.Descriptor.{Descriptor}
 use Rattle.jh_edit.specs.Leaves.{leaves_before, leaves_of, leaves_on}
 use Rattle.jh_edit.specs.Private.Slots.{LeadsToTable}
 use Rattle.jh_edit.proofs.CountingLemmas.{next_start}

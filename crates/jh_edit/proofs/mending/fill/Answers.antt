@@ -1,8 +1,8 @@
 -- The words of the table are written, each leaf that is wanted can be read from its word.
-use Rattle.std.proofs.Common.{◌≡◌, ℕ, ◌+◌, suc, Some, subst, arith, refl}
+use Rattle.std.proofs.Common.{◌≡◌, ◌+◌, suc, Some, subst, arith}
 use Rattle.jh_shape.specs.Claims.{claims_of}
 use Rattle.jh_shape.specs.Shapes.{want_of}
-use Rattle.jh_edit.specs.declared.writing.Writing.TheVariants.{Empty, Fill}
+use Rattle.jh_edit.specs.declared.writing.Writing.TheVariants.{Fill}
 use Rattle.jh_edit.specs.Trees.{staying}
 use Rattle.jh_edit.specs.Private.Slots.{IsTableStart}
 use Rattle.jh_edit.proofs.StepLemmas.{changed_by, filled_deed, reached_own, read_back, written_of}

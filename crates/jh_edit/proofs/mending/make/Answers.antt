@@ -1,5 +1,5 @@
 -- A page that was free is made for the slot.
-use Rattle.std.proofs.Common.{◌≡◌, ℕ, ◌+◌, ◌-◌, ◌*◌, suc, ap, sym, subst, arith}
+use Rattle.std.proofs.Common.{◌≡◌, ◌+◌, ◌-◌, ◌*◌, suc, ap, subst, arith}
 use Rattle.jh_shape.specs.Claims.{claims_of}
 use Rattle.jh_shape.specs.Shapes.{want_of}
 use Rattle.jh_edit.specs.declared.writing.Writing.TheVariants.{Make}

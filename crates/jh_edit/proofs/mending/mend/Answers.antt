@@ -1,6 +1,5 @@
 -- What is to be done is done, by its kind.
-use Rattle.std.proofs.Common.{◌≡◌, ℕ, ◌+◌, ◌<◌, suc, Some, subst, arith}
-use Rattle.jh_pool.specs.Pages.{used_of}
+use Rattle.std.proofs.Common.{suc, Some, subst, arith}
 use Rattle.jh_shape.specs.Claims.{claims_of}
 use Rattle.jh_shape.specs.Shapes.{want_of}
 use Rattle.jh_walk.specs.Walks.{levels}

@@ -1,7 +1,6 @@
 -- By the law of each kind of turn.
-use Rattle.std.proofs.Common.{◌+◌, ◌<◌, arith}
+use Rattle.std.proofs.Common.{arith}
 use Rattle.jh_shape.specs.Shapes.{want_of}
-use Rattle.jh_edit.specs.Forest.{left_of}
 use Rattle.jh_edit.specs.OneTurn.{is_root_next}
 use Rattle.jh_edit.proofs.OneTurnLemmas.{turn_kept}
 use Rattle.jh_edit.proofs.turning.turns_keep_the_forest.Goals as goal

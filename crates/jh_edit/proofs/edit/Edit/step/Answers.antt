@@ -1,15 +1,11 @@
 -- A removal takes a link away, a page ahead is linked, and else what is found is done.
-use Rattle.std.proofs.Common.{◌≡◌, ℕ, ◌+◌, ◌<◌, ◌≤◌, sym, ◌∙◌, ap, subst, arith, refl, true, false, Some, None, Option}
-use Rattle.std.proofs.lemmas.Bool.{false≢true}
-use Rattle.jh_num.specs.declared.address.TheConstants.{ADDRESS_END}
+use Rattle.std.proofs.Common.{◌≡◌, ℕ, ◌+◌, ◌<◌, ◌≤◌, sym, ◌∙◌, ap, subst, arith, refl, true, false, Some, None}
 use Rattle.jh_desc.specs.declared.descriptor.Descriptor.TheVariants.{Table}
-use Rattle.jh_frames.specs.Memory.{byte_at, word_in}
 use Rattle.jh_pool.specs.Pages.{used_of, IsTakenPage}
 use Rattle.jh_shape.specs.Claims.{claims_of}
 use Rattle.jh_shape.specs.Shapes.{want_of}
 use Rattle.jh_walk.specs.Pages.{times}
 use Rattle.jh_walk.specs.Walks.{levels}
-use Rattle.jh_edit.specs.declared.edit.Ahead.{Ahead}
 use Rattle.jh_edit.specs.Trees.{lack_of}
 use Rattle.jh_edit.specs.Plans.{EditView, IsDoneBelow, ahead_count}
 use Rattle.jh_edit.specs.Turns.{turns_of}

@@ -1,5 +1,5 @@
 -- What the step does is one turn, and the laws of turns say what it leaves.
-use Rattle.std.proofs.Common.{◌≡◌, ℕ, ◌-◌}
+use Rattle.std.proofs.Common.{◌-◌}
 use Rattle.jh_shape.specs.Claims.{claims_of}
 use Rattle.jh_shape.specs.Shapes.{want_of}
 use Rattle.jh_edit.specs.Plans.{EditView}

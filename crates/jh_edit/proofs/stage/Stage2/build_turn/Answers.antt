@@ -1,5 +1,5 @@
 -- A turn of the coming cell's tables is one of the tree that its seat has, to the claims with its communication page.
-use Rattle.std.proofs.Common.{◌≡◌, ℕ, ◌+◌, Bool, true, false, nat_eq, List, None, Some, Option, sum_by, if◌then◌else◌, refl, sym, ap, subst, ◌∙◌, arith}
+use Rattle.std.proofs.Common.{◌≡◌, ℕ, ◌+◌, Bool, true, false, nat_eq, List, None, Some, Option, sum_by, if◌then◌else◌, refl, sym, ap, subst, ◌∙◌}
 use Rattle.std.specs.Prelude.{IsSome}
 use Rattle.std.proofs.lemmas.Option.{none-some, same_Some}
 use Rattle.jh_shape.specs.Claims.{claims_of}
@@ -10,9 +10,9 @@ use Rattle.jh_edit.specs.declared.stage.Seat.{Seat}
 use Rattle.jh_edit.specs.declared.stage.Stage2.{Stage2}
 use Rattle.jh_edit.specs.declared.stage.Tree.{Tree}
 use Rattle.jh_edit.specs.Forest.{comm_times, is_gone, with_comm}
-use Rattle.jh_edit.specs.OneTurn.{gone_comm, with_editing}
+use Rattle.jh_edit.specs.OneTurn.{with_editing}
 use Rattle.jh_edit.specs.Seats.{cell_comm, cell_tree}
-use Rattle.jh_edit.specs.Stages.{IsBuildTurn, IsTreeTurn, gone_uses}
+use Rattle.jh_edit.specs.Stages.{IsTreeTurn, gone_uses}
 use Rattle.jh_edit.proofs.FoundLemmas.{cell_comm_is, cell_tree_is}
 use Rattle.jh_edit.proofs.OneTurnLemmas.{building, gone_counted, ready_build, settled, tree_turned}
 use Rattle.jh_edit.proofs.stage.Stage2.build_turn.Goals as goal

@@ -1,8 +1,7 @@
 -- Each part has its own kind of turn.
-use Rattle.std.proofs.Common.{◌≡◌, sym, subst}
+use Rattle.std.proofs.Common.{sym, subst}
 use Rattle.jh_shape.specs.Claims.{claims_of}
 use Rattle.jh_edit.specs.declared.stage.CellPart.{CellPart}
-use Rattle.jh_edit.specs.declared.stage.CellPart.TheVariants.{Fresh}
 use Rattle.jh_edit.specs.OneTurn.{IsCellTurn, with_editing}
 use Rattle.jh_edit.proofs.stage.Stage2.cell_turn.Goals as goal
 

@@ -1,14 +1,12 @@
 -- The seat of the cell that went is filtered out.
-use Rattle.std.proofs.Common.{◌≡◌, ℕ, List, Some, refl, rules, sym, ap, subst, ◌∙◌, not, nat_eq, arith}
+use Rattle.std.proofs.Common.{◌≡◌, Some, refl, rules, sym, ap, ◌∙◌, not, nat_eq, arith}
 use Rattle.std.specs.Prelude.{filter, vec_capacity}
 use Rattle.std.proofs.lemmas.Fn.{filter_same}
 use Rattle.std.proofs.lemmas.Option.{same_Some}
-use Rattle.jh_edit.specs.declared.stage.CellPart.{CellPart}
 use Rattle.jh_edit.specs.declared.stage.Editing.{Editing}
 use Rattle.jh_edit.specs.declared.stage.Seat.{Seat}
-use Rattle.jh_edit.specs.Ends.{seats_left}
 use Rattle.jh_edit.specs.Planned.{removed_id}
-use Rattle.jh_edit.proofs.PlanningLemmas.{nothing_left, one_left}
+use Rattle.jh_edit.proofs.PlanningLemmas.{one_left}
 use Rattle.jh_edit.proofs.stage.Stage2.close.Goals as goal
 
 pub returns-in-Some-removed_id-clause-closed : goal.returns-in-Some-removed_id-clause-closed

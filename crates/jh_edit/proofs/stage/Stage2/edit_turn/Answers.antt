@@ -1,5 +1,5 @@
 -- One turn keeps the tables of all cells and the edit, with fewer turns left.
-use Rattle.std.proofs.Common.{◌≡◌, ◌<◌, Some, sym, ap, subst, ◌∙◌, arith, refl}
+use Rattle.std.proofs.Common.{◌≡◌, Some, sym, ap, subst, ◌∙◌, arith, refl}
 use Rattle.std.proofs.lemmas.Option.{same_Some}
 use Rattle.jh_shape.specs.Claims.{claims_of}
 use Rattle.jh_edit.specs.declared.stage.Editing.{Editing}

@@ -1,12 +1,8 @@
 -- Two pages are free, and a tag that no tables have; the first table is one in which nothing stands.
-use Rattle.std.proofs.Common.{◌≡◌, ℕ, ◌+◌, false, List, Some, Option, refl, sym, ap, subst, ◌∙◌, arith}
+use Rattle.std.proofs.Common.{◌≡◌, false, refl, sym, ap, ◌∙◌, arith}
 use Rattle.jh_shape.specs.Claims.{claims_of}
-use Rattle.jh_edit.specs.declared.stage.Editing.{Editing}
-use Rattle.jh_edit.specs.declared.stage.Seat.{Seat}
-use Rattle.jh_edit.specs.declared.stage.Stage2.{Stage2}
 use Rattle.jh_edit.specs.OneTurn.{with_editing}
 use Rattle.jh_edit.specs.Seats.{is_tag_used}
-use Rattle.jh_edit.specs.Stages.{IsFreshTurn}
 use Rattle.jh_edit.proofs.FoundLemmas.{other_tag}
 use Rattle.jh_edit.proofs.OneTurnLemmas.{coming_fresh, two_free, two_taken}
 use Rattle.jh_edit.proofs.stage.Stage2.fresh_turn.Goals as goal

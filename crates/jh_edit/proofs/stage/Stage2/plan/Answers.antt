@@ -1,9 +1,9 @@
 -- Root's tables are those of its seat, and the pool has the pages that lack.
-use Rattle.std.proofs.Common.{◌≡◌, ℕ, ◌+◌, ◌<◌, arith, Some, None, sym, ap, subst, ◌∙◌}
+use Rattle.std.proofs.Common.{◌≡◌, arith, sym, ap, ◌∙◌}
 use Rattle.std.proofs.lemmas.Option.{none-some, same_Some}
-use Rattle.jh_shape.specs.Claims.{Claims, claims_of}
+use Rattle.jh_shape.specs.Claims.{claims_of}
 use Rattle.jh_edit.specs.declared.stage.Tree.{Tree}
-use Rattle.jh_edit.specs.Planned.{MayPlan, pages_planned}
+use Rattle.jh_edit.specs.Planned.{pages_planned}
 use Rattle.jh_edit.specs.Seats.{root_tree}
 use Rattle.jh_edit.proofs.PlanningLemmas.{not_built, planned_enough, root_is, root_place}
 use Rattle.jh_edit.proofs.stage.Stage2.plan.Goals as goal

@@ -1,10 +1,8 @@
 -- A cell that goes has tables, since no edit is under way; all of them are to go.
-use Rattle.std.proofs.Common.{◌≡◌, ℕ, ◌<◌, arith, Some, None, sym, ap, subst, ◌∙◌}
-use Rattle.jh_shape.specs.Claims.{Claims}
+use Rattle.std.proofs.Common.{◌≡◌, arith, sym, ap, subst, ◌∙◌}
 use Rattle.jh_shape.specs.Shapes.{want_of}
-use Rattle.jh_edit.specs.declared.planning.Planned.{Planned}
-use Rattle.jh_edit.specs.declared.planning.Planned.TheVariants.{Create, Destroy}
-use Rattle.jh_edit.specs.Forest.{IsFreshPart, IsRemovePart}
+use Rattle.jh_edit.specs.declared.planning.Planned.TheVariants.{Destroy}
+use Rattle.jh_edit.specs.Forest.{IsRemovePart}
 use Rattle.jh_edit.specs.Planned.{MayPlan, pages_planned}
 use Rattle.jh_edit.specs.Seats.{cell_tree}
 use Rattle.jh_edit.specs.Tables.{words}

@@ -1,6 +1,6 @@
 -- A turn of a removal is one of the tree that its seat has; after the last one the seat has none, and where no turn of root is
 -- left, the cell's communication page is given back.
-use Rattle.std.proofs.Common.{◌≡◌, ℕ, ◌+◌, ◌<◌, List, map, None, Some, Option, sum_by, if◌then◌else◌, refl, sym, ap, subst, ◌∙◌, arith}
+use Rattle.std.proofs.Common.{◌≡◌, ℕ, ◌<◌, List, map, Some, sum_by, if◌then◌else◌, refl, sym, ap, subst, ◌∙◌, arith}
 use Rattle.std.specs.Prelude.{MatchOption, vec_capacity}
 use Rattle.std.specs.Vec.{with_items}
 use Rattle.std.proofs.lemmas.List.{with_items_is}
@@ -15,7 +15,7 @@ use Rattle.jh_edit.specs.declared.stage.Tree.{Tree}
 use Rattle.jh_edit.specs.Forest.{ahead_uses, comm_times, is_gone}
 use Rattle.jh_edit.specs.OneTurn.{gone_comm, with_editing}
 use Rattle.jh_edit.specs.Seats.{cell_tree}
-use Rattle.jh_edit.specs.Stages.{IsRemoveTurn, IsTreeTurn, gone_uses, untreed}
+use Rattle.jh_edit.specs.Stages.{IsTreeTurn, gone_uses, untreed}
 use Rattle.jh_edit.specs.Private.Steps.{IsGivenBack}
 use Rattle.jh_edit.proofs.FoundLemmas.{cell_tree_is}
 use Rattle.jh_edit.proofs.OneTurnLemmas.{ahead_of_none, gone_counted, ready_remove, removed_page, removing, settled, settled_seats, stays_taken, tree_turned}

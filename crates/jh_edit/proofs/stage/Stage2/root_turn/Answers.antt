@@ -1,5 +1,5 @@
 -- A turn of root's tables is one of the tree that its seat has.
-use Rattle.std.proofs.Common.{◌≡◌, ℕ, ◌+◌, List, Some, Option, sum_by, if◌then◌else◌, refl, sym, ap, subst, ◌∙◌, arith}
+use Rattle.std.proofs.Common.{◌≡◌, ℕ, List, Some, sum_by, if◌then◌else◌, refl, sym, ap, subst, ◌∙◌, arith}
 use Rattle.std.specs.Prelude.{MatchOption}
 use Rattle.std.proofs.lemmas.Option.{none-some, same_Some}
 use Rattle.jh_shape.specs.Claims.{claims_of}
