@@ -26,3 +26,5 @@ mod DevicesLemmas
 mod ActedLemmas
 mod CommitLemmas
 mod RowLemmas
+mod ClaimLemmas
+mod EditingLemmas

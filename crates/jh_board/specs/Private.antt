@@ -7,6 +7,7 @@ pub mod JudgedCreate
 pub mod KeptCells
 pub mod Seated
 pub mod Pages
+pub mod Editing
 pub mod StateView
 pub mod Steps
 pub mod Advances

@@ -3,9 +3,11 @@
 
 mod board;
 mod cells;
+mod claims;
 mod creation;
 mod crossing;
 mod devices;
+mod editing;
 mod granted;
 mod held;
 mod indexed;
