@@ -28,3 +28,4 @@ mod CommitLemmas
 mod RowLemmas
 mod ClaimLemmas
 mod EditingLemmas
+mod SeatClaimLemmas

@@ -3,6 +3,7 @@ pub mod Pages
 pub mod LiveView
 pub mod Means
 pub mod BoardView
+pub mod Tables
 pub mod Turns
 pub mod SoundBoard
 pub mod Indexed
