@@ -1,5 +1,5 @@
 -- Bytes of memory at places.
-use Rattle.std.proofs.Common.{◌≡◌, ℕ, zero, suc, ◌+◌, ◌-◌, ◌/◌, ◌%◌, ◌<◌, true, false, List, [], ◌++◌, Option, sym, ◌∙◌, ap, subst, arith}
+use Rattle.std.proofs.Common.{◌≡◌, ℕ, zero, suc, ◌+◌, ◌-◌, ◌/◌, ◌%◌, ◌<◌, true, List, [], ◌++◌, Option, sym, ◌∙◌, ap, subst, arith}
 use Rattle.std.specs.Prelude.{All, IsSome}
 use Rattle.std.specs.List.{AllByRecursion}
 use Rattle.std.proofs.lemmas.List.{append-nil}
@@ -8,10 +8,8 @@ use Rattle.jh_history.specs.declared.place.Place.{Place}
 use Rattle.jh_history.specs.declared.place.Place.TheVariants.{Physical, Page}
 use Rattle.jh_history.specs.Places.{further, places_in_row, with_byte, written, overlaid}
 use Rattle.jh_history.proofs.Public.{further_none, further_next, row_next, written_over}
-use Rattle.jh_num.specs.declared.address.TheConstants.{ADDRESS_END}
 use Rattle.jh_frames.specs.Memory.{holds}
 use Rattle.jh_board.specs.Pages.{byte_of, HoldsPlace, KeepsTables}
-use Rattle.jh_board.specs.Seats.{comm_of, IsSeated}
 use Rattle.jh_edit.specs.declared.stage.Stage2.{Stage2}
 use Rattle.jh_board.proofs.PlaceLemmas.{comm_same, own_kept, seats_kept, KeepsSeats}
 use Rattle.jh_board.specs.Private.Pages.{MayHold}

@@ -1,7 +1,7 @@
 -- A communication page that the hypervisor writes: that of a cell, or one that was just taken and is written whole.
-use Rattle.std.proofs.Common.{◌≡◌, ◌≢◌, ◌⊎◌, inl, inr, ℕ, zero, suc, ◌+◌, ◌-◌, ◌*◌, ◌%◌, ◌<◌, ◌≤◌, Bool, true, false, ◌&&◌, cond, eqb, List, [], ◌∷◌, ◌++◌, length, map, Option, Some, None, nat_lt, refl, sym, ap, subst, ◌∙◌, arith}
+use Rattle.std.proofs.Common.{◌≡◌, ◌⊎◌, inl, inr, ℕ, zero, suc, ◌+◌, ◌-◌, ◌<◌, ◌≤◌, Bool, true, false, ◌&&◌, cond, eqb, List, [], ◌∷◌, ◌++◌, length, map, Option, Some, None, nat_lt, refl, sym, ap, subst, ◌∙◌, arith}
 use Rattle.std.specs.Prelude.{IsSome, slice_index}
-use Rattle.std.proofs.lemmas.Bool.{true≢false, false≢true, cases_eq, cases_lt, eq-eqb, eqb-true, false_from_ne_true, lt-ltb, ltb-true}
+use Rattle.std.proofs.lemmas.Bool.{true≢false, cases_eq, cases_lt, eq-eqb, false_from_ne_true, lt-ltb, ltb-true}
 use Rattle.std.proofs.lemmas.List.{map-append}
 use Rattle.jh_num.specs.Memory.{stored}
 use Rattle.jh_num.proofs.Public.{stored_before, stored_behind, stored_in}
@@ -16,7 +16,7 @@ use Rattle.jh_edit.specs.declared.stage.Seat.{Seat}
 use Rattle.jh_edit.specs.declared.stage.Stage2.{Stage2}
 use Rattle.jh_board.specs.Pages.{HoldsPlace, byte_of, comm_byte}
 use Rattle.jh_board.specs.Seats.{comm_of, ids_of, AreCellSeats, IsOwnPage, IsSeated}
-use Rattle.jh_board.specs.Private.Pages.{ids_joined, HasRoom, IsFresh, IsOtherPlace, MayChangePage}
+use Rattle.jh_board.specs.Private.Pages.{ids_joined, IsFresh, IsOtherPlace, MayChangePage}
 use Rattle.jh_board.proofs.PlaceLemmas.{own_same, past_by, IsChanged}
 use Rattle.jh_board.proofs.SeatsLemmas.{comm_last, comm_pushed}
 

@@ -1,11 +1,11 @@
 -- What cells in which nothing is found are granted lies beside the hypervisor's memory, but for the bytes of their own
 -- communication page; and the cells that root's tables depend on are all that live.
-use Rattle.std.proofs.Common.{◌≡◌, ℕ, suc, ◌+◌, ◌-◌, ◌*◌, ◌%◌, ◌<◌, ◌≤◌, Bool, true, false, ◌&&◌, cond, List, [], ◌∷◌, ◌++◌, length, zero, get_or, map, Some, refl, sym, ap, subst, ◌∙◌, arith}
+use Rattle.std.proofs.Common.{◌≡◌, ℕ, suc, ◌+◌, ◌-◌, ◌%◌, ◌<◌, ◌≤◌, Bool, true, false, cond, List, [], ◌∷◌, ◌++◌, length, zero, map, Some, refl, sym, ap, subst, ◌∙◌, arith}
 use Rattle.std.specs.Prelude.{Contains, nat_le, nat_lt, slice_get}
-use Rattle.std.proofs.lemmas.Bool.{true≢false, and_parts, leb-true, ltb-true}
-use Rattle.jh_num.specs.declared.address.TheConstants.{ADDRESS_END, PAGE_SIZE}
+use Rattle.std.proofs.lemmas.Bool.{and_parts, leb-true, ltb-true}
+use Rattle.jh_num.specs.declared.address.TheConstants.{ADDRESS_END}
 use Rattle.jh_num.specs.declared.rights.Rights.{Rights}
-use Rattle.jh_num.proofs.Public.{Contains_head, Contains_map, Contains_tail, within_both}
+use Rattle.jh_num.proofs.Public.{Contains_head, Contains_tail, within_both}
 use Rattle.jh_cellcfg.specs.declared.config.CellConfig.{CellConfig}
 use Rattle.jh_cellcfg.specs.declared.config.SystemConfig.{SystemConfig}
 use Rattle.jh_cellcfg.specs.declared.live.Live.{Live}
@@ -17,7 +17,7 @@ use Rattle.std.proofs.lemmas.List.{append-nil, length-map}
 use Rattle.std.proofs.lemmas.Nat.Bits.{bit_at_ones}
 use Rattle.jh_num.specs.Bits.{has_bit}
 use Rattle.jh_shape.specs.Claims.{Holder, held_from}
-use Rattle.jh_shape.specs.Grants.{IsGranted, place_at}
+use Rattle.jh_shape.specs.Grants.{IsGranted}
 use Rattle.jh_shape.specs.Lives.{configs_of, is_loadable_at}
 use Rattle.jh_shape.specs.Shapes.{holder_of_live}
 use Rattle.jh_shape.specs.Pages.{cell_claims, live_root_claims}

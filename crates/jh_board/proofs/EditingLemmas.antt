@@ -1,5 +1,5 @@
 -- The part of a call's edit at each turn, and the claims that it leaves.
-use Rattle.std.proofs.Common.{◌≡◌, ℕ, ◌+◌, ◌*◌, ◌≤◌, ◌<◌, ◌⊎◌, inl, inr, ⊎_elim, zero, suc, Bool, true, false, nat_eq, List, [], ◌∷◌, ◌++◌, length, get_or, map, Option, Some, None, if◌then◌else◌, refl, sym, ap, subst, ◌∙◌, arith}
+use Rattle.std.proofs.Common.{◌≡◌, ℕ, ◌*◌, ◌≤◌, ◌⊎◌, ⊎_elim, Bool, true, false, nat_eq, List, [], ◌∷◌, ◌++◌, map, Some, if◌then◌else◌, refl, sym, ap, subst, ◌∙◌, arith}
 use Rattle.std.specs.Prelude.{Contains}
 use Rattle.std.proofs.lemmas.Bool.{eq-eqb, true≢false}
 use Rattle.std.proofs.lemmas.List.{map-append}
@@ -19,9 +19,7 @@ use Rattle.jh_edit.specs.Forest.{IsCellPart, IsEdit, is_built, is_root, left_of,
 use Rattle.jh_edit.specs.OneTurn.{is_root_next, IsCellTurn, IsOneTurn, IsTurnBy}
 use Rattle.jh_edit.specs.Planned.{IsPartPlanned}
 use Rattle.jh_edit.specs.Plans.{EditView}
-use Rattle.jh_edit.specs.Forest.{HasSeat}
 use Rattle.jh_edit.specs.Keeping.{Sitter, sitter, sitters, sitters_left, KeepsCells, SeatsOneMore}
-use Rattle.jh_frames.specs.Memory.{byte_at}
 use Rattle.jh_board.specs.Private.Editing.{claims_planned, comes, AreSeatedAfter, AreSeatedSo, IsPartOf}
 
 -- ---- a turn
@@ -116,8 +114,10 @@ cell_seated NoPart before rootward coming editing editing' old new was turn law 
 cell_seated (Fresh id bound) before rootward coming editing editing' old new was turn law h =
     let P : CellPart → Type 0 = λ part. AreSeatedSo part before (sitters new) in
     let one : Seat = record { id = id; comm = Some turn.1.comm; tree = Some (record { table = turn.1.table; tag = turn.1.tag }) } in
-    subst P (sym turn.1.cell) (turn.1.comm,
-    ap (map sitter) turn.1.seats ∙ map-append sitter old.seats.items (one ∷ []) ∙ ap (λ (list : List Sitter). list ++ record { id = id; comm = Some turn.1.comm } ∷ []) h)
+    subst P (sym turn.1.cell) (
+      turn.1.comm,
+      ap (map sitter) turn.1.seats ∙ map-append sitter old.seats.items (one ∷ []) ∙ ap (λ (list : List Sitter). list ++ record { id = id; comm = Some turn.1.comm } ∷ []) h,
+    )
 cell_seated (Build id edit) before rootward coming editing editing' old new was turn law h =
     let P : CellPart → Type 0 = λ part. AreSeatedSo part before (sitters new) in
     subst P (sym turn.1.cell) (h.0, sitters_same old new turn.1.seats ∙ h.1)

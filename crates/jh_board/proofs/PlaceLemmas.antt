@@ -1,10 +1,9 @@
 -- What a change of physical memory tells at places, where it is one beside the hypervisor's memory, or one of a communication page.
-use Rattle.std.proofs.Common.{◌≡◌, ◌⊎◌, inl, inr, ℕ, ◌+◌, ◌*◌, ◌<◌, ◌≤◌, List, length, Bool, true, false, ◌&&◌, cond, eqb, Option, Some, None, refl, sym, ap, subst, ◌∙◌, arith}
+use Rattle.std.proofs.Common.{◌≡◌, ◌⊎◌, inl, inr, ℕ, ◌+◌, ◌<◌, ◌≤◌, length, Bool, true, false, ◌&&◌, cond, eqb, Option, Some, None, refl, sym, ap, subst, ◌∙◌, arith}
 use Rattle.std.specs.Prelude.{IsSome, filter, nat_le, nat_lt}
 use Rattle.std.proofs.lemmas.Bool.{true≢false, cases_lt, eq-eqb, ne_eqb, eqb-true, ltb-true, lt-ltb}
 use Rattle.jh_num.proofs.Public.{within_both}
 use Rattle.jh_frames.specs.Memory.{FramesView, OwnView, byte_at, holds, is_own}
-use Rattle.jh_edit.specs.declared.stage.Seat.{Seat}
 use Rattle.jh_edit.specs.declared.stage.Stage2.{Stage2}
 use Rattle.jh_edit.specs.Seats.{cell_comm}
 use Rattle.jh_history.specs.declared.comm.PageChange.{PageChange}

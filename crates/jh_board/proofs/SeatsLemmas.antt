@@ -1,13 +1,11 @@
 -- The seats of cells: whose page is whose, where the pages lie, one seat more, and one less.
-use Rattle.std.proofs.Common.{◌≡◌, ◌⊎◌, inl, inr, ⊎_elim, ℕ, suc, ◌+◌, ◌-◌, ◌*◌, ◌%◌, ◌<◌, ◌≤◌, Bool, true, false, not, cond, eqb, List, [], ◌∷◌, ◌++◌, length, map, sum_by, Option, Some, None, if◌then◌else◌, refl, sym, ap, subst, ◌∙◌, arith}
+use Rattle.std.proofs.Common.{◌≡◌, ◌⊎◌, inl, inr, ⊎_elim, ℕ, suc, ◌+◌, ◌≤◌, Bool, true, false, not, cond, eqb, List, [], ◌∷◌, ◌++◌, length, map, sum_by, Option, Some, None, if◌then◌else◌, refl, sym, ap, subst, ◌∙◌, arith}
 use Rattle.std.specs.Prelude.{IsSome, filter, find, Contains}
 use Rattle.std.proofs.lemmas.Bool.{true≢false, false≢true, cases_lt, eqb-true, eq-eqb, ne_eqb}
 use Rattle.std.proofs.lemmas.Option.{none-some, same_Some}
 use Rattle.std.proofs.lemmas.List.Elements.{Contains-push_cases}
 use Rattle.std.proofs.lemmas.List.Sums.{get_or-le-sum_by}
-use Rattle.jh_num.specs.declared.address.TheConstants.{ADDRESS_END}
 use Rattle.jh_num.proofs.Public.{Contains_head, Contains_tail, Contains_cases, IsFound_from_find, IsFound_from_filter, filter_all, find_None, find_kept}
-use Rattle.jh_frames.specs.Memory.{OwnView}
 use Rattle.jh_pool.specs.Pages.{PoolView, IsTakenPage, is_free}
 use Rattle.jh_edit.specs.declared.stage.Editing.{Editing}
 use Rattle.jh_edit.specs.declared.stage.Seat.{Seat}
@@ -17,7 +15,7 @@ use Rattle.jh_edit.specs.Seats.{comm_in, is_seat_of}
 use Rattle.jh_edit.specs.Tables.{IsPoolOf}
 use Rattle.jh_board.specs.Seats.{comm_of, is_other_seat, AreCellSeats, IsOwnPage}
 use Rattle.jh_board.specs.Private.Pages.{ids_but}
-use Rattle.jh_board.specs.Private.Seated.{AreSeated, AreTwoSeats, HasTakenPage, IsSoundMemory}
+use Rattle.jh_board.specs.Private.Seated.{AreSeated, AreTwoSeats, HasTakenPage}
 
 -- ---- each seat
 

@@ -1,10 +1,8 @@
 -- What is true of memory at every moment stays so: where tables stay, where a cell gets its seat, and where one loses it.
-use Rattle.std.proofs.Common.{◌≡◌, ℕ, ◌+◌, ◌*◌, ◌%◌, ◌≤◌, ◌⊎◌, true, List, [], ◌∷◌, ◌++◌, length, length-append, Option, Some, None, refl, sym, ap, subst, ◌∙◌, arith}
-use Rattle.std.specs.Prelude.{Contains, IsSome, filter, vec_capacity}
-use Rattle.jh_num.specs.declared.address.TheConstants.{ADDRESS_END}
+use Rattle.std.proofs.Common.{◌≡◌, ℕ, ◌+◌, ◌%◌, ◌≤◌, ◌⊎◌, true, List, [], ◌∷◌, ◌++◌, length, length-append, Some, None, sym, ap, subst, ◌∙◌, arith}
+use Rattle.std.specs.Prelude.{Contains, filter, vec_capacity}
 use Rattle.jh_frames.specs.Memory.{FramesView}
 use Rattle.jh_pool.specs.Pages.{PoolView, IsTakenPage, is_free, used_of}
-use Rattle.jh_edit.specs.declared.stage.Editing.{Editing}
 use Rattle.jh_edit.specs.declared.stage.Seat.{Seat}
 use Rattle.jh_edit.specs.declared.stage.Stage2.{Stage2}
 use Rattle.jh_edit.specs.Tables.{IsPoolOf}

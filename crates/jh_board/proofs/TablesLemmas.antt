@@ -14,7 +14,7 @@ use Rattle.jh_history.specs.declared.comm.PageWrite.{PageWrite}
 use Rattle.jh_board.specs.Means.{IsInside}
 use Rattle.jh_board.specs.Pages.{KeepsTables, LiesAlike}
 use Rattle.jh_board.specs.Private.Pages.{ids_written, MayChangePage}
-use Rattle.jh_board.specs.Seats.{comm_of, ids_of, AreCellSeats, IsOwnPage}
+use Rattle.jh_board.specs.Seats.{comm_of, ids_of, AreCellSeats}
 use Rattle.jh_board.proofs.PieceLemmas.{stored_writes, IsBeside}
 use Rattle.jh_board.proofs.PlaceLemmas.{own_same}
 use Rattle.jh_board.proofs.SeatsLemmas.{comm_counts}

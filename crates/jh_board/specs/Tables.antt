@@ -1,5 +1,5 @@
 -- The tables of all cells on a board: what each cell's are made from.
-use Rattle.std.specs.Prelude.{◌≡◌, ℕ, false, [], List, Option, Some, None, find, if◌then◌else◌}
+use Rattle.std.specs.Prelude.{false, [], List, Option, Some, None, find, if◌then◌else◌}
 use Rattle.jh_cellcfg.specs.declared.live.Live.{Live}
 use Rattle.jh_cellcfg.specs.Lives.{has_id}
 use Rattle.jh_script.specs.declared.image.Image.{Image}

@@ -16,13 +16,13 @@ ghost use Rattle.jh_board.specs.Private.Pages.{ids_but, ids_joined, HasRoom, IsO
 use crate::page::change_words;
 use byteorder::{ByteOrder, LittleEndian};
 use jh_cache::Cache;
+use jh_cellcfg::MAX_CPUS;
 use jh_edit::{Seat, Stage2};
 use jh_frames::{Frames, a_page_is_written_back};
-use jh_pool::Pool;
-use jh_cellcfg::MAX_CPUS;
 use jh_history::{Bytes, PageWrite, Place, Places, Row, endpoint_word_places, value_of};
 use jh_ivshmem::EndpointWord;
 use jh_num::{ADDRESS_END, NoMemory, PAGE_SIZE};
+use jh_pool::Pool;
 use std::alloc::Global;
 use std::marker::Model;
 
@@ -368,7 +368,8 @@ impl Memory {
             Some(piece) => {
                 let mut bytes = [0; 8];
                 LittleEndian::write_u64(&mut bytes, value);
-                self.stage.frames
+                self.stage
+                    .frames
                     .write(piece.at, &bytes[..usize::from(piece.count)])?;
                 Ok(())
             }

@@ -1,5 +1,5 @@
 -- The edit of a call, whole.
-use Rattle.std.specs.Prelude.{◌≡◌, ℕ, Bool, false, not, nat_eq, filter, List, [], ◌∷◌, ◌++◌, Option, Some, None, if◌then◌else◌}
+use Rattle.std.specs.Prelude.{◌≡◌, ℕ, Bool, false, not, nat_eq, filter, List, [], ◌∷◌, ◌++◌, Some, if◌then◌else◌}
 use Rattle.jh_shape.specs.Claims.{Claims}
 use Rattle.jh_edit.specs.declared.planning.Planned.{Planned}
 use Rattle.jh_edit.specs.declared.planning.Planned.TheVariants.{Unchanged, Create, Destroy}

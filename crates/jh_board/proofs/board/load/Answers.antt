@@ -1,5 +1,5 @@
 -- Zeros at first, and all preloads at the end.
-use Rattle.std.proofs.Common.{ℕ, List, ap, sym, subst, ◌∙◌}
+use Rattle.std.proofs.Common.{ℕ, List, ap, ◌∙◌}
 use Rattle.std.specs.Prelude.{fold}
 use Rattle.std.proofs.lemmas.List.{take_all}
 use Rattle.jh_script.specs.declared.image.Preload.{Preload}
@@ -7,7 +7,6 @@ use Rattle.jh_history.specs.Admitted.{IsSoundPreload}
 use Rattle.jh_history.specs.Bytes.{preloaded}
 use Rattle.jh_history.specs.declared.place.Place.TheVariants.{Physical, Page}
 use Rattle.jh_num.specs.Memory.{stored}
-use Rattle.jh_board.specs.Means.{IsInside}
 use Rattle.jh_board.specs.Pages.{byte_of}
 use Rattle.jh_board.proofs.PlaceLemmas.{seats_kept}
 use Rattle.jh_board.proofs.TablesLemmas.{inside_kept}

@@ -1,9 +1,8 @@
 -- The edit is planned, made and closed.
-use Rattle.std.proofs.Common.{◌≡◌, ◌+◌, Some, refl, sym, subst, ap, ◌∙◌, arith}
+use Rattle.std.proofs.Common.{◌≡◌, refl, sym, subst, arith}
 use Rattle.jh_shape.specs.Claims.{Claims, claims_of}
 use Rattle.jh_edit.specs.declared.stage.Seat.{Seat}
 use Rattle.jh_edit.specs.declared.stage.Stage2.{Stage2}
-use Rattle.jh_edit.specs.Ends.{claims_after}
 use Rattle.jh_edit.specs.Forest.{IsForest, left_of, part_left}
 use Rattle.jh_edit.specs.Keeping.{sitters, KeepsCells}
 use Rattle.jh_edit.specs.OneTurn.{with_editing}

@@ -1,8 +1,6 @@
 -- One turn more, with fewer left.
-use Rattle.std.proofs.Common.{◌≡◌, ◌<◌, ap, sym, ◌∙◌, arith}
-use Rattle.std.proofs.lemmas.Option.{same_Some}
+use Rattle.std.proofs.Common.{arith}
 use Rattle.jh_shape.specs.Claims.{claims_of}
-use Rattle.jh_edit.specs.Forest.{left_of}
 use Rattle.jh_edit.specs.Keeping.{sitters}
 use Rattle.jh_board.proofs.EditingLemmas.{cells_both, part_turned, seated_turned}
 use Rattle.jh_board.proofs.editing.make_turns.Goals as goal

@@ -1,5 +1,4 @@
 -- The edit is under way with the turns that are left, and what tables stood for stands.
-use Rattle.std.proofs.Common.{◌≡◌}
 use Rattle.jh_shape.specs.Claims.{Claims, claims_of}
 use Rattle.jh_edit.specs.declared.stage.Seat.{Seat}
 use Rattle.jh_edit.specs.Forest.{IsForest}

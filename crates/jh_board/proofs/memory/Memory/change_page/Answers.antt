@@ -1,13 +1,13 @@
 -- The page is written back, and no other byte changes.
-use Rattle.std.proofs.Common.{◌≡◌, ◌+◌, ◌<◌, ◌≤◌, ◌⊎◌, inl, inr, ℕ, Some, refl, sym, ap, ◌∙◌, arith}
+use Rattle.std.proofs.Common.{◌≡◌, ◌+◌, inl, inr, Some, refl, sym, ap, ◌∙◌, arith}
 use Rattle.std.proofs.lemmas.Bool.{cases_lt}
 use Rattle.jh_num.proofs.Public.{stored_before, stored_behind}
 use Rattle.jh_frames.specs.Lending.{with_page, PageGivenBack}
-use Rattle.jh_frames.specs.Memory.{AreOwnBytes, FramesView, byte_at}
+use Rattle.jh_frames.specs.Memory.{FramesView, byte_at}
 use Rattle.jh_edit.specs.declared.stage.Stage2.{Stage2}
 use Rattle.jh_edit.specs.Forest.{with_frames}
 use Rattle.jh_history.specs.declared.comm.PageWrite.{PageWrite}
-use Rattle.jh_board.specs.Seats.{comm_of, IsOwnPage}
+use Rattle.jh_board.specs.Seats.{comm_of}
 use Rattle.jh_board.proofs.ChangedLemmas.{written_back}
 use Rattle.jh_board.proofs.PlaceLemmas.{page_changed}
 use Rattle.jh_board.proofs.SoundLemmas.{page_aligned, page_apart, page_inside}

@@ -1,5 +1,5 @@
 -- The page of a seat is the hypervisor's.
-use Rattle.std.proofs.Common.{◌∙◌, sym}
+use Rattle.std.proofs.Common.{◌∙◌}
 use Rattle.jh_edit.specs.declared.stage.Stage2.{Stage2}
 use Rattle.jh_board.specs.Seats.{IsOwnPage}
 use Rattle.jh_board.proofs.AnswerLemmas.{if_some}

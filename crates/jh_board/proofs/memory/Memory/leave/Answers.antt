@@ -1,5 +1,5 @@
 -- The seats and the pages of all other cells stay.
-use Rattle.std.proofs.Common.{◌≡◌, List, Option, Some, None, map, rules, refl, sym, ap, ◌∙◌}
+use Rattle.std.proofs.Common.{◌≡◌, List, Some, None, map, rules, refl, sym, ap, ◌∙◌}
 use Rattle.std.specs.Prelude.{filter}
 use Rattle.std.proofs.lemmas.Fn.{filter_same}
 use Rattle.jh_edit.specs.declared.stage.Seat.{Seat}

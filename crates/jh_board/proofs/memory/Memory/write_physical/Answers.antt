@@ -1,5 +1,5 @@
 -- One byte beside the hypervisor's memory.
-use Rattle.std.proofs.Common.{◌≡◌, sym, refl, subst, ap, ◌∙◌}
+use Rattle.std.proofs.Common.{sym, refl, subst, ap, ◌∙◌}
 use Rattle.jh_history.specs.declared.place.Place.TheVariants.{Physical}
 use Rattle.jh_edit.specs.declared.stage.Stage2.{Stage2}
 use Rattle.jh_edit.specs.Forest.{with_frames}

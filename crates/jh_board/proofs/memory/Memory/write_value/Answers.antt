@@ -1,5 +1,5 @@
 -- The bytes of the value are put at once, or one by one.
-use Rattle.std.proofs.Common.{ℕ, ◌≡◌, ◌<◌, ◌≤◌, length, List, arith, ap, ◌∙◌, refl, sym, subst, take}
+use Rattle.std.proofs.Common.{ℕ, ◌≤◌, length, List, arith, ap, ◌∙◌, refl, sym, subst, take}
 use Rattle.std.specs.Prelude.{All}
 use Rattle.jh_history.specs.declared.place.Place.{Place}
 use Rattle.jh_history.specs.declared.place.Place.TheVariants.{Physical}
