@@ -1,9 +1,16 @@
 //! What a guest asks for.
 ghost use Rattle.std.specs.Prelude.{◌≡◌};
-ghost use Rattle.jh_call.specs.Calls.{decoded};
+ghost use Rattle.jh_call.specs.Calls.{decoded, is_power};
 
-/// A hypercall, by the codes of Jailhouse's `hypercall.h`. Ids, CPU numbers and kinds are what the guest
-/// wrote, and may name nothing.
+/// The codes of Arm's power interface (PSCI) that a board knows.
+pub const CPU_OFF: u64 = 0x8400_0002;
+
+pub const CPU_ON: u64 = 0xc400_0003;
+
+pub const AFFINITY_INFO: u64 = 0xc400_0004;
+
+/// A hypercall, by the codes of Jailhouse's `hypercall.h` and of Arm's power interface. Ids, CPU numbers, kinds
+/// and levels are what the guest wrote, and may name nothing.
 #[derive(Clone, Copy, PartialEq, Eq, Debug)]
 pub enum Call {
     /// Create a cell by the configuration at that address of root.
@@ -20,11 +27,18 @@ pub enum Call {
     State { id: u64 },
     /// Tell a number about a CPU.
     CpuInfo { cpu: u64, kind: u64 },
+    /// Switch the CPU off that makes the call.
+    CpuOff,
+    /// Switch another CPU of the caller's cell on.
+    CpuOn { cpu: u64 },
+    /// Tell whether a CPU of the caller's cell is on.
+    Affinity { cpu: u64, level: u64 },
     /// There is no such call.
     Unknown,
 }
 
-/// The call of the code with its two words. Codes 1 to 7 are those of Jailhouse's `hypercall.h`; any other is unknown.
+/// The call of the code with its two words. Codes 1 to 7 are those of Jailhouse's `hypercall.h`, three more are of
+/// Arm's power interface, and any other is unknown.
 pub fn decode(code: u64, a: u64, b: u64) -> Call
     ensures { result ≡ decoded code a b }
 {
@@ -36,6 +50,19 @@ pub fn decode(code: u64, a: u64, b: u64) -> Call
         5 => Call::Info { kind: a },
         6 => Call::State { id: a },
         7 => Call::CpuInfo { cpu: a, kind: b },
+        CPU_OFF => Call::CpuOff,
+        CPU_ON => Call::CpuOn { cpu: a },
+        AFFINITY_INFO => Call::Affinity { cpu: a, level: b },
         _ => Call::Unknown,
     }
+}
+
+/// Whether the call is one of the power interface.
+pub fn is_power(call: &Call) -> bool
+    ensures { result ≡ is_power call.now }
+{
+    matches!(
+        *call,
+        Call::CpuOff | Call::CpuOn { .. } | Call::Affinity { .. }
+    )
 }

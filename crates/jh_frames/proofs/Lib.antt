@@ -1,3 +1,4 @@
+pub mod Public
 mod RangeLemmas
 mod WordLemmas
 mod MemoryLemmas

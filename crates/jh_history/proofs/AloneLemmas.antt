@@ -11,7 +11,9 @@ use Rattle.std.proofs.lemmas.Option.{none-some, same_Some}
 use Rattle.jh_cellcfg.specs.declared.config.CellConfig.{CellConfig}
 use Rattle.jh_cellcfg.specs.declared.live.Live.{Live}
 use Rattle.jh_cpu.specs.declared.cpu.Cpu.{Cpu}
+use Rattle.jh_call.specs.Calls.{decoded}
 use Rattle.jh_script.specs.declared.image.Image.{Image}
+use Rattle.jh_history.specs.declared.form.Form.{Form}
 use Rattle.jh_script.specs.declared.op.Op.{Op}
 use Rattle.jh_script.specs.declared.op.Op.TheVariants.{Read as ReadOp, Write as WriteOp, Fetch as FetchOp, Await as AwaitOp, Irq as IrqOp, Hvc as HvcOp}
 use Rattle.jh_history.specs.declared.access.Access.TheVariants.{Read as ToRead}
@@ -22,7 +24,7 @@ use Rattle.jh_history.specs.declared.entry.Act.{Act}
 use Rattle.jh_history.specs.declared.entry.Act.TheVariants.{Read, Write, Fetch, Await, Irq, Hvc, Begin, Stop, Decide, Settle, Commit, Note, Noted, Finish}
 use Rattle.jh_history.specs.Facts.{Facts}
 use Rattle.jh_history.specs.Lives.{is_on_board, cell_in, program_ops, ops_in, op_at}
-use Rattle.jh_history.specs.Cpus.{change_of, changed, acted}
+use Rattle.jh_history.specs.Cpus.{change_of, changed, acted, switches, runs_by_start}
 use Rattle.jh_history.specs.Calls.{call_by, is_of_call}
 use Rattle.jh_history.specs.Commits.{cells_by}
 use Rattle.jh_ivshmem.specs.Links.{pending_of}
@@ -34,11 +36,12 @@ use Rattle.jh_history.specs.Alone.{IsAlone, IsByRoot}
 use Rattle.jh_history.proofs.AdmittedLemmas.{program_ops_all}
 use Rattle.jh_history.proofs.DueLemmas.{due_at_absent, due_at_present}
 use Rattle.jh_history.proofs.LegalLemmas.{due_split, IsLegal_begin}
+use Rattle.jh_history.proofs.SoundCallsLemmas.{called_none, called_owner}
 use Rattle.jh_history.proofs.SoundCpusLemmas.{changed_owner}
 
 -- at opening
-pub alone_start : (image : Image) → IsAlone image (start image)
-alone_start image = record { cells = refl; call = refl; owners = λ cpu. refl }
+pub alone_start : (image : Image) (form : Form) → IsAlone image (start image form)
+alone_start image form = record { cells = refl; call = refl; owners = λ cpu. refl }
 
 -- what is due is no phase
 abbrev IsNoPhase : Act → Type 0
@@ -144,26 +147,43 @@ call_kept cells coming entry (Note id) own = absurd (both_ways true own refl)
 call_kept cells coming entry (Noted id how) own = absurd (both_ways true own refl)
 call_kept cells coming entry (Finish answer) own = absurd (both_ways true own refl)
 
--- it changes its own CPU alone
-pub acted_own : (image : Image) (call : Option OpenCall) (act : Act) (own i : ℕ) (cpu : Cpu) → is_of_call act ≡ false → acted image call act own i cpu ≡ cond (eqb i own) (changed (change_of act) cpu) cpu
-acted_own image call (Read width at got) own i cpu h = refl
-acted_own image call (Write width at value ok) own i cpu h = refl
-acted_own image call (Fetch at got) own i cpu h = refl
-acted_own image call (Await width at value ok) own i cpu h = refl
-acted_own image call (Irq device vector) own i cpu h = refl
-acted_own image call (Hvc code a b answer) own i cpu h = refl
-acted_own image call Stop own i cpu h = refl
-acted_own image call (Begin code a b) own i cpu h = absurd (both_ways true h refl)
-acted_own image call (Decide refused) own i cpu h = absurd (both_ways true h refl)
-acted_own image call (Settle how) own i cpu h = absurd (both_ways true h refl)
-acted_own image call Commit own i cpu h = absurd (both_ways true h refl)
-acted_own image call (Note id) own i cpu h = absurd (both_ways true h refl)
-acted_own image call (Noted id how) own i cpu h = absurd (both_ways true h refl)
-acted_own image call (Finish answer) own i cpu h = absurd (both_ways true h refl)
+-- it changes its own CPU alone, unless it switches one on or off
+pub acted_own : (image : Image) (runs : Bool) (call : Option OpenCall) (act : Act) (own i : ℕ) (cpu : Cpu) → is_of_call act ≡ false → switches act ≡ false → acted image runs call act own i cpu ≡ cond (eqb i own) (changed (change_of act) cpu) cpu
+acted_own image runs call (Read width at got) own i cpu h k = refl
+acted_own image runs call (Write width at value ok) own i cpu h k = refl
+acted_own image runs call (Fetch at got) own i cpu h k = refl
+acted_own image runs call (Await width at value ok) own i cpu h k = refl
+acted_own image runs call (Irq device vector) own i cpu h k = refl
+acted_own image runs call (Hvc code a b answer) own i cpu h k = called_none (decoded code a b) answer own i cpu k
+acted_own image runs call Stop own i cpu h k = refl
+acted_own image runs call (Begin code a b) own i cpu h k = absurd (both_ways true h refl)
+acted_own image runs call (Decide refused) own i cpu h k = absurd (both_ways true h refl)
+acted_own image runs call (Settle how) own i cpu h k = absurd (both_ways true h refl)
+acted_own image runs call Commit own i cpu h k = absurd (both_ways true h refl)
+acted_own image runs call (Note id) own i cpu h k = absurd (both_ways true h refl)
+acted_own image runs call (Noted id how) own i cpu h k = absurd (both_ways true h refl)
+acted_own image runs call (Finish answer) own i cpu h k = absurd (both_ways true h refl)
 
 owner_if : (b : Bool) (change : Change) (cpu : Cpu) → (cond b (changed change cpu) cpu).owner ≡ cpu.owner
 owner_if true change cpu = changed_owner change cpu
 owner_if false change cpu = refl
+
+-- it changes no owner
+acted_owner : (image : Image) (runs : Bool) (call : Option OpenCall) (act : Act) (own i : ℕ) (cpu : Cpu) → is_of_call act ≡ false → (acted image runs call act own i cpu).owner ≡ cpu.owner
+acted_owner image runs call (Read width at got) own i cpu h = owner_if (eqb i own) (change_of (Read width at got)) cpu
+acted_owner image runs call (Write width at value ok) own i cpu h = owner_if (eqb i own) (change_of (Write width at value ok)) cpu
+acted_owner image runs call (Fetch at got) own i cpu h = owner_if (eqb i own) (change_of (Fetch at got)) cpu
+acted_owner image runs call (Await width at value ok) own i cpu h = owner_if (eqb i own) (change_of (Await width at value ok)) cpu
+acted_owner image runs call (Irq device vector) own i cpu h = owner_if (eqb i own) (change_of (Irq device vector)) cpu
+acted_owner image runs call (Hvc code a b answer) own i cpu h = called_owner (decoded code a b) answer own i cpu
+acted_owner image runs call Stop own i cpu h = owner_if (eqb i own) (change_of Stop) cpu
+acted_owner image runs call (Begin code a b) own i cpu h = absurd (both_ways true h refl)
+acted_owner image runs call (Decide refused) own i cpu h = absurd (both_ways true h refl)
+acted_owner image runs call (Settle how) own i cpu h = absurd (both_ways true h refl)
+acted_owner image runs call Commit own i cpu h = absurd (both_ways true h refl)
+acted_owner image runs call (Note id) own i cpu h = absurd (both_ways true h refl)
+acted_owner image runs call (Noted id how) own i cpu h = absurd (both_ways true h refl)
+acted_owner image runs call (Finish answer) own i cpu h = absurd (both_ways true h refl)
 
 -- and root is alone behind it
 pub alone_after : (image : Image) (f : Facts) (entry : Entry) → IsAlone image f → IsByRoot image entry → IsAlone image (after image f entry)
@@ -171,9 +191,7 @@ unfolding after
 alone_after image f entry alone own = record {
   cells = cells_kept f.call f.cells entry.act own.act ∙ alone.cells;
   call = rw alone.call (call_kept f.cells (coming_of image f) entry entry.act own.act);
-  owners = λ i.
-      ap (λ (c : Cpu). c.owner) (acted_own image f.call entry.act entry.cpu i (f.cpu i) own.act)
-      ∙ owner_if (eqb i entry.cpu) (change_of entry.act) (f.cpu i) ∙ alone.owners i;
+  owners = λ i. acted_owner image (runs_by_start f i) f.call entry.act entry.cpu i (f.cpu i) own.act ∙ alone.owners i;
 }
 
 alone_from : (image : Image) (f : Facts) (entries : List Entry) → HasNoHypercall image → IsAlone image f → IsLegalFrom image f entries → IsAlone image (fold (after image) f entries)
@@ -182,11 +200,11 @@ alone_from image f (entry ∷ entries) silent alone legal =
     alone_from image (after image f entry) entries silent (alone_after image f entry alone (due_at_roots image f entry.cpu entry silent alone legal.0)) legal.1
 
 -- root is alone after each legal journal
-pub legal_alone : (image : Image) (entries : List Entry) → HasNoHypercall image → IsLegal image entries → IsAlone image (facts image entries)
+pub legal_alone : (image : Image) (form : Form) (entries : List Entry) → HasNoHypercall image → IsLegal image form entries → IsAlone image (facts image form entries)
 unfolding IsLegal facts
-legal_alone image entries silent legal = alone_from image (start image) entries silent (alone_start image) legal
+legal_alone image form entries silent legal = alone_from image (start image form) entries silent (alone_start image form) legal
 
 -- and each of its entries is root's
-pub legal_roots : (image : Image) (before rest : List Entry) (entry : Entry) → HasNoHypercall image → IsLegal image (before ++ entry ∷ rest) → IsByRoot image entry
-legal_roots image before rest entry silent legal =
-    due_at_roots image (facts image before) entry.cpu entry silent (legal_alone image before silent (IsLegal_begin image before (entry ∷ rest) legal)) (due_split image before rest entry legal)
+pub legal_roots : (image : Image) (form : Form) (before rest : List Entry) (entry : Entry) → HasNoHypercall image → IsLegal image form (before ++ entry ∷ rest) → IsByRoot image entry
+legal_roots image form before rest entry silent legal =
+    due_at_roots image (facts image form before) entry.cpu entry silent (legal_alone image form before silent (IsLegal_begin image form before (entry ∷ rest) legal)) (due_split image form before rest entry legal)

@@ -11,9 +11,8 @@ use Rattle.jh_cellcfg.specs.Lives.{has_id}
 use Rattle.jh_check.proofs.Public.{clean_from_nothing}
 use Rattle.jh_cpu.specs.declared.cpu.Cpu.{Cpu}
 use Rattle.jh_call.specs.declared.call.Call.{Call}
-use Rattle.jh_call.specs.declared.call.Call.TheVariants.{Create, Start, Loadable, Destroy, Info, State, CpuInfo, Unknown}
+use Rattle.jh_call.specs.declared.call.Call.TheVariants.{Create, Start, Loadable, Destroy, Info, State, CpuInfo, CpuOff, CpuOn, Affinity, Unknown}
 use Rattle.jh_call.specs.Calls.{decoded, is_management}
-use Rattle.jh_call.specs.Answers.{answer_of}
 use Rattle.jh_ivshmem.specs.declared.endpoint.Endpoint.{Endpoint}
 use Rattle.jh_ivshmem.specs.Specs.{is_device, AreEndpointsApart, endpoint_word_of}
 use Rattle.jh_ivshmem.specs.Links.{endpoint_at, pending_of, endpoint_word_written}
@@ -39,7 +38,7 @@ use Rattle.jh_history.specs.Due.{due_at, await_of, act_of, got_by, is_idle_but}
 use Rattle.jh_history.specs.Endpoints.{changing, changing_at, changing_by, change_by, device_change, HasGoodDevices, IsNextOf, MayChange, MayJoinThem}
 use Rattle.jh_history.specs.Facts.{Facts}
 use Rattle.jh_history.specs.Grants.{devices_of}
-use Rattle.jh_history.specs.Hypercalls.{seen_of}
+use Rattle.jh_history.specs.Hypercalls.{call_in, answered}
 use Rattle.jh_history.specs.Lives.{live_in}
 use Rattle.jh_history.specs.Phases.{creation_of}
 use Rattle.jh_shape.specs.Lives.{configs_of}
@@ -130,6 +129,9 @@ call_changes image f caller (Destroy id) phase sound h = found_changes image f L
 call_changes image f caller (Info kind) phase sound h = tt
 call_changes image f caller (State id) phase sound h = tt
 call_changes image f caller (CpuInfo cpu kind) phase sound h = tt
+call_changes image f caller CpuOff phase sound h = tt
+call_changes image f caller (CpuOn on) phase sound h = tt
+call_changes image f caller (Affinity on level) phase sound h = tt
 call_changes image f caller Unknown phase sound h = tt
 
 act_changes : (image : Image) (f : Facts) (o : OpenCall) (act : Act) → IsSound image f → IsInPhase image (configs_of f.cells) f.cpu o.caller o.call o.phase → IfSome (changing_at f.cells o act) (MayChange (device_change o.call) f.endpoints)
@@ -183,7 +185,7 @@ op_next image f cell (AwaitOp width at value) = await_next cell f.endpoints widt
 op_next image f cell IrqOp = irq_next cell f.endpoints (pending_of cell f.endpoints) refl
 op_next image f cell (HvcOp code a b) =
     cond_both (eqb cell image.system.root.id && is_management (decoded code a b)) (Begin code a b)
-    (Hvc code a b (answer_of (decoded code a b) (seen_of image f cell (decoded code a b))))
+    (Hvc code a b (answered image f cell (call_in f.form (decoded code a b))))
     (IsNextOf cell f.endpoints) (λ _. tt) (λ _. tt)
 
 next_by : (cell : ℕ) (endpoints : List Endpoint) (act : Act) (o : Option Act) → IfSome o (IsNextOf cell endpoints) → o ≡ Some act → IsNextOf cell endpoints act

@@ -5,6 +5,7 @@ use Rattle.std.specs.Prelude.{IsTrue, option_map, is_some, is_none, not, ◌↔�
 use Rattle.std.proofs.lemmas.Option.{none-some, same_Some}
 use Rattle.jh_cpu.specs.declared.cpu.Cpu.{Cpu}
 use Rattle.jh_script.specs.declared.image.Image.{Image}
+use Rattle.jh_history.specs.declared.form.Form.{Form}
 use Rattle.jh_script.specs.declared.op.Op.{Op}
 use Rattle.jh_script.specs.declared.op.Op.TheVariants.{Read as ReadOp, Write as WriteOp, Fetch as FetchOp, Await as AwaitOp}
 use Rattle.jh_history.specs.declared.access.Access.TheVariants.{Read as ToRead, Write as ToWrite, Fetch as ToFetch}
@@ -52,10 +53,10 @@ pub due_at_beyond : (image : Image) (f : Facts) (cpu : ℕ) → (IsTrue (is_on_b
 due_at_beyond image f cpu few beyond = beyond_board image f cpu (is_on_board image cpu) refl few beyond
 
 -- a journal with the entry that is due to a CPU is legal
-pub IsLegal_made : (image : Image) (old new : List Entry) (cpu : ℕ) (entry : Entry) → IsLegal image old → due image old cpu ≡ Some entry → new ≡ old ++ entry ∷ [] → IsLegal image new
-IsLegal_made image old new cpu entry legal made is =
-    let own : due image old entry.cpu ≡ Some entry = ap (due image old) (due_at_cpu image (facts image old) cpu entry made) ∙ made in
-    rw is (IsLegal_push image old entry legal own)
+pub IsLegal_made : (image : Image) (form : Form) (old new : List Entry) (cpu : ℕ) (entry : Entry) → IsLegal image form old → due image form old cpu ≡ Some entry → new ≡ old ++ entry ∷ [] → IsLegal image form new
+IsLegal_made image form old new cpu entry legal made is =
+    let own : due image form old entry.cpu ≡ Some entry = ap (due image form old) (due_at_cpu image (facts image form old) cpu entry made) ∙ made in
+    rw is (IsLegal_push image form old entry legal own)
 
 -- a round of sixteen CPUs from any on meets each
 pub none_round : (image : Image) (f : Facts) (first cpu : ℕ) → first < 16 → cpu < 16 → ((j : ℕ) → j < 16 → due_at image f ((first + j) % 16) ≡ None) → due_at image f cpu ≡ None

@@ -114,14 +114,15 @@ device_write byte devices (Window register) value q is = refl
 device_write byte devices Nothing value q is = absurd (both_ways true (sym is) refl)
 
 -- one entry more
-pub Stands_after : (i : Image) (f : Facts) (entry : Entry) (old new : PlainView) → Represents old i f → new.image ≡ old.image
+pub Stands_after : (i : Image) (f : Facts) (entry : Entry) (old new : PlainView) → Represents old i f → new.image ≡ old.image → new.form ≡ old.form
     → new.cells ≡ cells_after f entry → new.endpoints ≡ endpoints_after i f entry → new.call ≡ call_after i f entry
     → ((k : ℕ) → k < 16 → slice_get new.cpus k ≡ Some (cpu_after i f entry k))
     → ((q : Place) → last_byte i new.bytes q ≡ byte_after i f entry q)
     → Represents new i (after i f entry)
 unfolding after
-Stands_after i f entry old new stands same cells endpoints call cpus bytes = record {
+Stands_after i f entry old new stands same form cells endpoints call cpus bytes = record {
   same = stands.same ∙ sym same;
+  form = stands.form ∙ sym form;
   cells = sym cells;
   endpoints = sym endpoints;
   call = sym call;

@@ -12,7 +12,7 @@ use Rattle.jh_cpu.specs.declared.cpu.Mode.{Mode}
 use Rattle.jh_cpu.specs.declared.cpu.Mode.TheVariants.{Running, Parked, Failed}
 use Rattle.jh_cpu.specs.Changes.{stopped_of}
 use Rattle.jh_call.specs.declared.call.Call.{Call}
-use Rattle.jh_call.specs.declared.call.Call.TheVariants.{Create, Start, Loadable, Destroy, Info, State, CpuInfo, Unknown}
+use Rattle.jh_call.specs.declared.call.Call.TheVariants.{Create, Start, Loadable, Destroy, Info, State, CpuInfo, CpuOff, CpuOn, Affinity, Unknown}
 use Rattle.jh_script.specs.declared.image.Image.{Image}
 use Rattle.jh_history.specs.declared.call.Phase.{Phase}
 use Rattle.jh_history.specs.declared.call.Phase.TheVariants.{ToDecide, ToSettle, ToCreate, ToCommit, ToNote, ToNoted, ToFinish}
@@ -206,6 +206,9 @@ named_same (Destroy id) a b h k = sym (eqb-true id a h) ∙ eqb-true id b k
 named_same (Info kind) a b h k = absurd (both_ways false refl h)
 named_same (State id) a b h k = absurd (both_ways false refl h)
 named_same (CpuInfo cpu kind) a b h k = absurd (both_ways false refl h)
+named_same CpuOff a b h k = absurd (both_ways false refl h)
+named_same (CpuOn on) a b h k = absurd (both_ways false refl h)
+named_same (Affinity on level) a b h k = absurd (both_ways false refl h)
 named_same Unknown a b h k = absurd (both_ways false refl h)
 
 -- a call about a live cell isn't about root

@@ -18,7 +18,7 @@ use Rattle.jh_shape.specs.Pages.{pages_of}
 use Rattle.jh_cpu.specs.declared.cpu.Cpu.{Cpu}
 use Rattle.jh_cpu.specs.Changes.{asked_of}
 use Rattle.jh_call.specs.declared.call.Call.{Call}
-use Rattle.jh_call.specs.declared.call.Call.TheVariants.{Create, Start, Loadable, Destroy, Info, State, CpuInfo, Unknown}
+use Rattle.jh_call.specs.declared.call.Call.TheVariants.{Create, Start, Loadable, Destroy, Info, State, CpuInfo, CpuOff, CpuOn, Affinity, Unknown}
 use Rattle.jh_call.specs.Calls.{is_management}
 use Rattle.jh_script.specs.declared.image.Image.{Image}
 use Rattle.jh_history.specs.declared.call.Creation.TheVariants.{Refused}
@@ -205,6 +205,9 @@ decided_phase image f caller (Destroy id) manages clean =
 decided_phase image f caller (Info kind) manages clean = absurd (both_ways false refl manages)
 decided_phase image f caller (State id) manages clean = absurd (both_ways false refl manages)
 decided_phase image f caller (CpuInfo cpu kind) manages clean = absurd (both_ways false refl manages)
+decided_phase image f caller CpuOff manages clean = absurd (both_ways false refl manages)
+decided_phase image f caller (CpuOn on) manages clean = absurd (both_ways false refl manages)
+decided_phase image f caller (Affinity on level) manages clean = absurd (both_ways false refl manages)
 decided_phase image f caller Unknown manages clean = absurd (both_ways false refl manages)
 
 -- a Decide is due once all have stopped

@@ -7,7 +7,6 @@ use Rattle.std.proofs.lemmas.Option.{none-some, same_Some}
 use Rattle.jh_cpu.specs.declared.cpu.Cpu.{Cpu}
 use Rattle.jh_ivshmem.specs.Links.{pending_of}
 use Rattle.jh_call.specs.Calls.{decoded, is_management}
-use Rattle.jh_call.specs.Answers.{answer_of}
 use Rattle.jh_script.specs.declared.image.Image.{Image}
 use Rattle.jh_script.specs.declared.op.Op.{Op}
 use Rattle.jh_script.specs.declared.op.Op.TheVariants.{Read as ReadOp, Write as WriteOp, Fetch as FetchOp, Await as AwaitOp, Irq as IrqOp, Hvc as HvcOp}
@@ -18,7 +17,7 @@ use Rattle.jh_history.specs.declared.entry.Act.{Act}
 use Rattle.jh_history.specs.declared.entry.Act.TheVariants.{Read, Write, Fetch, Await, Irq, Hvc, Begin, Stop, Decide, Settle, Commit, Note, Noted, Finish}
 use Rattle.jh_history.specs.Facts.{Facts}
 use Rattle.jh_history.specs.Lives.{is_on_board, op_at}
-use Rattle.jh_history.specs.Hypercalls.{seen_of}
+use Rattle.jh_history.specs.Hypercalls.{call_in, answered}
 use Rattle.jh_history.specs.Phases.{phase_act}
 use Rattle.jh_history.specs.Wants.{goes_on, pending_op}
 use Rattle.jh_history.specs.Due.{due_at, entry_of, entry_by, next_act, state_act, act_of, await_of, got_by, caller_act, is_idle_but}
@@ -88,7 +87,7 @@ act_comes image f cell (AwaitOp width at value) = await_comes image cell (AwaitO
 act_comes image f cell IrqOp = irq_comes image cell (pending_of cell f.endpoints)
 act_comes image f cell (HvcOp code a b) =
     cond_both (eqb cell image.system.root.id && is_management (decoded code a b)) (Begin code a b)
-    (Hvc code a b (answer_of (decoded code a b) (seen_of image f cell (decoded code a b))))
+    (Hvc code a b (answered image f cell (call_in f.form (decoded code a b))))
     (IsOutcomeOf image cell (HvcOp code a b))
     (λ yes. let parts = and_parts (eqb cell image.system.root.id) (is_management (decoded code a b)) yes in (refl, eqb-true cell image.system.root.id parts.0, parts.1))
     (λ _. tt)

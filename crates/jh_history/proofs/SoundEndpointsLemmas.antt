@@ -10,7 +10,7 @@ use Rattle.jh_cellcfg.specs.Lives.{has_id}
 use Rattle.jh_check.specs.Clean.{IsClean}
 use Rattle.jh_check.specs.Refusals.{is_known, AreTwo}
 use Rattle.jh_call.specs.declared.call.Call.{Call}
-use Rattle.jh_call.specs.declared.call.Call.TheVariants.{Create, Start, Loadable, Destroy, Info, State, CpuInfo, Unknown}
+use Rattle.jh_call.specs.declared.call.Call.TheVariants.{Create, Start, Loadable, Destroy, Info, State, CpuInfo, CpuOff, CpuOn, Affinity, Unknown}
 use Rattle.jh_ivshmem.specs.declared.endpoint.Endpoint.{Endpoint}
 use Rattle.jh_ivshmem.specs.declared.spec.EndpointSpec.{EndpointSpec}
 use Rattle.jh_ivshmem.specs.Specs.{AreEndpointsApart, is_device}
@@ -344,6 +344,9 @@ commit_after image f caller (Destroy id) phase sound are in_phase =
 commit_after image f caller (Info kind) phase sound are in_phase = are
 commit_after image f caller (State id) phase sound are in_phase = are
 commit_after image f caller (CpuInfo i kind) phase sound are in_phase = are
+commit_after image f caller CpuOff phase sound are in_phase = are
+commit_after image f caller (CpuOn on) phase sound are in_phase = are
+commit_after image f caller (Affinity on level) phase sound are in_phase = are
 commit_after image f caller Unknown phase sound are in_phase = are
 
 -- the endpoints after the act, where this call is open

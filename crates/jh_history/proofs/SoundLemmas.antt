@@ -12,9 +12,11 @@ use Rattle.jh_num.specs.Below.{any_below}
 use Rattle.jh_cpu.specs.declared.cpu.Cpu.{Cpu}
 use Rattle.jh_cpu.specs.Changes.{restarted, parked}
 use Rattle.jh_call.specs.declared.call.Call.{Call}
-use Rattle.jh_call.specs.declared.call.Call.TheVariants.{Create, Start, Loadable, Destroy, Info, State, CpuInfo, Unknown}
+use Rattle.jh_call.specs.Calls.{decoded}
+use Rattle.jh_call.specs.declared.call.Call.TheVariants.{Create, Start, Loadable, Destroy, Info, State, CpuInfo, CpuOff, CpuOn, Affinity, Unknown}
 use Rattle.jh_ivshmem.specs.declared.endpoint.Endpoint.{Endpoint}
 use Rattle.jh_script.specs.declared.image.Image.{Image}
+use Rattle.jh_history.specs.declared.form.Form.{Form}
 use Rattle.jh_script.specs.declared.op.Op.{Op}
 use Rattle.jh_script.specs.declared.op.Op.TheVariants.{Hvc as HvcOp}
 use Rattle.jh_history.specs.declared.place.Place.{Place}
@@ -34,7 +36,7 @@ use Rattle.jh_history.specs.Admitted.{IsAdmitted}
 use Rattle.jh_history.specs.Bytes.{byte_after}
 use Rattle.jh_history.specs.Calls.{call_by, counted, after_decide, first_recipient, telling, listed_behind, is_named}
 use Rattle.jh_history.specs.Commits.{cells_by, is_other}
-use Rattle.jh_history.specs.Cpus.{acted, change_if, is_undenied}
+use Rattle.jh_history.specs.Cpus.{acted, cpu_by_call, change_if, is_undenied, runs_by_start}
 use Rattle.jh_history.specs.History.{start, after, facts, coming_of, coming_by}
 use Rattle.jh_history.specs.Wants.{goes_on}
 use Rattle.jh_history.specs.Endpoints.{endpoints_after}
@@ -45,6 +47,7 @@ use Rattle.jh_history.specs.Due.{due_at, is_idle_but, IsLegal, IsLegalFrom}
 use Rattle.jh_history.proofs.FactsLemmas.{same_function}
 use Rattle.jh_history.specs.Sound.{AreSoundCells, AreOwned, IsCalm, IsHalted, IsOpen, IsSoundCall, AreEndpoints, IsSound}
 use Rattle.jh_history.proofs.SoundCellsLemmas.{cells_open, cells_joined, cells_fewer}
+use Rattle.jh_history.proofs.SoundCallsLemmas.{IsGrantedOwn, called_owner, called_calm, open_called, granted_owner}
 use Rattle.jh_history.proofs.SoundCpusLemmas.{IsMild, owned_kept, come_rests}
 use Rattle.jh_history.proofs.SoundDueLemmas.{IsNext, next_from_due, IsOfProgram, IsOfState, state_parts, IsOfCall, call_parts}
 use Rattle.jh_history.proofs.SoundStepLemmas.{one_changed, one_owner, calm_one, open_mild, open_stop, owned_begun, open_begun, owned_finished, calm_finished}
@@ -52,14 +55,16 @@ use Rattle.jh_history.proofs.SoundDecideLemmas.{open_decided, owned_settled, ope
 use Rattle.jh_history.proofs.SoundCommitLemmas.{cell_changed, owned_changed, open_changed, restarted_calm, parked_calm, is_other_config, configs_others, owned_returned, open_destroyed, configs_joined, owned_lent, open_created, open_noted, open_note}
 use Rattle.jh_history.proofs.SoundEndpointsLemmas.{endpoints_open, endpoints_after_holds}
 
--- what an entry changes beside the CPUs, the cells and the call
+-- what there is beside the CPUs, the cells and the call, and which CPUs a start lets run
 record Rest : Type 0 where
+  form : Form
+  runs : ℕ → Bool
   byte : Place → ℕ
   endpoints : List Endpoint
 
 -- the facts, part by part
 abbrev board : Rest → (ℕ → Cpu) → List Live → Option OpenCall → Facts
-board rest cpu cells call = record { byte = rest.byte; cpu = cpu; cells = cells; endpoints = rest.endpoints; call = call }
+board rest cpu cells call = record { form = rest.form; byte = rest.byte; cpu = cpu; cells = cells; endpoints = rest.endpoints; call = call }
 
 -- all that is sound but the devices
 record IsSoundBut (image : Image) (f : Facts) : Type 0 where
@@ -73,7 +78,7 @@ opened_call caller call phase = record { caller = caller; call = call; phase = p
 -- the facts behind an act of the CPU, whatever it writes
 abbrev behind_act : Image → Rest → (ℕ → Cpu) → List Live → Option OpenCall → Option CellConfig → ℕ → ℕ → Act → Facts
 behind_act image rest cpu cells call coming own cell act =
-    board rest (λ i. acted image call act own i (cpu i)) (cells_by call cells act) (call_by cells coming call (record { cpu = own; cell = cell; act = act }) act)
+    board rest (λ i. acted image (rest.runs i) call act own i (cpu i)) (cells_by call cells act) (call_by cells coming call (record { cpu = own; cell = cell; act = act }) act)
 
 -- ---- a CPU that goes on with its program
 
@@ -86,6 +91,14 @@ own_none image rest rest' cpu cells own change mild sound = record {
   cells = sound.cells;
   cpus = owned_kept image (configs_of cells) cpu (one_changed change own cpu) (one_owner change own cpu) sound.cpus;
   call = calm_one change own cpu mild sound.call;
+}
+
+-- a hypercall that was answered
+called_none : (image : Image) (rest rest' : Rest) (cpu : ℕ → Cpu) (cells : List Live) (own : ℕ) (call : Call) (answer : ℤ) → IsSoundBut image (board rest cpu cells None) → IsSoundBut image (board rest' (λ i. cpu_by_call call answer own i (cpu i)) cells None)
+called_none image rest rest' cpu cells own call answer sound = record {
+  cells = sound.cells;
+  cpus = owned_kept image (configs_of cells) cpu (λ i. cpu_by_call call answer own i (cpu i)) (λ i. called_owner call answer own i (cpu i)) sound.cpus;
+  call = λ i. called_calm call answer own i (cpu i) (sound.call i);
 }
 
 begin_none : (image : Image) (rest rest' : Rest) (cpu : ℕ → Cpu) (cells : List Live) (coming : Option CellConfig) (own cell code a b : ℕ) → IsSoundBut image (board rest cpu cells None) → is_on_board image own ≡ true
@@ -109,7 +122,7 @@ program_none image rest rest' cpu cells coming own cell (Write width at value ok
 program_none image rest rest' cpu cells coming own cell (Fetch at got) sound on program = own_none image rest rest' cpu cells own (change_if (is_some got)) (mild_if (is_some got)) sound
 program_none image rest rest' cpu cells coming own cell (Await width at value ok) sound on program = own_none image rest rest' cpu cells own (change_if ok) (mild_if ok) sound
 program_none image rest rest' cpu cells coming own cell (Irq device vector) sound on program = own_none image rest rest' cpu cells own Step tt sound
-program_none image rest rest' cpu cells coming own cell (Hvc code a b answer) sound on program = own_none image rest rest' cpu cells own Step tt sound
+program_none image rest rest' cpu cells coming own cell (Hvc code a b answer) sound on program = called_none image rest rest' cpu cells own (decoded code a b) answer sound
 program_none image rest rest' cpu cells coming own cell (Begin code a b) sound on program = begin_none image rest rest' cpu cells coming own cell code a b sound on program
 program_none image rest rest' cpu cells coming own cell Stop sound on program = absurd program.comes
 program_none image rest rest' cpu cells coming own cell (Decide refused) sound on program = absurd program.comes
@@ -137,6 +150,15 @@ own_some image rest rest' cpu cells o own cell change mild sound on other goes =
   call = open_mild image (configs_of cells) cpu o change own cell mild sound.call on other goes;
 }
 
+called_some : (image : Image) (rest rest' : Rest) (cpu : ℕ → Cpu) (cells : List Live) (o : OpenCall) (own cell : ℕ) (call : Call) (answer : ℤ) → IsSoundBut image (board rest cpu cells (Some o)) → is_on_board image own ≡ true → own ≢ o.caller
+    → goes_on (cpu own) ≡ true → IsGrantedOwn cpu own call answer
+    → IsSoundBut image (board rest' (λ i. cpu_by_call call answer own i (cpu i)) cells (Some (opened_call o.caller o.call (counted cell o.call o.phase))))
+called_some image rest rest' cpu cells o own cell call answer sound on other goes granted = record {
+  cells = sound.cells;
+  cpus = owned_kept image (configs_of cells) cpu (λ i. cpu_by_call call answer own i (cpu i)) (λ i. called_owner call answer own i (cpu i)) sound.cpus;
+  call = open_called image (configs_of cells) cpu o own cell call answer sound.call on other goes granted;
+}
+
 stop_some : (image : Image) (rest rest' : Rest) (cpu : ℕ → Cpu) (cells : List Live) (o : OpenCall) (coming : Option CellConfig) (own cell : ℕ) → IsSoundBut image (board rest cpu cells (Some o)) → is_on_board image own ≡ true → own ≢ o.caller
     → (cpu own).asked ≡ true → IsSoundBut image (behind_act image rest' cpu cells (Some o) coming own cell Stop)
 stop_some image rest rest' cpu cells o coming own cell sound on other asked = record {
@@ -152,7 +174,8 @@ program_some image rest rest' cpu cells o coming own cell (Write width at value 
 program_some image rest rest' cpu cells o coming own cell (Fetch at got) sound on other program = own_some image rest rest' cpu cells o own cell (change_if (is_some got)) (mild_if (is_some got)) sound on other program.goes
 program_some image rest rest' cpu cells o coming own cell (Await width at value ok) sound on other program = own_some image rest rest' cpu cells o own cell (change_if ok) (mild_if ok) sound on other program.goes
 program_some image rest rest' cpu cells o coming own cell (Irq device vector) sound on other program = own_some image rest rest' cpu cells o own cell Step tt sound on other program.goes
-program_some image rest rest' cpu cells o coming own cell (Hvc code a b answer) sound on other program = own_some image rest rest' cpu cells o own cell Step tt sound on other program.goes
+program_some image rest rest' cpu cells o coming own cell (Hvc code a b answer) sound on other program =
+    called_some image rest rest' cpu cells o own cell (decoded code a b) answer sound on other program.goes (granted_owner image (board rest cpu cells (Some o)) (cpu own) own code a b answer program)
 program_some image rest rest' cpu cells o coming own cell (Begin code a b) sound on other program = absurd (come_rests o.phase (cpu own) (sound.call.roots own on other program.comes.1) program.goes)
 program_some image rest rest' cpu cells o coming own cell Stop sound on other program = absurd program.comes
 program_some image rest rest' cpu cells o coming own cell (Decide refused) sound on other program = absurd program.comes
@@ -227,7 +250,7 @@ create_sound : (image : Image) (rest rest' : Rest) (cpu : ℕ → Cpu) (cells : 
 create_sound image rest rest' cpu cells caller (Create at) new coming cell sound =
     let configs : List CellConfig = configs_of cells in
     let may = sound.call.phase.1 in
-    sound_by image rest' (λ i. acted image (Some (opened_call caller (Create at) (ToCreate new))) Commit caller i (cpu i)) (cells ++ (record { config = new; loadable = false }) ∷ []) (configs ++ new ∷ [])
+    sound_by image rest' (λ i. acted image (rest'.runs i) (Some (opened_call caller (Create at) (ToCreate new))) Commit caller i (cpu i)) (cells ++ (record { config = new; loadable = false }) ∷ []) (configs ++ new ∷ [])
     (opened_call caller (Create at) (telling new.id (pos new.id) (first_recipient new.id cells)))
     (configs_joined cells new)
     (cells_joined image.system configs new sound.cells may.unknown may.clean may.room)
@@ -239,6 +262,9 @@ create_sound image rest rest' cpu cells caller (Destroy id) new coming cell soun
 create_sound image rest rest' cpu cells caller (Info kind) new coming cell sound = absurd sound.call.phase.0
 create_sound image rest rest' cpu cells caller (State id) new coming cell sound = absurd sound.call.phase.0
 create_sound image rest rest' cpu cells caller (CpuInfo i kind) new coming cell sound = absurd sound.call.phase.0
+create_sound image rest rest' cpu cells caller CpuOff new coming cell sound = absurd sound.call.phase.0
+create_sound image rest rest' cpu cells caller (CpuOn on) new coming cell sound = absurd sound.call.phase.0
+create_sound image rest rest' cpu cells caller (Affinity on level) new coming cell sound = absurd sound.call.phase.0
 create_sound image rest rest' cpu cells caller Unknown new coming cell sound = absurd sound.call.phase.0
 
 -- a test of two numbers, either way round
@@ -246,14 +272,14 @@ turned : (a b : ℕ) → eqb a b ≡ eqb b a
 turned a b = same_test (eqb a b) (eqb b a) (λ h. eq-eqb b a (sym (eqb-true a b h))) (λ h. eq-eqb a b (sym (eqb-true b a h)))
 
 -- the Commit of a start and of a set loadable
-mark_sound : (image : Image) (rest : Rest) (cpu : ℕ → Cpu) (cells : List Live) (caller id : ℕ) (call : Call) (loadable : Bool) (change : Cpu → Cpu) (answer : ℤ)
-    → ((x : ℕ) → is_named call x ≡ eqb x id) → ((c : Cpu) → (change c).owner ≡ c.owner) → ((c : Cpu) → IsHalted c → IsCalm (change c))
+mark_sound : (image : Image) (rest : Rest) (cpu : ℕ → Cpu) (cells : List Live) (caller id : ℕ) (call : Call) (loadable : Bool) (change : ℕ → Cpu → Cpu) (answer : ℤ)
+    → ((x : ℕ) → is_named call x ≡ eqb x id) → ((i : ℕ) (c : Cpu) → (change i c).owner ≡ c.owner) → ((i : ℕ) (c : Cpu) → IsHalted c → IsCalm (change i c))
     → AreSoundCells image.system (configs_of cells) → AreOwned image (configs_of cells) cpu → IsOpen image (configs_of cells) cpu (opened_call caller call ToCommit)
     → any_below (λ k. keeps_commit image call k (cpu k)) 16 ≡ false
-    → IsSoundBut image (board rest (λ i. cond (eqb (cpu i).owner id) (change (cpu i)) (cpu i)) (map (marked id loadable) cells) (Some (opened_call caller call (ToFinish answer))))
+    → IsSoundBut image (board rest (λ i. cond (eqb (cpu i).owner id) (change i (cpu i)) (cpu i)) (map (marked id loadable) cells) (Some (opened_call caller call (ToFinish answer))))
 mark_sound image rest cpu cells caller id call loadable change answer about kept calm sound owned opens none =
-    let same : cell_changed change call cpu ≡ (λ (i : ℕ). cond (eqb (cpu i).owner id) (change (cpu i)) (cpu i)) =
-    same_function (cell_changed change call cpu) (λ (i : ℕ). cond (eqb (cpu i).owner id) (change (cpu i)) (cpu i)) (λ i. ap (λ (b : Bool). cond b (change (cpu i)) (cpu i)) (about (cpu i).owner)) in
+    let same : cell_changed change call cpu ≡ (λ (i : ℕ). cond (eqb (cpu i).owner id) (change i (cpu i)) (cpu i)) =
+    same_function (cell_changed change call cpu) (λ (i : ℕ). cond (eqb (cpu i).owner id) (change i (cpu i)) (cpu i)) (λ i. ap (λ (b : Bool). cond b (change i (cpu i)) (cpu i)) (about (cpu i).owner)) in
     let P : (ℕ → Cpu) → Type 0 = λ c. IsSoundBut image (board rest c (map (marked id loadable) cells) (Some (opened_call caller call (ToFinish answer)))) in
     subst P same
     (sound_by image rest (cell_changed change call cpu) (map (marked id loadable) cells) (configs_of cells) (opened_call caller call (ToFinish answer))
@@ -262,17 +288,29 @@ mark_sound image rest cpu cells caller id call loadable change answer about kept
     (owned_changed image (configs_of cells) cpu change call kept owned)
     (open_changed image (configs_of cells) cpu change caller call answer kept calm sound owned opens none))
 
+-- by a start a CPU of the cell runs or is parked
+abbrev start_change : (ℕ → Bool) → ℕ → Cpu → Cpu
+start_change runs i c = cond (runs i) (restarted c) (parked c)
+
+start_owner : (runs : ℕ → Bool) (i : ℕ) (c : Cpu) → (start_change runs i c).owner ≡ c.owner
+start_owner runs i c =
+    let same : Cpu → Type 0 = λ x. x.owner ≡ c.owner in
+    cond_both (runs i) (restarted c) (parked c) same (λ _. refl) (λ _. refl)
+
+start_calm : (runs : ℕ → Bool) (i : ℕ) (c : Cpu) → IsHalted c → IsCalm (start_change runs i c)
+start_calm runs i c h = cond_both (runs i) (restarted c) (parked c) IsCalm (λ _. restarted_calm c h) (λ _. parked_calm c h)
+
 -- the Commit of a call about a cell that lives
 commit_sound : (image : Image) (rest rest' : Rest) (cpu : ℕ → Cpu) (cells : List Live) (caller : ℕ) (call : Call) (coming : Option CellConfig) (cell : ℕ) → IsSoundBut image (board rest cpu cells (Some (opened_call caller call ToCommit)))
     → any_below (λ k. keeps_commit image call k (cpu k)) 16 ≡ false → IsSoundBut image (behind_act image rest' cpu cells (Some (opened_call caller call ToCommit)) coming caller cell Commit)
 commit_sound image rest rest' cpu cells caller (Create at) coming cell sound none = absurd (both_ways false refl sound.call.phase.2)
 commit_sound image rest rest' cpu cells caller (Start id) coming cell sound none =
-    mark_sound image rest' cpu cells caller id (Start id) false restarted (pos 0) (λ x. turned id x) (λ c. refl) restarted_calm sound.cells sound.cpus sound.call none
+    mark_sound image rest' cpu cells caller id (Start id) false (start_change rest'.runs) (pos 0) (λ x. turned id x) (start_owner rest'.runs) (start_calm rest'.runs) sound.cells sound.cpus sound.call none
 commit_sound image rest rest' cpu cells caller (Loadable id) coming cell sound none =
-    mark_sound image rest' cpu cells caller id (Loadable id) true parked (pos 0) (λ x. turned id x) (λ c. refl) parked_calm sound.cells sound.cpus sound.call none
+    mark_sound image rest' cpu cells caller id (Loadable id) true (λ i c. parked c) (pos 0) (λ x. turned id x) (λ i c. refl) (λ i c. parked_calm c) sound.cells sound.cpus sound.call none
 commit_sound image rest rest' cpu cells caller (Destroy id) coming cell sound none =
     let configs : List CellConfig = configs_of cells in
-    sound_by image rest' (λ i. acted image (Some (opened_call caller (Destroy id) ToCommit)) Commit caller i (cpu i)) (filter (is_other id) cells) (filter (is_other_config id) configs)
+    sound_by image rest' (λ i. acted image (rest'.runs i) (Some (opened_call caller (Destroy id) ToCommit)) Commit caller i (cpu i)) (filter (is_other id) cells) (filter (is_other_config id) configs)
     (opened_call caller (Destroy id) (telling id (pos 0) (first_recipient id cells)))
     (configs_others id cells)
     (cells_fewer image.system (is_other_config id) configs sound.cells)
@@ -281,6 +319,9 @@ commit_sound image rest rest' cpu cells caller (Destroy id) coming cell sound no
 commit_sound image rest rest' cpu cells caller (Info kind) coming cell sound none = absurd (both_ways false refl sound.call.phase.2)
 commit_sound image rest rest' cpu cells caller (State id) coming cell sound none = absurd (both_ways false refl sound.call.phase.2)
 commit_sound image rest rest' cpu cells caller (CpuInfo i kind) coming cell sound none = absurd (both_ways false refl sound.call.phase.2)
+commit_sound image rest rest' cpu cells caller CpuOff coming cell sound none = absurd (both_ways false refl sound.call.phase.2)
+commit_sound image rest rest' cpu cells caller (CpuOn on) coming cell sound none = absurd (both_ways false refl sound.call.phase.2)
+commit_sound image rest rest' cpu cells caller (Affinity on level) coming cell sound none = absurd (both_ways false refl sound.call.phase.2)
 commit_sound image rest rest' cpu cells caller Unknown coming cell sound none = absurd (both_ways false refl sound.call.phase.2)
 
 commit_by : (image : Image) (rest rest' : Rest) (cpu : ℕ → Cpu) (cells : List Live) (caller : ℕ) (call : Call) (coming : Option CellConfig) (cell : ℕ) (act : Act) (b : Bool) → IsSoundBut image (board rest cpu cells (Some (opened_call caller call ToCommit)))
@@ -356,8 +397,8 @@ due_sound image rest rest' cpu cells (Some o) own cell act sound next =
 but_after : (image : Image) (f : Facts) (entry : Entry) → IsSoundBut image f → due_at image f entry.cpu ≡ Some entry → IsSoundBut image (after image f entry)
 unfolding after
 but_after image f entry sound due =
-    let rest : Rest = record { byte = f.byte; endpoints = f.endpoints } in
-    let rest' : Rest = record { byte = byte_after image f entry; endpoints = endpoints_after image f entry } in
+    let rest : Rest = record { form = f.form; runs = runs_by_start f; byte = f.byte; endpoints = f.endpoints } in
+    let rest' : Rest = record { form = f.form; runs = runs_by_start f; byte = byte_after image f entry; endpoints = endpoints_after image f entry } in
     due_sound image rest rest' f.cpu f.cells f.call entry.cpu entry.cell entry.act sound (next_from_due image f entry due)
 
 but_devices : (image : Image) (f : Facts) → IsSound image f → IsSoundBut image f
@@ -373,8 +414,8 @@ sound_after image f entry sound due =
     and_devices image (after image f entry) (but_after image f entry (but_devices image f sound) due) (endpoints_after_holds image f entry sound)
 
 -- at opening
-pub sound_start : (image : Image) → IsAdmitted image → IsSound image (start image)
-sound_start image admitted =
+pub sound_start : (image : Image) (form : Form) → IsAdmitted image → IsSound image (start image form)
+sound_start image form admitted =
     let sound : AreSoundCells image.system [] = cells_open image.system admitted.system in
     record {
       cells = sound;
@@ -388,6 +429,6 @@ sound_from image f [] sound legal = sound
 sound_from image f (entry ∷ entries) sound legal = sound_from image (after image f entry) entries (sound_after image f entry sound legal.0) legal.1
 
 -- after each legal journal
-pub legal_sound : (image : Image) (entries : List Entry) → IsAdmitted image → IsLegal image entries → IsSound image (facts image entries)
+pub legal_sound : (image : Image) (form : Form) (entries : List Entry) → IsAdmitted image → IsLegal image form entries → IsSound image (facts image form entries)
 unfolding IsLegal facts
-legal_sound image entries admitted legal = sound_from image (start image) entries (sound_start image admitted) legal
+legal_sound image form entries admitted legal = sound_from image (start image form) entries (sound_start image form admitted) legal

@@ -21,9 +21,8 @@ use Rattle.jh_history.specs.declared.call.Phase.{Phase}
 use Rattle.jh_history.specs.declared.call.Phase.TheVariants.{ToDecide, ToSettle, ToCreate, ToCommit, ToNote, ToNoted, ToFinish}
 use Rattle.jh_call.specs.declared.call.Call.{Call}
 use Rattle.jh_call.specs.Calls.{decoded, is_management}
-use Rattle.jh_call.specs.Answers.{answer_of}
 use Rattle.jh_num.specs.Below.{any_below}
-use Rattle.jh_history.specs.Hypercalls.{seen_of}
+use Rattle.jh_history.specs.Hypercalls.{call_in, answered}
 use Rattle.jh_history.specs.Phases.{keeps_decide, keeps_commit, decision, settled_of, heard_of, phase_act}
 use Rattle.jh_cpu.specs.declared.cpu.Cpu.{Cpu}
 use Rattle.jh_ivshmem.specs.Links.{pending_of}
@@ -73,7 +72,7 @@ well_formed_act image f cell (Write width at value) plain = width_le width plain
 well_formed_act image f cell (Fetch at) plain = tt
 well_formed_act image f cell (Await width at value) plain = well_formed_await width at value (got_by image f cell ToRead at width)
 well_formed_act image f cell Irq plain = well_formed_irq (pending_of cell f.endpoints)
-well_formed_act image f cell (Hvc code a b) plain = well_formed_hvc code a b (answer_of (decoded code a b) (seen_of image f cell (decoded code a b))) ((eqb cell image.system.root.id) && is_management (decoded code a b))
+well_formed_act image f cell (Hvc code a b) plain = well_formed_hvc code a b (answered image f cell (call_in f.form (decoded code a b))) ((eqb cell image.system.root.id) && is_management (decoded code a b))
 
 well_formed_op : (image : Image) (f : Facts) (cell : ℕ) (o : Option Op) → IfSome o IsWellFormed → IfSome (option_and_then (act_of image f cell) o) IsWellFormedAct
 well_formed_op image f cell None plain = tt

@@ -1,6 +1,7 @@
 -- That root lives alone: where no program has a hypercall, no legal journal makes another cell.
 use Rattle.std.specs.Prelude.{◌≡◌, ℕ, false, List, [], ◌∷◌, ◌++◌, Some, None}
 use Rattle.jh_script.specs.declared.image.Image.{Image}
+use Rattle.jh_history.specs.declared.form.Form.{Form}
 use Rattle.jh_history.specs.declared.entry.Entry.{Entry}
 use Rattle.jh_history.specs.Admitted.{HasNoHypercall}
 use Rattle.jh_history.specs.Calls.{is_of_call}
@@ -21,18 +22,20 @@ pub record IsByRoot (image : Image) (entry : Entry) : Type 0 where
 -- a legal journal of a silent image: no program of it has a hypercall
 pub record SilentJournal : Type 0 where
   pub image : Image
+  pub form : Form
   pub entries : List Entry
   pub silent : HasNoHypercall image
-  pub legal : IsLegal image entries
+  pub legal : IsLegal image form entries
 
 -- an entry of a legal journal of a silent image, with the entries before it and the rest behind it
 pub record SilentMoment : Type 0 where
   pub image : Image
+  pub form : Form
   pub before : List Entry
   pub entry : Entry
   pub rest : List Entry
   pub silent : HasNoHypercall image
-  pub legal : IsLegal image (before ++ entry ∷ rest)
+  pub legal : IsLegal image form (before ++ entry ∷ rest)
 
 -- an entry that is due to a CPU of a silent image, where root lives alone
 pub record LoneEntry : Type 0 where

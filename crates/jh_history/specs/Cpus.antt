@@ -1,13 +1,15 @@
 -- What an entry does to CPUs.
-use Rattle.std.specs.Prelude.{◌≡◌, ℕ, ◌<◌, Bool, true, false, ◌==◌, ◌&&◌, not, List, length, slice_get, Option, Some, is_some, if◌then◌else◌}
+use Rattle.std.specs.Prelude.{◌≡◌, ℕ, ℤ, pos, negsuc, zero, suc, ◌<◌, Bool, true, false, ◌==◌, ◌&&◌, ◌||◌, not, List, length, slice_get, Option, Some, is_some, if◌then◌else◌}
 use Rattle.std.specs.Option.{option_map_or}
+use Rattle.jh_num.specs.Below.{any_below}
 use Rattle.jh_cellcfg.specs.Cells.{name_of, is_cpu_set}
 use Rattle.jh_cpu.specs.declared.cpu.Cpu.{Cpu}
 use Rattle.jh_cpu.specs.declared.cpu.Mode.{Mode}
 use Rattle.jh_cpu.specs.declared.cpu.Mode.TheVariants.{Running, Parked, Failed}
 use Rattle.jh_cpu.specs.Changes.{moved, failed, asked_of, stopped_of, resumed, lent, parked, restarted, returned}
 use Rattle.jh_call.specs.declared.call.Call.{Call}
-use Rattle.jh_call.specs.declared.call.Call.TheVariants.{Create, Start, Loadable, Destroy}
+use Rattle.jh_call.specs.declared.call.Call.TheVariants.{Create, Start, Loadable, Destroy, CpuOff, CpuOn}
+use Rattle.jh_call.specs.Calls.{decoded}
 use Rattle.jh_script.specs.declared.image.Image.{Image}
 use Rattle.jh_history.specs.declared.call.OpenCall.{OpenCall}
 use Rattle.jh_history.specs.declared.call.Phase.{Phase}
@@ -19,6 +21,8 @@ use Rattle.jh_history.specs.declared.entry.Settled.{Settled}
 use Rattle.jh_history.specs.declared.entry.Settled.TheVariants.{Agreed, Denied, Timeout}
 use Rattle.jh_history.specs.declared.entry.Act.{Act}
 use Rattle.jh_history.specs.declared.entry.Act.TheVariants.{Read, Write, Fetch, Await, Irq, Hvc, Begin, Stop, Settle, Commit, Finish}
+use Rattle.jh_history.specs.declared.form.Form.{Form}
+use Rattle.jh_history.specs.declared.form.Form.TheVariants.{One, Two}
 use Rattle.jh_history.specs.Facts.{Facts}
 use Rattle.jh_history.specs.Lives.{is_on_board, program_ops}
 use Rattle.jh_history.specs.Calls.{is_named}
@@ -72,14 +76,24 @@ cpu_by_settle undenied call cpu = if undenied && is_named call cpu.owner && is_r
 abbrev pub end_in_root : Image → ℕ → ℕ
 end_in_root image i = length (program_ops image (name_of image.system.root) i)
 
--- at the Commit of a create the new cell is lent its CPUs; by a start the cell's CPUs run from their programs'
--- beginnings, by a set loadable they are parked, by a destroy root has them again
-abbrev pub cpu_by_commit : Image → Call → Phase → ℕ → Cpu → Cpu
-cpu_by_commit image (Create at) (ToCreate config) i cpu = if is_cpu_set config.cpu_set i then lent config.id cpu else cpu
-cpu_by_commit image (Start id) phase i cpu = if cpu.owner == id then restarted cpu else cpu
-cpu_by_commit image (Loadable id) phase i cpu = if cpu.owner == id then parked cpu else cpu
-cpu_by_commit image (Destroy id) phase i cpu = if cpu.owner == id then returned image.system.root.id (end_in_root image i) cpu else cpu
-cpu_by_commit image _ phase i cpu = cpu
+-- the form is One
+abbrev pub is_one : Form → Bool
+is_one One = true
+is_one Two = false
+
+-- a start of its cell lets CPU i run: in form One each does, in form Two the lowest that its owner has
+abbrev pub runs_by_start : Facts → ℕ → Bool
+runs_by_start facts i = is_one facts.form || not (any_below (λ k. (facts.cpu k).owner == (facts.cpu i).owner) i)
+
+-- at the Commit of a create the new cell is lent its CPUs; by a start those of the cell's CPUs that `runs` lets run from
+-- their programs' beginnings, and its others are parked; by a set loadable they are parked, by a destroy root has them
+-- again
+abbrev pub cpu_by_commit : Image → Bool → Call → Phase → ℕ → Cpu → Cpu
+cpu_by_commit image runs (Create at) (ToCreate config) i cpu = if is_cpu_set config.cpu_set i then lent config.id cpu else cpu
+cpu_by_commit image runs (Start id) phase i cpu = if cpu.owner == id then (if runs then restarted cpu else parked cpu) else cpu
+cpu_by_commit image runs (Loadable id) phase i cpu = if cpu.owner == id then parked cpu else cpu
+cpu_by_commit image runs (Destroy id) phase i cpu = if cpu.owner == id then returned image.system.root.id (end_in_root image i) cpu else cpu
+cpu_by_commit image runs _ phase i cpu = cpu
 
 -- the CPU, resumed where it is root's
 abbrev pub resumed_of_root : ℕ → Cpu → Cpu
@@ -89,13 +103,44 @@ resumed_of_root root cpu = if cpu.owner == root then resumed cpu else cpu
 abbrev pub cpu_by_finish : Image → ℕ → ℕ → Cpu → Cpu
 cpu_by_finish image own i cpu = let going = resumed_of_root image.system.root.id cpu in if i == own then moved going else going
 
--- CPU i after the act, which is CPU `own`'s; the call is the one that is open before it
-abbrev pub acted : Image → Option OpenCall → Act → ℕ → ℕ → Cpu → Cpu
-acted image call (Begin code a b) own i cpu = asked_by_begin image own i cpu
-acted image call (Settle how) own i cpu = option_map_or (λ (o : OpenCall). cpu_by_settle (is_undenied how) o.call cpu) call cpu
-acted image call Commit own i cpu = option_map_or (λ (o : OpenCall). cpu_by_commit image o.call o.phase i cpu) call cpu
-acted image call (Finish answer) own i cpu = cpu_by_finish image own i cpu
-acted image call act own i cpu = if i == own then changed (change_of act) cpu else cpu
+-- a call with this answer was granted
+abbrev pub is_granted : ℤ → Bool
+is_granted (pos zero) = true
+is_granted (pos (suc n)) = false
+is_granted (negsuc n) = false
+
+-- CPU i after the call that CPU `own` was granted: one that is switched off is parked, and one that is switched on runs
+-- from its program's beginning
+abbrev pub switched : Call → ℕ → ℕ → Cpu → Cpu
+switched CpuOff own i cpu = if i == own then parked cpu else cpu
+switched (CpuOn on) own i cpu = if i == on then restarted cpu else cpu
+switched _ own i cpu = cpu
+
+-- the call, where it is granted, switches a CPU on or off
+abbrev pub is_switch : Call → Bool
+is_switch CpuOff = true
+is_switch (CpuOn on) = true
+is_switch _ = false
+
+-- the act is a call that was granted, and that switches a CPU on or off
+abbrev pub switches : Act → Bool
+switches (Hvc code a b answer) = is_granted answer && is_switch (decoded code a b)
+switches _ = false
+
+-- CPU i after the call of CPU `own`, which was answered: the caller has done its operation
+abbrev pub cpu_by_call : Call → ℤ → ℕ → ℕ → Cpu → Cpu
+cpu_by_call call answer own i cpu =
+    let made = if i == own then moved cpu else cpu in if is_granted answer then switched call own i made else made
+
+-- CPU i after the act, which is CPU `own`'s; the call is the one that is open before it, and `runs` says whether a start
+-- lets the CPU run
+abbrev pub acted : Image → Bool → Option OpenCall → Act → ℕ → ℕ → Cpu → Cpu
+acted image runs call (Begin code a b) own i cpu = asked_by_begin image own i cpu
+acted image runs call (Hvc code a b answer) own i cpu = cpu_by_call (decoded code a b) answer own i cpu
+acted image runs call (Settle how) own i cpu = option_map_or (λ (o : OpenCall). cpu_by_settle (is_undenied how) o.call cpu) call cpu
+acted image runs call Commit own i cpu = option_map_or (λ (o : OpenCall). cpu_by_commit image runs o.call o.phase i cpu) call cpu
+acted image runs call (Finish answer) own i cpu = cpu_by_finish image own i cpu
+acted image runs call act own i cpu = if i == own then changed (change_of act) cpu else cpu
 
 -- the list has the states of CPUs 0 to 15, in order
 abbrev pub ListsCpus : List Cpu → (ℕ → Cpu) → Type 0
@@ -103,4 +148,4 @@ ListsCpus cpus state = (i : ℕ) → i < 16 → slice_get cpus i ≡ Some (state
 
 -- the CPUs after an entry
 abbrev pub cpu_after : Image → Facts → Entry → ℕ → Cpu
-cpu_after image facts entry i = acted image facts.call entry.act entry.cpu i (facts.cpu i)
+cpu_after image facts entry i = acted image (runs_by_start facts i) facts.call entry.act entry.cpu i (facts.cpu i)

@@ -6,6 +6,7 @@ use Rattle.jh_cpu.specs.declared.cpu.Cpu.{Cpu}
 use Rattle.jh_ivshmem.specs.declared.endpoint.Endpoint.{Endpoint}
 use Rattle.jh_ivshmem.specs.Links.{pending_of}
 use Rattle.jh_script.specs.declared.image.Image.{Image}
+use Rattle.jh_history.specs.declared.form.Form.{Form}
 use Rattle.jh_script.specs.declared.op.Op.{Op}
 use Rattle.jh_script.specs.declared.op.Op.TheVariants.{Read as ReadOp, Write as WriteOp, Fetch as FetchOp, Await as AwaitOp, Irq as IrqOp, Hvc as HvcOp}
 use Rattle.jh_history.specs.declared.access.Access.{Access}
@@ -86,8 +87,8 @@ unfoldable pub due_at : Image → Facts → ℕ → Option Entry
 due_at image facts cpu = if is_on_board image cpu then entry_of image facts (facts.cpu cpu) cpu else None
 
 -- the entry that the CPU makes next after the entries
-abbrev pub due : Image → List Entry → ℕ → Option Entry
-due image entries cpu = due_at image (facts image entries) cpu
+abbrev pub due : Image → Form → List Entry → ℕ → Option Entry
+due image form entries cpu = due_at image (facts image form entries) cpu
 
 -- each of the entries is the one due, from these facts on
 abbrev pub IsLegalFrom : Image → Facts → List Entry → Type 0
@@ -95,13 +96,13 @@ IsLegalFrom image facts [] = Unit {0}
 IsLegalFrom image facts (entry ∷ entries) = (due_at image facts entry.cpu ≡ Some entry) × IsLegalFrom image (after image facts entry) entries
 
 -- each entry is the one due to its CPU after those before it
-unfoldable pub IsLegal : Image → List Entry → Type 0
-IsLegal image entries = IsLegalFrom image (start image) entries
+unfoldable pub IsLegal : Image → Form → List Entry → Type 0
+IsLegal image form entries = IsLegalFrom image (start image form) entries
 
 -- nothing is due to any CPU of the board, where these facts hold
 abbrev pub IsQuietAt : Image → Facts → Type 0
 IsQuietAt image facts = (cpu : ℕ) → due_at image facts cpu ≡ None
 
 -- nothing is due to any CPU of the board after the entries
-abbrev pub IsQuiet : Image → List Entry → Type 0
-IsQuiet image entries = IsQuietAt image (facts image entries)
+abbrev pub IsQuiet : Image → Form → List Entry → Type 0
+IsQuiet image form entries = IsQuietAt image (facts image form entries)

@@ -6,6 +6,7 @@ use Rattle.jh_cpu.specs.Changes.{opened}
 use Rattle.jh_call.specs.declared.call.Call.{Call}
 use Rattle.jh_call.specs.declared.call.Call.TheVariants.{Create}
 use Rattle.jh_script.specs.declared.image.Image.{Image}
+use Rattle.jh_history.specs.declared.form.Form.{Form}
 use Rattle.jh_history.specs.declared.call.OpenCall.{OpenCall}
 use Rattle.jh_history.specs.declared.entry.Entry.{Entry}
 use Rattle.jh_history.specs.Facts.{Facts}
@@ -20,8 +21,9 @@ use Rattle.jh_history.specs.Configs.{read_at, config_read}
 
 -- the facts at opening: memory is as the preloads put it; each CPU is root's and runs from its program's beginning; no
 -- cell lives besides root, whose devices have joined their links, and no call is open
-abbrev pub start : Image → Facts
-start image = record {
+abbrev pub start : Image → Form → Facts
+start image form = record {
+  form = form;
   byte = opening_byte image;
   cpu = λ _. opened image.system.root.id;
   cells = [];
@@ -49,6 +51,7 @@ call_after image facts entry = call_by facts.cells (coming_of image facts) facts
 -- the facts after an entry
 unfoldable pub after : Image → Facts → Entry → Facts
 after image facts entry = record {
+  form = facts.form;
   byte = byte_after image facts entry;
   cpu = cpu_after image facts entry;
   cells = cells_after facts entry;
@@ -57,5 +60,5 @@ after image facts entry = record {
 }
 
 -- the facts after the entries
-unfoldable pub facts : Image → List Entry → Facts
-facts image entries = fold (after image) (start image) entries
+unfoldable pub facts : Image → Form → List Entry → Facts
+facts image form entries = fold (after image) (start image form) entries

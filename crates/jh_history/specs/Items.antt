@@ -1,6 +1,7 @@
 -- What a schedule makes.
 use Rattle.std.specs.Prelude.{ℕ, zero, suc, ◌+◌, Bool, true, false, nat_lt, if◌then◌else◌, List, [], ◌∷◌, ◌++◌, length, filter, fold, Option, Some, None}
 use Rattle.jh_script.specs.declared.image.Image.{Image}
+use Rattle.jh_history.specs.declared.form.Form.{Form}
 use Rattle.jh_history.specs.declared.entry.Entry.{Entry}
 use Rattle.jh_history.specs.Lives.{is_on_board}
 use Rattle.jh_history.specs.Due.{due}
@@ -16,12 +17,12 @@ with_due limit entries None = record { entries = entries; full = false }
 with_due limit entries (Some entry) = if nat_lt (length entries) limit then record { entries = entries ++ entry ∷ []; full = false } else record { entries = entries; full = true }
 
 -- the journal with one item of a CPU; after a stop there is no other
-abbrev pub with_item : Image → ℕ → Reached → ℕ → Reached
-with_item image limit reached cpu = if reached.full then reached else with_due limit reached.entries (due image reached.entries cpu)
+abbrev pub with_item : Image → Form → ℕ → Reached → ℕ → Reached
+with_item image form limit reached cpu = if reached.full then reached else with_due limit reached.entries (due image form reached.entries cpu)
 
 -- the items of the CPUs, one after another
-unfoldable pub items : Image → ℕ → List ℕ → List Entry → Reached
-items image limit cpus entries = fold (with_item image limit) (record { entries = entries; full = false }) cpus
+unfoldable pub items : Image → Form → ℕ → List ℕ → List Entry → Reached
+items image form limit cpus entries = fold (with_item image form limit) (record { entries = entries; full = false }) cpus
 
 -- the numbers below n, in rising order
 abbrev pub below : ℕ → List ℕ
@@ -39,5 +40,5 @@ rounds (suc n) cpus = rounds n cpus ++ cpus
 
 -- the items of the schedule, and then rounds of all CPUs: these are enough, since a round adds an entry, or nothing is
 -- due, or the limit has stopped the items; and at a quiet journal no item changes anything
-unfoldable pub played : Image → ℕ → List ℕ → Reached
-played image limit schedule = items image limit (schedule ++ rounds (limit + 1) (cpus_of image)) []
+unfoldable pub played : Image → Form → ℕ → List ℕ → Reached
+played image form limit schedule = items image form limit (schedule ++ rounds (limit + 1) (cpus_of image)) []

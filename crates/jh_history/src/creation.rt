@@ -1,5 +1,5 @@
 //! What comes of a create.
-ghost use Rattle.std.specs.Prelude.{◌≡◌, ℕ, ◌≤◌, ◌==◌, ◌&&◌, length, IfOk, IfSome, IfNone};
+ghost use Rattle.std.specs.Prelude.{◌≡◌, ℕ, ◌≤◌, ◌==◌, ◌&&◌, true, length, IfOk, IfSome, IfNone};
 ghost use Rattle.jh_num.specs.Bits.{has_bit};
 ghost use Rattle.jh_check.specs.Refusals.{refusal_of};
 ghost use Rattle.jh_history.specs.Admitted.{pool_pages, IsAdmitted};
@@ -118,6 +118,7 @@ pub(crate) fn creation_by(
     requires few { length cells.now ≤ 15 }
     ensures told { (f : Facts) → configs_of f.cells ≡ cells.now → ListsCpus cpus.now f.cpu → IfOk result (λ told. IfSome told (λ creation. creation ≡ creation_by image.now f caller read)) }
     ensures untold { IfOk result (λ told. IfNone told (length cells.now ≡ 15)) }
+    ensures given { (f : Facts) → ListsCpus cpus.now f.cpu → IfOk result (λ told. IfNone told ((cpu : ℕ) × (may_give image.now f caller cpu ≡ true))) }
 {
     match read {
         ReadCell::Reads { config } => {

@@ -2,14 +2,16 @@
 ghost use Rattle.std.specs.Prelude.{◌≡◌, ◌+◌, ◌<◌, ◌≤◌, ◌↔◌, [], ◌∷◌, ◌++◌, length, slice_get, OnOk, OnErr, IsOk, IsTrue, option_copied};
 
 use crate::entry::Entry;
+use crate::form::Form;
 use jh_num::NoMemory;
 use std::alloc::Global;
 use std::marker::Model;
 
-/// The entries of a journal, oldest first. Contracts see them as a list, beside the number of entries
-/// that may be pushed without memory.
+/// The entries of a journal, oldest first, and its form. Contracts see the entries as a list, beside the number of
+/// those that may be pushed without memory.
 #[derive(Drop)]
 pub struct Journal {
+    form: Form,
     entries: Vec<Entry>,
 }
 
@@ -19,17 +21,34 @@ impl Model for Journal {
 
     ghost Value = { Log };
 
-    ghost view = { λ j. record { entries = j.entries.items; spare = vec_capacity j.entries - vec_len j.entries } };
+    ghost view = { λ j. record { form = j.form; entries = j.entries.items; spare = vec_capacity j.entries - vec_len j.entries } };
 }
 
 impl Journal {
-    /// A journal without entries, which takes no memory yet.
+    /// A journal of form Two without entries, which takes no memory yet.
     pub fn new(alloc: Global) -> Self
-        ensures { result.entries ≡ [] }
+        ensures form { result.form ≡ Form.Two }
+        ensures entries { result.entries ≡ [] }
+    {
+        Journal::with(alloc, Form::Two)
+    }
+
+    /// A journal of the form without entries, which takes no memory yet.
+    pub fn with(alloc: Global, form: Form) -> Self
+        ensures form { result.form ≡ form }
+        ensures entries { result.entries ≡ [] }
     {
         Journal {
+            form,
             entries: Vec::new(alloc),
         }
+    }
+
+    /// The form of the journal.
+    pub fn form(&self) -> Form
+        ensures { result ≡ self.now.form }
+    {
+        self.form
     }
 
     /// How many entries the journal has.
@@ -62,6 +81,7 @@ impl Journal {
 
     /// Puts the entry at the end. It succeeds with a positive spare, and takes one of it at most.
     pub fn push(&mut self, entry: Entry) -> Result<(), NoMemory>
+        ensures form { self.new.form ≡ self.old.form }
         ensures ok { OnOk result (self.new.entries ≡ self.old.entries ++ entry ∷ []) }
         ensures err { OnErr result (self.new.entries ≡ self.old.entries) }
         ensures succeeds { 0 < self.old.spare → IsOk result }
@@ -71,8 +91,9 @@ impl Journal {
         Ok(())
     }
 
-    /// Makes room for so many entries more. No entry changes.
+    /// Makes room for so many entries more. No entry changes, nor the form.
     pub fn reserve(&mut self, more: usize) -> Result<(), NoMemory>
+        ensures form { self.new.form ≡ self.old.form }
         ensures entries { self.new.entries ≡ self.old.entries }
         ensures ok { OnOk result (more ≤ self.new.spare) }
         ensures spare { self.old.spare ≤ self.new.spare }

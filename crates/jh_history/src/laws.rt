@@ -33,7 +33,7 @@ pub fn admitted_roots_are_sound(image: &Image)
 /// call is open, all CPUs are root's, and each entry is one of root that is no phase of a call. So is an entry that is
 /// due where root lives alone, and whatever the image, one of root that is no phase of a call leaves root alone.
 pub fn root_lives_alone()
-    ensures alone { (j : SilentJournal) → IsAlone j.image (facts j.image j.entries) }
+    ensures alone { (j : SilentJournal) → IsAlone j.image (facts j.image j.form j.entries) }
     ensures entries { (m : SilentMoment) → IsByRoot m.image m.entry }
     ensures due { (e : LoneEntry) → IsByRoot e.image e.entry }
     ensures stays { (image : TheImage) (f : Facts) (entry : TheEntry) → IsAlone image f → IsByRoot image entry →

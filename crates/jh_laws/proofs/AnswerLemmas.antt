@@ -8,6 +8,7 @@ use Rattle.jh_cellcfg.specs.Lives.{has_id}
 use Rattle.jh_call.specs.declared.call.Call.{Call}
 use Rattle.jh_call.specs.declared.call.Call.TheVariants.{Create}
 use Rattle.jh_script.specs.declared.image.Image.{Image}
+use Rattle.jh_history.specs.declared.form.Form.{Form}
 use Rattle.jh_history.specs.declared.call.OpenCall.{OpenCall}
 use Rattle.jh_history.specs.declared.call.Phase.{Phase}
 use Rattle.jh_history.specs.declared.call.Phase.TheVariants.{ToDecide, ToSettle, ToCreate, ToCommit, ToNote, ToNoted, ToFinish}
@@ -145,18 +146,18 @@ noted_call image f entry o id about answer opens caller phase act =
     ∙ ap (λ (p : Phase). Some (record { caller = o.caller; call = o.call; phase = after_note p })) phase
     ∙ ap (λ (k : ℕ). Some (record { caller = k; call = o.call; phase = ToNoted id about answer 0 })) caller
 
-pub settles_at : (image : Image) (before middle rest : List Entry) (decide settle : Entry) (call : Call) (how : Settled) → IsAdmitted image → IsLegal image (before ++ decide ∷ (middle ++ settle ∷ rest)) → begun_call before ≡ Some call
+pub settles_at : (image : Image) (form : Form) (before middle rest : List Entry) (decide settle : Entry) (call : Call) (how : Settled) → IsAdmitted image → IsLegal image form (before ++ decide ∷ (middle ++ settle ∷ rest)) → begun_call before ≡ Some call
     → decide.act ≡ Decide None → All (λ (e : Entry). e.cpu ≢ decide.cpu) middle → settle.cpu ≡ decide.cpu → settle.act ≡ Settle how
-    → (config : CellConfig) × Contains (configs_of (facts image (before ++ decide ∷ middle)).cells) config × (is_named call config.id ≡ true)
-    × IsSettledBy image (facts image (before ++ decide ∷ middle)) decide.cpu config (made_by_named call middle) how
-settles_at image before middle rest decide settle call how admitted legal is act others own settles =
-    let s = stretch image before middle rest decide settle admitted legal in
-    let f0 : Facts = facts image before in
+    → (config : CellConfig) × Contains (configs_of (facts image form (before ++ decide ∷ middle)).cells) config × (is_named call config.id ≡ true)
+    × IsSettledBy image (facts image form (before ++ decide ∷ middle)) decide.cpu config (made_by_named call middle) how
+settles_at image form before middle rest decide settle call how admitted legal is act others own settles =
+    let s = stretch image form before middle rest decide settle admitted legal in
+    let f0 : Facts = facts image form before in
     let f1 : Facts = after image f0 decide in
     let f : Facts = fold (after image) f1 middle in
     let of = phase_of_due image f0 decide s.sound s.first_due (ap is_phase act) in
     let o : OpenCall = of.o in
-    let same : o.call ≡ call = same_call image before o call of.opens is in
+    let same : o.call ≡ call = same_call image form before o call of.opens is in
     let caller : ℕ = decide.cpu in
     let coming : Option CellConfig = coming_by image f0 call in
     let made = decided_call image f0 decide o call of.opens of.caller same act in
@@ -166,7 +167,7 @@ settles_at image before middle rest decide settle call how admitted legal is act
     let expected = expects_over call (after_decide call coming None) middle (Settle how) (phase_expects image f (is_idle_but image f caller) caller call (counted_over call (after_decide call coming None) middle) (Settle how) acts) in
     let says = settles_there image f caller call middle (after_decide call coming None) settle how (decided_settle call coming how expected) waits.0 waits.1 acts in
     let P : Facts → Type 0 = λ g. (config : CellConfig) × Contains (configs_of g.cells) config × (is_named call config.id ≡ true) × IsSettledBy image g caller config (made_by_named call middle) how in
-    subst P (sym (facts_append image before (decide ∷ middle))) says
+    subst P (sym (facts_append image form before (decide ∷ middle))) says
 
 hears_by : (image : Image) (f : Facts) (caller id about waited other : ℕ) (answer : ℤ) (call : Call) (how : Heard) → IsSound image f → f.call ≡ Some (record { caller = caller; call = call; phase = ToNoted id about answer waited })
     → phase_act image f (is_idle_but image f caller) caller call (ToNoted id about answer waited) ≡ Some (Noted other how)
@@ -181,12 +182,12 @@ hears_by image f caller id about waited other answer call how sound is h =
     let P : ℕ → Type 0 = λ k. heard_with f idle k waited c ≡ Some how in
     (told.1, (c, live.0, live.1, heard_as image f o c waited how sound.cells is (subst P (sym live.1) found.2)))
 
-pub hears_at : (image : Image) (before middle rest : List Entry) (note noted : Entry) (id other : ℕ) (how : Heard) → IsAdmitted image → IsLegal image (before ++ note ∷ (middle ++ noted ∷ rest))
+pub hears_at : (image : Image) (form : Form) (before middle rest : List Entry) (note noted : Entry) (id other : ℕ) (how : Heard) → IsAdmitted image → IsLegal image form (before ++ note ∷ (middle ++ noted ∷ rest))
     → note.act ≡ Note id → All (λ (e : Entry). e.cpu ≢ note.cpu) middle → noted.cpu ≡ note.cpu → noted.act ≡ Noted other how
-    → (other ≡ id) × ((config : CellConfig) × Contains (configs_of (facts image (before ++ note ∷ middle)).cells) config × (config.id ≡ id) × IsHeardBy image (facts image (before ++ note ∷ middle)) note.cpu config (made_by_cell id middle) how)
-hears_at image before middle rest note noted id other how admitted legal act others own hears =
-    let s = stretch image before middle rest note noted admitted legal in
-    let f0 : Facts = facts image before in
+    → (other ≡ id) × ((config : CellConfig) × Contains (configs_of (facts image form (before ++ note ∷ middle)).cells) config × (config.id ≡ id) × IsHeardBy image (facts image form (before ++ note ∷ middle)) note.cpu config (made_by_cell id middle) how)
+hears_at image form before middle rest note noted id other how admitted legal act others own hears =
+    let s = stretch image form before middle rest note noted admitted legal in
+    let f0 : Facts = facts image form before in
     let f1 : Facts = after image f0 note in
     let f : Facts = fold (after image) f1 middle in
     let of = phase_of_due image f0 note s.sound s.first_due (ap is_phase act) in
@@ -206,4 +207,4 @@ hears_at image before middle rest note noted id other how admitted legal act oth
     let Q : Phase → Type 0 = λ p. phase_act image f (is_idle_but image f caller) caller o.call p ≡ Some (Noted other how) in
     let says = hears_by image f caller id about (made_by_cell id middle) other answer o.call how waits.0 (subst P counts waits.1) (subst Q counts acts) in
     let R : Facts → Type 0 = λ g. (config : CellConfig) × Contains (configs_of g.cells) config × (config.id ≡ id) × IsHeardBy image g caller config (made_by_cell id middle) how in
-    (says.0, subst R (sym (facts_append image before (note ∷ middle))) says.1)
+    (says.0, subst R (sym (facts_append image form before (note ∷ middle))) says.1)

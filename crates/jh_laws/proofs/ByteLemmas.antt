@@ -10,6 +10,7 @@ use Rattle.jh_cellcfg.specs.Cells.{name_of}
 use Rattle.jh_ivshmem.specs.declared.endpoint.Endpoint.{Endpoint}
 use Rattle.jh_ivshmem.specs.Links.{endpoint_at}
 use Rattle.jh_script.specs.declared.image.Image.{Image}
+use Rattle.jh_history.specs.declared.form.Form.{Form}
 use Rattle.jh_script.specs.declared.image.Preload.{Preload}
 use Rattle.jh_history.specs.declared.place.Place.{Place}
 use Rattle.jh_history.specs.declared.place.Place.TheVariants.{Physical, Page}
@@ -46,20 +47,20 @@ no_register image f at width n bar offset e bare by =
     none-some e (subst P bare by.within.is.there)
 
 -- what a write writes, where root lives alone
-is_written : (image : Image) (f : Facts) (act : Act) (place : Place) (byte : ℕ) → IsSilent image → AllRoots image f → WritesByteAlone image image.system.root act place byte → byte_written image f image.system.root.id act place ≡ byte
-is_written image f (Write width at value true) place byte admitted roots writes =
+is_written : (image : Image) (form : Form) (f : Facts) (act : Act) (place : Place) (byte : ℕ) → IsSilent image → AllRoots image f → WritesByteAlone image image.system.root act place byte → byte_written image f image.system.root.id act place ≡ byte
+is_written image form f (Write width at value true) place byte admitted roots writes =
     let P : List Live → Type 0 = λ cells. IsByteBy image cells image.system.root.id at width value place byte in
-    write_puts image f image.system.root.id at width value place byte (roots_sound image f admitted roots) (subst P (sym roots.alone.cells) writes.1)
-is_written image f (Write width at value false) place byte admitted roots writes = absurd (false≢true writes.0)
-is_written image f _ place byte admitted roots writes = absurd writes
+    write_puts image f image.system.root.id at width value place byte (roots_sound image form f admitted roots) (subst P (sym roots.alone.cells) writes.1)
+is_written image form f (Write width at value false) place byte admitted roots writes = absurd (false≢true writes.0)
+is_written image form f _ place byte admitted roots writes = absurd writes
 
-byte_kept : (image : Image) (f : Facts) (act : Act) (place : Place) → IsSilent image → AllRoots image f → IsSmallAct act → ((byte : ℕ) → WritesByteAlone image image.system.root act place byte → ⊥) → byte_written image f image.system.root.id act place ≡ f.byte place
-byte_kept image f (Write width at value true) place admitted roots small none =
-    write_kept image f image.system.root.id at width value place (roots_sound image f admitted roots) small.1
+byte_kept : (image : Image) (form : Form) (f : Facts) (act : Act) (place : Place) → IsSilent image → AllRoots image f → IsSmallAct act → ((byte : ℕ) → WritesByteAlone image image.system.root act place byte → ⊥) → byte_written image f image.system.root.id act place ≡ f.byte place
+byte_kept image form f (Write width at value true) place admitted roots small none =
+    write_kept image f image.system.root.id at width value place (roots_sound image form f admitted roots) small.1
     (λ byte h. let P : List Live → Type 0 = λ cells. IsByteBy image cells image.system.root.id at width value place byte in none byte (refl, subst P roots.alone.cells h))
     (λ n e by. absurd (no_register image f at width n 0 0x10 e roots.endpoints by))
-byte_kept image f (Write width at value false) place admitted roots small none = refl
-byte_kept image f _ place admitted roots small none = refl
+byte_kept image form f (Write width at value false) place admitted roots small none = refl
+byte_kept image form f _ place admitted roots small none = refl
 
 -- the value fits its width
 made_small : (image : Image) (f : Facts) (entry : Entry) → IsSilent image → IsNext image f entry → IsSmallAct entry.act
@@ -73,28 +74,28 @@ after_at_root image f entry place admitted roots made =
     ∙ byte_after_roots image f entry place (by_root image f entry admitted roots made)
     ∙ ap (λ (cell : ℕ). byte_written image f cell entry.act place) (made.cell_is ∙ (roots.cpus entry.cpu).owner)
 
-after_written : (image : Image) (f : Facts) (entry : Entry) (place : Place) (byte : ℕ) → IsSilent image → AllRoots image f → IsNext image f entry → WritesByteAlone image image.system.root entry.act place byte → (after image f entry).byte place ≡ byte
-after_written image f entry place byte admitted roots made writes =
-    after_at_root image f entry place admitted roots made ∙ is_written image f entry.act place byte admitted roots writes
+after_written : (image : Image) (form : Form) (f : Facts) (entry : Entry) (place : Place) (byte : ℕ) → IsSilent image → AllRoots image f → IsNext image f entry → WritesByteAlone image image.system.root entry.act place byte → (after image f entry).byte place ≡ byte
+after_written image form f entry place byte admitted roots made writes =
+    after_at_root image f entry place admitted roots made ∙ is_written image form f entry.act place byte admitted roots writes
 
-after_kept : (image : Image) (f : Facts) (entry : Entry) (place : Place) → IsSilent image → AllRoots image f → IsNext image f entry → WritesNot image image.system.root place entry → (after image f entry).byte place ≡ f.byte place
-after_kept image f entry place admitted roots made none =
-    after_at_root image f entry place admitted roots made ∙ byte_kept image f entry.act place admitted roots (made_small image f entry admitted made) none
+after_kept : (image : Image) (form : Form) (f : Facts) (entry : Entry) (place : Place) → IsSilent image → AllRoots image f → IsNext image f entry → WritesNot image image.system.root place entry → (after image f entry).byte place ≡ f.byte place
+after_kept image form f entry place admitted roots made none =
+    after_at_root image f entry place admitted roots made ∙ byte_kept image form f entry.act place admitted roots (made_small image f entry admitted made) none
 
-roots_before : (image : Image) (before rest : List Entry) → IsSilent image → IsLegal image (before ++ rest) → AllRoots image (facts image before)
-roots_before image before rest admitted legal = roots_at image before admitted (IsLegal_begin image before rest legal)
+roots_before : (image : Image) (form : Form) (before rest : List Entry) → IsSilent image → IsLegal image form (before ++ rest) → AllRoots image (facts image form before)
+roots_before image form before rest admitted legal = roots_at image form before admitted (IsLegal_begin image form before rest legal)
 
-pub byte_written_holds : (image : Image) (before rest : List Entry) (entry : Entry) (place : Place) (byte : ℕ) → IsSilent image → IsLegal image (before ++ entry ∷ rest) → WritesByteAlone image image.system.root entry.act place byte
-    → (facts image (before ++ entry ∷ [])).byte place ≡ byte
-byte_written_holds image before rest entry place byte admitted legal writes =
-    ap (λ (f : Facts). f.byte place) (facts_push image before entry)
-    ∙ after_written image (facts image before) entry place byte admitted (roots_before image before (entry ∷ rest) admitted legal) (made_at image before rest entry admitted legal) writes
+pub byte_written_holds : (image : Image) (form : Form) (before rest : List Entry) (entry : Entry) (place : Place) (byte : ℕ) → IsSilent image → IsLegal image form (before ++ entry ∷ rest) → WritesByteAlone image image.system.root entry.act place byte
+    → (facts image form (before ++ entry ∷ [])).byte place ≡ byte
+byte_written_holds image form before rest entry place byte admitted legal writes =
+    ap (λ (f : Facts). f.byte place) (facts_push image form before entry)
+    ∙ after_written image form (facts image form before) entry place byte admitted (roots_before image form before (entry ∷ rest) admitted legal) (made_at image form before rest entry admitted legal) writes
 
-pub byte_kept_holds : (image : Image) (before rest : List Entry) (entry : Entry) (place : Place) → IsSilent image → IsLegal image (before ++ entry ∷ rest) → WritesNot image image.system.root place entry
-    → (facts image (before ++ entry ∷ [])).byte place ≡ (facts image before).byte place
-byte_kept_holds image before rest entry place admitted legal none =
-    ap (λ (f : Facts). f.byte place) (facts_push image before entry)
-    ∙ after_kept image (facts image before) entry place admitted (roots_before image before (entry ∷ rest) admitted legal) (made_at image before rest entry admitted legal) none
+pub byte_kept_holds : (image : Image) (form : Form) (before rest : List Entry) (entry : Entry) (place : Place) → IsSilent image → IsLegal image form (before ++ entry ∷ rest) → WritesNot image image.system.root place entry
+    → (facts image form (before ++ entry ∷ [])).byte place ≡ (facts image form before).byte place
+byte_kept_holds image form before rest entry place admitted legal none =
+    ap (λ (f : Facts). f.byte place) (facts_push image form before entry)
+    ∙ after_kept image form (facts image form before) entry place admitted (roots_before image form before (entry ∷ rest) admitted legal) (made_at image form before rest entry admitted legal) none
 
 -- a violation writes nothing
 violation_writes : (image : Image) (act : Act) (place : Place) (byte : ℕ) → is_violation act ≡ true → WritesByteAlone image image.system.root act place byte → ⊥
@@ -102,33 +103,33 @@ violation_writes image (Write width at value true) place byte h writes = false�
 violation_writes image (Write width at value false) place byte h writes = false≢true writes.0
 violation_writes image _ place byte h writes = writes
 
-pub byte_violation : (image : Image) (before rest : List Entry) (entry : Entry) (place : Place) → IsSilent image → IsLegal image (before ++ entry ∷ rest) → is_violation entry.act ≡ true
-    → (facts image (before ++ entry ∷ [])).byte place ≡ (facts image before).byte place
-byte_violation image before rest entry place admitted legal h = byte_kept_holds image before rest entry place admitted legal (λ byte. violation_writes image entry.act place byte h)
+pub byte_violation : (image : Image) (form : Form) (before rest : List Entry) (entry : Entry) (place : Place) → IsSilent image → IsLegal image form (before ++ entry ∷ rest) → is_violation entry.act ≡ true
+    → (facts image form (before ++ entry ∷ [])).byte place ≡ (facts image form before).byte place
+byte_violation image form before rest entry place admitted legal h = byte_kept_holds image form before rest entry place admitted legal (λ byte. violation_writes image entry.act place byte h)
 
 -- entries that don't write the place
-kept_from : (image : Image) (f : Facts) (entries : List Entry) (place : Place) → IsSilent image → AllRoots image f → IsLegalFrom image f entries → AllByRecursion (WritesNot image image.system.root place) entries
+kept_from : (image : Image) (form : Form) (f : Facts) (entries : List Entry) (place : Place) → IsSilent image → AllRoots image f → IsLegalFrom image f entries → AllByRecursion (WritesNot image image.system.root place) entries
     → (fold (after image) f entries).byte place ≡ f.byte place
-kept_from image f [] place admitted roots legal none = refl
-kept_from image f (entry ∷ entries) place admitted roots legal none =
+kept_from image form f [] place admitted roots legal none = refl
+kept_from image form f (entry ∷ entries) place admitted roots legal none =
     let made : IsNext image f entry = next_made image f entry entries roots legal in
-    kept_from image (after image f entry) entries place admitted (roots_after image f entry admitted made roots) legal.1 none.1 ∙ after_kept image f entry place admitted roots made none.0
+    kept_from image form (after image f entry) entries place admitted (roots_after image f entry admitted made roots) legal.1 none.1 ∙ after_kept image form f entry place admitted roots made none.0
 
-pub byte_rest : (image : Image) (before rest : List Entry) (place : Place) → IsSilent image → IsLegal image (before ++ rest) → AllByRecursion (WritesNot image image.system.root place) rest
-    → (facts image (before ++ rest)).byte place ≡ (facts image before).byte place
-byte_rest image before rest place admitted legal none =
-    ap (λ (f : Facts). f.byte place) (facts_append image before rest)
-    ∙ kept_from image (facts image before) rest place admitted (roots_before image before rest admitted legal) (IsLegal_rest image before rest legal) none
+pub byte_rest : (image : Image) (form : Form) (before rest : List Entry) (place : Place) → IsSilent image → IsLegal image form (before ++ rest) → AllByRecursion (WritesNot image image.system.root place) rest
+    → (facts image form (before ++ rest)).byte place ≡ (facts image form before).byte place
+byte_rest image form before rest place admitted legal none =
+    ap (λ (f : Facts). f.byte place) (facts_append image form before rest)
+    ∙ kept_from image form (facts image form before) rest place admitted (roots_before image form before rest admitted legal) (IsLegal_rest image form before rest legal) none
 
 -- the last entry that wrote the place gave it its byte
-pub byte_last : (image : Image) (before rest : List Entry) (entry : Entry) (place : Place) (byte : ℕ) → IsSilent image → IsLegal image (before ++ entry ∷ rest) → WritesByteAlone image image.system.root entry.act place byte → AllByRecursion (WritesNot image image.system.root place) rest
-    → (facts image (before ++ entry ∷ rest)).byte place ≡ byte
-byte_last image before rest entry place byte admitted legal writes none =
+pub byte_last : (image : Image) (form : Form) (before rest : List Entry) (entry : Entry) (place : Place) (byte : ℕ) → IsSilent image → IsLegal image form (before ++ entry ∷ rest) → WritesByteAlone image image.system.root entry.act place byte → AllByRecursion (WritesNot image image.system.root place) rest
+    → (facts image form (before ++ entry ∷ rest)).byte place ≡ byte
+byte_last image form before rest entry place byte admitted legal writes none =
     let split : (before ++ entry ∷ []) ++ rest ≡ before ++ entry ∷ rest = append_assoc before (entry ∷ []) rest in
-    let P : List Entry → Type 0 = IsLegal image in
-    ap (λ (es : List Entry). (facts image es).byte place) (sym split)
-    ∙ byte_rest image (before ++ entry ∷ []) rest place admitted (subst P (sym split) legal) none
-    ∙ byte_written_holds image before rest entry place byte admitted legal writes
+    let P : List Entry → Type 0 = IsLegal image form in
+    ap (λ (es : List Entry). (facts image form es).byte place) (sym split)
+    ∙ byte_rest image form (before ++ entry ∷ []) rest place admitted (subst P (sym split) legal) none
+    ∙ byte_written_holds image form before rest entry place byte admitted legal writes
 
 -- preloads
 abbrev NoneAt : List Preload → ℕ → Type 0
@@ -164,54 +165,54 @@ opened_put f (p ∷ ps) place (suc i) d lt has apart = opened_put (preloaded f p
 abbrev pub IsApartAtOpening : Image → ℕ → Type 0
 IsApartAtOpening image place = AreApart (specs_of image.system.root) (Physical place)
 
-opening_is : (image : Image) (place : ℕ) → IsApartAtOpening image place → (facts image []).byte (Physical place) ≡ loaded_byte image (Physical place)
-opening_is image place apart =
-    ap (λ (f : Facts). f.byte (Physical place)) (facts_nil image)
+opening_is : (image : Image) (form : Form) (place : ℕ) → IsApartAtOpening image place → (facts image form []).byte (Physical place) ≡ loaded_byte image (Physical place)
+opening_is image form place apart =
+    ap (λ (f : Facts). f.byte (Physical place)) (facts_nil image form)
     ∙ words_kept (specs_of image.system.root) (loaded_byte image) (Physical place) apart
 
 -- and in these words
-pub opening_word : (image : Image) (place : ℕ) → IsInWords (specs_of image.system.root) (Physical place) → (facts image []).byte (Physical place) ≡ 0
-opening_word image place h =
-    ap (λ (f : Facts). f.byte (Physical place)) (facts_nil image)
+pub opening_word : (image : Image) (form : Form) (place : ℕ) → IsInWords (specs_of image.system.root) (Physical place) → (facts image form []).byte (Physical place) ≡ 0
+opening_word image form place h =
+    ap (λ (f : Facts). f.byte (Physical place)) (facts_nil image form)
     ∙ words_put (specs_of image.system.root) (loaded_byte image) h.spec (Physical place) h.index h.among h.there
 
 -- no word of a state table is in a page
-pub opening_page : (image : Image) (cell offset : ℕ) → (facts image []).byte (Page cell offset) ≡ 0
-opening_page image cell offset = ap (λ (f : Facts). f.byte (Page cell offset)) (facts_nil image) ∙ words_page (specs_of image.system.root) (loaded_byte image) cell offset
+pub opening_page : (image : Image) (form : Form) (cell offset : ℕ) → (facts image form []).byte (Page cell offset) ≡ 0
+opening_page image form cell offset = ap (λ (f : Facts). f.byte (Page cell offset)) (facts_nil image form) ∙ words_page (specs_of image.system.root) (loaded_byte image) cell offset
 
 -- what a preload puts stands there at opening
-opening_put : (image : Image) (place : ℕ) (p : Preload) → IsAdmitted image → IsApartAtOpening image place → Contains image.preloads p → IsTrue (has_byte_at p place) → (facts image []).byte (Physical place) ≡ slice_index p.bytes (place - p.at)
-opening_put image place p admitted apart held has =
+opening_put : (image : Image) (form : Form) (place : ℕ) (p : Preload) → IsAdmitted image → IsApartAtOpening image place → Contains image.preloads p → IsTrue (has_byte_at p place) → (facts image form []).byte (Physical place) ≡ slice_index p.bytes (place - p.at)
+opening_put image form place p admitted apart held has =
     let same : get_or image.preloads held.0 p ≡ p = held.2 in
-    opening_is image place apart
+    opening_is image form place apart
     ∙ opened_put (λ _. 0) image.preloads place held.0 p held.1 (ap (λ (q : Preload). has_byte_at q place) same ∙ has) admitted.apart
     ∙ ap (λ (q : Preload). slice_index q.bytes (place - q.at)) same
 
 -- and 0 elsewhere
-opening_none : (image : Image) (place : ℕ) → IsApartAtOpening image place → ((p : Preload) → Contains image.preloads p → IsTrue (has_byte_at p place) → ⊥) → (facts image []).byte (Physical place) ≡ 0
-opening_none image place apart none =
+opening_none : (image : Image) (form : Form) (place : ℕ) → IsApartAtOpening image place → ((p : Preload) → Contains image.preloads p → IsTrue (has_byte_at p place) → ⊥) → (facts image form []).byte (Physical place) ≡ 0
+opening_none image form place apart none =
     let each : NoneAt image.preloads place = λ k d lt. elim (cases_Bool (has_byte_at (get_or image.preloads k d) place)) [
       | inl has ↦ absurd (none (get_or image.preloads k d) (k, lt, get_or_default image.preloads k (get_or image.preloads k d) d lt) has)
       | inr absent ↦ absent
     ] in
-    opening_is image place apart ∙ opened_none (λ _. 0) image.preloads place each
+    opening_is image form place apart ∙ opened_none (λ _. 0) image.preloads place each
 
 -- both by the place's number in the preload
 has_byte_there : (p : Preload) (k : ℕ) → k < length p.bytes → has_byte_at p (p.at + k) ≡ true
 has_byte_there p k lt = and_from (leb p.at (p.at + k)) (ltb (p.at + k) (p.at + length p.bytes)) (le-leb p.at (p.at + k) (omega arith)) (lt-ltb (p.at + k) (p.at + length p.bytes) (omega arith))
 
-byte_put : (image : Image) (p : Preload) (k : ℕ) → IsAdmitted image → IsApartAtOpening image (p.at + k) → Contains image.preloads p → k < length p.bytes → (facts image []).byte (Physical (p.at + k)) ≡ slice_index p.bytes k
-byte_put image p k admitted apart held lt =
+byte_put : (image : Image) (form : Form) (p : Preload) (k : ℕ) → IsAdmitted image → IsApartAtOpening image (p.at + k) → Contains image.preloads p → k < length p.bytes → (facts image form []).byte (Physical (p.at + k)) ≡ slice_index p.bytes k
+byte_put image form p k admitted apart held lt =
     let same : (p.at + k) - p.at ≡ k = omega arith in
-    opening_put image (p.at + k) p admitted apart held (has_byte_there p k lt) ∙ ap (slice_index p.bytes) same
+    opening_put image form (p.at + k) p admitted apart held (has_byte_there p k lt) ∙ ap (slice_index p.bytes) same
 
-pub opening_byte : (image : Image) (place byte : ℕ) → IsAdmitted image → IsApartAtOpening image place → IsPreloaded image place byte → (facts image []).byte (Physical place) ≡ byte
-opening_byte image place byte admitted apart by =
-    ap (λ (q : ℕ). (facts image []).byte (Physical q)) by.there ∙ byte_put image by.preload by.index admitted (subst (IsApartAtOpening image) by.there apart) by.among by.within ∙ sym by.byte_is
+pub opening_byte : (image : Image) (form : Form) (place byte : ℕ) → IsAdmitted image → IsApartAtOpening image place → IsPreloaded image place byte → (facts image form []).byte (Physical place) ≡ byte
+opening_byte image form place byte admitted apart by =
+    ap (λ (q : ℕ). (facts image form []).byte (Physical q)) by.there ∙ byte_put image form by.preload by.index admitted (subst (IsApartAtOpening image) by.there apart) by.among by.within ∙ sym by.byte_is
 
-pub opening_zero : (image : Image) (place : ℕ) → IsApartAtOpening image place → ((byte : ℕ) → IsPreloaded image place byte → ⊥) → (facts image []).byte (Physical place) ≡ 0
-opening_zero image place apart none =
-    opening_none image place apart (λ p held has.
+pub opening_zero : (image : Image) (form : Form) (place : ℕ) → IsApartAtOpening image place → ((byte : ℕ) → IsPreloaded image place byte → ⊥) → (facts image form []).byte (Physical place) ≡ 0
+opening_zero image form place apart none =
+    opening_none image form place apart (λ p held has.
     let parts = and_parts (leb p.at place) (ltb place (p.at + length p.bytes)) has in
     let first : p.at ≤ place = leb-true p.at place parts.0 in
     let last : place < p.at + length p.bytes = ltb-true place (p.at + length p.bytes) parts.1 in

@@ -14,6 +14,7 @@ use Rattle.jh_call.specs.declared.call.Call.TheVariants.{Create, Start, Loadable
 use Rattle.jh_call.specs.Calls.{decoded}
 use Rattle.jh_num.specs.Below.{any_below}
 use Rattle.jh_script.specs.declared.image.Image.{Image}
+use Rattle.jh_history.specs.declared.form.Form.{Form}
 use Rattle.jh_script.specs.declared.op.Op.{Op}
 use Rattle.jh_history.specs.Admitted.{IsAdmitted}
 use Rattle.jh_history.specs.declared.call.OpenCall.{OpenCall}
@@ -311,18 +312,18 @@ split_from image f (entry ∷ entries) last rest legal =
     ((legal.0, more.0), more.1)
 
 -- two entries of a journal, with those between them
-pub record IsStretch (image : Image) (before middle : List Entry) (first last : Entry) : Type 0 where
-  pub sound : IsSound image (facts image before)
-  pub first_due : due_at image (facts image before) first.cpu ≡ Some first
-  pub between : IsLegalFrom image (after image (facts image before) first) middle
-  pub last_due : due_at image (fold (after image) (after image (facts image before) first) middle) last.cpu ≡ Some last
+pub record IsStretch (image : Image) (form : Form) (before middle : List Entry) (first last : Entry) : Type 0 where
+  pub sound : IsSound image (facts image form before)
+  pub first_due : due_at image (facts image form before) first.cpu ≡ Some first
+  pub between : IsLegalFrom image (after image (facts image form before) first) middle
+  pub last_due : due_at image (fold (after image) (after image (facts image form before) first) middle) last.cpu ≡ Some last
 
-pub stretch : (image : Image) (before middle rest : List Entry) (first last : Entry) → IsAdmitted image → IsLegal image (before ++ first ∷ (middle ++ last ∷ rest)) → IsStretch image before middle first last
-stretch image before middle rest first last admitted legal =
-    let from : IsLegalFrom image (facts image before) (first ∷ (middle ++ last ∷ rest)) = IsLegal_rest image before (first ∷ (middle ++ last ∷ rest)) legal in
-    let more = split_from image (after image (facts image before) first) middle last rest from.1 in
+pub stretch : (image : Image) (form : Form) (before middle rest : List Entry) (first last : Entry) → IsAdmitted image → IsLegal image form (before ++ first ∷ (middle ++ last ∷ rest)) → IsStretch image form before middle first last
+stretch image form before middle rest first last admitted legal =
+    let from : IsLegalFrom image (facts image form before) (first ∷ (middle ++ last ∷ rest)) = IsLegal_rest image form before (first ∷ (middle ++ last ∷ rest)) legal in
+    let more = split_from image (after image (facts image form before) first) middle last rest from.1 in
     record {
-      sound = legal_sound image before admitted (IsLegal_begin image before (first ∷ (middle ++ last ∷ rest)) legal);
+      sound = legal_sound image form before admitted (IsLegal_begin image form before (first ∷ (middle ++ last ∷ rest)) legal);
       first_due = from.0;
       between = more.0;
       last_due = more.1;
@@ -357,17 +358,17 @@ waiting_next image caller call act f entry sound waiting due own =
     (entry_of_call image f o entry sound waiting.1 due)
 
 -- an entry of a call, and the next one of the same CPU
-pub follows : (image : Image) (before middle rest : List Entry) (first last : Entry) → IsAdmitted image → IsLegal image (before ++ first ∷ (middle ++ last ∷ rest))
+pub follows : (image : Image) (form : Form) (before middle rest : List Entry) (first last : Entry) → IsAdmitted image → IsLegal image form (before ++ first ∷ (middle ++ last ∷ rest))
     → is_of_call first.act ≡ true → is_finish first.act ≡ false → All (λ (e : Entry). e.cpu ≢ first.cpu) middle → last.cpu ≡ first.cpu
-    → (o : OpenCall) × ((after image (facts image before) first).call ≡ Some o) × MayFollow o.call first.act last.act
-follows image before middle rest first last admitted legal call more others own =
-    let s = stretch image before middle rest first last admitted legal in
-    let f : Facts = after image (facts image before) first in
-    let goes = call_goes image (facts image before) first first.act refl s.sound s.first_due call more in
+    → (o : OpenCall) × ((after image (facts image form before) first).call ≡ Some o) × MayFollow o.call first.act last.act
+follows image form before middle rest first last admitted legal call more others own =
+    let s = stretch image form before middle rest first last admitted legal in
+    let f : Facts = after image (facts image form before) first in
+    let goes = call_goes image (facts image form before) first first.act refl s.sound s.first_due call more in
     let o : OpenCall = goes.0 in
     let waiting : IsWaiting first.cpu o.call first.act f = (o, goes.1, goes.2, refl, goes.3) in
     let end = along image (IsWaiting first.cpu o.call first.act) (λ (e : Entry). e.cpu ≢ first.cpu) (waiting_kept image first.cpu o.call first.act) f middle
-    (sound_after image (facts image before) first s.sound s.first_due) waiting s.between others in
+    (sound_after image (facts image form before) first s.sound s.first_due) waiting s.between others in
     (o, goes.1, waiting_next image first.cpu o.call first.act (fold (after image) f middle) last end.0 end.1 s.last_due own)
 
 -- ---- suspension
@@ -471,16 +472,16 @@ decide_phase (Decide refused) h = (refl, refl)
 decide_phase _ h = absurd (both_ways false refl h)
 
 -- from a Decide to the end of its call an entry of root is its caller's
-pub suspended_roots : (image : Image) (before middle rest : List Entry) (first last : Entry) → IsAdmitted image → IsLegal image (before ++ first ∷ (middle ++ last ∷ rest))
+pub suspended_roots : (image : Image) (form : Form) (before middle rest : List Entry) (first last : Entry) → IsAdmitted image → IsLegal image form (before ++ first ∷ (middle ++ last ∷ rest))
     → is_decide first.act ≡ true → All (λ (e : Entry). is_finish e.act ≡ false) middle → last.cell ≡ image.system.root.id → last.cpu ≡ first.cpu
-suspended_roots image before middle rest first last admitted legal decides others root =
-    let s = stretch image before middle rest first last admitted legal in
-    let f : Facts = after image (facts image before) first in
+suspended_roots image form before middle rest first last admitted legal decides others root =
+    let s = stretch image form before middle rest first last admitted legal in
+    let f : Facts = after image (facts image form before) first in
     let act = decide_phase first.act decides in
-    let goes = phase_goes image (facts image before) first s.sound s.first_due act.0 act.1 in
+    let goes = phase_goes image (facts image form before) first s.sound s.first_due act.0 act.1 in
     let start_at : IsSuspending first.cpu f = (goes.0, goes.1, goes.2, past_from goes.0.call first.act goes.0.phase act.0 goes.3) in
     let end = along image (IsSuspending first.cpu) (λ (e : Entry). is_finish e.act ≡ false) (suspending_kept image first.cpu) f middle
-    (sound_after image (facts image before) first s.sound s.first_due) start_at s.between others in
+    (sound_after image (facts image form before) first s.sound s.first_due) start_at s.between others in
     let there : Facts = fold (after image) f middle in
     ⊎_elim
     (λ (same : eqb last.cpu first.cpu ≡ true). eqb-true last.cpu first.cpu same)
@@ -550,9 +551,9 @@ begun_from image f b (entry ∷ entries) h =
     begun_from image (after image f entry) (begun_by b entry entry.act) entries
     (subst P (sym (after_call image f entry)) (begun_act f.cells (coming_of image f) b f.call entry entry.act refl h))
 
-pub open_call_begun : (image : Image) (entries : List Entry) → IsBegun (begun entries) (facts image entries).call
+pub open_call_begun : (image : Image) (form : Form) (entries : List Entry) → IsBegun (begun entries) (facts image form entries).call
 unfolding facts
-open_call_begun image entries = begun_from image (start image) None entries tt
+open_call_begun image form entries = begun_from image (start image form) None entries tt
 
 begun_none : (b : Option Entry) (call : Option OpenCall) → call ≡ None → IsBegun b call → b ≡ None
 begun_none None call is h = refl
@@ -568,17 +569,17 @@ begun_some (Some entry) (Some p) o is h =
     (entry, refl, sym (ap (λ (x : OpenCall). x.caller) e) ∙ h.0, sym (ap (λ (x : OpenCall). x.call) e) ∙ h.1)
 
 -- what the call that is open says of the one that was begun
-pub begun_of : (image : Image) (entries : List Entry) (o : OpenCall) → (facts image entries).call ≡ Some o → (first : Entry) × (begun entries ≡ Some first) × (o.caller ≡ first.cpu) × (o.call ≡ call_of_begin first.act)
-begun_of image entries o is = begun_some (begun entries) (facts image entries).call o is (open_call_begun image entries)
+pub begun_of : (image : Image) (form : Form) (entries : List Entry) (o : OpenCall) → (facts image form entries).call ≡ Some o → (first : Entry) × (begun entries ≡ Some first) × (o.caller ≡ first.cpu) × (o.call ≡ call_of_begin first.act)
+begun_of image form entries o is = begun_some (begun entries) (facts image form entries).call o is (open_call_begun image form entries)
 
 -- it is that one
-pub call_of_open : (image : Image) (entries : List Entry) (o : OpenCall) → (facts image entries).call ≡ Some o → begun_call entries ≡ Some o.call
-call_of_open image entries o is =
-    let first = begun_of image entries o is in
+pub call_of_open : (image : Image) (form : Form) (entries : List Entry) (o : OpenCall) → (facts image form entries).call ≡ Some o → begun_call entries ≡ Some o.call
+call_of_open image form entries o is =
+    let first = begun_of image form entries o is in
     ap (option_map (λ (opening : Entry). call_of_begin opening.act)) first.1 ∙ ap (λ (call : Call). Some call) (sym first.3)
 
-pub same_call : (image : Image) (entries : List Entry) (o : OpenCall) (call : Call) → (facts image entries).call ≡ Some o → begun_call entries ≡ Some call → o.call ≡ call
-same_call image entries o call opens is = same_Some o.call call (sym (call_of_open image entries o opens) ∙ is)
+pub same_call : (image : Image) (form : Form) (entries : List Entry) (o : OpenCall) (call : Call) → (facts image form entries).call ≡ Some o → begun_call entries ≡ Some call → o.call ≡ call
+same_call image form entries o call opens is = same_Some o.call call (sym (call_of_open image form entries o opens) ∙ is)
 
 begin_none_by : (image : Image) (f : Facts) (entry : Entry) (code a b : ℕ) (call : Option OpenCall) → entry.act ≡ Begin code a b → IsSound image f → f.call ≡ call → due_at image f entry.cpu ≡ Some entry → f.call ≡ None
 begin_none_by image f entry code a b None act sound is due = is
@@ -589,40 +590,40 @@ begin_none_by image f entry code a b (Some o) act sound is due =
     (entry_of_call image f o entry sound is due)
 
 -- none begins while another is open
-pub begins_alone : (image : Image) (before rest : List Entry) (entry : Entry) (code a b : ℕ) → IsAdmitted image → IsLegal image (before ++ entry ∷ rest) → entry.act ≡ Begin code a b → begun before ≡ None
-begins_alone image before rest entry code a b admitted legal act =
-    let f : Facts = facts image before in
-    let sound = legal_sound image before admitted (IsLegal_begin image before (entry ∷ rest) legal) in
-    begun_none (begun before) f.call (begin_none_by image f entry code a b f.call act sound refl (due_split image before rest entry legal)) (open_call_begun image before)
+pub begins_alone : (image : Image) (form : Form) (before rest : List Entry) (entry : Entry) (code a b : ℕ) → IsAdmitted image → IsLegal image form (before ++ entry ∷ rest) → entry.act ≡ Begin code a b → begun before ≡ None
+begins_alone image form before rest entry code a b admitted legal act =
+    let f : Facts = facts image form before in
+    let sound = legal_sound image form before admitted (IsLegal_begin image form before (entry ∷ rest) legal) in
+    begun_none (begun before) f.call (begin_none_by image f entry code a b f.call act sound refl (due_split image form before rest entry legal)) (open_call_begun image form before)
 
 -- a phase is the caller's
-pub phases_own : (image : Image) (before rest : List Entry) (entry : Entry) → IsAdmitted image → IsLegal image (before ++ entry ∷ rest) → is_phase entry.act ≡ true → (first : Entry) × (begun before ≡ Some first) × (first.cpu ≡ entry.cpu)
-phases_own image before rest entry admitted legal phase =
-    let f : Facts = facts image before in
-    let sound = legal_sound image before admitted (IsLegal_begin image before (entry ∷ rest) legal) in
-    let of = phase_of_due image f entry sound (due_split image before rest entry legal) phase in
-    let first = begun_of image before of.o of.opens in
+pub phases_own : (image : Image) (form : Form) (before rest : List Entry) (entry : Entry) → IsAdmitted image → IsLegal image form (before ++ entry ∷ rest) → is_phase entry.act ≡ true → (first : Entry) × (begun before ≡ Some first) × (first.cpu ≡ entry.cpu)
+phases_own image form before rest entry admitted legal phase =
+    let f : Facts = facts image form before in
+    let sound = legal_sound image form before admitted (IsLegal_begin image form before (entry ∷ rest) legal) in
+    let of = phase_of_due image f entry sound (due_split image form before rest entry legal) phase in
+    let first = begun_of image form before of.o of.opens in
     (first.0, first.1, sym first.2 ∙ of.caller)
 
 -- what may follow, by the call that was begun
-pub follows_call : (image : Image) (before middle rest : List Entry) (one next : Entry) → IsAdmitted image → IsLegal image (before ++ one ∷ (middle ++ next ∷ rest))
+pub follows_call : (image : Image) (form : Form) (before middle rest : List Entry) (one next : Entry) → IsAdmitted image → IsLegal image form (before ++ one ∷ (middle ++ next ∷ rest))
     → is_of_call one.act ≡ true → is_finish one.act ≡ false → All (λ (e : Entry). e.cpu ≢ one.cpu) middle → next.cpu ≡ one.cpu
     → (k : Call) × (begun_call (before ++ one ∷ []) ≡ Some k) × MayFollow k one.act next.act
-follows_call image before middle rest one next admitted legal call more others own =
-    let h = follows image before middle rest one next admitted legal call more others own in
-    (h.0.call, call_of_open image (before ++ one ∷ []) h.0 (ap (λ (f : Facts). f.call) (facts_push image before one) ∙ h.1), h.2)
+follows_call image form before middle rest one next admitted legal call more others own =
+    let h = follows image form before middle rest one next admitted legal call more others own in
+    (h.0.call, call_of_open image form (before ++ one ∷ []) h.0 (ap (λ (f : Facts). f.call) (facts_push image form before one) ∙ h.1), h.2)
 
 -- from a Settle that isn't denied to the Commit the CPUs of the cell stop
-pub suspended_cells : (image : Image) (before middle rest : List Entry) (settle last : Entry) (call : Call) → IsAdmitted image → IsLegal image (before ++ settle ∷ (middle ++ last ∷ rest))
+pub suspended_cells : (image : Image) (form : Form) (before middle rest : List Entry) (settle last : Entry) (call : Call) → IsAdmitted image → IsLegal image form (before ++ settle ∷ (middle ++ last ∷ rest))
     → begun_call before ≡ Some call → is_undenied_settle settle.act ≡ true → All (λ (e : Entry). is_commit e.act ≡ false) middle → is_named call last.cell ≡ true → last.act ≡ Stop
-suspended_cells image before middle rest settle last call admitted legal is agreed others named =
-    let s = stretch image before middle rest settle last admitted legal in
-    let f0 : Facts = facts image before in
+suspended_cells image form before middle rest settle last call admitted legal is agreed others named =
+    let s = stretch image form before middle rest settle last admitted legal in
+    let f0 : Facts = facts image form before in
     let f : Facts = after image f0 settle in
     let how = agreement_settles settle.act agreed in
     let of = phase_of_due image f0 settle s.sound s.first_due how.3 in
     let o : OpenCall = of.o in
-    let same : o.call ≡ call = same_call image before o call of.opens is in
+    let same : o.call ≡ call = same_call image form before o call of.opens is in
     let end = along image (IsCommitting o.call) (λ (e : Entry). is_commit e.act ≡ false) (committing_kept image o.call) f middle
     (sound_after image f0 settle s.sound s.first_due) (o.caller, settled_call image f0 o settle how.0 of.opens how.1 how.2) s.between others in
     committing_stops image o.call (fold (after image) f middle) last end.0 end.1 s.last_due (ap (λ (k : Call). is_named k last.cell) same ∙ named)

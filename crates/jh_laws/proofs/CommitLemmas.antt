@@ -11,6 +11,7 @@ use Rattle.jh_cpu.specs.declared.cpu.Cpu.{Cpu}
 use Rattle.jh_call.specs.declared.call.Call.{Call}
 use Rattle.jh_call.specs.declared.call.Call.TheVariants.{Create, Start, Loadable, Destroy}
 use Rattle.jh_script.specs.declared.image.Image.{Image}
+use Rattle.jh_history.specs.declared.form.Form.{Form}
 use Rattle.jh_history.specs.declared.call.OpenCall.{OpenCall}
 use Rattle.jh_history.specs.declared.call.Phase.{Phase}
 use Rattle.jh_history.specs.declared.call.Phase.TheVariants.{ToDecide, ToSettle, ToCreate, ToCommit, ToNote, ToNoted, ToFinish}
@@ -31,27 +32,27 @@ use Rattle.jh_laws.specs.Ways.{is_phase, is_finish, begun_call}
 use Rattle.jh_laws.proofs.CallLemmas.{Expects, phase_expects, phase_of_due, phase_goes, call_counted, IsBeside, entry_of_call, along, stretch, same_call, past_from, not_same, IsPast}
 use Rattle.jh_laws.proofs.FactsLemmas.{facts_append}
 
-pub cells_kept : (image : Image) (before : List Entry) (entry : Entry) → is_commit entry.act ≡ false → (facts image (before ++ entry ∷ [])).cells ≡ (facts image before).cells
-cells_kept image before entry h =
-    let f : Facts = facts image before in
-    ap (λ (g : Facts). g.cells) (facts_push image before entry) ∙ after_cells image f entry ∙ uncommitted_cells f.call f.cells entry.act h
+pub cells_kept : (image : Image) (form : Form) (before : List Entry) (entry : Entry) → is_commit entry.act ≡ false → (facts image form (before ++ entry ∷ [])).cells ≡ (facts image form before).cells
+cells_kept image form before entry h =
+    let f : Facts = facts image form before in
+    ap (λ (g : Facts). g.cells) (facts_push image form before entry) ∙ after_cells image f entry ∙ uncommitted_cells f.call f.cells entry.act h
 
 -- a Commit is one of the call that was begun
-pub record IsCommitOf (image : Image) (before : List Entry) (entry : Entry) (call : Call) : Type 0 where
+pub record IsCommitOf (image : Image) (form : Form) (before : List Entry) (entry : Entry) (call : Call) : Type 0 where
   pub phase : Phase
   pub expects : Expects phase Commit
-  pub holds : IsInPhase image (configs_of (facts image before).cells) (facts image before).cpu entry.cpu call phase
-  pub cells : (facts image (before ++ entry ∷ [])).cells ≡ committed_cells call phase (facts image before).cells
+  pub holds : IsInPhase image (configs_of (facts image form before).cells) (facts image form before).cpu entry.cpu call phase
+  pub cells : (facts image form (before ++ entry ∷ [])).cells ≡ committed_cells call phase (facts image form before).cells
 
-pub commit_of : (image : Image) (before rest : List Entry) (entry : Entry) (call : Call) → IsAdmitted image → IsLegal image (before ++ entry ∷ rest) → begun_call before ≡ Some call → entry.act ≡ Commit → IsCommitOf image before entry call
-commit_of image before rest entry call admitted legal is act =
-    let f : Facts = facts image before in
-    let sound = legal_sound image before admitted (IsLegal_begin image before (entry ∷ rest) legal) in
-    let due : due_at image f entry.cpu ≡ Some entry = due_split image before rest entry legal in
+pub commit_of : (image : Image) (form : Form) (before rest : List Entry) (entry : Entry) (call : Call) → IsAdmitted image → IsLegal image form (before ++ entry ∷ rest) → begun_call before ≡ Some call → entry.act ≡ Commit → IsCommitOf image form before entry call
+commit_of image form before rest entry call admitted legal is act =
+    let f : Facts = facts image form before in
+    let sound = legal_sound image form before admitted (IsLegal_begin image form before (entry ∷ rest) legal) in
+    let due : due_at image f entry.cpu ≡ Some entry = due_split image form before rest entry legal in
     let of = phase_of_due image f entry sound due (ap is_phase act) in
     let o : OpenCall = of.o in
     let opens : IsOpen image (configs_of f.cells) f.cpu o = call_open image f o sound of.opens in
-    let same : o.call ≡ call = same_call image before o call of.opens is in
+    let same : o.call ≡ call = same_call image form before o call of.opens is in
     let P : Call → Type 0 = λ k. IsInPhase image (configs_of f.cells) f.cpu entry.cpu k o.phase in
     let Q : ℕ → Type 0 = λ k. IsInPhase image (configs_of f.cells) f.cpu k o.call o.phase in
     let E : Act → Type 0 = Expects o.phase in
@@ -59,21 +60,21 @@ commit_of image before rest entry call admitted legal is act =
       phase = o.phase;
       expects = subst E act (phase_expects image f (is_idle_but image f o.caller) o.caller o.call o.phase entry.act of.act);
       holds = subst P same (subst Q of.caller opens.phase);
-      cells = ap (λ (g : Facts). g.cells) (facts_push image before entry)
+      cells = ap (λ (g : Facts). g.cells) (facts_push image form before entry)
           ∙ after_cells image f entry
           ∙ ap (λ (c : Option OpenCall). cells_by c f.cells entry.act) of.opens
           ∙ ap (cells_by (Some o) f.cells) act
           ∙ ap (λ (k : Call). committed_cells k o.phase f.cells) same;
     }
 
-pub commit_start : (image : Image) (before : List Entry) (entry : Entry) (id : ℕ) → IsCommitOf image before entry (Start id) → (facts image (before ++ entry ∷ [])).cells ≡ map (marked id false) (facts image before).cells
-commit_start image before entry id h = h.cells
+pub commit_start : (image : Image) (form : Form) (before : List Entry) (entry : Entry) (id : ℕ) → IsCommitOf image form before entry (Start id) → (facts image form (before ++ entry ∷ [])).cells ≡ map (marked id false) (facts image form before).cells
+commit_start image form before entry id h = h.cells
 
-pub commit_loadable : (image : Image) (before : List Entry) (entry : Entry) (id : ℕ) → IsCommitOf image before entry (Loadable id) → (facts image (before ++ entry ∷ [])).cells ≡ map (marked id true) (facts image before).cells
-commit_loadable image before entry id h = h.cells
+pub commit_loadable : (image : Image) (form : Form) (before : List Entry) (entry : Entry) (id : ℕ) → IsCommitOf image form before entry (Loadable id) → (facts image form (before ++ entry ∷ [])).cells ≡ map (marked id true) (facts image form before).cells
+commit_loadable image form before entry id h = h.cells
 
-pub commit_destroy : (image : Image) (before : List Entry) (entry : Entry) (id : ℕ) → IsCommitOf image before entry (Destroy id) → (facts image (before ++ entry ∷ [])).cells ≡ filter (is_other id) (facts image before).cells
-commit_destroy image before entry id h = h.cells
+pub commit_destroy : (image : Image) (form : Form) (before : List Entry) (entry : Entry) (id : ℕ) → IsCommitOf image form before entry (Destroy id) → (facts image form (before ++ entry ∷ [])).cells ≡ filter (is_other id) (facts image form before).cells
+commit_destroy image form before entry id h = h.cells
 
 created_by : (image : Image) (configs : List CellConfig) (cpu : ℕ → Cpu) (caller at : ℕ) (cells after : List Live) (phase : Phase) → Expects phase Commit → IsInPhase image configs cpu caller (Create at) phase → after ≡ committed_cells (Create at) phase cells
     → (config : CellConfig) × (after ≡ cells ++ new_live config ∷ [])
@@ -85,10 +86,10 @@ created_by image configs cpu caller at cells after (ToNote id about answer) e h 
 created_by image configs cpu caller at cells after (ToNoted id about answer waited) e h is = absurd (not_same is_commit Commit (Noted id e.0) refl refl e.1)
 created_by image configs cpu caller at cells after (ToFinish answer) e h is = absurd (not_same is_commit Commit (Finish answer) refl refl e)
 
-pub commit_create : (image : Image) (before : List Entry) (entry : Entry) (at : ℕ) → IsCommitOf image before entry (Create at)
-    → (config : CellConfig) × ((facts image (before ++ entry ∷ [])).cells ≡ (facts image before).cells ++ new_live config ∷ [])
-commit_create image before entry at h =
-    created_by image (configs_of (facts image before).cells) (facts image before).cpu entry.cpu at (facts image before).cells (facts image (before ++ entry ∷ [])).cells h.phase h.expects h.holds h.cells
+pub commit_create : (image : Image) (form : Form) (before : List Entry) (entry : Entry) (at : ℕ) → IsCommitOf image form before entry (Create at)
+    → (config : CellConfig) × ((facts image form (before ++ entry ∷ [])).cells ≡ (facts image form before).cells ++ new_live config ∷ [])
+commit_create image form before entry at h =
+    created_by image (configs_of (facts image form before).cells) (facts image form before).cpu entry.cpu at (facts image form before).cells (facts image form (before ++ entry ∷ [])).cells h.phase h.expects h.holds h.cells
 
 -- ---- the configuration of a create
 
@@ -148,25 +149,25 @@ made_cells behind made there up_to config same cells before =
     ap (λ (g : Facts). g.cells) same ∙ cells ∙ ap (λ (g : Facts). g.cells ++ new_live config ∷ []) (sym before)
 
 -- what the Decide read is what the Commit makes
-pub created_as_read : (image : Image) (before middle rest : List Entry) (decide commit : Entry) (at : ℕ) → IsAdmitted image → IsLegal image (before ++ decide ∷ (middle ++ commit ∷ rest))
+pub created_as_read : (image : Image) (form : Form) (before middle rest : List Entry) (decide commit : Entry) (at : ℕ) → IsAdmitted image → IsLegal image form (before ++ decide ∷ (middle ++ commit ∷ rest))
     → begun_call before ≡ Some (Create at) → decide.act ≡ Decide None → All (λ (e : Entry). e.cpu ≢ decide.cpu) middle → commit.cpu ≡ decide.cpu
-    → (config : CellConfig) × (config_read (read_at image (facts image before) at) ≡ Some config)
-    × ((facts image (before ++ decide ∷ (middle ++ commit ∷ []))).cells ≡ (facts image (before ++ decide ∷ middle)).cells ++ new_live config ∷ [])
-created_as_read image before middle rest decide commit at admitted legal is act others own =
-    let s = stretch image before middle rest decide commit admitted legal in
-    let f0 : Facts = facts image before in
+    → (config : CellConfig) × (config_read (read_at image (facts image form before) at) ≡ Some config)
+    × ((facts image form (before ++ decide ∷ (middle ++ commit ∷ []))).cells ≡ (facts image form (before ++ decide ∷ middle)).cells ++ new_live config ∷ [])
+created_as_read image form before middle rest decide commit at admitted legal is act others own =
+    let s = stretch image form before middle rest decide commit admitted legal in
+    let f0 : Facts = facts image form before in
     let f : Facts = after image f0 decide in
     let there : Facts = fold (after image) f middle in
     let of = phase_of_due image f0 decide s.sound s.first_due (ap is_phase act) in
-    let made = decided_call image f0 decide at s.sound s.first_due act of.o of.opens of.caller (same_call image before of.o (Create at) of.opens is) in
+    let made = decided_call image f0 decide at s.sound s.first_due act of.o of.opens of.caller (same_call image form before of.o (Create at) of.opens is) in
     let config : CellConfig = made.0 in
     let end = along image (IsCreating decide.cpu at config) (λ (e : Entry). e.cpu ≢ decide.cpu) (creating_kept image decide.cpu at config) f middle
     (sound_after image f0 decide s.sound s.first_due) made.2 s.between others in
     let commits = creating_commits image decide.cpu at config there commit end.0 end.1 s.last_due own in
-    let up_to : facts image (before ++ decide ∷ middle) ≡ there = facts_append image before (decide ∷ middle) in
-    let behind : facts image (before ++ decide ∷ (middle ++ commit ∷ [])) ≡ after image there commit =
-    facts_append image before (decide ∷ (middle ++ commit ∷ [])) ∙ fold-append (after image) f middle (commit ∷ []) in (
+    let up_to : facts image form (before ++ decide ∷ middle) ≡ there = facts_append image form before (decide ∷ middle) in
+    let behind : facts image form (before ++ decide ∷ (middle ++ commit ∷ [])) ≡ after image there commit =
+    facts_append image form before (decide ∷ (middle ++ commit ∷ [])) ∙ fold-append (after image) f middle (commit ∷ []) in (
       config,
       made.1,
-      made_cells (facts image (before ++ decide ∷ (middle ++ commit ∷ []))) (after image there commit) there (facts image (before ++ decide ∷ middle)) config behind commits up_to,
+      made_cells (facts image form (before ++ decide ∷ (middle ++ commit ∷ []))) (after image there commit) there (facts image form (before ++ decide ∷ middle)) config behind commits up_to,
     )

@@ -9,6 +9,7 @@ use Rattle.jh_num.proofs.Public.{same_number}
 use Rattle.jh_cpu.specs.declared.cpu.Cpu.{Cpu}
 use Rattle.jh_cpu.specs.declared.cpu.Mode.TheVariants.{Failed}
 use Rattle.jh_script.specs.declared.image.Image.{Image}
+use Rattle.jh_history.specs.declared.form.Form.{Form}
 use Rattle.jh_script.specs.declared.op.Op.{Op}
 use Rattle.jh_history.specs.declared.entry.Entry.{Entry}
 use Rattle.jh_history.specs.Facts.{Facts}
@@ -25,15 +26,15 @@ use Rattle.jh_laws.proofs.FactsLemmas.{facts_append}
 own_moved : (image : Image) (f : Facts) (entry : Entry) → IsSilent image → IsNext image f entry → (after image f entry).cpu entry.cpu ≡ moved_by (is_violation entry.act) (f.cpu entry.cpu)
 own_moved image f entry admitted made = own_after image f entry admitted made ∙ done_by_moved image (is_violation entry.act) (f.cpu entry.cpu) entry.cpu made.op admitted made.at
 
-pub cpu_by : (image : Image) (before rest : List Entry) (entry : Entry) (b : Bool) → IsSilent image → IsLegal image (before ++ entry ∷ rest) → is_violation entry.act ≡ b
-    → (facts image (before ++ entry ∷ [])).cpu entry.cpu ≡ moved_by b ((facts image before).cpu entry.cpu)
-cpu_by image before rest entry b admitted legal h =
-    ap (λ (g : Facts). g.cpu entry.cpu) (facts_push image before entry)
-    ∙ own_moved image (facts image before) entry admitted (made_at image before rest entry admitted legal)
-    ∙ ap (λ (v : Bool). moved_by v ((facts image before).cpu entry.cpu)) h
+pub cpu_by : (image : Image) (form : Form) (before rest : List Entry) (entry : Entry) (b : Bool) → IsSilent image → IsLegal image form (before ++ entry ∷ rest) → is_violation entry.act ≡ b
+    → (facts image form (before ++ entry ∷ [])).cpu entry.cpu ≡ moved_by b ((facts image form before).cpu entry.cpu)
+cpu_by image form before rest entry b admitted legal h =
+    ap (λ (g : Facts). g.cpu entry.cpu) (facts_push image form before entry)
+    ∙ own_moved image (facts image form before) entry admitted (made_at image form before rest entry admitted legal)
+    ∙ ap (λ (v : Bool). moved_by v ((facts image form before).cpu entry.cpu)) h
 
-pub cpu_other : (image : Image) (before rest : List Entry) (entry : Entry) (cpu : ℕ) → IsSilent image → IsLegal image (before ++ entry ∷ rest) → cpu ≢ entry.cpu → (facts image (before ++ entry ∷ [])).cpu cpu ≡ (facts image before).cpu cpu
-cpu_other image before rest entry cpu admitted legal ne = ap (λ (g : Facts). g.cpu cpu) (facts_push image before entry) ∙ other_after image (facts image before) entry cpu admitted (made_at image before rest entry admitted legal) ne
+pub cpu_other : (image : Image) (form : Form) (before rest : List Entry) (entry : Entry) (cpu : ℕ) → IsSilent image → IsLegal image form (before ++ entry ∷ rest) → cpu ≢ entry.cpu → (facts image form (before ++ entry ∷ [])).cpu cpu ≡ (facts image form before).cpu cpu
+cpu_other image form before rest entry cpu admitted legal ne = ap (λ (g : Facts). g.cpu cpu) (facts_push image form before entry) ∙ other_after image (facts image form before) entry cpu admitted (made_at image form before rest entry admitted legal) ne
 
 moved_one : (b : Bool) (state : Cpu) → (moved_by b state).position ≡ state.position + 1
 moved_one true state = refl
@@ -43,10 +44,10 @@ position_after : (image : Image) (f : Facts) (entry : Entry) → IsSilent image 
 position_after image f entry admitted made = ap (λ (c : Cpu). c.position) (own_moved image f entry admitted made) ∙ moved_one (is_violation entry.act) (f.cpu entry.cpu)
 
 -- each entry moves its CPU by one
-pub cpu_position : (image : Image) (before rest : List Entry) (entry : Entry) → IsSilent image → IsLegal image (before ++ entry ∷ rest)
-    → ((facts image (before ++ entry ∷ [])).cpu entry.cpu).position ≡ ((facts image before).cpu entry.cpu).position + 1
-cpu_position image before rest entry admitted legal =
-    ap (λ (g : Facts). (g.cpu entry.cpu).position) (facts_push image before entry) ∙ position_after image (facts image before) entry admitted (made_at image before rest entry admitted legal)
+pub cpu_position : (image : Image) (form : Form) (before rest : List Entry) (entry : Entry) → IsSilent image → IsLegal image form (before ++ entry ∷ rest)
+    → ((facts image form (before ++ entry ∷ [])).cpu entry.cpu).position ≡ ((facts image form before).cpu entry.cpu).position + 1
+cpu_position image form before rest entry admitted legal =
+    ap (λ (g : Facts). (g.cpu entry.cpu).position) (facts_push image form before entry) ∙ position_after image (facts image form before) entry admitted (made_at image form before rest entry admitted legal)
 
 -- the entry's CPU isn't one to which nothing is due
 other_than : (image : Image) (f : Facts) (cpu : ℕ) (entry : Entry) → due_at image f cpu ≡ None → due_at image f entry.cpu ≡ Some entry → entry.cpu ≢ cpu
@@ -63,21 +64,21 @@ failed_from image f (entry ∷ entries) cpu admitted roots failed legal =
     ((ne, rest.0), rest.1)
 
 -- a CPU that has failed makes no entry any more
-failed_rest : (image : Image) (before rest : List Entry) (cpu : ℕ) → IsSilent image → IsLegal image (before ++ rest) → ((facts image before).cpu cpu).mode ≡ Failed
-    → AllByRecursion (λ (e : Entry). e.cpu ≢ cpu) rest × (due image (before ++ rest) cpu ≡ None)
-failed_rest image before rest cpu admitted legal failed =
-    let found = failed_from image (facts image before) rest cpu admitted (roots_at image before admitted (IsLegal_begin image before rest legal)) failed (IsLegal_rest image before rest legal) in
-    (found.0, ap (λ (f : Facts). due_at image f cpu) (facts_append image before rest) ∙ found.1)
+failed_rest : (image : Image) (form : Form) (before rest : List Entry) (cpu : ℕ) → IsSilent image → IsLegal image form (before ++ rest) → ((facts image form before).cpu cpu).mode ≡ Failed
+    → AllByRecursion (λ (e : Entry). e.cpu ≢ cpu) rest × (due image form (before ++ rest) cpu ≡ None)
+failed_rest image form before rest cpu admitted legal failed =
+    let found = failed_from image (facts image form before) rest cpu admitted (roots_at image form before admitted (IsLegal_begin image form before rest legal)) failed (IsLegal_rest image form before rest legal) in
+    (found.0, ap (λ (f : Facts). due_at image f cpu) (facts_append image form before rest) ∙ found.1)
 
 -- after a violation nothing is due to its CPU, and no entry is its own
-pub violation_rest : (image : Image) (before rest : List Entry) (entry : Entry) → IsSilent image → IsLegal image (before ++ entry ∷ rest) → is_violation entry.act ≡ true
-    → AllByRecursion (λ (e : Entry). e.cpu ≢ entry.cpu) rest × (due image (before ++ entry ∷ rest) entry.cpu ≡ None)
-violation_rest image before rest entry admitted legal h =
+pub violation_rest : (image : Image) (form : Form) (before rest : List Entry) (entry : Entry) → IsSilent image → IsLegal image form (before ++ entry ∷ rest) → is_violation entry.act ≡ true
+    → AllByRecursion (λ (e : Entry). e.cpu ≢ entry.cpu) rest × (due image form (before ++ entry ∷ rest) entry.cpu ≡ None)
+violation_rest image form before rest entry admitted legal h =
     let split : (before ++ entry ∷ []) ++ rest ≡ before ++ entry ∷ rest = append_assoc before (entry ∷ []) rest in
-    let P : List Entry → Type 0 = IsLegal image in
-    let is_failed : ((facts image (before ++ entry ∷ [])).cpu entry.cpu).mode ≡ Failed = ap (λ (c : Cpu). c.mode) (cpu_by image before rest entry true admitted legal h) in
-    let found = failed_rest image (before ++ entry ∷ []) rest entry.cpu admitted (subst P (sym split) legal) is_failed in
-    (found.0, ap (λ (es : List Entry). due image es entry.cpu) (sym split) ∙ found.1)
+    let P : List Entry → Type 0 = IsLegal image form in
+    let is_failed : ((facts image form (before ++ entry ∷ [])).cpu entry.cpu).mode ≡ Failed = ap (λ (c : Cpu). c.mode) (cpu_by image form before rest entry true admitted legal h) in
+    let found = failed_rest image form (before ++ entry ∷ []) rest entry.cpu admitted (subst P (sym split) legal) is_failed in
+    (found.0, ap (λ (es : List Entry). due image form es entry.cpu) (sym split) ∙ found.1)
 
 -- what the CPU made goes on from the beginning of its program that it had made before
 abbrev IsMadeFrom : Image → ℕ → Facts → Facts → List Entry → Type 0
@@ -123,10 +124,10 @@ made_from image cpu f (entry ∷ entries) admitted roots legal =
     (made_from image cpu (after image f entry) entries admitted (roots_after image f entry admitted made roots) legal.1)
 
 -- the entries of a CPU are a beginning of its program
-pub operations_taken : (image : Image) (entries : List Entry) (cpu : ℕ) → IsSilent image → IsLegal image entries
-    → operations_by cpu entries ≡ take ((facts image entries).cpu cpu).position (program_in image image.system.root cpu)
+pub operations_taken : (image : Image) (form : Form) (entries : List Entry) (cpu : ℕ) → IsSilent image → IsLegal image form entries
+    → operations_by cpu entries ≡ take ((facts image form entries).cpu cpu).position (program_in image image.system.root cpu)
 unfolding facts IsLegal
-operations_taken image entries cpu admitted legal = made_from image cpu (start image) entries admitted (roots_start image admitted.bare) legal
+operations_taken image form entries cpu admitted legal = made_from image cpu (start image form) entries admitted (roots_start image form admitted.bare) legal
 
 -- as many as its position tells
 abbrev IsCounted : ℕ → Facts → Facts → List Entry → Type 0
@@ -162,8 +163,8 @@ counted_from image cpu f (entry ∷ entries) admitted roots legal =
     counted_one image cpu f (fold (after image) f (entry ∷ entries)) entry entries admitted made
     (counted_from image cpu (after image f entry) entries admitted (roots_after image f entry admitted made roots) legal.1)
 
-pub operations_counted : (image : Image) (entries : List Entry) (cpu : ℕ) → IsSilent image → IsLegal image entries → ((facts image entries).cpu cpu).position ≡ length (operations_by cpu entries)
+pub operations_counted : (image : Image) (form : Form) (entries : List Entry) (cpu : ℕ) → IsSilent image → IsLegal image form entries → ((facts image form entries).cpu cpu).position ≡ length (operations_by cpu entries)
 unfolding facts IsLegal
-operations_counted image entries cpu admitted legal =
-    let counted : IsCounted cpu (start image) (fold (after image) (start image) entries) entries = counted_from image cpu (start image) entries admitted (roots_start image admitted.bare) legal in
+operations_counted image form entries cpu admitted legal =
+    let counted : IsCounted cpu (start image form) (fold (after image) (start image form) entries) entries = counted_from image cpu (start image form) entries admitted (roots_start image form admitted.bare) legal in
     counted ∙ zero-add (length (operations_by cpu entries))

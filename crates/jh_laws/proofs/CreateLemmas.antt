@@ -105,7 +105,7 @@ head_reads m at bytes h =
 -- ---- the Decide
 
 decision_at : (m : AdmittedMoment) (at : ℕ) (refused : Option ℤ) → DecidesCreate m at refused → IsCreateDecision m.image (facts_before m) m.entry.cpu at refused
-decision_at m at refused h = decides m.image m.before m.rest m.entry (Create at) refused m.admitted m.legal h.begun h.act
+decision_at m at refused h = decides m.image m.form m.before m.rest m.entry (Create at) refused m.admitted m.legal h.begun h.act
 
 none_locked : (m : AdmittedMoment) (at : ℕ) (refused : Option ℤ) → DecidesFreely m at refused → NoneIsLocked (facts_before m)
 none_locked m at refused h live held locked =

@@ -21,6 +21,7 @@ use Rattle.jh_call.specs.declared.call.Call.{Call}
 use Rattle.jh_call.specs.declared.call.Call.TheVariants.{Create, Start, Loadable, Destroy}
 use Rattle.jh_call.specs.Calls.{is_management}
 use Rattle.jh_script.specs.declared.image.Image.{Image}
+use Rattle.jh_history.specs.declared.form.Form.{Form}
 use Rattle.jh_history.specs.declared.call.OpenCall.{OpenCall}
 use Rattle.jh_history.specs.declared.call.Creation.TheVariants.{Refused}
 use Rattle.jh_history.specs.declared.call.Phase.{Phase}
@@ -185,15 +186,15 @@ decide_says image f idle caller call (ToNoted id about answer waited) act is h =
     let e = phase_expects image f idle caller call (ToNoted id about answer waited) act h in absurd (not_same is_decide act (Noted id e.0) is refl e.1)
 decide_says image f idle caller call (ToFinish answer) act is h = absurd (not_same is_decide act (Finish answer) is refl (phase_expects image f idle caller call (ToFinish answer) act h))
 
-pub decides : (image : Image) (before rest : List Entry) (entry : Entry) (call : Call) (refused : Option ℤ) → IsAdmitted image → IsLegal image (before ++ entry ∷ rest) → begun_call before ≡ Some call → entry.act ≡ Decide refused
-    → IsDecision image (facts image before) entry.cpu call refused
-decides image before rest entry call refused admitted legal is act =
-    let f : Facts = facts image before in
-    let sound = legal_sound image before admitted (IsLegal_begin image before (entry ∷ rest) legal) in
-    let due : due_at image f entry.cpu ≡ Some entry = due_split image before rest entry legal in
+pub decides : (image : Image) (form : Form) (before rest : List Entry) (entry : Entry) (call : Call) (refused : Option ℤ) → IsAdmitted image → IsLegal image form (before ++ entry ∷ rest) → begun_call before ≡ Some call → entry.act ≡ Decide refused
+    → IsDecision image (facts image form before) entry.cpu call refused
+decides image form before rest entry call refused admitted legal is act =
+    let f : Facts = facts image form before in
+    let sound = legal_sound image form before admitted (IsLegal_begin image form before (entry ∷ rest) legal) in
+    let due : due_at image f entry.cpu ≡ Some entry = due_split image form before rest entry legal in
     let of = phase_of_due image f entry sound due (ap is_phase act) in
     let o : OpenCall = of.o in
-    let that : o.call ≡ call = same_call image before o call of.opens is in
+    let that : o.call ≡ call = same_call image form before o call of.opens is in
     let says : refused_in entry.act ≡ decision image f o.caller o.call = decide_says image f (is_idle_but image f o.caller) o.caller o.call o.phase entry.act (ap is_decide act) of.act in
     let same : decision image f o.caller o.call ≡ refused = sym says ∙ ap refused_in act in
     let P : Option ℤ → Type 0 = IsDecision image f o.caller o.call in

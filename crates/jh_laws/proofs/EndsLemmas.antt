@@ -10,6 +10,7 @@ use Rattle.jh_cellcfg.specs.declared.live.Live.{Live}
 use Rattle.jh_cellcfg.specs.declared.region.Region.{Region}
 use Rattle.jh_cellcfg.specs.Cells.{name_of}
 use Rattle.jh_script.specs.declared.image.Image.{Image}
+use Rattle.jh_history.specs.declared.form.Form.{Form}
 use Rattle.jh_script.specs.declared.op.Op.{Op}
 use Rattle.jh_script.specs.declared.op.Op.TheVariants.{Read as ReadOp, Write as WriteOp, Fetch as FetchOp, Await as AwaitOp, Irq as IrqOp, Hvc as HvcOp}
 use Rattle.jh_script.specs.Operations.{IsWellFormed, is_width}
@@ -18,7 +19,6 @@ use Rattle.jh_ivshmem.specs.declared.endpoint.Endpoint.{Endpoint}
 use Rattle.jh_ivshmem.specs.Links.{pending_of}
 use Rattle.jh_ivshmem.specs.Registers.{register_of}
 use Rattle.jh_call.specs.Calls.{decoded, is_management}
-use Rattle.jh_call.specs.Answers.{answer_of}
 use Rattle.jh_history.specs.declared.place.Place.{Place}
 use Rattle.jh_history.specs.declared.place.Place.TheVariants.{Physical}
 use Rattle.jh_history.specs.declared.access.Access.{Access}
@@ -32,7 +32,7 @@ use Rattle.jh_history.specs.Devices.{function_at}
 use Rattle.jh_history.specs.Facts.{Facts}
 use Rattle.jh_history.specs.Lives.{cell_in, ops_in, program_ops}
 use Rattle.jh_history.specs.Grants.{granted, reach, devices_of}
-use Rattle.jh_history.specs.Hypercalls.{seen_of}
+use Rattle.jh_history.specs.Hypercalls.{call_in, answered}
 use Rattle.jh_shape.specs.Lives.{configs_of}
 use Rattle.jh_history.specs.History.{facts}
 use Rattle.jh_history.specs.Due.{due_at, act_of, await_of, got_by, IsLegal}
@@ -220,7 +220,7 @@ op_ends image f id (FetchOp at) sound plain = got_of_cell image f id ToFetch at 
 op_ends image f id (AwaitOp width at value) sound plain = await_ends image f id at width value (got_by image f id ToRead at width) (got_of_cell image f id ToRead at width sound (width_some width plain.0))
 op_ends image f id IrqOp sound plain = irq_ends image f id (pending_of id f.endpoints)
 op_ends image f id (HvcOp code a b) sound plain =
-    cond_both (eqb id image.system.root.id && is_management (decoded code a b)) (Begin code a b) (Hvc code a b (answer_of (decoded code a b) (seen_of image f id (decoded code a b))))
+    cond_both (eqb id image.system.root.id && is_management (decoded code a b)) (Begin code a b) (Hvc code a b (answered image f id (call_in f.form (decoded code a b))))
     (EndsAsGranted image f id) (λ _. tt) (λ _. tt)
 
 ends_by : (image : Image) (f : Facts) (id : ℕ) (act : Act) (o : Option Act) → Ends image f id o → o ≡ Some act → EndsAsGranted image f id act
@@ -254,11 +254,11 @@ ends_made image f entry admitted sound (Calling phase) = phase_ends image f (f.c
 ends_made image f entry admitted sound (Running program) = ends_as_granted image f (f.cpu entry.cpu) entry.cpu program.op entry.act admitted sound program.at program.is
 
 -- each access of a legal journal ends as its cell is granted
-pub ends_at : (image : Image) (before rest : List Entry) (entry : Entry) → IsAdmitted image → IsLegal image (before ++ entry ∷ rest) → EndsAsGranted image (facts image before) entry.cell entry.act
-ends_at image before rest entry admitted legal =
-    let f : Facts = facts image before in
-    let sound = legal_sound image before admitted (IsLegal_begin image before (entry ∷ rest) legal) in
-    let due : due_at image f entry.cpu ≡ Some entry = due_split image before rest entry legal in
+pub ends_at : (image : Image) (form : Form) (before rest : List Entry) (entry : Entry) → IsAdmitted image → IsLegal image form (before ++ entry ∷ rest) → EndsAsGranted image (facts image form before) entry.cell entry.act
+ends_at image form before rest entry admitted legal =
+    let f : Facts = facts image form before in
+    let sound = legal_sound image form before admitted (IsLegal_begin image form before (entry ∷ rest) legal) in
+    let due : due_at image f entry.cpu ≡ Some entry = due_split image form before rest entry legal in
     let P : ℕ → Type 0 = λ id. EndsAsGranted image f id entry.act in
     subst P (sym (next_from_due image f entry due).cell) (ends_made image f entry admitted sound (made_by image f entry sound due))
 
@@ -288,7 +288,7 @@ op_small image f id (FetchOp at) plain = tt
 op_small image f id (AwaitOp width at value) plain = await_small width at value (got_by image f id ToRead at width)
 op_small image f id IrqOp plain = irq_small (pending_of id f.endpoints)
 op_small image f id (HvcOp code a b) plain =
-    cond_both (eqb id image.system.root.id && is_management (decoded code a b)) (Begin code a b) (Hvc code a b (answer_of (decoded code a b) (seen_of image f id (decoded code a b)))) IsSmallAct (λ _. tt) (λ _. tt)
+    cond_both (eqb id image.system.root.id && is_management (decoded code a b)) (Begin code a b) (Hvc code a b (answered image f id (call_in f.form (decoded code a b)))) IsSmallAct (λ _. tt) (λ _. tt)
 
 small_by : (act : Act) (o : Option Act) → Small o → o ≡ Some act → IsSmallAct act
 small_by act None h is = absurd (none-some act is)
@@ -311,8 +311,8 @@ made_small image f entry admitted (Running program) =
     op_small_holds image f state.owner program.op entry.act plain program.is
 
 -- the value that an entry of a legal journal writes has no more bytes than it writes
-pub small_at : (image : Image) (before rest : List Entry) (entry : Entry) → IsAdmitted image → IsLegal image (before ++ entry ∷ rest) → IsSmallAct entry.act
-small_at image before rest entry admitted legal =
-    let f : Facts = facts image before in
-    let sound = legal_sound image before admitted (IsLegal_begin image before (entry ∷ rest) legal) in
-    made_small image f entry admitted (made_by image f entry sound (due_split image before rest entry legal))
+pub small_at : (image : Image) (form : Form) (before rest : List Entry) (entry : Entry) → IsAdmitted image → IsLegal image form (before ++ entry ∷ rest) → IsSmallAct entry.act
+small_at image form before rest entry admitted legal =
+    let f : Facts = facts image form before in
+    let sound = legal_sound image form before admitted (IsLegal_begin image form before (entry ∷ rest) legal) in
+    made_small image f entry admitted (made_by image f entry sound (due_split image form before rest entry legal))

@@ -8,9 +8,9 @@ use Rattle.jh_cellcfg.specs.declared.config.CellConfig.{CellConfig}
 use Rattle.jh_cellcfg.specs.Cells.{name_of}
 use Rattle.jh_cpu.specs.declared.cpu.Mode.TheVariants.{Running}
 use Rattle.jh_call.specs.Calls.{decoded, is_management}
-use Rattle.jh_call.specs.Answers.{answer_of}
 use Rattle.jh_ivshmem.specs.Links.{pending_of}
 use Rattle.jh_script.specs.declared.image.Image.{Image}
+use Rattle.jh_history.specs.declared.form.Form.{Form}
 use Rattle.jh_script.specs.declared.op.Op.{Op}
 use Rattle.jh_script.specs.declared.op.Op.TheVariants.{Read as ReadOp, Write as WriteOp, Fetch as FetchOp, Await as AwaitOp, Irq as IrqOp, Hvc as HvcOp}
 use Rattle.jh_history.specs.declared.access.Access.TheVariants.{Read as ToRead}
@@ -19,7 +19,7 @@ use Rattle.jh_history.specs.declared.entry.Act.{Act}
 use Rattle.jh_history.specs.declared.entry.Act.TheVariants.{Await, Irq, Hvc, Begin, Decide, Settle, Commit, Note, Noted, Finish}
 use Rattle.jh_history.specs.Facts.{Facts}
 use Rattle.jh_history.specs.Lives.{is_on_board, program_ops, cell_in}
-use Rattle.jh_history.specs.Hypercalls.{seen_of}
+use Rattle.jh_history.specs.Hypercalls.{call_in, answered}
 use Rattle.jh_history.specs.History.{facts}
 use Rattle.jh_history.specs.Due.{due_at, act_of, await_of, got_by, IsLegal}
 use Rattle.jh_history.specs.Admitted.{IsAdmitted}
@@ -52,7 +52,7 @@ act_of_op image f cell (FetchOp at) = refl
 act_of_op image f cell (AwaitOp width at value) = await_of_op (AwaitOp width at value) width at value (got_by image f cell ToRead at width) refl
 act_of_op image f cell IrqOp = irq_of_op (pending_of cell f.endpoints)
 act_of_op image f cell (HvcOp code a b) =
-    cond_both (eqb cell image.system.root.id && is_management (decoded code a b)) (Begin code a b) (Hvc code a b (answer_of (decoded code a b) (seen_of image f cell (decoded code a b)))) (IsOfOp (HvcOp code a b)) (λ _. refl) (λ _. refl)
+    cond_both (eqb cell image.system.root.id && is_management (decoded code a b)) (Begin code a b) (Hvc code a b (answered image f cell (call_in f.form (decoded code a b)))) (IsOfOp (HvcOp code a b)) (λ _. refl) (λ _. refl)
 
 op_by : (op : Op) (act : Act) (o : Option Act) → IfSome o (IsOfOp op) → o ≡ Some act → op_of_act act ≡ Some op
 op_by op act None h is = absurd (none-some act is)
@@ -84,16 +84,16 @@ operation_by image f entry op is (Runs program) =
     let same : program.op ≡ op = same_Some program.op op (sym (op_by program.op entry.act (act_of image f owner program.op) (act_of_op image f owner program.op) program.is) ∙ is) in
     cell_of_op image f owner entry.cpu op (cell_in image f.cells owner) refl (program.at ∙ ap Some same)
 
-pub operation_at : (image : Image) (before rest : List Entry) (entry : Entry) (op : Op) → IsAdmitted image → IsLegal image (before ++ entry ∷ rest) → op_of_act entry.act ≡ Some op → IsOperationOf image (facts image before) entry.cell entry.cpu op
-operation_at image before rest entry op admitted legal is =
-    let f : Facts = facts image before in
-    let sound = legal_sound image before admitted (IsLegal_begin image before (entry ∷ rest) legal) in
-    let due : due_at image f entry.cpu ≡ Some entry = due_split image before rest entry legal in
+pub operation_at : (image : Image) (form : Form) (before rest : List Entry) (entry : Entry) (op : Op) → IsAdmitted image → IsLegal image form (before ++ entry ∷ rest) → op_of_act entry.act ≡ Some op → IsOperationOf image (facts image form before) entry.cell entry.cpu op
+operation_at image form before rest entry op admitted legal is =
+    let f : Facts = facts image form before in
+    let sound = legal_sound image form before admitted (IsLegal_begin image form before (entry ∷ rest) legal) in
+    let due : due_at image f entry.cpu ≡ Some entry = due_split image form before rest entry legal in
     let P : ℕ → Type 0 = λ id. IsOperationOf image f id entry.cpu op in
     subst P (sym (next_from_due image f entry due).cell) (operation_by image f entry op is (made_by image f entry sound due))
 
-pub cell_at : (image : Image) (before rest : List Entry) (entry : Entry) → IsLegal image (before ++ entry ∷ rest) → (is_on_board image entry.cpu ≡ true) × (entry.cell ≡ ((facts image before).cpu entry.cpu).owner)
-cell_at image before rest entry legal = let next = next_from_due image (facts image before) entry (due_split image before rest entry legal) in (next.board, next.cell)
+pub cell_at : (image : Image) (form : Form) (before rest : List Entry) (entry : Entry) → IsLegal image form (before ++ entry ∷ rest) → (is_on_board image entry.cpu ≡ true) × (entry.cell ≡ ((facts image form before).cpu entry.cpu).owner)
+cell_at image form before rest entry legal = let next = next_from_due image (facts image form before) entry (due_split image form before rest entry legal) in (next.board, next.cell)
 
 -- ---- whether it runs
 
@@ -106,9 +106,9 @@ runs_by image f entry sound due other (Calling phase) =
     let P : ℕ → Type 0 = λ k. IsCalm (f.cpu k) × ((f.cpu k).mode ≡ Running) in
     subst P of.caller (caller.calm, caller.running)
 
-pub runs_at : (image : Image) (before rest : List Entry) (entry : Entry) → IsAdmitted image → IsLegal image (before ++ entry ∷ rest) → is_stop_act entry.act ≡ false → IsCalm ((facts image before).cpu entry.cpu) × (((facts image before).cpu entry.cpu).mode ≡ Running)
-runs_at image before rest entry admitted legal other =
-    let f : Facts = facts image before in
-    let sound = legal_sound image before admitted (IsLegal_begin image before (entry ∷ rest) legal) in
-    let due : due_at image f entry.cpu ≡ Some entry = due_split image before rest entry legal in
+pub runs_at : (image : Image) (form : Form) (before rest : List Entry) (entry : Entry) → IsAdmitted image → IsLegal image form (before ++ entry ∷ rest) → is_stop_act entry.act ≡ false → IsCalm ((facts image form before).cpu entry.cpu) × (((facts image form before).cpu entry.cpu).mode ≡ Running)
+runs_at image form before rest entry admitted legal other =
+    let f : Facts = facts image form before in
+    let sound = legal_sound image form before admitted (IsLegal_begin image form before (entry ∷ rest) legal) in
+    let due : due_at image f entry.cpu ≡ Some entry = due_split image form before rest entry legal in
     runs_by image f entry sound due other (made_by image f entry sound due)

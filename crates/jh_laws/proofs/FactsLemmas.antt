@@ -3,6 +3,7 @@ use Rattle.std.proofs.Common.{◌≡◌, List, ◌++◌, refl}
 use Rattle.std.specs.List.{fold}
 use Rattle.std.proofs.lemmas.List.Sums.{fold-append}
 use Rattle.jh_script.specs.declared.image.Image.{Image}
+use Rattle.jh_history.specs.declared.form.Form.{Form}
 use Rattle.jh_history.specs.declared.entry.Entry.{Entry}
 use Rattle.jh_history.specs.Facts.{Facts}
 use Rattle.jh_history.specs.History.{start, after, facts}
@@ -18,6 +19,6 @@ pub cpu_after_holds : (image : Image) (f : Facts) (entry : Entry) → (after ima
 unfolding after
 cpu_after_holds image f entry = refl
 
-pub facts_append : (image : Image) (before rest : List Entry) → facts image (before ++ rest) ≡ fold (after image) (facts image before) rest
+pub facts_append : (image : Image) (form : Form) (before rest : List Entry) → facts image form (before ++ rest) ≡ fold (after image) (facts image form before) rest
 unfolding facts
-facts_append image before rest = fold-append (after image) (start image) before rest
+facts_append image form before rest = fold-append (after image) (start image form) before rest

@@ -22,8 +22,10 @@ use Rattle.jh_check.proofs.Public.{sound_set}
 use Rattle.jh_comm.specs.declared.words.TheConstants.{STATE_RUNNING, STATE_SHUT_DOWN, STATE_FAILED, MESSAGE_SHUTDOWN_REQUEST}
 use Rattle.jh_cpu.specs.declared.cpu.Cpu.{Cpu}
 use Rattle.jh_call.specs.declared.call.Call.{Call}
+use Rattle.jh_call.specs.Calls.{decoded}
 use Rattle.jh_call.specs.declared.call.Call.TheVariants.{Create, Start, Loadable, Destroy}
 use Rattle.jh_script.specs.declared.image.Image.{Image}
+use Rattle.jh_history.specs.declared.form.Form.{Form}
 use Rattle.jh_history.specs.declared.place.Place.{Place}
 use Rattle.jh_history.specs.declared.access.Access.TheVariants.{Read as ToRead, Write as ToWrite}
 use Rattle.jh_history.specs.declared.call.OpenCall.{OpenCall}
@@ -35,7 +37,7 @@ use Rattle.jh_history.specs.declared.entry.Settled.{Settled}
 use Rattle.jh_history.specs.declared.entry.Settled.TheVariants.{Agreed, Denied, Timeout}
 use Rattle.jh_history.specs.declared.entry.Heard.TheVariants.{Timeout as Unheard}
 use Rattle.jh_history.specs.declared.entry.Act.{Act}
-use Rattle.jh_history.specs.declared.entry.Act.TheVariants.{Read, Write, Fetch, Await, Begin, Decide, Settle, Commit, Note, Noted, Finish}
+use Rattle.jh_history.specs.declared.entry.Act.TheVariants.{Read, Write, Fetch, Await, Hvc, Begin, Decide, Settle, Commit, Note, Noted, Finish}
 use Rattle.jh_history.specs.Access.{places_from}
 use Rattle.jh_history.specs.Facts.{Facts}
 use Rattle.jh_history.specs.Lives.{is_on_board, live_in}
@@ -46,7 +48,7 @@ use Rattle.jh_history.specs.Calls.{is_named, counted, telling, first_recipient, 
 use Rattle.jh_num.specs.Numbers.{counted_up}
 use Rattle.jh_history.specs.Commits.{cells_by, committed_cells, is_other, is_commit}
 use Rattle.jh_history.specs.Configs.{bytes_at, read_whole, read_behind, read_from, read_at, config_read}
-use Rattle.jh_history.specs.Cpus.{acted, changed, change_of, cpu_by_settle, is_undenied, cpu_after}
+use Rattle.jh_history.specs.Cpus.{acted, changed, change_of, cpu_by_settle, is_undenied, runs_by_start, cpu_after}
 use Rattle.jh_history.specs.History.{start, after, facts, coming_by, coming_of}
 use Rattle.jh_history.specs.Pages.{is_unfailed_of, failing, unless_good, asking, committing, named_cell, page_write_by, on_page}
 use Rattle.jh_shape.specs.Lives.{configs_of, marked}
@@ -54,7 +56,7 @@ use Rattle.jh_shape.proofs.Public.{configs_marked}
 use Rattle.jh_history.specs.Due.{due_at, IsLegal, IsLegalFrom}
 use Rattle.jh_history.specs.Admitted.{IsAdmitted}
 use Rattle.jh_history.specs.Sound.{IsMadeOfBytes, IsSound}
-use Rattle.jh_history.proofs.Public.{configs_joined, configs_others, is_other_config, changed_owner, board_few, found_live, settled_owner, begun_owner, finished_owner, sound_start, sound_after, legal_sound, after_call, call_open, two_ids}
+use Rattle.jh_history.proofs.Public.{configs_joined, configs_others, is_other_config, changed_owner, called_owner, board_few, found_live, settled_owner, begun_owner, finished_owner, sound_start, sound_after, legal_sound, after_call, call_open, two_ids}
 use Rattle.jh_laws.proofs.FewLemmas.{IsTyped, ArePreloadsBytes, MayWriteBytes, page_write_small_holds, write_small, words_small, opening_small, config_typed, read_bytes, picked, picked_few, index_small, length_map, get_map}
 use Rattle.jh_laws.proofs.RegisterLemmas.{HaveRegisters, registers_after, registers_open}
 use Rattle.jh_laws.proofs.RefusalLemmas.{FitsRefusal, refusal_fits}
@@ -291,14 +293,15 @@ settle_owner : (call : Option OpenCall) (how : Settled) (cpu : Cpu) → (option_
 settle_owner None how cpu = refl
 settle_owner (Some o) how cpu = settled_owner (is_undenied how) o.call cpu
 
-acted_owner : (image : Image) (call : Option OpenCall) (act : Act) (own i : ℕ) (cpu : Cpu) → is_commit act ≡ false → (acted image call act own i cpu).owner ≡ cpu.owner
-acted_owner image call (Begin code a b) own i cpu other = begun_owner image own i cpu
-acted_owner image call (Settle how) own i cpu other = settle_owner call how cpu
-acted_owner image call Commit own i cpu other = absurd (both_ways true other refl)
-acted_owner image call (Finish answer) own i cpu other = finished_owner image own i cpu
-acted_owner image call act own i cpu other = one_owner act own i cpu
+acted_owner : (image : Image) (runs : Bool) (call : Option OpenCall) (act : Act) (own i : ℕ) (cpu : Cpu) → is_commit act ≡ false → (acted image runs call act own i cpu).owner ≡ cpu.owner
+acted_owner image runs call (Begin code a b) own i cpu other = begun_owner image own i cpu
+acted_owner image runs call (Hvc code a b answer) own i cpu other = called_owner (decoded code a b) answer own i cpu
+acted_owner image runs call (Settle how) own i cpu other = settle_owner call how cpu
+acted_owner image runs call Commit own i cpu other = absurd (both_ways true other refl)
+acted_owner image runs call (Finish answer) own i cpu other = finished_owner image own i cpu
+acted_owner image runs call act own i cpu other = one_owner act own i cpu
 
-cpus_after : (image : Image) (f : Facts) (entry : Entry) (i : ℕ) → (after image f entry).cpu i ≡ acted image f.call entry.act entry.cpu i (f.cpu i)
+cpus_after : (image : Image) (f : Facts) (entry : Entry) (i : ℕ) → (after image f entry).cpu i ≡ acted image (runs_by_start f i) f.call entry.act entry.cpu i (f.cpu i)
 unfolding after
 cpus_after image f entry i = refl
 
@@ -307,8 +310,8 @@ root_commit : (image : Image) (f : Facts) (entry : Entry) (call : Option OpenCal
 root_commit image f entry None is act sound has =
     let same : (after image f entry).cpu has.0 ≡ f.cpu has.0 =
     cpus_after image f entry has.0
-    ∙ ap (λ (c : Option OpenCall). acted image c entry.act entry.cpu has.0 (f.cpu has.0)) is
-    ∙ ap (λ (x : Act). acted image None x entry.cpu has.0 (f.cpu has.0)) act in
+    ∙ ap (λ (c : Option OpenCall). acted image (runs_by_start f has.0) c entry.act entry.cpu has.0 (f.cpu has.0)) is
+    ∙ ap (λ (x : Act). acted image (runs_by_start f has.0) None x entry.cpu has.0 (f.cpu has.0)) act in
     (has.0, has.1, ap (λ (c : Cpu). c.owner) same ∙ has.2)
 root_commit image f entry (Some o) is act sound has =
     let next : OpenCall = record { caller = o.caller; call = o.call; phase = after_commit o.call o.phase f.cells } in
@@ -320,7 +323,7 @@ root_commit image f entry (Some o) is act sound has =
     (o.caller, caller.board, caller.owner)
 
 root_kept : (image : Image) (f : Facts) (entry : Entry) → is_commit entry.act ≡ false → HasCpu image f.cpu → HasCpu image (after image f entry).cpu
-root_kept image f entry other has = (has.0, has.1, ap (λ (c : Cpu). c.owner) (cpus_after image f entry has.0) ∙ acted_owner image f.call entry.act entry.cpu has.0 (f.cpu has.0) other ∙ has.2)
+root_kept image f entry other has = (has.0, has.1, ap (λ (c : Cpu). c.owner) (cpus_after image f entry has.0) ∙ acted_owner image (runs_by_start f has.0) f.call entry.act entry.cpu has.0 (f.cpu has.0) other ∙ has.2)
 
 root_by : (image : Image) (f : Facts) (entry : Entry) (act : Act) → entry.act ≡ act → IsSound image (after image f entry) → HasCpu image f.cpu → HasCpu image (after image f entry).cpu
 root_by image f entry Commit is sound has = root_commit image f entry f.call refl is sound has
@@ -337,8 +340,8 @@ typed_after image f entry sound due typed = record {
   endpoints = registers_after image f entry typed.endpoints;
 }
 
-pub typed_start : (image : Image) → ArePreloadsBytes image → IsTypedBoard (start image)
-typed_start image bytes = record {
+pub typed_start : (image : Image) (form : Form) → ArePreloadsBytes image → IsTypedBoard (start image form)
+typed_start image form bytes = record {
   bytes = λ q. opening_small image q bytes;
   cells = λ config held. let below : held.0 < 0 = held.1 in absurd (omega arith);
   call = tt;
@@ -349,13 +352,13 @@ typed_from : (image : Image) (f : Facts) (entries : List Entry) → IsSound imag
 typed_from image f [] sound typed legal = typed
 typed_from image f (entry ∷ entries) sound typed legal = typed_from image (after image f entry) entries (sound_after image f entry sound legal.0) (typed_after image f entry sound legal.0 typed) legal.1
 
-pub legal_typed : (image : Image) (entries : List Entry) → IsAdmitted image → ArePreloadsBytes image → IsLegal image entries → IsTypedBoard (facts image entries)
+pub legal_typed : (image : Image) (form : Form) (entries : List Entry) → IsAdmitted image → ArePreloadsBytes image → IsLegal image form entries → IsTypedBoard (facts image form entries)
 unfolding IsLegal facts
-legal_typed image entries admitted bytes legal = typed_from image (start image) entries (sound_start image admitted) (typed_start image bytes) legal
+legal_typed image form entries admitted bytes legal = typed_from image (start image form) entries (sound_start image form admitted) (typed_start image form bytes) legal
 
-root_start : (image : Image) → IsAdmitted image → IsMadeOfBytes image → HasCpu image (start image).cpu
-root_start image admitted bytes =
-    let sound = sound_start image admitted in
+root_start : (image : Image) (form : Form) → IsAdmitted image → IsMadeOfBytes image → HasCpu image (start image form).cpu
+root_start image form admitted bytes =
+    let sound = sound_start image form admitted in
     let set = sound_set image.system.root.cpu_set (λ i. index_small image.system.root.cpu_set i bytes.set) (sound.cells.clean.cpus 0 image.system.root refl) in
     (set.some.0, set.some.1, refl)
 
@@ -365,9 +368,9 @@ root_from image f (entry ∷ entries) sound has legal =
     let next = sound_after image f entry sound legal.0 in
     root_from image (after image f entry) entries next (root_by image f entry entry.act refl next has) legal.1
 
-legal_root : (image : Image) (entries : List Entry) → IsAdmitted image → IsMadeOfBytes image → IsLegal image entries → HasCpu image (facts image entries).cpu
+legal_root : (image : Image) (form : Form) (entries : List Entry) → IsAdmitted image → IsMadeOfBytes image → IsLegal image form entries → HasCpu image (facts image form entries).cpu
 unfolding IsLegal facts
-legal_root image entries admitted bytes legal = root_from image (start image) entries (sound_start image admitted) (root_start image admitted bytes) legal
+legal_root image form entries admitted bytes legal = root_from image (start image form) entries (sound_start image form admitted) (root_start image form admitted bytes) legal
 
 -- ---- counting
 
@@ -407,12 +410,12 @@ few_typed image f sound typed =
     let apart : AllPairs AreTwo configs = λ i j d lt within. sound.cells.differ (suc i) (suc j) d (omega (arith, lt)) (omega (arith, within)) in
     picked_few (λ i. (f.cpu i).owner) configs (picked (λ i. (f.cpu i).owner) configs (λ config held. cell_cpu image f config sound typed held)) (each_apart configs image.system.root apart)
 
-pub few_cells : (image : Image) (entries : List Entry) → IsAdmitted image → IsMadeOfBytes image → IsLegal image entries → length (configs_of (facts image entries).cells) ≤ 15
-few_cells image entries admitted bytes legal =
-    let f : Facts = facts image entries in
-    let sound = legal_sound image entries admitted legal in
-    let typed = legal_typed image entries admitted bytes.preloads legal in
-    let root = legal_root image entries admitted bytes legal in
+pub few_cells : (image : Image) (form : Form) (entries : List Entry) → IsAdmitted image → IsMadeOfBytes image → IsLegal image form entries → length (configs_of (facts image form entries).cells) ≤ 15
+few_cells image form entries admitted bytes legal =
+    let f : Facts = facts image form entries in
+    let sound = legal_sound image form entries admitted legal in
+    let typed = legal_typed image form entries admitted bytes.preloads legal in
+    let root = legal_root image form entries admitted bytes legal in
     let all : List CellConfig = image.system.root ∷ configs_of f.cells in
     let at_most : length all ≤ 16 = picked_few (λ i. (f.cpu i).owner) all (picked (λ i. (f.cpu i).owner) all (λ config held. each_cpu image f config sound typed root held)) (each_apart all image.system.root sound.cells.differ) in
     omega (arith, at_most)

@@ -8,11 +8,11 @@ use Rattle.jh_ivshmem.specs.declared.endpoint.Endpoint.{Endpoint}
 use Rattle.jh_ivshmem.specs.Links.{endpoint_at}
 use Rattle.jh_ivshmem.proofs.Public.{named_cell, named_device}
 use Rattle.jh_script.specs.declared.image.Image.{Image}
+use Rattle.jh_history.specs.declared.form.Form.{Form}
 use Rattle.jh_history.specs.declared.call.OpenCall.{OpenCall}
 use Rattle.jh_history.specs.declared.call.Phase.TheVariants.{ToCreate}
 use Rattle.jh_history.specs.declared.device_change.DeviceChange.TheVariants.{Join}
 use Rattle.jh_history.specs.Devices.{specs_of}
-use Rattle.jh_history.specs.Due.{due_at}
 use Rattle.jh_history.specs.Endpoints.{endpoints_after, endpoints_changed}
 use Rattle.jh_history.specs.Facts.{Facts}
 use Rattle.jh_history.specs.History.{facts}
@@ -30,9 +30,9 @@ use Rattle.jh_laws.proofs.PageCauseLemmas.{IsCommitting, committing_at, creating
 use Rattle.jh_laws.proofs.PendingLemmas.{endpoint_found}
 use Rattle.jh_laws.proofs.VectorLemmas.{endpoints_behind, quiet_none}
 
-pub opens_fresh : (image : Image) (id n : ℕ) (e : Endpoint) → endpoint_at id n (facts image []).endpoints ≡ Some e → IsFresh e
-opens_fresh image id n e there =
-    let here : endpoint_at id n (endpoints_changed Join (specs_of image.system.root) []) ≡ Some e = ap (λ (f : Facts). endpoint_at id n f.endpoints) (sym (facts_nil image)) ∙ there in
+pub opens_fresh : (image : Image) (form : Form) (id n : ℕ) (e : Endpoint) → endpoint_at id n (facts image form []).endpoints ≡ Some e → IsFresh e
+opens_fresh image form id n e there =
+    let here : endpoint_at id n (endpoints_changed Join (specs_of image.system.root) []) ≡ Some e = ap (λ (f : Facts). endpoint_at id n f.endpoints) (sym (facts_nil image form)) ∙ there in
     (joined_quiet_all (specs_of image.system.root) [] id n (quiet_none id n [] refl) e here).as_new
 
 -- a cell that comes had no endpoint
@@ -94,10 +94,10 @@ pub begins_fresh : (m : AdmittedMoment) (config : CellConfig) (e : Endpoint) →
 begins_fresh m config e h held cell =
     let f : Facts = facts_before m in
     let S : Facts → Type 0 = IsSound m.image in
-    let sound : IsSound m.image (facts_behind m) = subst S (sym (facts_push m.image m.before m.entry)) (sound_after m.image f m.entry (sound_at m) (due_of m)) in
+    let sound : IsSound m.image (facts_behind m) = subst S (sym (facts_push m.image m.form m.before m.entry)) (sound_after m.image f m.entry (sound_at m) (due_of m)) in
     let own : endpoint_at e.spec.cell e.spec.device (facts_behind m).endpoints ≡ Some e = endpoint_found m.image (facts_behind m) e sound held in
     let P : ℕ → Type 0 = λ id. endpoint_at id e.spec.device (endpoints_after m.image f m.entry) ≡ Some e in
-    let there : P config.id = subst P cell (ap (endpoint_at e.spec.cell e.spec.device) (sym (endpoints_behind m.image m.before m.entry)) ∙ own) in
+    let there : P config.id = subst P cell (ap (endpoint_at e.spec.cell e.spec.device) (sym (endpoints_behind m.image m.form m.before m.entry)) ∙ own) in
     ⊎_elim
     (λ (creates : Creates m config).
     (joins_quiet m config.id e.spec.device (new_had_none m config creates) (commit_cases m.image f m.entry (sound_at m) (due_of m) creates.commits) e there).as_new)

@@ -3,6 +3,7 @@ use Rattle.std.proofs.Common.{◌≡◌, ℕ, List, ◌∷◌, ◌++◌, true, S
 use Rattle.std.proofs.lemmas.Bool.{both_ways}
 use Rattle.std.proofs.lemmas.Option.{same_Some}
 use Rattle.jh_script.specs.declared.image.Image.{Image}
+use Rattle.jh_history.specs.declared.form.Form.{Form}
 use Rattle.jh_script.specs.declared.op.Op.{Op}
 use Rattle.jh_script.specs.declared.op.Op.TheVariants.{Irq as IrqOp}
 use Rattle.jh_history.specs.declared.entry.Entry.{Entry}
@@ -42,9 +43,9 @@ pending_ready image f cpu is pending = record {
 }
 
 -- an interrupt takes the next
-pub interrupt_is : (image : Image) (before rest : List Entry) (entry : Entry) (n v : ℕ) → IsAdmitted image → IsLegal image (before ++ entry ∷ rest) → entry.act ≡ Irq n v → IsNextVector (facts image before) entry.cell n v
-interrupt_is image before rest entry n v admitted legal is =
-    let f : Facts = facts image before in
-    let sound = legal_sound image before admitted (IsLegal_begin image before (entry ∷ rest) legal) in
+pub interrupt_is : (image : Image) (form : Form) (before rest : List Entry) (entry : Entry) (n v : ℕ) → IsAdmitted image → IsLegal image form (before ++ entry ∷ rest) → entry.act ≡ Irq n v → IsNextVector (facts image form before) entry.cell n v
+interrupt_is image form before rest entry n v admitted legal is =
+    let f : Facts = facts image form before in
+    let sound = legal_sound image form before admitted (IsLegal_begin image form before (entry ∷ rest) legal) in
     let P : Act → Type 0 = IsNextOf entry.cell f.endpoints in
-    next_is image f entry.cell n v sound (subst P is (interrupt_next image f entry sound (due_split image before rest entry legal)))
+    next_is image f entry.cell n v sound (subst P is (interrupt_next image f entry sound (due_split image form before rest entry legal)))

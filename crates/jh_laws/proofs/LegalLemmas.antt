@@ -3,6 +3,7 @@ use Rattle.std.proofs.Common.{◌≡◌, ℕ, List, [], ◌∷◌, ◌++◌, map
 use Rattle.std.specs.List.{fold}
 use Rattle.std.proofs.lemmas.Option.{same_Some}
 use Rattle.jh_script.specs.declared.image.Image.{Image}
+use Rattle.jh_history.specs.declared.form.Form.{Form}
 use Rattle.jh_history.specs.declared.entry.Entry.{Entry}
 use Rattle.jh_history.specs.Facts.{Facts}
 use Rattle.jh_history.specs.History.{start, after, facts}
@@ -15,9 +16,9 @@ legal_from image f [] each = tt
 legal_from image f (first ∷ entries) each = (each [] entries first refl, legal_from image (after image f first) entries (λ before rest entry e. each (first ∷ before) rest entry (ap (λ (es : List Entry). first ∷ es) e)))
 
 -- where each entry is due, the journal is legal
-pub IsLegal_from_due : (image : Image) (entries : List Entry) → ((before rest : List Entry) (entry : Entry) → entries ≡ before ++ entry ∷ rest → due image before entry.cpu ≡ Some entry) → IsLegal image entries
+pub IsLegal_from_due : (image : Image) (form : Form) (entries : List Entry) → ((before rest : List Entry) (entry : Entry) → entries ≡ before ++ entry ∷ rest → due image form before entry.cpu ≡ Some entry) → IsLegal image form entries
 unfolding IsLegal facts
-IsLegal_from_due image entries each = legal_from image (start image) entries each
+IsLegal_from_due image form entries each = legal_from image (start image form) entries each
 
 abbrev cpus : List Entry → List ℕ
 cpus entries = map (λ (e : Entry). e.cpu) entries
@@ -37,15 +38,15 @@ same_from image f (x ∷ xs) (y ∷ ys) legal_x legal_y e =
     cc
 
 -- a legal journal is determined by its CPU numbers
-pub IsLegal_same : (image : Image) (xs ys : List Entry) → IsLegal image xs → IsLegal image ys → cpus xs ≡ cpus ys → xs ≡ ys
+pub IsLegal_same : (image : Image) (form : Form) (xs ys : List Entry) → IsLegal image form xs → IsLegal image form ys → cpus xs ≡ cpus ys → xs ≡ ys
 unfolding IsLegal
-IsLegal_same image xs ys legal_x legal_y e = same_from image (start image) xs ys legal_x legal_y e
+IsLegal_same image form xs ys legal_x legal_y e = same_from image (start image form) xs ys legal_x legal_y e
 
 rest_from : (image : Image) (f : Facts) (before rest : List Entry) → IsLegalFrom image f (before ++ rest) → IsLegalFrom image (fold (after image) f before) rest
 rest_from image f [] rest legal = legal
 rest_from image f (first ∷ before) rest legal = rest_from image (after image f first) before rest legal.1
 
 -- the rest of a legal journal is legal from the facts of what is before it
-pub IsLegal_rest : (image : Image) (before rest : List Entry) → IsLegal image (before ++ rest) → IsLegalFrom image (facts image before) rest
+pub IsLegal_rest : (image : Image) (form : Form) (before rest : List Entry) → IsLegal image form (before ++ rest) → IsLegalFrom image (facts image form before) rest
 unfolding IsLegal facts
-IsLegal_rest image before rest legal = rest_from image (start image) before rest legal
+IsLegal_rest image form before rest legal = rest_from image (start image form) before rest legal

@@ -22,6 +22,7 @@ mod StoredLemmas
 mod WordLemmas
 mod PendingLemmas
 mod HvcLemmas
+mod PowerLemmas
 mod QuietLemmas
 mod CommitLemmas
 mod FewCellsLemmas
@@ -34,6 +35,7 @@ mod DecisionLemmas
 mod WrittenLemmas
 mod StatesLemmas
 mod EntryLemmas
+mod SwitchLemmas
 mod DueCpusLemmas
 mod InterruptLemmas
 mod LinkedLemmas

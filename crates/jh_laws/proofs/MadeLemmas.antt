@@ -20,6 +20,7 @@ use Rattle.jh_ivshmem.specs.Changes.{changed as changed_of}
 use Rattle.jh_ivshmem.specs.Endpoint.{taken}
 use Rattle.jh_ivshmem.specs.Specs.{is_device}
 use Rattle.jh_script.specs.declared.image.Image.{Image}
+use Rattle.jh_history.specs.declared.form.Form.{Form}
 use Rattle.jh_script.specs.declared.op.Op.{Op}
 use Rattle.jh_script.specs.declared.op.Op.TheVariants.{Read as ReadOp, Write as WriteOp, Fetch as FetchOp, Await as AwaitOp, Irq as IrqOp, Hvc as HvcOp}
 use Rattle.jh_script.specs.Operations.{IsWellFormed, is_width}
@@ -37,7 +38,7 @@ use Rattle.jh_history.specs.Endpoints.{function_put, endpoints_put, endpoints_ch
 use Rattle.jh_history.specs.Facts.{Facts}
 use Rattle.jh_history.specs.Lives.{is_on_board, op_at, program_ops}
 use Rattle.jh_history.specs.Grants.{reach}
-use Rattle.jh_history.specs.Cpus.{change_of, changed, is_running}
+use Rattle.jh_history.specs.Cpus.{change_of, changed, is_running, switches, runs_by_start}
 use Rattle.jh_history.specs.Alone.{IsAlone, IsByRoot}
 use Rattle.jh_history.specs.History.{start, after, facts}
 use Rattle.jh_history.specs.Due.{due_at, act_of, await_of, irq_of, got_by, entry_by, IsLegal, IsLegalFrom}
@@ -226,6 +227,14 @@ access_own image f cell (Fetch at got) access = refl
 access_own image f cell (Await width at value ok) access = refl
 access_own image f cell _ access = absurd access
 
+-- nor does it switch a CPU on or off
+access_kept : (image : Image) (f : Facts) (cell : ℕ) (act : Act) → IsAccess image f cell act → switches act ≡ false
+access_kept image f cell (Read width at got) access = refl
+access_kept image f cell (Write width at value ok) access = refl
+access_kept image f cell (Fetch at got) access = refl
+access_kept image f cell (Await width at value ok) access = refl
+access_kept image f cell _ access = absurd access
+
 roots_done : (image : Image) (b : Bool) (state : Cpu) → IsRoots image state → IsRoots image (done_by b state)
 roots_done image true state roots = record { owner = roots.owner; asked = roots.asked; stopped = roots.stopped }
 roots_done image false state roots = record { owner = roots.owner; asked = roots.asked; stopped = roots.stopped }
@@ -251,7 +260,8 @@ by_root image f entry admitted roots made = record {
 cpu_is : (image : Image) (f : Facts) (entry : Entry) (cpu : ℕ) → IsSilent image → IsNext image f entry → (after image f entry).cpu cpu ≡ cond (eqb cpu entry.cpu) (changed (change_of entry.act) (f.cpu cpu)) (f.cpu cpu)
 cpu_is image f entry cpu admitted made =
     ap (λ (g : ℕ → Cpu). g cpu) (cpu_after_holds image f entry)
-    ∙ acted_own image f.call entry.act entry.cpu cpu (f.cpu cpu) (access_own image f image.system.root.id entry.act (made_access image f entry.cpu entry made admitted).access)
+    ∙ acted_own image (runs_by_start f cpu) f.call entry.act entry.cpu cpu (f.cpu cpu) (access_own image f image.system.root.id entry.act (made_access image f entry.cpu entry made admitted).access)
+    (access_kept image f image.system.root.id entry.act (made_access image f entry.cpu entry made admitted).access)
 
 -- its CPU after it, and the others
 pub own_after : (image : Image) (f : Facts) (entry : Entry) → IsSilent image → IsNext image f entry → (after image f entry).cpu entry.cpu ≡ done_by (is_violation entry.act) (f.cpu entry.cpu)
@@ -327,23 +337,23 @@ pub no_specs_of_root : (image : Image) → HasNoShmemDevice image → specs_of i
 unfolding specs_of
 no_specs_of_root image bare = no_specs image.system.root 0 image.system.root.pci_devices (recursion_from_All (λ (d : PciDevice). d.kind ≢ 3) image.system.root.pci_devices bare.devices)
 
-pub roots_start : (image : Image) → HasNoShmemDevice image → AllRoots image (start image)
-roots_start image bare = record {
+pub roots_start : (image : Image) (form : Form) → HasNoShmemDevice image → AllRoots image (start image form)
+roots_start image form bare = record {
   cpus = λ cpu. record { owner = refl; asked = refl; stopped = refl };
-  alone = alone_start image;
+  alone = alone_start image form;
   endpoints = ap (λ (specs : List EndpointSpec). endpoints_changed Join specs []) (no_specs_of_root image bare);
 }
 
 -- after a legal journal each CPU is root's
-pub roots_at : (image : Image) (entries : List Entry) → IsSilent image → IsLegal image entries → AllRoots image (facts image entries)
+pub roots_at : (image : Image) (form : Form) (entries : List Entry) → IsSilent image → IsLegal image form entries → AllRoots image (facts image form entries)
 unfolding facts IsLegal
-roots_at image entries admitted legal = roots_from image (start image) entries admitted (roots_start image admitted.bare) legal
+roots_at image form entries admitted legal = roots_from image (start image form) entries admitted (roots_start image form admitted.bare) legal
 
 -- each entry of a legal journal is made by its CPU
-pub made_at : (image : Image) (before rest : List Entry) (entry : Entry) → IsSilent image → IsLegal image (before ++ entry ∷ rest) → IsNext image (facts image before) entry
-made_at image before rest entry admitted legal =
-    let roots = roots_at image before admitted (IsLegal_begin image before (entry ∷ rest) legal) in
-    due_at_made image (facts image before) entry.cpu entry roots.endpoints roots.alone.call (roots.cpus entry.cpu) (due_split image before rest entry legal)
+pub made_at : (image : Image) (form : Form) (before rest : List Entry) (entry : Entry) → IsSilent image → IsLegal image form (before ++ entry ∷ rest) → IsNext image (facts image form before) entry
+made_at image form before rest entry admitted legal =
+    let roots = roots_at image form before admitted (IsLegal_begin image form before (entry ∷ rest) legal) in
+    due_at_made image (facts image form before) entry.cpu entry roots.endpoints roots.alone.call (roots.cpus entry.cpu) (due_split image form before rest entry legal)
 
 -- what an access does to its CPU, where the position isn't at the end of its numbers
 abbrev pub moved_by : Bool → Cpu → Cpu

@@ -9,6 +9,7 @@ use Rattle.jh_cpu.specs.declared.cpu.Cpu.{Cpu}
 use Rattle.jh_call.specs.declared.call.Call.{Call}
 use Rattle.jh_call.specs.declared.call.Call.TheVariants.{Create}
 use Rattle.jh_script.specs.declared.image.Image.{Image}
+use Rattle.jh_history.specs.declared.form.Form.{Form}
 use Rattle.jh_history.specs.declared.call.OpenCall.{OpenCall}
 use Rattle.jh_history.specs.declared.call.Phase.{Phase}
 use Rattle.jh_history.specs.declared.call.Phase.TheVariants.{ToDecide, ToSettle, ToCreate, ToCommit, ToNote, ToNoted, ToFinish}
@@ -134,20 +135,20 @@ finish_is image f entry answer a sound will due act =
     (λ (beside : IsBeside image f o entry). absurd (both_ways (is_of_call entry.act) beside.act (ap is_of_call act)))
     (entry_of_call image f o entry sound will.1 due)
 
-pub cells_behind : (image : Image) (before : List Entry) (entry : Entry) → (facts image (before ++ entry ∷ [])).cells ≡ cells_by (facts image before).call (facts image before).cells entry.act
+pub cells_behind : (image : Image) (form : Form) (before : List Entry) (entry : Entry) → (facts image form (before ++ entry ∷ [])).cells ≡ cells_by (facts image form before).call (facts image form before).cells entry.act
 unfolding after
-cells_behind image before entry = ap (λ (f : Facts). f.cells) (facts_push image before entry)
+cells_behind image form before entry = ap (λ (f : Facts). f.cells) (facts_push image form before entry)
 
-pub new_id : (image : Image) (before middle rest : List Entry) (commit last : Entry) (at : ℕ) (live : Live) (answer : ℤ) → IsAdmitted image → IsLegal image (before ++ commit ∷ (middle ++ last ∷ rest))
-    → begun_call before ≡ Some (Create at) → commit.act ≡ Commit → (facts image (before ++ commit ∷ [])).cells ≡ (facts image before).cells ++ live ∷ []
+pub new_id : (image : Image) (form : Form) (before middle rest : List Entry) (commit last : Entry) (at : ℕ) (live : Live) (answer : ℤ) → IsAdmitted image → IsLegal image form (before ++ commit ∷ (middle ++ last ∷ rest))
+    → begun_call before ≡ Some (Create at) → commit.act ≡ Commit → (facts image form (before ++ commit ∷ [])).cells ≡ (facts image form before).cells ++ live ∷ []
     → All (λ (e : Entry). is_finish e.act ≡ false) middle → last.act ≡ Finish answer → answer ≡ pos live.config.id
-new_id image before middle rest commit last at live answer admitted legal is act made more ends =
-    let s = stretch image before middle rest commit last admitted legal in
-    let f : Facts = facts image before in
+new_id image form before middle rest commit last at live answer admitted legal is act made more ends =
+    let s = stretch image form before middle rest commit last admitted legal in
+    let f : Facts = facts image form before in
     let of = phase_of_due image f commit s.sound s.first_due (ap is_phase act) in
-    let call : of.o.call ≡ Create at = same_call image before of.o (Create at) of.opens is in
+    let call : of.o.call ≡ Create at = same_call image form before of.o (Create at) of.opens is in
     let expects = subst (Expects of.o.phase) act (phase_expects image f (is_idle_but image f of.o.caller) of.o.caller of.o.call of.o.phase commit.act of.act) in
-    let cells = subst (λ (x : Act). cells_by f.call f.cells x ≡ f.cells ++ live ∷ []) act (sym (cells_behind image before commit) ∙ made) in
+    let cells = subst (λ (x : Act). cells_by f.call f.cells x ≡ f.cells ++ live ∷ []) act (sym (cells_behind image form before commit) ∙ made) in
     let will = answers_commit image f commit of.o at live s.sound of.opens call expects act cells in
     let end = along image (λ (g : Facts). WillAnswer (pos live.config.id) g.call) (λ (e : Entry). is_finish e.act ≡ false) (answers_on image (pos live.config.id)) (after image f commit) middle (sound_after image f commit s.sound s.first_due) will s.between more in
     finish_is image (fold (after image) (after image f commit) middle) last answer (pos live.config.id) end.0 end.1 s.last_due ends

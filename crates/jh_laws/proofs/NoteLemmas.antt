@@ -223,7 +223,7 @@ commit_telling m about answer call is same sound =
     head (id ∷ ids) = Some id
 
 cells_after_push : (m : AdmittedMoment) → (after m.image (facts_before m) m.entry).cells ≡ (facts_behind m).cells
-cells_after_push m = ap (λ (f : Facts). f.cells) (sym (facts_push m.image m.before m.entry))
+cells_after_push m = ap (λ (f : Facts). f.cells) (sym (facts_push m.image m.form m.before m.entry))
 
 begins_telling : (m : AdmittedMoment) (about : ℕ) → IsSound m.image (after m.image (facts_before m) m.entry) → CommitsChangeOf m about → IsTelling about (heard_ids about (facts_before m).cells) (after m.image (facts_before m) m.entry)
 begins_telling m about sound h =
@@ -257,7 +257,7 @@ told_is m about = heard_configs about (facts_before m).cells
 pub told_some : (m : AdmittedMoment) (about : ℕ) → CommitsChangeOf m about → All (λ (e : Entry). is_finish e.act ≡ false) m.rest → (later : List ℕ) × (told_ids m about ≡ noted_ids m.rest ++ later)
 told_some m about h more =
     let f : Facts = facts_before m in
-    let from : IsLegalFrom m.image f (m.entry ∷ m.rest) = IsLegal_rest m.image m.before (m.entry ∷ m.rest) m.legal in
+    let from : IsLegalFrom m.image f (m.entry ∷ m.rest) = IsLegal_rest m.image m.form m.before (m.entry ∷ m.rest) m.legal in
     let sound = sound_after m.image f m.entry (sound_at m) from.0 in
     let over = told_over m.image about (heard_ids about f.cells) (after m.image f m.entry) m.rest sound (begins_telling m about sound h) from.1 more in
     (over.later, told_is m about ∙ over.notes)
@@ -266,7 +266,7 @@ pub told_all : (s : AdmittedSpan) (about : ℕ) (answer : ℤ) → CommitsChange
 told_all s about answer h more ends =
     let m : AdmittedMoment = at_first s in
     let f : Facts = facts_before m in
-    let at = stretch s.image s.before s.between s.rest s.first s.last s.admitted s.legal in
+    let at = stretch s.image s.form s.before s.between s.rest s.first s.last s.admitted s.legal in
     let sound = sound_after s.image f s.first at.sound at.first_due in
     let over = told_over s.image about (heard_ids about f.cells) (after s.image f s.first) s.between sound (begins_telling m about sound h) at.between more in
     let none : over.later ≡ [] = ends_told s.image about over.later (fold (after s.image) (after s.image f s.first) s.between) s.last answer over.sound over.telling at.last_due ends in
@@ -276,7 +276,7 @@ told_all s about answer h more ends =
 
 few_before : (m : AdmittedMoment) → IsMadeOfBytes m.image → length (facts_before m).cells ≤ 15
 few_before m bytes =
-    let few = few_cells m.image m.before m.admitted bytes (IsLegal_begin m.image m.before (m.entry ∷ m.rest) m.legal) in
+    let few = few_cells m.image m.form m.before m.admitted bytes (IsLegal_begin m.image m.form m.before (m.entry ∷ m.rest) m.legal) in
     omega (arith, few, length_map (λ (live : Live). live.config) (facts_before m).cells)
 
 found_some : (o : Option Live) (config : CellConfig) → option_map (λ (live : Live). live.config) o ≡ Some config → (live : Live) × (o ≡ Some live)
@@ -287,9 +287,9 @@ few_created : (m : AdmittedMoment) (config : CellConfig) → Creates m config �
 few_created m config creates bytes =
     let cells : List Live = (facts_before m).cells in
     let whole : (m.before ++ m.entry ∷ []) ++ m.rest ≡ m.before ++ m.entry ∷ m.rest = append_assoc m.before (m.entry ∷ []) m.rest in
-    let P : List Entry → Type 0 = IsLegal m.image in
-    let legal : IsLegal m.image (m.before ++ m.entry ∷ []) = IsLegal_begin m.image (m.before ++ m.entry ∷ []) m.rest (subst P (sym whole) m.legal) in
-    let few : length (configs_of (facts_behind m).cells) ≤ 15 = few_cells m.image (m.before ++ m.entry ∷ []) m.admitted bytes legal in
+    let P : List Entry → Type 0 = IsLegal m.image m.form in
+    let legal : IsLegal m.image m.form (m.before ++ m.entry ∷ []) = IsLegal_begin m.image m.form (m.before ++ m.entry ∷ []) m.rest (subst P (sym whole) m.legal) in
+    let few : length (configs_of (facts_behind m).cells) ≤ 15 = few_cells m.image m.form (m.before ++ m.entry ∷ []) m.admitted bytes legal in
     let long : length (configs_of (facts_behind m).cells) ≡ length (cells ++ new_live config ∷ []) = length_map (λ (live : Live). live.config) (facts_behind m).cells ∙ ap length creates.joins in
     let sum : length (cells ++ new_live config ∷ []) ≡ length cells + 1 = length-append cells (new_live config ∷ []) in
     omega (arith, few, long, sum)

@@ -11,6 +11,7 @@ use Rattle.jh_check.specs.Devices.{is_shmem}
 use Rattle.jh_ivshmem.specs.declared.spec.EndpointSpec.{EndpointSpec}
 use Rattle.jh_ivshmem.specs.Specs.{endpoint_word_of}
 use Rattle.jh_script.specs.declared.image.Image.{Image}
+use Rattle.jh_history.specs.declared.form.Form.{Form}
 use Rattle.jh_history.specs.declared.place.Place.TheVariants.{Physical}
 use Rattle.jh_history.specs.Admitted.{IsAdmitted}
 use Rattle.jh_history.specs.Devices.{is_endpoint, place_of_section, spec_of, specs_from, specs_of}
@@ -71,13 +72,13 @@ in_words image place h =
       there = (h.within, ap Physical (h.there ∙ ap (λ (t : ℕ). t + 4 * h.device.shmem_dev_id + h.index) (sym at)));
     }
 
-of_words : (image : Image) (place : ℕ) → IsAdmitted image → IsInWords (specs_of image.system.root) (Physical place) → IsInStateWord image place
-of_words image place admitted h =
+of_words : (image : Image) (form : Form) (place : ℕ) → IsAdmitted image → IsInWords (specs_of image.system.root) (Physical place) → IsInStateWord image place
+of_words image form place admitted h =
     let root : CellConfig = image.system.root in
     let of = specs_device root h.spec h.among in
     let device : PciDevice = of.device in
     let kind = kind_from of.number device of.passes in
-    let good = (sound_start image admitted).cells.clean.devices 0 root refl of.number device of.item kind in
+    let good = (sound_start image form admitted).cells.clean.devices 0 root refl of.number device of.item kind in
     let other : Region = image.system.platform.hypervisor_memory in
     let table : Region = get_or root.memory_regions device.shmem_regions_start other in
     let exist = good.exist in
@@ -99,19 +100,19 @@ of_words image place admitted h =
 
 -- ---- at opening
 
-pub opens_words : (image : Image) (place : ℕ) → IsInStateWord image place → (facts image []).byte (Physical place) ≡ 0
-opens_words image place h = opening_word image place (in_words image place h)
+pub opens_words : (image : Image) (form : Form) (place : ℕ) → IsInStateWord image place → (facts image form []).byte (Physical place) ≡ 0
+opens_words image form place h = opening_word image form place (in_words image place h)
 
-pub opens_put : (image : Image) (place byte : ℕ) → IsAdmitted image → (IsInStateWord image place → ⊥) → IsPreloaded image place byte → (facts image []).byte (Physical place) ≡ byte
-opens_put image place byte admitted outside put =
+pub opens_put : (image : Image) (form : Form) (place byte : ℕ) → IsAdmitted image → (IsInStateWord image place → ⊥) → IsPreloaded image place byte → (facts image form []).byte (Physical place) ≡ byte
+opens_put image form place byte admitted outside put =
     ⊎_elim
-    (λ (inside : IsInWords (specs_of image.system.root) (Physical place)). absurd (outside (of_words image place admitted inside)))
-    (λ (apart : IsApartAtOpening image place). opening_byte image place byte admitted apart put)
+    (λ (inside : IsInWords (specs_of image.system.root) (Physical place)). absurd (outside (of_words image form place admitted inside)))
+    (λ (apart : IsApartAtOpening image place). opening_byte image form place byte admitted apart put)
     (words_or (specs_of image.system.root) (Physical place))
 
-pub opens_zero : (image : Image) (place : ℕ) → ((byte : ℕ) → IsPreloaded image place byte → ⊥) → (facts image []).byte (Physical place) ≡ 0
-opens_zero image place none =
+pub opens_zero : (image : Image) (form : Form) (place : ℕ) → ((byte : ℕ) → IsPreloaded image place byte → ⊥) → (facts image form []).byte (Physical place) ≡ 0
+opens_zero image form place none =
     ⊎_elim
-    (λ (inside : IsInWords (specs_of image.system.root) (Physical place)). opening_word image place inside)
-    (λ (apart : IsApartAtOpening image place). opening_zero image place apart none)
+    (λ (inside : IsInWords (specs_of image.system.root) (Physical place)). opening_word image form place inside)
+    (λ (apart : IsApartAtOpening image place). opening_zero image form place apart none)
     (words_or (specs_of image.system.root) (Physical place))

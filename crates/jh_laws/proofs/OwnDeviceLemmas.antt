@@ -54,7 +54,7 @@ own_changed e g list keeps there =
 
 -- behind the entry
 behind_is : (m : AdmittedMoment) (e : Endpoint) → is_commit m.entry.act ≡ false → endpoint_behind m e ≡ endpoint_at e.spec.cell e.spec.device (endpoints_acted m.image (facts_before m) m.entry.cell m.entry.act)
-behind_is m e other = ap (endpoint_at e.spec.cell e.spec.device) (endpoints_behind m.image m.before m.entry ∙ after_acted m.image (facts_before m) m.entry other)
+behind_is m e other = ap (endpoint_at e.spec.cell e.spec.device) (endpoints_behind m.image m.form m.before m.entry ∙ after_acted m.image (facts_before m) m.entry other)
 
 -- a write that succeeds, by what it reaches
 write_behind : (m : AdmittedMoment) (e : Endpoint) (width at value : ℕ) (found : Reach) → m.entry.act ≡ Write width at value true → reach m.image (facts_before m) m.entry.cell ToWrite at width ≡ found
@@ -66,7 +66,7 @@ write_behind m e width at value found act is =
     ∙ ap (λ (r : Reach). endpoint_at e.spec.cell e.spec.device (endpoints_put (devices_of m.image f m.entry.cell) r value)) is
 
 small_value : (m : AdmittedMoment) (width at value : ℕ) → m.entry.act ≡ Write width at value true → value < 256 ^ width
-small_value m width at value act = (subst IsSmallAct act (small_at m.image m.before m.rest m.entry m.admitted m.legal)).1
+small_value m width at value act = (subst IsSmallAct act (small_at m.image m.form m.before m.rest m.entry m.admitted m.legal)).1
 
 -- ---- configuration space
 
@@ -237,6 +237,6 @@ commits_by _ h = refl
 
 pub others_stay : (m : AdmittedMoment) → may_change_devices m.entry.act ≡ false → (facts_behind m).endpoints ≡ (facts_before m).endpoints
 others_stay m h =
-    endpoints_behind m.image m.before m.entry
+    endpoints_behind m.image m.form m.before m.entry
     ∙ after_acted m.image (facts_before m) m.entry (commits_by m.entry.act h)
     ∙ acted_by m.image (facts_before m) m.entry.cell m.entry.act h

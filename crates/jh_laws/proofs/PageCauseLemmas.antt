@@ -29,7 +29,7 @@ use Rattle.jh_history.specs.declared.entry.Act.{Act}
 use Rattle.jh_history.specs.declared.entry.Act.TheVariants.{Read, Write, Fetch, Await, Decide, Settle, Commit, Note, Noted, Finish}
 use Rattle.jh_history.specs.Calls.{is_named}
 use Rattle.jh_history.specs.Commits.{cells_by, committed_cells, is_commit}
-use Rattle.jh_history.specs.Cpus.{acted}
+use Rattle.jh_history.specs.Cpus.{acted, runs_by_start}
 use Rattle.jh_history.specs.Due.{due_at}
 use Rattle.jh_history.specs.Facts.{Facts}
 use Rattle.jh_history.specs.Lives.{is_on_board, live_in}
@@ -67,10 +67,10 @@ named_about cells (Destroy id) config h = let found = live_found cells id (find 
 named_about cells _ config h = absurd (none-some config h)
 
 pub sound_at : (m : AdmittedMoment) → IsSound m.image (facts_before m)
-sound_at m = legal_sound m.image m.before m.admitted (IsLegal_begin m.image m.before (m.entry ∷ m.rest) m.legal)
+sound_at m = legal_sound m.image m.form m.before m.admitted (IsLegal_begin m.image m.form m.before (m.entry ∷ m.rest) m.legal)
 
 pub due_of : (m : AdmittedMoment) → due_at m.image (facts_before m) m.entry.cpu ≡ Some m.entry
-due_of m = due_split m.image m.before m.rest m.entry m.legal
+due_of m = due_split m.image m.form m.before m.rest m.entry m.legal
 
 -- the call that is open is about the cell
 record IsOpenOn (m : AdmittedMoment) (config : CellConfig) : Type 0 where
@@ -80,7 +80,7 @@ record IsOpenOn (m : AdmittedMoment) (config : CellConfig) : Type 0 where
 
 open_on : (m : AdmittedMoment) (config : CellConfig) → IsCallOnCell m config → is_phase m.entry.act ≡ true → IsOpenOn m config
 open_on m config h phase =
-    let of = phase_begun m.image m.before m.rest m.entry h.call m.admitted m.legal h.begun phase in
+    let of = phase_begun m.image m.form m.before m.rest m.entry h.call m.admitted m.legal h.begun phase in
     record {
       open_call = record { caller = m.entry.cpu; call = h.call; phase = of.phase };
       is = of.opens;
@@ -116,16 +116,16 @@ is_failed_mode Parked h = absurd (false≢true h)
 pub loses_write : (m : AdmittedMoment) (id : ℕ) → LosesItsCpus m id → page_write_by m.image (facts_before m) m.entry m.entry.act ≡ Some (record { cell = id; change = State 3 })
 loses_write m id h =
     let f : Facts = facts_before m in
-    let test : ℕ → Bool = λ i. is_on_board m.image i && is_unfailed_of m.entry.cell (acted m.image f.call m.entry.act m.entry.cpu i (f.cpu i)) in
+    let test : ℕ → Bool = λ i. is_on_board m.image i && is_unfailed_of m.entry.cell (acted m.image (runs_by_start f i) f.call m.entry.act m.entry.cpu i (f.cpu i)) in
     let root : eqb m.entry.cell m.image.system.root.id ≡ false = ne_eqb m.entry.cell m.image.system.root.id (λ e. h.cell (sym h.own ∙ e)) in
     let none : any_below test 16 ≡ false =
     false_from_ne_true (any_below test 16)
     (λ yes.
     let one = below_of test 16 yes in
-    let state : Cpu = acted m.image f.call m.entry.act m.entry.cpu one.0 (f.cpu one.0) in
+    let state : Cpu = acted m.image (runs_by_start f one.0) f.call m.entry.act m.entry.cpu one.0 (f.cpu one.0) in
     let parts = and_parts (is_on_board m.image one.0) (is_unfailed_of m.entry.cell state) one.2 in
     let more = and_parts (eqb state.owner m.entry.cell) (not (is_failed state.mode)) parts.1 in
-    let same : state_behind m one.0 ≡ state = behind_cpu m.image m.before m.entry one.0 in
+    let same : state_behind m one.0 ≡ state = behind_cpu m.image m.form m.before m.entry one.0 in
     let owner : (state_behind m one.0).owner ≡ id = ap (λ (c : Cpu). c.owner) same ∙ eqb-true state.owner m.entry.cell more.0 ∙ h.own in
     let mode : state.mode ≡ Failed = ap (λ (c : Cpu). c.mode) (sym same) ∙ h.failed one.0 parts.0 owner in
     both_ways (is_failed state.mode) (not-true (is_failed state.mode) more.1) (ap is_failed mode)) in
@@ -148,7 +148,7 @@ pub committing_at : (m : AdmittedMoment) (call : Call) → call_before m ≡ Som
 committing_at m call begun act =
     let f : Facts = facts_before m in
     let window : ℕ = m.image.system.platform.pci_mmconfig_base in
-    let of = phase_begun m.image m.before m.rest m.entry call m.admitted m.legal begun (ap is_phase act) in
+    let of = phase_begun m.image m.form m.before m.rest m.entry call m.admitted m.legal begun (ap is_phase act) in
     let E : Act → Type 0 = Expects of.phase in
     record {
       phase = of.phase;
@@ -156,7 +156,7 @@ committing_at m call begun act =
       holds = of.holds;
       opens = of.opens;
       writes = ap (page_write_by m.image f m.entry) act ∙ ap (option_and_then (λ (o : OpenCall). committing window f.cells o.call o.phase)) of.opens;
-      cells = cells_behind m.image m.before m.entry ∙ ap (λ (c : Option OpenCall). cells_by c f.cells m.entry.act) of.opens ∙ ap (cells_by (Some (record { caller = m.entry.cpu; call = call; phase = of.phase })) f.cells) act;
+      cells = cells_behind m.image m.form m.before m.entry ∙ ap (λ (c : Option OpenCall). cells_by c f.cells m.entry.act) of.opens ∙ ap (cells_by (Some (record { caller = m.entry.cpu; call = call; phase = of.phase })) f.cells) act;
     }
 
 pub commit_lives : (image : Image) (configs : List CellConfig) (cpu : ℕ → Cpu) (caller : ℕ) (call : Call) (phase : Phase) → (IsCreate call → ⊥) → Expects phase Commit → IsInPhase image configs cpu caller call phase → IsAboutLive configs call
@@ -225,7 +225,7 @@ loses_by m w violates is = by_left left refl is
     f = facts_before m
 
     test : ℕ → Bool
-    test i = is_on_board m.image i && is_unfailed_of m.entry.cell (acted m.image f.call m.entry.act m.entry.cpu i (f.cpu i))
+    test i = is_on_board m.image i && is_unfailed_of m.entry.cell (acted m.image (runs_by_start f i) f.call m.entry.act m.entry.cpu i (f.cpu i))
 
     left : Bool
     left = eqb m.entry.cell m.image.system.root.id || any_below test 16
@@ -240,8 +240,8 @@ loses_by m w violates is = by_left left refl is
           violates = violates;
           cell = λ root. both_ways (eqb m.entry.cell m.image.system.root.id) parts.0 (eq-eqb m.entry.cell m.image.system.root.id (own ∙ root));
           failed = λ cpu on owner.
-              let state : Cpu = acted m.image f.call m.entry.act m.entry.cpu cpu (f.cpu cpu) in
-              let same : state_behind m cpu ≡ state = behind_cpu m.image m.before m.entry cpu in
+              let state : Cpu = acted m.image (runs_by_start f cpu) f.call m.entry.act m.entry.cpu cpu (f.cpu cpu) in
+              let same : state_behind m cpu ≡ state = behind_cpu m.image m.form m.before m.entry cpu in
               let owned : state.owner ≡ m.entry.cell = ap (λ (c : Cpu). c.owner) (sym same) ∙ owner ∙ sym own in
               ap (λ (c : Cpu). c.mode) same
               ∙ ⊎_elim
@@ -259,7 +259,7 @@ fails_by m w false violates is = inr (inl (3, inl (inr (inr (loses_by m w (viola
 
 -- by what the open call asks of its cell
 call_on : (m : AdmittedMoment) (o : OpenCall) (config : CellConfig) → (facts_before m).call ≡ Some o → IsAboutCell (facts_before m).cells o.call config → IsCallOnCell m config
-call_on m o config is h = record { call = o.call; begun = call_of_open m.image m.before o is; about = h.about; lives = h.lives }
+call_on m o config is h = record { call = o.call; begun = call_of_open m.image m.form m.before o is; about = h.about; lives = h.lives }
 
 asks_cell : (m : AdmittedMoment) (w : PageWrite) (o : OpenCall) (found : Option CellConfig) → m.entry.act ≡ Decide None → (facts_before m).call ≡ Some o → named_cell (facts_before m).cells o.call ≡ found
     → option_and_then (λ (c : CellConfig). cond (is_passive c) None (Some (on_page (Message 1) c))) found ≡ Some w → AsksToShutDown m w.cell
@@ -298,14 +298,14 @@ settles_by m w (Some o) act is h = settles_cell m w o (named_cell (facts_before 
 made_behind : (m : AdmittedMoment) (caller : ℕ) (call : Call) (phase : Phase) → m.entry.act ≡ Commit → (facts_before m).call ≡ Some (record { caller = caller; call = call; phase = phase }) → (facts_behind m).cells ≡ committed_cells call phase (facts_before m).cells
 made_behind m caller call phase act is =
     let f : Facts = facts_before m in
-    cells_behind m.image m.before m.entry ∙ ap (λ (c : Option OpenCall). cells_by c f.cells m.entry.act) is ∙ ap (cells_by (Some (record { caller = caller; call = call; phase = phase })) f.cells) act
+    cells_behind m.image m.form m.before m.entry ∙ ap (λ (c : Option OpenCall). cells_by c f.cells m.entry.act) is ∙ ap (cells_by (Some (record { caller = caller; call = call; phase = phase })) f.cells) act
 
 creates_by : (m : AdmittedMoment) (w : PageWrite) (caller at : ℕ) (phase : Phase) → m.entry.act ≡ Commit → (facts_before m).call ≡ Some (record { caller = caller; call = Create at; phase = phase })
     → committing m.image.system.platform.pci_mmconfig_base (facts_before m).cells (Create at) phase ≡ Some w → ChangesPage m w.cell
 creates_by m w caller at (ToCreate config) act is h =
     let o : OpenCall = record { caller = caller; call = Create at; phase = ToCreate config } in
     let write : PageWrite = on_page (Fresh 2 config.console m.image.system.platform.pci_mmconfig_base) config in
-    let creates : Creates m config = record { at = at; begun = call_of_open m.image m.before o is; commits = act; joins = made_behind m caller (Create at) (ToCreate config) act is } in
+    let creates : Creates m config = record { at = at; begun = call_of_open m.image m.form m.before o is; commits = act; joins = made_behind m caller (Create at) (ToCreate config) act is } in
     inr (inr (config, 2, ap (λ (v : PageWrite). v.cell) (same_Some write w h), inl (creates, refl)))
 creates_by m w caller at _ act is h = absurd (none-some w h)
 
@@ -315,7 +315,7 @@ starts_by m w o id None act is call e h = absurd (none-some w h)
 starts_by m w o id (Some c) act is call e h =
     let write : PageWrite = on_page (Fresh 0 c.console m.image.system.platform.pci_mmconfig_base) c in
     let about = live_found (facts_before m).cells id (find (has_id id) (facts_before m).cells) c refl e in
-    let starts : Starts m c = record { begun = call_of_open m.image m.before o is ∙ ap (λ (k : Call). Some k) call ∙ ap (λ (k : ℕ). Some (Start k)) (sym about.1); commits = act; lives = about.0 } in
+    let starts : Starts m c = record { begun = call_of_open m.image m.form m.before o is ∙ ap (λ (k : Call). Some k) call ∙ ap (λ (k : ℕ). Some (Start k)) (sym about.1); commits = act; lives = about.0 } in
     inr (inr (c, 0, ap (λ (v : PageWrite). v.cell) (same_Some write w h), inr (starts, refl)))
 
 loadable_by : (m : AdmittedMoment) (w : PageWrite) (o : OpenCall) (id : ℕ) (found : Option CellConfig) → m.entry.act ≡ Commit → (facts_before m).call ≡ Some o → o.call ≡ Loadable id → live_in (facts_before m).cells id ≡ found
@@ -324,7 +324,7 @@ loadable_by m w o id None act is call e h = absurd (none-some w h)
 loadable_by m w o id (Some c) act is call e h =
     let about = live_found (facts_before m).cells id (find (has_id id) (facts_before m).cells) c refl e in
     let same : id ≡ w.cell = sym about.1 ∙ ap (λ (v : PageWrite). v.cell) (same_Some (on_page (State 2) c) w h) in
-    let makes : MakesLoadable m w.cell = record { begun = call_of_open m.image m.before o is ∙ ap (λ (k : Call). Some k) call ∙ ap (λ (k : ℕ). Some (Loadable k)) same; commits = act } in
+    let makes : MakesLoadable m w.cell = record { begun = call_of_open m.image m.form m.before o is ∙ ap (λ (k : Call). Some k) call ∙ ap (λ (k : ℕ). Some (Loadable k)) same; commits = act } in
     inr (inl (2, inr (makes, refl)))
 
 commits_by : (m : AdmittedMoment) (w : PageWrite) (caller : ℕ) (call : Call) (phase : Phase) → m.entry.act ≡ Commit → (facts_before m).call ≡ Some (record { caller = caller; call = call; phase = phase })

@@ -27,9 +27,9 @@ pub sends : (m : AdmittedMoment) (id message : ℕ) → SendsMessage m id messag
 sends m id message h =
     let Q : ℕ → Type 0 = λ n. HasNewMessage n (page_before m id) (page_behind m id) in
     ⊎_elim
-    (λ asks. subst Q (sym asks.1) (new_message 1 (page_before m id) (page_behind m id) (changed_by m.image m.before m.entry id (Message 1) (asks_write m id asks.0)) (refl, refl, refl, refl)))
+    (λ asks. subst Q (sym asks.1) (new_message 1 (page_before m id) (page_behind m id) (changed_by m.image m.form m.before m.entry id (Message 1) (asks_write m id asks.0)) (refl, refl, refl, refl)))
     (λ notes.
-    subst Q (sym notes.1) (new_message 2 (page_before m id) (page_behind m id) (changed_by m.image m.before m.entry id (Message 2) (ap (page_write_by m.image (facts_before m) m.entry) notes.0)) (refl, refl, refl, refl)))
+    subst Q (sym notes.1) (new_message 2 (page_before m id) (page_behind m id) (changed_by m.image m.form m.before m.entry id (Message 2) (ap (page_write_by m.image (facts_before m) m.entry) notes.0)) (refl, refl, refl, refl)))
     h
 
 fails_write : (m : AdmittedMoment) (id : ℕ) → Fails m id → page_write_by m.image (facts_before m) m.entry m.entry.act ≡ Some (record { cell = id; change = State 3 })
@@ -43,13 +43,13 @@ pub sets : (m : AdmittedMoment) (id state : ℕ) → SetsState m id state → Ha
 sets m id state h =
     let Q : ℕ → Type 0 = λ n. HasNewState n (page_before m id) (page_behind m id) in
     ⊎_elim
-    (λ fails. subst Q (sym fails.1) (new_state 3 (page_before m id) (page_behind m id) (changed_by m.image m.before m.entry id (State 3) (fails_write m id fails.0)) (refl, refl, refl, refl)))
-    (λ makes. subst Q (sym makes.1) (new_state 2 (page_before m id) (page_behind m id) (changed_by m.image m.before m.entry id (State 2) (loadable_write m id makes.0)) (refl, refl, refl, refl)))
+    (λ fails. subst Q (sym fails.1) (new_state 3 (page_before m id) (page_behind m id) (changed_by m.image m.form m.before m.entry id (State 3) (fails_write m id fails.0)) (refl, refl, refl, refl)))
+    (λ makes. subst Q (sym makes.1) (new_state 2 (page_before m id) (page_behind m id) (changed_by m.image m.form m.before m.entry id (State 2) (loadable_write m id makes.0)) (refl, refl, refl, refl)))
     h
 
 -- the console is no longer than its place
 typed_at : (m : AdmittedMoment) → All (λ (p : Preload). AreBytes p.bytes) m.image.preloads → IsTypedBoard (facts_before m)
-typed_at m bytes = legal_typed m.image m.before m.admitted bytes (IsLegal_begin m.image m.before (m.entry ∷ m.rest) m.legal)
+typed_at m bytes = legal_typed m.image m.form m.before m.admitted bytes (IsLegal_begin m.image m.form m.before (m.entry ∷ m.rest) m.legal)
 
 few_created : (m : AdmittedMoment) (config : CellConfig) → Creates m config → IsTypedBoard (facts_before m) → length config.console ≤ 32
 few_created m config h typed = (typed_phase (facts_before m).call (record { caller = m.entry.cpu; call = Create h.at; phase = ToCreate config }) (creating_call m config h) typed.call).few
@@ -65,9 +65,9 @@ renews m config state h bytes =
     let Q : ℕ → Type 0 = λ n. IsFreshPage config ecam n (page_behind m config.id) in
     ⊎_elim
     (λ creates.
-    subst Q (sym creates.1) (fresh config ecam 2 (page_before m config.id) (page_behind m config.id) (changed_by m.image m.before m.entry config.id (Fresh 2 config.console ecam) (creates_write m config creates.0)) (few_created m config creates.0 typed) (refl, refl, refl, refl)))
+    subst Q (sym creates.1) (fresh config ecam 2 (page_before m config.id) (page_behind m config.id) (changed_by m.image m.form m.before m.entry config.id (Fresh 2 config.console ecam) (creates_write m config creates.0)) (few_created m config creates.0 typed) (refl, refl, refl, refl)))
     (λ starts.
-    subst Q (sym starts.1) (fresh config ecam 0 (page_before m config.id) (page_behind m config.id) (changed_by m.image m.before m.entry config.id (Fresh 0 config.console ecam) (starts_write m config starts.0)) (few_started m config starts.0 typed) (refl, refl, refl, refl)))
+    subst Q (sym starts.1) (fresh config ecam 0 (page_before m config.id) (page_behind m config.id) (changed_by m.image m.form m.before m.entry config.id (Fresh 0 config.console ecam) (starts_write m config starts.0)) (few_started m config starts.0 typed) (refl, refl, refl, refl)))
     h
 
 abbrev cell_of_page : Place → ℕ
@@ -77,7 +77,7 @@ cell_of_page (Page cell offset) = cell
 pub stays : (m : AdmittedMoment) (id offset : ℕ) → (ChangesPage m id → ⊥) → ((byte : ℕ) → Puts m.image (facts_before m).cells m.entry.cell m.entry.act (Page id offset) byte → ⊥)
     → page_behind m id offset ≡ page_before m id offset
 stays m id offset none unput =
-    entry_keeps m.image m.before m.rest m.entry (Page id offset) m.admitted m.legal
+    entry_keeps m.image m.form m.before m.rest m.entry (Page id offset) m.admitted m.legal
     (λ byte writes.
     ⊎_elim
     (λ puts. unput byte puts)

@@ -9,6 +9,7 @@ use Rattle.jh_num.proofs.Public.{stored_before, stored_behind, stored_there}
 use Rattle.jh_cellcfg.specs.declared.config.CellConfig.{CellConfig}
 use Rattle.jh_comm.specs.Page.{with_state, sent, fresh_page, signature}
 use Rattle.jh_script.specs.declared.image.Image.{Image}
+use Rattle.jh_history.specs.declared.form.Form.{Form}
 use Rattle.jh_history.specs.declared.comm.PageChange.{PageChange}
 use Rattle.jh_history.specs.declared.comm.PageChange.TheVariants.{State, Message, Fresh}
 use Rattle.jh_history.specs.declared.comm.PageWrite.{PageWrite}
@@ -31,16 +32,16 @@ pub record IsChanged (change : PageChange) (before behind : ℕ → ℕ) : Type 
   pub below : (k : ℕ) → k < 4096 → behind k ≡ page_after change before k
   pub above : (k : ℕ) → 4096 ≤ k → behind k ≡ before k
 
-pub changed_by : (image : Image) (before : List Entry) (entry : Entry) (cell : ℕ) (change : PageChange) → page_write_by image (facts image before) entry entry.act ≡ Some (record { cell = cell; change = change })
-    → IsChanged change (λ k. (facts image before).byte (Page cell k)) (λ k. (facts image (before ++ entry ∷ [])).byte (Page cell k))
-changed_by image before entry cell change is =
-    let f : Facts = facts image before in
+pub changed_by : (image : Image) (form : Form) (before : List Entry) (entry : Entry) (cell : ℕ) (change : PageChange) → page_write_by image (facts image form before) entry entry.act ≡ Some (record { cell = cell; change = change })
+    → IsChanged change (λ k. (facts image form before).byte (Page cell k)) (λ k. (facts image form (before ++ entry ∷ [])).byte (Page cell k))
+changed_by image form before entry cell change is =
+    let f : Facts = facts image form before in
     let w : PageWrite = record { cell = cell; change = change } in
     let own : Place → ℕ = byte_written image f entry.cell entry.act in
     record {
-      below = λ k within. byte_behind image before entry (Page cell k) ∙ paged_by image f entry (Page cell k) (page_after change (λ j. f.byte (Page cell j)) k) w is (record { offset = k; within = within; there = refl; is = refl });
+      below = λ k within. byte_behind image form before entry (Page cell k) ∙ paged_by image f entry (Page cell k) (page_after change (λ j. f.byte (Page cell j)) k) w is (record { offset = k; within = within; there = refl; is = refl });
       above = λ k past.
-          byte_behind image before entry (Page cell k)
+          byte_behind image form before entry (Page cell k)
           ∙ page_keeps (with_words (specs_changing f entry.act) own) (page_write_by image f entry entry.act) (Page cell k)
           (λ v offset same within at. let e : k ≡ offset = ap number_of at in omega (arith, past, within, e))
           ∙ words_page (specs_changing f entry.act) own cell k

@@ -1,5 +1,5 @@
 -- Codes of hypercalls, and words of communication pages, as numbers.
-use Rattle.std.proofs.Common.{◌≡◌, ℕ, ◌+◌, ◌*◌, ◌<◌, true, false, eqb, refl, inl, inr, ⊎_elim, ◌⊎◌, arith}
+use Rattle.std.proofs.Common.{◌≡◌, ◌≢◌, ℕ, ◌+◌, ◌*◌, ◌<◌, true, false, eqb, refl, inl, inr, ⊎_elim, ◌⊎◌, arith}
 use Rattle.std.specs.Prelude.{◌↔◌}
 use Rattle.std.proofs.lemmas.Bool.{eqb-true, eq-eqb, ne_eqb, or_cases, or_left, or_right}
 use Rattle.jh_call.specs.declared.call.Call.TheVariants.{Unknown}
@@ -8,9 +8,9 @@ use Rattle.jh_history.specs.Facts.{Facts}
 use Rattle.jh_history.specs.Phases.{state_word, reply_word, is_down}
 use Rattle.jh_laws.specs.Words.{number_in_page}
 
--- a code that isn't 1 to 7
-pub no_code : (code a b : ℕ) → (code ≡ 0) ⊎ (7 < code) → decoded code a b ≡ Unknown
-no_code code a b out =
+-- a code that isn't 1 to 7, nor of the power interface
+pub no_code : (code a b : ℕ) → (code ≡ 0) ⊎ (7 < code) → code ≢ 0x84000002 → code ≢ 0xc4000003 → code ≢ 0xc4000004 → decoded code a b ≡ Unknown
+no_code code a b out off on affinity =
     let other : (n : ℕ) → 0 < n → n < 8 → eqb code n ≡ false =
     λ n some few. ne_eqb code n (λ is. ⊎_elim (λ none. omega (arith, none, is, some)) (λ past. omega (arith, past, is, few)) out) in
     rw (
@@ -21,6 +21,9 @@ no_code code a b out =
       other 5 (omega arith) (omega arith),
       other 6 (omega arith) (omega arith),
       other 7 (omega arith) (omega arith),
+      ne_eqb code 0x84000002 off,
+      ne_eqb code 0xc4000003 on,
+      ne_eqb code 0xc4000004 affinity,
     ) refl
 
 -- four bytes

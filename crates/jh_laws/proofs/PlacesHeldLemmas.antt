@@ -25,6 +25,7 @@ use Rattle.jh_ivshmem.specs.declared.spec.EndpointWord.{EndpointWord}
 use Rattle.jh_ivshmem.specs.Links.{endpoint_word_written}
 use Rattle.jh_ivshmem.specs.Specs.{endpoint_word_of}
 use Rattle.jh_script.specs.declared.image.Image.{Image}
+use Rattle.jh_history.specs.declared.form.Form.{Form}
 use Rattle.jh_history.specs.declared.place.Place.{Place}
 use Rattle.jh_history.specs.declared.place.Place.TheVariants.{Physical, Page}
 use Rattle.jh_history.specs.declared.access.Access.TheVariants.{Write as ToWrite}
@@ -473,18 +474,18 @@ page_changes image f entry cell offset sound small changed = page_by image f ent
 
 -- ---- over an entry of a journal
 
-pub byte_behind : (image : Image) (before : List Entry) (entry : Entry) (q : Place) → (facts image (before ++ entry ∷ [])).byte q ≡ byte_after image (facts image before) entry q
-byte_behind image before entry q = ap (λ (f : Facts). f.byte q) (facts_push image before entry) ∙ ap (λ (b : Place → ℕ). b q) (byte_after_holds image (facts image before) entry)
+pub byte_behind : (image : Image) (form : Form) (before : List Entry) (entry : Entry) (q : Place) → (facts image form (before ++ entry ∷ [])).byte q ≡ byte_after image (facts image form before) entry q
+byte_behind image form before entry q = ap (λ (f : Facts). f.byte q) (facts_push image form before entry) ∙ ap (λ (b : Place → ℕ). b q) (byte_after_holds image (facts image form before) entry)
 
-pub held_at : (image : Image) (before rest : List Entry) (entry : Entry) (live : Live) (number : ℕ) (region : Region) (place : ℕ) → IsAdmitted image → IsLegal image (before ++ entry ∷ rest) → IsHeld (facts image before).cells live number region place
-    → (facts image (before ++ entry ∷ [])).byte (Physical place) ≢ (facts image before).byte (Physical place) → IsOwnOrLinked (facts image before).cells live.config number entry.cell ⊎ WritesWordThere image (facts image before) entry live.config number place
-held_at image before rest entry live number region place admitted legal held changed =
-    held_changes image (facts image before) entry live number region place (legal_sound image before admitted (IsLegal_begin image before (entry ∷ rest) legal)) (small_at image before rest entry admitted legal) held
-    (λ e. changed (byte_behind image before entry (Physical place) ∙ e))
+pub held_at : (image : Image) (form : Form) (before rest : List Entry) (entry : Entry) (live : Live) (number : ℕ) (region : Region) (place : ℕ) → IsAdmitted image → IsLegal image form (before ++ entry ∷ rest) → IsHeld (facts image form before).cells live number region place
+    → (facts image form (before ++ entry ∷ [])).byte (Physical place) ≢ (facts image form before).byte (Physical place) → IsOwnOrLinked (facts image form before).cells live.config number entry.cell ⊎ WritesWordThere image (facts image form before) entry live.config number place
+held_at image form before rest entry live number region place admitted legal held changed =
+    held_changes image (facts image form before) entry live number region place (legal_sound image form before admitted (IsLegal_begin image form before (entry ∷ rest) legal)) (small_at image form before rest entry admitted legal) held
+    (λ e. changed (byte_behind image form before entry (Physical place) ∙ e))
 
-pub page_at : (image : Image) (before rest : List Entry) (entry : Entry) (cell offset : ℕ) → IsAdmitted image → IsLegal image (before ++ entry ∷ rest)
-    → (facts image (before ++ entry ∷ [])).byte (Page cell offset) ≢ (facts image before).byte (Page cell offset)
-    → (entry.cell ≡ cell) ⊎ ((w : PageWrite) × (page_write_by image (facts image before) entry entry.act ≡ Some w) × (w.cell ≡ cell))
-page_at image before rest entry cell offset admitted legal changed =
-    page_changes image (facts image before) entry cell offset (legal_sound image before admitted (IsLegal_begin image before (entry ∷ rest) legal)) (small_at image before rest entry admitted legal)
-    (λ e. changed (byte_behind image before entry (Page cell offset) ∙ e))
+pub page_at : (image : Image) (form : Form) (before rest : List Entry) (entry : Entry) (cell offset : ℕ) → IsAdmitted image → IsLegal image form (before ++ entry ∷ rest)
+    → (facts image form (before ++ entry ∷ [])).byte (Page cell offset) ≢ (facts image form before).byte (Page cell offset)
+    → (entry.cell ≡ cell) ⊎ ((w : PageWrite) × (page_write_by image (facts image form before) entry entry.act ≡ Some w) × (w.cell ≡ cell))
+page_at image form before rest entry cell offset admitted legal changed =
+    page_changes image (facts image form before) entry cell offset (legal_sound image form before admitted (IsLegal_begin image form before (entry ∷ rest) legal)) (small_at image form before rest entry admitted legal)
+    (λ e. changed (byte_behind image form before entry (Page cell offset) ∙ e))

@@ -13,6 +13,7 @@ use Rattle.jh_comm.specs.declared.words.TheConstants.{REPLY_REQUEST_APPROVED, RE
 use Rattle.jh_call.specs.declared.call.Call.{Call}
 use Rattle.jh_call.specs.declared.call.Call.TheVariants.{Start, Loadable, Destroy}
 use Rattle.jh_script.specs.declared.image.Image.{Image}
+use Rattle.jh_history.specs.declared.form.Form.{Form}
 use Rattle.jh_history.specs.declared.call.OpenCall.{OpenCall}
 use Rattle.jh_history.specs.declared.call.Phase.{Phase}
 use Rattle.jh_history.specs.declared.call.Phase.TheVariants.{ToDecide, ToSettle, ToCreate, ToCommit, ToNote, ToNoted, ToFinish}
@@ -211,5 +212,5 @@ none_open image f (Some o) is sound none =
     absurd (subst P (sym is) (open_waits image f o) sound none)
 
 -- where nothing is due no call is open
-pub quiet_closed : (image : Image) (entries : List Entry) → IsAdmitted image → IsLegal image entries → IsQuiet image entries → (facts image entries).call ≡ None
-quiet_closed image entries admitted legal quiet = none_open image (facts image entries) (facts image entries).call refl (legal_sound image entries admitted legal) quiet
+pub quiet_closed : (image : Image) (form : Form) (entries : List Entry) → IsAdmitted image → IsLegal image form entries → IsQuiet image form entries → (facts image form entries).call ≡ None
+quiet_closed image form entries admitted legal quiet = none_open image (facts image form entries) (facts image form entries).call refl (legal_sound image form entries admitted legal) quiet

@@ -16,7 +16,9 @@ use Rattle.jh_cpu.specs.declared.cpu.Mode.TheVariants.{Failed}
 use Rattle.jh_cpu.specs.Changes.{is_failed, asked_of, stopped_of, resumed, moved, lent, parked, restarted, returned}
 use Rattle.jh_call.specs.declared.call.Call.{Call}
 use Rattle.jh_call.specs.declared.call.Call.TheVariants.{Create, Start, Loadable, Destroy}
+use Rattle.jh_call.specs.Calls.{decoded}
 use Rattle.jh_script.specs.declared.image.Image.{Image}
+use Rattle.jh_history.specs.declared.form.Form.{Form}
 use Rattle.jh_script.specs.declared.op.Op.{Op}
 use Rattle.jh_history.specs.declared.call.OpenCall.{OpenCall}
 use Rattle.jh_history.specs.declared.call.Phase.{Phase}
@@ -30,13 +32,13 @@ use Rattle.jh_history.specs.declared.entry.Act.TheVariants.{Read, Write, Fetch, 
 use Rattle.jh_history.specs.Admitted.{IsAdmitted}
 use Rattle.jh_history.specs.Calls.{is_named, is_of_call, phase_after, call_by}
 use Rattle.jh_history.specs.Commits.{is_commit}
-use Rattle.jh_history.specs.Cpus.{acted, changed, change_of, cpu_by_settle, cpu_by_commit, cpu_by_finish, resumed_of_root, is_running, is_undenied}
-use Rattle.jh_history.specs.Due.{due_at, is_idle_but, IsLegal}
+use Rattle.jh_history.specs.Cpus.{acted, changed, change_of, cpu_by_call, runs_by_start, cpu_by_settle, cpu_by_commit, cpu_by_finish, resumed_of_root, is_running, is_undenied}
+use Rattle.jh_history.specs.Due.{is_idle_but, IsLegal}
 use Rattle.jh_history.specs.Facts.{Facts}
 use Rattle.jh_history.specs.History.{facts, coming_of}
 use Rattle.jh_history.specs.Lives.{is_on_board, program_ops}
 use Rattle.jh_history.specs.Sound.{IsCreate, IsInPhase}
-use Rattle.jh_history.proofs.Public.{after_call, call_open, facts_nil, facts_push, other_id, other_root}
+use Rattle.jh_history.proofs.Public.{after_call, call_open, called_keeps, called_spared, facts_nil, facts_push, other_id, other_root}
 use Rattle.jh_laws.specs.Moments.{AdmittedMoment, facts_before, facts_behind}
 use Rattle.jh_laws.specs.Moves.{stepped}
 use Rattle.jh_laws.specs.Operations.{op_of_act, op_by, program_in}
@@ -48,6 +50,7 @@ use Rattle.jh_laws.proofs.CallLemmas.{Expects, IsBeside, begins_alone, call_of_o
 use Rattle.jh_laws.proofs.EntryLemmas.{cell_at, operation_at, runs_at}
 use Rattle.jh_laws.proofs.PageCauseLemmas.{commit_lives, committing_at, due_of, sound_at}
 use Rattle.jh_laws.proofs.PlacesHeldLemmas.{commit_or}
+use Rattle.jh_laws.proofs.PowerLemmas.{Spares, spares_root, roots_stay_on}
 use Rattle.jh_laws.proofs.StatesLemmas.{behind_cpu, begin_cpus, finish_cpus, others_by, own_steps, own_ends}
 
 -- ---- where a CPU is in root's program
@@ -118,25 +121,40 @@ finished_place image root own i cpu other =
     let same : cond (eqb i own) (moved going) going ≡ going = ap (λ (b : Bool). cond b (moved going) going) (ne_eqb i own other) in
     subst P (sym same) (one_of root (eqb cpu.owner image.system.root.id) cpu (resumed cpu) (resumed_place root cpu))
 
+-- a hypercall leaves a CPU that isn't root's where it was in root's program
+foreign_called : (root : ℕ) (call : Call) (answer : ℤ) (own i : ℕ) (cpu : Cpu) → cpu.owner ≢ root → KeepsPlace root cpu (cpu_by_call call answer own i cpu)
+foreign_called root call answer own i cpu other =
+    called_keeps (KeepsPlace root cpu)
+    (λ c h. record { owner = h.owner; root_position = h.root_position; failed = h.failed; own = λ own. absurd (other own) })
+    (λ c h. record { owner = h.owner; root_position = h.root_position; failed = h.failed; own = λ own. absurd (other own) })
+    (λ c h. record { owner = h.owner; root_position = h.root_position; failed = h.failed; own = λ own. absurd (other own) })
+    call answer own i cpu (same_place root cpu)
+
 -- an entry of another CPU that is no Commit
-other_place : (image : Image) (root : ℕ) (call : Option OpenCall) (act : Act) (own i : ℕ) (cpu : Cpu) → i ≢ own → is_commit act ≡ false → KeepsPlace root cpu (acted image call act own i cpu)
-other_place image root call (Begin code a b) own i cpu other unlike =
+other_place : (image : Image) (runs : Bool) (root : ℕ) (call : Option OpenCall) (act : Act) (own i : ℕ) (cpu : Cpu) → i ≢ own → is_commit act ≡ false → (cpu.owner ≡ root → Spares i act) → KeepsPlace root cpu (acted image runs call act own i cpu)
+other_place image runs root call (Begin code a b) own i cpu other unlike spares =
     one_of root (is_on_board image i && not (eqb i own) && eqb cpu.owner image.system.root.id && is_running cpu.mode) cpu (asked_of cpu) (asked_place root cpu)
-other_place image root call (Settle how) own i cpu other unlike = settled_place root how call cpu
-other_place image root call (Finish answer) own i cpu other unlike = finished_place image root own i cpu other
-other_place image root call Commit own i cpu other unlike = absurd (false≢true (sym unlike))
-other_place image root call act own i cpu other unlike = let P : Cpu → Type 0 = KeepsPlace root cpu in subst P (sym (others_by image call act own i cpu refl other)) (same_place root cpu)
+other_place image runs root call (Hvc code a b answer) own i cpu other unlike spares =
+    let P : Cpu → Type 0 = KeepsPlace root cpu in
+    ⊎_elim
+    (λ (roots : cpu.owner ≡ root). subst P (sym (called_spared (decoded code a b) answer own i cpu other (spares roots))) (same_place root cpu))
+    (λ (foreign : cpu.owner ≢ root). foreign_called root (decoded code a b) answer own i cpu foreign)
+    (cases_eq cpu.owner root)
+other_place image runs root call (Settle how) own i cpu other unlike spares = settled_place root how call cpu
+other_place image runs root call (Finish answer) own i cpu other unlike spares = finished_place image root own i cpu other
+other_place image runs root call Commit own i cpu other unlike spares = absurd (false≢true (sym unlike))
+other_place image runs root call act own i cpu other unlike spares = let P : Cpu → Type 0 = KeepsPlace root cpu in subst P (sym (others_by image runs call act own i cpu refl other)) (same_place root cpu)
 
 -- its own entry that is no operation, nor the end of a call, nor a Commit
-own_place : (image : Image) (root : ℕ) (call : Option OpenCall) (act : Act) (own : ℕ) (cpu : Cpu) → op_of_act act ≡ None → is_finish act ≡ false → is_commit act ≡ false → KeepsPlace root cpu (acted image call act own own cpu)
-own_place image root call Stop own cpu none more unlike = one_of root (eqb own own) cpu (stopped_of cpu) (stopped_place root cpu)
-own_place image root call (Settle how) own cpu none more unlike = settled_place root how call cpu
-own_place image root call (Decide refused) own cpu none more unlike = one_of root (eqb own own) cpu cpu (same_place root cpu)
-own_place image root call (Note id) own cpu none more unlike = one_of root (eqb own own) cpu cpu (same_place root cpu)
-own_place image root call (Noted id how) own cpu none more unlike = one_of root (eqb own own) cpu cpu (same_place root cpu)
-own_place image root call Commit own cpu none more unlike = absurd (false≢true (sym unlike))
-own_place image root call (Finish answer) own cpu none more unlike = absurd (false≢true (sym more))
-own_place image root call _ own cpu none more unlike = absurd (none-some _ (sym none))
+own_place : (image : Image) (runs : Bool) (root : ℕ) (call : Option OpenCall) (act : Act) (own : ℕ) (cpu : Cpu) → op_of_act act ≡ None → is_finish act ≡ false → is_commit act ≡ false → KeepsPlace root cpu (acted image runs call act own own cpu)
+own_place image runs root call Stop own cpu none more unlike = one_of root (eqb own own) cpu (stopped_of cpu) (stopped_place root cpu)
+own_place image runs root call (Settle how) own cpu none more unlike = settled_place root how call cpu
+own_place image runs root call (Decide refused) own cpu none more unlike = one_of root (eqb own own) cpu cpu (same_place root cpu)
+own_place image runs root call (Note id) own cpu none more unlike = one_of root (eqb own own) cpu cpu (same_place root cpu)
+own_place image runs root call (Noted id how) own cpu none more unlike = one_of root (eqb own own) cpu cpu (same_place root cpu)
+own_place image runs root call Commit own cpu none more unlike = absurd (false≢true (sym unlike))
+own_place image runs root call (Finish answer) own cpu none more unlike = absurd (false≢true (sym more))
+own_place image runs root call _ own cpu none more unlike = absurd (none-some _ (sym none))
 
 -- a step of a CPU that isn't root's
 foreign_step : (root : ℕ) (change : Change) (cpu : Cpu) → cpu.owner ≢ root → KeepsPlace root cpu (changed change cpu)
@@ -145,16 +163,16 @@ foreign_step root Step cpu other = record { owner = refl; root_position = refl; 
 foreign_step root Fail cpu other = record { owner = refl; root_position = refl; failed = refl; own = λ own. absurd (other own) }
 foreign_step root Halt cpu other = record { owner = refl; root_position = refl; failed = refl; own = λ own. absurd (other own) }
 
-foreign_place : (image : Image) (root : ℕ) (call : Option OpenCall) (act : Act) (own : ℕ) (cpu : Cpu) (op : Op) → op_of_act act ≡ Some op → cpu.owner ≢ root → KeepsPlace root cpu (acted image call act own own cpu)
-foreign_place image root call (Read width at got) own cpu op is other = one_of root (eqb own own) cpu (changed (change_of (Read width at got)) cpu) (foreign_step root (change_of (Read width at got)) cpu other)
-foreign_place image root call (Write width at value ok) own cpu op is other = one_of root (eqb own own) cpu (changed (change_of (Write width at value ok)) cpu) (foreign_step root (change_of (Write width at value ok)) cpu other)
-foreign_place image root call (Fetch at got) own cpu op is other = one_of root (eqb own own) cpu (changed (change_of (Fetch at got)) cpu) (foreign_step root (change_of (Fetch at got)) cpu other)
-foreign_place image root call (Await width at value ok) own cpu op is other = one_of root (eqb own own) cpu (changed (change_of (Await width at value ok)) cpu) (foreign_step root (change_of (Await width at value ok)) cpu other)
-foreign_place image root call (Irq device vector) own cpu op is other = one_of root (eqb own own) cpu (changed Step cpu) (foreign_step root Step cpu other)
-foreign_place image root call (Hvc code a b answer) own cpu op is other = one_of root (eqb own own) cpu (changed Step cpu) (foreign_step root Step cpu other)
-foreign_place image root call (Begin code a b) own cpu op is other =
+foreign_place : (image : Image) (runs : Bool) (root : ℕ) (call : Option OpenCall) (act : Act) (own : ℕ) (cpu : Cpu) (op : Op) → op_of_act act ≡ Some op → cpu.owner ≢ root → KeepsPlace root cpu (acted image runs call act own own cpu)
+foreign_place image runs root call (Read width at got) own cpu op is other = one_of root (eqb own own) cpu (changed (change_of (Read width at got)) cpu) (foreign_step root (change_of (Read width at got)) cpu other)
+foreign_place image runs root call (Write width at value ok) own cpu op is other = one_of root (eqb own own) cpu (changed (change_of (Write width at value ok)) cpu) (foreign_step root (change_of (Write width at value ok)) cpu other)
+foreign_place image runs root call (Fetch at got) own cpu op is other = one_of root (eqb own own) cpu (changed (change_of (Fetch at got)) cpu) (foreign_step root (change_of (Fetch at got)) cpu other)
+foreign_place image runs root call (Await width at value ok) own cpu op is other = one_of root (eqb own own) cpu (changed (change_of (Await width at value ok)) cpu) (foreign_step root (change_of (Await width at value ok)) cpu other)
+foreign_place image runs root call (Irq device vector) own cpu op is other = one_of root (eqb own own) cpu (changed Step cpu) (foreign_step root Step cpu other)
+foreign_place image runs root call (Hvc code a b answer) own cpu op is other = foreign_called root (decoded code a b) answer own own cpu other
+foreign_place image runs root call (Begin code a b) own cpu op is other =
     one_of root (is_on_board image own && not (eqb own own) && eqb cpu.owner image.system.root.id && is_running cpu.mode) cpu (asked_of cpu) (asked_place root cpu)
-foreign_place image root call _ own cpu op is other = absurd (none-some op is)
+foreign_place image runs root call _ own cpu op is other = absurd (none-some op is)
 
 -- ---- the open call
 
@@ -163,7 +181,7 @@ is_begin (Begin code a b) = true
 is_begin _ = false
 
 call_behind : (m : AdmittedMoment) → (facts_behind m).call ≡ call_by (facts_before m).cells (coming_of m.image (facts_before m)) (facts_before m).call m.entry m.entry.act
-call_behind m = ap (λ (f : Facts). f.call) (facts_push m.image m.before m.entry) ∙ after_call m.image (facts_before m) m.entry
+call_behind m = ap (λ (f : Facts). f.call) (facts_push m.image m.form m.before m.entry) ∙ after_call m.image (facts_before m) m.entry
 
 pend_map : (call : Option OpenCall) (g : OpenCall → Phase) (cpu : ℕ) → pending (option_map (λ (o : OpenCall). record { caller = o.caller; call = o.call; phase = g o }) call) cpu ≡ pending call cpu
 pend_map None g cpu = refl
@@ -182,8 +200,8 @@ pend_same m cpu unlike more =
 none_open : (m : AdmittedMoment) (code a b : ℕ) (call : Option OpenCall) → m.entry.act ≡ Begin code a b → (facts_before m).call ≡ call → call ≡ None
 none_open m code a b None act is = refl
 none_open m code a b (Some o) act is =
-    let alone : begun m.before ≡ None = begins_alone m.image m.before m.rest m.entry code a b m.admitted m.legal act in
-    absurd (none-some o.call (ap (option_map (λ (first : Entry). call_of_begin first.act)) (sym alone) ∙ call_of_open m.image m.before o is))
+    let alone : begun m.before ≡ None = begins_alone m.image m.form m.before m.rest m.entry code a b m.admitted m.legal act in
+    absurd (none-some o.call (ap (option_map (λ (first : Entry). call_of_begin first.act)) (sym alone) ∙ call_of_open m.image m.form m.before o is))
 
 begin_pends : (m : AdmittedMoment) (code a b cpu : ℕ) → m.entry.act ≡ Begin code a b → (pending (facts_before m).call cpu ≡ 0) × (pending (facts_behind m).call cpu ≡ cond (eqb m.entry.cpu cpu) 1 0)
 begin_pends m code a b cpu act = (
@@ -259,12 +277,12 @@ IsStep m cpu n =
     ⊎ ((op_here m cpu ≡ None) × IsAt m.image cpu n (facts_behind m))
 
 -- where the place is kept
-keeps_at : (m : AdmittedMoment) (cpu n : ℕ) → IsAt m.image cpu n (facts_before m) → KeepsPlace m.image.system.root.id ((facts_before m).cpu cpu) (acted m.image (facts_before m).call m.entry.act m.entry.cpu cpu ((facts_before m).cpu cpu))
+keeps_at : (m : AdmittedMoment) (cpu n : ℕ) → IsAt m.image cpu n (facts_before m) → KeepsPlace m.image.system.root.id ((facts_before m).cpu cpu) (acted m.image (runs_by_start (facts_before m) cpu) (facts_before m).call m.entry.act m.entry.cpu cpu ((facts_before m).cpu cpu))
     → pending (facts_behind m).call cpu ≡ pending (facts_before m).call cpu → IsAt m.image cpu n (facts_behind m)
 keeps_at m cpu n h keeps same =
     let P : Cpu → Type 0 = KeepsPlace m.image.system.root.id ((facts_before m).cpu cpu) in
     kept_at m.image cpu n ((facts_before m).cpu cpu) ((facts_behind m).cpu cpu) (pending (facts_before m).call cpu) (pending (facts_behind m).call cpu) h
-    (subst P (sym (behind_cpu m.image m.before m.entry cpu)) keeps) same
+    (subst P (sym (behind_cpu m.image m.form m.before m.entry cpu)) keeps) same
 
 -- ---- a Commit
 
@@ -312,10 +330,10 @@ about_apart m call phase id owner other e holds only own root =
     other_root m.image.system (configs_of (facts_before m).cells) live.0 (sound_at m).cells live.1 (only live.0.id live.2 ∙ sym own ∙ root)
 
 -- by the call that is committed, where no call is open of a CPU that is lent or given back
-committed_at : (m : AdmittedMoment) (cpu n more : ℕ) (call : Call) (phase : Phase) → ((facts_before m).call ≡ Some (record { caller = m.entry.cpu; call = call; phase = phase })) → Expects phase Commit
+committed_at : (m : AdmittedMoment) (runs : Bool) (cpu n more : ℕ) (call : Call) (phase : Phase) → ((facts_before m).call ≡ Some (record { caller = m.entry.cpu; call = call; phase = phase })) → Expects phase Commit
     → IsInPhase m.image (configs_of (facts_before m).cells) (facts_before m).cpu m.entry.cpu call phase → pending (facts_before m).call cpu ≡ more
-    → IsAtBy m.image cpu n ((facts_before m).cpu cpu) more → IsAtBy m.image cpu n (cpu_by_commit m.image call phase cpu ((facts_before m).cpu cpu)) more
-committed_at m cpu n more (Create at) (ToCreate config) opens e holds pends h =
+    → IsAtBy m.image cpu n ((facts_before m).cpu cpu) more → IsAtBy m.image cpu n (cpu_by_commit m.image runs call phase cpu ((facts_before m).cpu cpu)) more
+committed_at m runs cpu n more (Create at) (ToCreate config) opens e holds pends h =
     let before : Cpu = (facts_before m).cpu cpu in
     let P : Cpu → Type 0 = λ c. IsAtBy m.image cpu n c more in
     cond_both (is_cpu_set config.cpu_set cpu) (lent config.id before) before P
@@ -327,19 +345,24 @@ committed_at m cpu n more (Create at) (ToCreate config) opens e holds pends h =
     let R : ℕ → Type 0 = IsAtBy m.image cpu n (lent config.id before) in
     subst R zero_is (lent_at m.image cpu n config.id before other (may.owner cpu set) (subst Q (sym zero_is) h)))
     (λ none. h)
-committed_at m cpu n more (Start id) phase opens e holds pends h =
+committed_at m runs cpu n more (Start id) phase opens e holds pends h =
     let before : Cpu = (facts_before m).cpu cpu in
     let P : Cpu → Type 0 = λ c. IsAtBy m.image cpu n c more in
-    cond_both (eqb before.owner id) (restarted before) before P
-    (λ own. kept_at m.image cpu n before (restarted before) more more h (restarted_place m.image.system.root.id before (about_apart m (Start id) phase id before.owner (λ none. none) e holds (λ k named. sym (eqb-true id k named)) (eqb-true before.owner id own))) refl)
+    let next : Cpu = cond runs (restarted before) (parked before) in
+    cond_both (eqb before.owner id) next before P
+    (λ own.
+    let other = about_apart m (Start id) phase id before.owner (λ none. none) e holds (λ k named. sym (eqb-true id k named)) (eqb-true before.owner id own) in
+    let keeps : KeepsPlace m.image.system.root.id before next =
+    cond_both runs (restarted before) (parked before) (KeepsPlace m.image.system.root.id before) (λ _. restarted_place m.image.system.root.id before other) (λ _. parked_place m.image.system.root.id before other) in
+    kept_at m.image cpu n before next more more h keeps refl)
     (λ none. h)
-committed_at m cpu n more (Loadable id) phase opens e holds pends h =
+committed_at m runs cpu n more (Loadable id) phase opens e holds pends h =
     let before : Cpu = (facts_before m).cpu cpu in
     let P : Cpu → Type 0 = λ c. IsAtBy m.image cpu n c more in
     cond_both (eqb before.owner id) (parked before) before P
     (λ own. kept_at m.image cpu n before (parked before) more more h (parked_place m.image.system.root.id before (about_apart m (Loadable id) phase id before.owner (λ none. none) e holds (λ k named. sym (eqb-true id k named)) (eqb-true before.owner id own))) refl)
     (λ none. h)
-committed_at m cpu n more (Destroy id) phase opens e holds pends h =
+committed_at m runs cpu n more (Destroy id) phase opens e holds pends h =
     let before : Cpu = (facts_before m).cpu cpu in
     let back : Cpu = returned m.image.system.root.id (length (root_program m.image cpu)) before in
     let P : Cpu → Type 0 = λ c. IsAtBy m.image cpu n c more in
@@ -351,23 +374,23 @@ committed_at m cpu n more (Destroy id) phase opens e holds pends h =
     let R : ℕ → Type 0 = IsAtBy m.image cpu n back in
     subst R zero_is (returned_at m.image cpu n before other (subst Q (sym zero_is) h)))
     (λ none. h)
-committed_at m cpu n more _ phase opens e holds pends h = h
+committed_at m runs cpu n more _ phase opens e holds pends h = h
 
 commits_at : (m : AdmittedMoment) (cpu n : ℕ) → m.entry.act ≡ Commit → IsAt m.image cpu n (facts_before m) → IsAt m.image cpu n (facts_behind m)
 commits_at m cpu n act h =
     let f : Facts = facts_before m in
     let of = phase_of_due m.image f m.entry (sound_at m) (due_of m) (ap is_phase act) in
     let call : Call = of.o.call in
-    let at = committing_at m call (call_of_open m.image m.before of.o of.opens) act in
+    let at = committing_at m call (call_of_open m.image m.form m.before of.o of.opens) act in
     let o : OpenCall = record { caller = m.entry.cpu; call = call; phase = at.phase } in
-    let same : (facts_behind m).cpu cpu ≡ cpu_by_commit m.image call at.phase cpu (f.cpu cpu) =
-    behind_cpu m.image m.before m.entry cpu
-    ∙ ap (λ (c : Option OpenCall). acted m.image c m.entry.act m.entry.cpu cpu (f.cpu cpu)) at.opens
-    ∙ ap (λ (a : Act). acted m.image (Some o) a m.entry.cpu cpu (f.cpu cpu)) act in
+    let same : (facts_behind m).cpu cpu ≡ cpu_by_commit m.image (runs_by_start f cpu) call at.phase cpu (f.cpu cpu) =
+    behind_cpu m.image m.form m.before m.entry cpu
+    ∙ ap (λ (c : Option OpenCall). acted m.image (runs_by_start f cpu) c m.entry.act m.entry.cpu cpu (f.cpu cpu)) at.opens
+    ∙ ap (λ (a : Act). acted m.image (runs_by_start f cpu) (Some o) a m.entry.cpu cpu (f.cpu cpu)) act in
     let P : Cpu → Type 0 = λ c. IsAtBy m.image cpu n c (pending f.call cpu) in
     let Q : ℕ → Type 0 = IsAtBy m.image cpu n ((facts_behind m).cpu cpu) in
     subst Q (sym (pend_same m cpu (ap is_begin act) (ap is_finish act)))
-    (subst P (sym same) (committed_at m cpu n (pending f.call cpu) call at.phase at.opens at.expects at.holds refl h))
+    (subst P (sym same) (committed_at m (runs_by_start f cpu) cpu n (pending f.call cpu) call at.phase at.opens at.expects at.holds refl h))
 
 -- ---- an operation in root's name
 
@@ -400,7 +423,7 @@ record IsMoved (m : AdmittedMoment) (n : ℕ) : Type 0 where
 
 begins_moved : (m : AdmittedMoment) (n code a b : ℕ) → m.entry.act ≡ Begin code a b → ((facts_before m).cpu m.entry.cpu).owner ≡ m.image.system.root.id → ((facts_before m).cpu m.entry.cpu).position ≡ n → IsMoved m n
 begins_moved m n code a b act owner there =
-    let same : (facts_behind m).cpu m.entry.cpu ≡ (facts_before m).cpu m.entry.cpu = (begin_cpus m.image m.before m.entry code a b m.entry.cpu act).caller refl in
+    let same : (facts_behind m).cpu m.entry.cpu ≡ (facts_before m).cpu m.entry.cpu = (begin_cpus m.image m.form m.before m.entry code a b m.entry.cpu act).caller refl in
     let position : ((facts_behind m).cpu m.entry.cpu).position ≡ n = ap (λ (c : Cpu). c.position) same ∙ there in
     let more : pending (facts_behind m).call m.entry.cpu ≡ 1 = (begin_pends m code a b m.entry.cpu act).1 ∙ ap (λ (x : Bool). cond x 1 0) (same_number m.entry.cpu) in
     record { owner = ap (λ (c : Cpu). c.owner) same ∙ owner; next = omega (arith, position, more) }
@@ -414,8 +437,8 @@ runs_moved m n op is unlike owner there none =
     let more : pending (facts_behind m).call m.entry.cpu ≡ 0 = pend_same m m.entry.cpu unlike (op_ends m.entry.act op is) ∙ none in
     let moves : (behind.owner ≡ before.owner) × (behind.position ≡ before.position + 1) =
     ⊎_elim
-    (λ (violates : is_violation m.entry.act ≡ true). let e = own_ends m.image m.before m.rest m.entry m.admitted m.legal violates in (ap (λ (c : Cpu). c.owner) e, ap (λ (c : Cpu). c.position) e))
-    (λ (good : is_violation m.entry.act ≡ false). let e = own_steps m.image m.before m.rest m.entry m.admitted m.legal alone.0 alone.1 good in (ap (λ (c : Cpu). c.owner) e, ap (λ (c : Cpu). c.position) e))
+    (λ (violates : is_violation m.entry.act ≡ true). let e = own_ends m.image m.form m.before m.rest m.entry m.admitted m.legal violates in (ap (λ (c : Cpu). c.owner) e, ap (λ (c : Cpu). c.position) e))
+    (λ (good : is_violation m.entry.act ≡ false). let e = own_steps m.image m.form m.before m.rest m.entry m.admitted m.legal alone.0 alone.1 good (roots_stay_on m.image (facts_before m) m.entry (sound_at m) (due_of m) owner) in (ap (λ (c : Cpu). c.owner) e, ap (λ (c : Cpu). c.position) e))
     (cases_Bool (is_violation m.entry.act)) in
     record { owner = moves.0 ∙ owner; next = omega (arith, moves.1, there, more) }
 
@@ -424,7 +447,7 @@ made_at m n op is root h =
     let f : Facts = facts_before m in
     let state : Cpu = f.cpu m.entry.cpu in
     let ops : List Op = root_program m.image m.entry.cpu in
-    let operation = operation_at m.image m.before m.rest m.entry op m.admitted m.legal is in
+    let operation = operation_at m.image m.form m.before m.rest m.entry op m.admitted m.legal is in
     let cell : operation.0 ≡ m.image.system.root =
     ⊎_elim
     (λ (same : operation.0 ≡ m.image.system.root). same)
@@ -432,8 +455,8 @@ made_at m n op is root h =
     operation.1 in
     let at : slice_get ops state.position ≡ Some op = ap (λ (c : CellConfig). slice_get (program_ops m.image (name_of c) m.entry.cpu) state.position) (sym cell) ∙ operation.3 in
     let within : state.position < length ops = slice_get_within ops state.position op at in
-    let owner : state.owner ≡ m.image.system.root.id = sym (cell_at m.image m.before m.rest m.entry m.legal).1 ∙ root in
-    let running = (runs_at m.image m.before m.rest m.entry m.admitted m.legal (op_moves m.entry.act op is)).1 in
+    let owner : state.owner ≡ m.image.system.root.id = sym (cell_at m.image m.form m.before m.rest m.entry m.legal).1 ∙ root in
+    let running = (runs_at m.image m.form m.before m.rest m.entry m.admitted m.legal (op_moves m.entry.act op is)).1 in
     let none : pending f.call m.entry.cpu ≡ 0 = op_pends m op f.call is refl in
     let there : state.position ≡ n =
     ⊎_elim
@@ -468,7 +491,7 @@ finishes_at : (m : AdmittedMoment) (n : ℕ) (is : (answer : ℤ) × (m.entry.ac
 finishes_at m n is h =
     let before : Cpu = (facts_before m).cpu m.entry.cpu in
     let ops : List Op = root_program m.image m.entry.cpu in
-    let same : (facts_behind m).cpu m.entry.cpu ≡ stepped before = (finish_cpus m.image m.before m.rest m.entry is.0 m.entry.cpu m.admitted m.legal is.1).caller refl in
+    let same : (facts_behind m).cpu m.entry.cpu ≡ stepped before = (finish_cpus m.image m.form m.before m.rest m.entry is.0 m.entry.cpu m.admitted m.legal is.1).caller refl in
     let pends = finish_pends m m.entry.cpu is in
     let one : pending (facts_before m).call m.entry.cpu ≡ 1 = pends.0 ∙ ap (λ (b : Bool). cond b 1 0) (same_number m.entry.cpu) in
     let e : before.position + pending (facts_before m).call m.entry.cpu ≡ (before.position + 1) + 0 = omega (arith, one) in
@@ -481,14 +504,14 @@ own_none : (m : AdmittedMoment) (n : ℕ) → op_of_act m.entry.act ≡ None →
 own_none m n none unlike h (Begins code a b act) = absurd (none-some _ (sym none ∙ ap op_of_act act))
 own_none m n none unlike h (Ends is) = finishes_at m n is h
 own_none m n none unlike h (Other begins ends) =
-    keeps_at m m.entry.cpu n h (own_place m.image m.image.system.root.id (facts_before m).call m.entry.act m.entry.cpu ((facts_before m).cpu m.entry.cpu) none ends unlike) (pend_same m m.entry.cpu begins ends)
+    keeps_at m m.entry.cpu n h (own_place m.image (runs_by_start (facts_before m) m.entry.cpu) m.image.system.root.id (facts_before m).call m.entry.act m.entry.cpu ((facts_before m).cpu m.entry.cpu) none ends unlike) (pend_same m m.entry.cpu begins ends)
 
 own_foreign : (m : AdmittedMoment) (n : ℕ) (op : Op) → op_of_act m.entry.act ≡ Some op → m.entry.cell ≢ m.image.system.root.id → IsAt m.image m.entry.cpu n (facts_before m) → IsAt m.image m.entry.cpu n (facts_behind m)
 own_foreign m n op is other h =
     let f : Facts = facts_before m in
-    let foreign : (f.cpu m.entry.cpu).owner ≢ m.image.system.root.id = λ root. other ((cell_at m.image m.before m.rest m.entry m.legal).1 ∙ root) in
-    let keeps = foreign_place m.image m.image.system.root.id f.call m.entry.act m.entry.cpu (f.cpu m.entry.cpu) op is foreign in
-    let same : (facts_behind m).cpu m.entry.cpu ≡ acted m.image f.call m.entry.act m.entry.cpu m.entry.cpu (f.cpu m.entry.cpu) = behind_cpu m.image m.before m.entry m.entry.cpu in
+    let foreign : (f.cpu m.entry.cpu).owner ≢ m.image.system.root.id = λ root. other ((cell_at m.image m.form m.before m.rest m.entry m.legal).1 ∙ root) in
+    let keeps = foreign_place m.image (runs_by_start f m.entry.cpu) m.image.system.root.id f.call m.entry.act m.entry.cpu (f.cpu m.entry.cpu) op is foreign in
+    let same : (facts_behind m).cpu m.entry.cpu ≡ acted m.image (runs_by_start f m.entry.cpu) f.call m.entry.act m.entry.cpu m.entry.cpu (f.cpu m.entry.cpu) = behind_cpu m.image m.form m.before m.entry m.entry.cpu in
     let A : ℕ → Type 0 = AtOrPast (root_program m.image m.entry.cpu) n in
     record {
       own = λ root good. absurd (foreign (sym (ap (λ (c : Cpu). c.owner) same ∙ keeps.owner) ∙ root));
@@ -517,7 +540,7 @@ other_step m cpu n other h =
       ⊎_elim
           (λ (act : m.entry.act ≡ Commit). commits_at m cpu n act h)
           (λ (unlike : is_commit m.entry.act ≡ false).
-          keeps_at m cpu n h (other_place m.image m.image.system.root.id (facts_before m).call m.entry.act m.entry.cpu cpu ((facts_before m).cpu cpu) other unlike) (pend_other m cpu other (kind_of m.entry.act)))
+          keeps_at m cpu n h (other_place m.image (runs_by_start (facts_before m) cpu) m.image.system.root.id (facts_before m).call m.entry.act m.entry.cpu cpu ((facts_before m).cpu cpu) other unlike (λ own. spares_root m.image (facts_before m) m.entry cpu (sound_at m) (due_of m) own)) (pend_other m cpu other (kind_of m.entry.act)))
           (commit_or m.entry.act),
     )
 
@@ -530,16 +553,16 @@ step m cpu n h =
 
 -- ---- over the entries
 
-made_over : (image : Image) (before rest : List Entry) (cpu n : ℕ) → IsAdmitted image → IsLegal image (before ++ rest) → IsAt image cpu n (facts image before)
+made_over : (image : Image) (form : Form) (before rest : List Entry) (cpu n : ℕ) → IsAdmitted image → IsLegal image form (before ++ rest) → IsAt image cpu n (facts image form before)
     → (k : ℕ) × (operations_in image.system.root.id cpu rest ≡ take k (drop n (root_program image cpu)))
-made_over image before [] cpu n admitted legal h = (0, refl)
-made_over image before (entry ∷ rest) cpu n admitted legal h =
-    let m : AdmittedMoment = record { image = image; before = before; entry = entry; rest = rest; admitted = admitted; legal = legal } in
+made_over image form before [] cpu n admitted legal h = (0, refl)
+made_over image form before (entry ∷ rest) cpu n admitted legal h =
+    let m : AdmittedMoment = record { image = image; form = form; before = before; entry = entry; rest = rest; admitted = admitted; legal = legal } in
     let ops : List Op = root_program image cpu in
     let root : ℕ = image.system.root.id in
     let split : (before ++ entry ∷ []) ++ rest ≡ before ++ entry ∷ rest = append_assoc before (entry ∷ []) rest in
-    let P : List Entry → Type 0 = IsLegal image in
-    let later : (j : ℕ) → IsAt image cpu j (facts_behind m) → (k : ℕ) × (operations_in root cpu rest ≡ take k (drop j ops)) = λ j at. made_over image (before ++ entry ∷ []) rest cpu j admitted (subst P (sym split) legal) at in
+    let P : List Entry → Type 0 = IsLegal image form in
+    let later : (j : ℕ) → IsAt image cpu j (facts_behind m) → (k : ℕ) × (operations_in root cpu rest ≡ take k (drop j ops)) = λ j at. made_over image form (before ++ entry ∷ []) rest cpu j admitted (subst P (sym split) legal) at in
     ⊎_elim
     (λ (made : (op : Op) × (op_in root cpu entry ≡ Some op) × (slice_get ops n ≡ Some op) × IsAt image cpu (n + 1) (facts_behind m)).
     let op : Op = made.0 in
@@ -553,13 +576,13 @@ made_over image before (entry ∷ rest) cpu n admitted legal h =
     (more.0, ap (λ (o : Option Op). with_op o (operations_in root cpu rest)) none.0 ∙ more.1))
     (step m cpu n h)
 
-opens_at : (image : Image) (cpu : ℕ) → IsAt image cpu 0 (facts image [])
-opens_at image cpu =
+opens_at : (image : Image) (form : Form) (cpu : ℕ) → IsAt image cpu 0 (facts image form [])
+opens_at image form cpu =
     let P : Facts → Type 0 = IsAt image cpu 0 in
-    subst P (sym (facts_nil image)) (record { own = λ owner good. inl refl; lent = λ other good. absurd (other refl) })
+    subst P (sym (facts_nil image form)) (record { own = λ owner good. inl refl; lent = λ other good. absurd (other refl) })
 
-pub operations_go_on : (image : Image) (entries : List Entry) (cpu : ℕ) → IsAdmitted image → IsLegal image entries → (n : ℕ) × (operations_in image.system.root.id cpu entries ≡ take n (program_in image image.system.root cpu))
-operations_go_on image entries cpu admitted legal = made_over image [] entries cpu 0 admitted legal (opens_at image cpu)
+pub operations_go_on : (image : Image) (form : Form) (entries : List Entry) (cpu : ℕ) → IsAdmitted image → IsLegal image form entries → (n : ℕ) × (operations_in image.system.root.id cpu entries ≡ take n (program_in image image.system.root cpu))
+operations_go_on image form entries cpu admitted legal = made_over image form [] entries cpu 0 admitted legal (opens_at image form cpu)
 
 take_none : (k : ℕ) → take {A = Op} k [] ≡ []
 take_none zero = refl
@@ -569,10 +592,10 @@ take_none (suc k) = refl
 pub violation_ends : (m : AdmittedMoment) → is_violation m.entry.act ≡ true → m.entry.cell ≡ m.image.system.root.id → operations_in m.image.system.root.id m.entry.cpu m.rest ≡ []
 violation_ends m violates root =
     let ops : List Op = root_program m.image m.entry.cpu in
-    let behind = own_ends m.image m.before m.rest m.entry m.admitted m.legal violates in
-    let owner : ((facts_behind m).cpu m.entry.cpu).owner ≡ m.image.system.root.id = ap (λ (c : Cpu). c.owner) behind ∙ sym (cell_at m.image m.before m.rest m.entry m.legal).1 ∙ root in
+    let behind = own_ends m.image m.form m.before m.rest m.entry m.admitted m.legal violates in
+    let owner : ((facts_behind m).cpu m.entry.cpu).owner ≡ m.image.system.root.id = ap (λ (c : Cpu). c.owner) behind ∙ sym (cell_at m.image m.form m.before m.rest m.entry m.legal).1 ∙ root in
     let at : IsAt m.image m.entry.cpu (length ops) (facts_behind m) = record { own = λ own good. absurd (good (ap (λ (c : Cpu). c.mode) behind)); lent = λ other good. absurd (other owner) } in
     let split : (m.before ++ m.entry ∷ []) ++ m.rest ≡ m.before ++ m.entry ∷ m.rest = append_assoc m.before (m.entry ∷ []) m.rest in
-    let P : List Entry → Type 0 = IsLegal m.image in
-    let made = made_over m.image (m.before ++ m.entry ∷ []) m.rest m.entry.cpu (length ops) m.admitted (subst P (sym split) m.legal) at in
+    let P : List Entry → Type 0 = IsLegal m.image m.form in
+    let made = made_over m.image m.form (m.before ++ m.entry ∷ []) m.rest m.entry.cpu (length ops) m.admitted (subst P (sym split) m.legal) at in
     made.1 ∙ ap (take made.0) (drop_all (length ops) ops (omega arith)) ∙ take_none made.0

@@ -13,12 +13,15 @@ use Rattle.jh_cellcfg.specs.declared.live.Live.{Live}
 use Rattle.jh_check.specs.Devices.{is_shmem}
 use Rattle.jh_cpu.specs.declared.cpu.Cpu.{Cpu}
 use Rattle.jh_call.specs.declared.call.Call.{Call}
-use Rattle.jh_call.specs.declared.call.Call.TheVariants.{Info, State, CpuInfo, Unknown}
+use Rattle.jh_call.specs.declared.call.Call.TheVariants.{Info, State, CpuInfo, CpuOff, CpuOn, Affinity, Unknown}
 use Rattle.jh_call.specs.declared.seen.Seen.{Seen}
+use Rattle.jh_call.specs.declared.seen.PowerSeen.{PowerSeen}
+use Rattle.jh_call.specs.declared.seen.PowerSeen.TheVariants.{Foreign as NotOwned, On, Off, Failed as IsDown}
+use Rattle.jh_call.specs.declared.answers.TheConstants.{SUCCESS, INVALID_PARAMETERS, DENIED, ALREADY_ON, AFFINITY_ON, AFFINITY_OFF}
 use Rattle.jh_call.specs.declared.seen.CpuSeen.{CpuSeen}
 use Rattle.jh_call.specs.declared.seen.CpuSeen.TheVariants.{Absent, Foreign, Fine, Failed}
 use Rattle.jh_call.specs.Calls.{decoded, is_management}
-use Rattle.jh_call.specs.Answers.{info_of, state_answer, cpu_answer, answer_of}
+use Rattle.jh_call.specs.Answers.{info_of, state_answer, cpu_answer, on_answer, affinity_answer, answer_of}
 use Rattle.jh_ivshmem.specs.declared.endpoint.Endpoint.{Endpoint}
 use Rattle.jh_ivshmem.specs.declared.vector.Vector.{Vector}
 use Rattle.jh_ivshmem.specs.declared.spec.EndpointSpec.{EndpointSpec}
@@ -26,6 +29,7 @@ use Rattle.jh_ivshmem.specs.Endpoint.{fresh_vector}
 use Rattle.jh_ivshmem.specs.Links.{pending_of}
 use Rattle.jh_ivshmem.proofs.Public.{named_device}
 use Rattle.jh_script.specs.declared.image.Image.{Image}
+use Rattle.jh_history.specs.declared.form.Form.{Form}
 use Rattle.jh_script.specs.declared.op.Op.{Op}
 use Rattle.jh_script.specs.declared.op.Op.TheVariants.{Read as ReadOp, Write as WriteOp, Fetch as FetchOp, Await as AwaitOp, Irq as IrqOp, Hvc as HvcOp}
 use Rattle.jh_script.specs.Operations.{IsWellFormed}
@@ -42,7 +46,7 @@ use Rattle.jh_history.specs.Admitted.{IsAdmitted, pool_pages}
 use Rattle.jh_history.specs.Due.{due_at, act_of, await_of, got_by, is_idle_but, IsLegal}
 use Rattle.jh_history.specs.Facts.{Facts}
 use Rattle.jh_history.specs.History.{facts}
-use Rattle.jh_history.specs.Hypercalls.{seen_of}
+use Rattle.jh_history.specs.Hypercalls.{call_in, seen_of, answered}
 use Rattle.jh_history.specs.Lives.{cell_in}
 use Rattle.jh_shape.specs.Lives.{configs_of}
 use Rattle.jh_history.specs.Sound.{IsInPhase, IsOfDevice, IsSoundEndpoint, IsSound}
@@ -124,8 +128,8 @@ got_fits image f id access at width (Some value) sound typed outcome = read_fits
 
 -- the numbers that are seen are small
 record IsFewSeen (seen : Seen) : Type 0 where
-  pool_pages : seen.pool_pages < 2 ^ 63
-  used_pages : seen.used_pages < 2 ^ 63
+  size : seen.size < 2 ^ 63
+  used : seen.used < 2 ^ 63
   cells : seen.cells < 2 ^ 63
 
 abbrev Fits : ℤ → Type 0
@@ -148,8 +152,8 @@ unknown_fits = record { sfits = omega arith }
 
 info_fits : (kind : ℕ) (seen : Seen) → IsFewSeen seen → Fits (info_of kind seen)
 info_fits kind seen few =
-    cond_both (eqb kind 0) _ _ Fits (λ _. number_fits seen.pool_pages few.pool_pages)
-    (λ _. cond_both (eqb kind 1) _ _ Fits (λ _. number_fits seen.used_pages few.used_pages)
+    cond_both (eqb kind 0) _ _ Fits (λ _. number_fits seen.size few.size)
+    (λ _. cond_both (eqb kind 1) _ _ Fits (λ _. number_fits seen.used few.used)
     (λ _. cond_both (eqb kind 4) _ _ Fits (λ _. number_fits seen.cells few.cells) (λ _. invalid_fits)))
 
 state_fits : (state : Option ℕ) → Fits (state_answer state)
@@ -162,10 +166,40 @@ cpu_fits kind Foreign = permission_fits
 cpu_fits kind Fine = cond_both (eqb kind 0) (pos 0) EINVAL Fits (λ _. number_fits 0 (omega arith)) (λ _. invalid_fits)
 cpu_fits kind Failed = cond_both (eqb kind 0) (pos 2) EINVAL Fits (λ _. number_fits 2 (omega arith)) (λ _. invalid_fits)
 
+success_fits : Fits (pos 0)
+success_fits = number_fits 0 (omega arith)
+
+one_fits : Fits (pos 1)
+one_fits = number_fits 1 (omega arith)
+
+parameters_fit : Fits INVALID_PARAMETERS
+parameters_fit = record { sfits = omega arith }
+
+denied_fits : Fits DENIED
+denied_fits = record { sfits = omega arith }
+
+already_fits : Fits ALREADY_ON
+already_fits = record { sfits = omega arith }
+
+on_fits : (power : PowerSeen) → Fits (on_answer power)
+on_fits NotOwned = parameters_fit
+on_fits On = already_fits
+on_fits Off = success_fits
+on_fits IsDown = denied_fits
+
+affinity_fits : (level : ℕ) (power : PowerSeen) → Fits (affinity_answer level power)
+affinity_fits level NotOwned = parameters_fit
+affinity_fits level On = cond_both (eqb level 0) AFFINITY_ON INVALID_PARAMETERS Fits (λ _. success_fits) (λ _. parameters_fit)
+affinity_fits level Off = cond_both (eqb level 0) AFFINITY_OFF INVALID_PARAMETERS Fits (λ _. one_fits) (λ _. parameters_fit)
+affinity_fits level IsDown = cond_both (eqb level 0) AFFINITY_OFF INVALID_PARAMETERS Fits (λ _. one_fits) (λ _. parameters_fit)
+
 answer_fits : (call : Call) (seen : Seen) → IsFewSeen seen → Fits (answer_of call seen)
 answer_fits (Info kind) seen few = info_fits kind seen few
 answer_fits (State id) seen few = cond_both seen.root (state_answer seen.state) EPERM Fits (λ _. state_fits seen.state) (λ _. permission_fits)
 answer_fits (CpuInfo cpu kind) seen few = cpu_fits kind seen.cpu
+answer_fits CpuOff seen few = cond_both seen.root ENOSYS SUCCESS Fits (λ _. unknown_fits) (λ _. success_fits)
+answer_fits (CpuOn cpu) seen few = cond_both seen.root ENOSYS (on_answer seen.power) Fits (λ _. unknown_fits) (λ _. on_fits seen.power)
+answer_fits (Affinity cpu level) seen few = cond_both seen.root ENOSYS (affinity_answer level seen.power) Fits (λ _. unknown_fits) (λ _. affinity_fits level seen.power)
 answer_fits Unknown seen few = unknown_fits
 answer_fits _ seen few = permission_fits
 
@@ -175,7 +209,7 @@ few_seen image f cell call sound typed =
     let size : pool_pages image.system < 2 ^ 63 = omega (arith, memory) in
     let few = few_typed image f sound typed in
     let long = length_map (λ (live : Live). live.config) f.cells in
-    record { pool_pages = size; used_pages = omega (arith, sound.cells.room, size); cells = omega (arith, few, long) }
+    record { size = size; used = omega (arith, sound.cells.room, size); cells = omega (arith, few, long) }
 
 -- ---- interrupts
 
@@ -218,8 +252,8 @@ op_told image f id (AwaitOp width at value) sound typed plain = await_told width
 op_told image f id IrqOp sound typed plain = irq_told (pending_of id f.endpoints) (λ n v is. pending_fits image f id n v sound is)
 op_told image f id (HvcOp code a b) sound typed plain =
     let call : Call = decoded code a b in
-    cond_both (eqb id image.system.root.id && is_management call) (Begin code a b) (Hvc code a b (answer_of call (seen_of image f id call))) HasTypedAct
-    (λ _. tt) (λ _. answer_fits call (seen_of image f id call) (few_seen image f id call sound typed))
+    cond_both (eqb id image.system.root.id && is_management call) (Begin code a b) (Hvc code a b (answered image f id (call_in f.form call))) HasTypedAct
+    (λ _. tt) (λ _. answer_fits (call_in f.form call) (seen_of image f id (call_in f.form call)) (few_seen image f id (call_in f.form call) sound typed))
 
 told_by : (act : Act) (o : Option Act) → IsTypedAct o → o ≡ Some act → HasTypedAct act
 told_by act None h is = absurd (none-some act is)
@@ -255,27 +289,27 @@ made_told image f entry admitted sound typed due (Running program) =
     let plain = ops_well_formed image entry.cpu (cell_in image f.cells state.owner) state.position program.op admitted program.at in
     told_by entry.act (act_of image f state.owner program.op) (op_told image f state.owner program.op sound typed plain) program.is
 
-pub told_at : (image : Image) (before rest : List Entry) (entry : Entry) → IsAdmitted image → IsTypedImage image → IsLegal image (before ++ entry ∷ rest) → HasTypedAct entry.act
-told_at image before rest entry admitted opens legal =
-    let f : Facts = facts image before in
-    let early : IsLegal image before = IsLegal_begin image before (entry ∷ rest) legal in
-    let sound = legal_sound image before admitted early in
-    let due : due_at image f entry.cpu ≡ Some entry = due_split image before rest entry legal in
-    made_told image f entry admitted sound (legal_typed image before admitted opens.bytes early) due (made_by image f entry sound due)
+pub told_at : (image : Image) (form : Form) (before rest : List Entry) (entry : Entry) → IsAdmitted image → IsTypedImage image → IsLegal image form (before ++ entry ∷ rest) → HasTypedAct entry.act
+told_at image form before rest entry admitted opens legal =
+    let f : Facts = facts image form before in
+    let early : IsLegal image form before = IsLegal_begin image form before (entry ∷ rest) legal in
+    let sound = legal_sound image form before admitted early in
+    let due : due_at image f entry.cpu ≡ Some entry = due_split image form before rest entry legal in
+    made_told image f entry admitted sound (legal_typed image form before admitted opens.bytes early) due (made_by image f entry sound due)
 
-pub cell_small : (image : Image) (before rest : List Entry) (entry : Entry) → IsAdmitted image → IsTypedImage image → IsLegal image (before ++ entry ∷ rest) → entry.cell < 2 ^ 32
-cell_small image before rest entry admitted opens legal =
-    let f : Facts = facts image before in
-    let early : IsLegal image before = IsLegal_begin image before (entry ∷ rest) legal in
-    let sound = legal_sound image before admitted early in
-    let typed = legal_typed image before admitted opens.bytes early in
-    let next = next_from_due image f entry (due_split image before rest entry legal) in
+pub cell_small : (image : Image) (form : Form) (before rest : List Entry) (entry : Entry) → IsAdmitted image → IsTypedImage image → IsLegal image form (before ++ entry ∷ rest) → entry.cell < 2 ^ 32
+cell_small image form before rest entry admitted opens legal =
+    let f : Facts = facts image form before in
+    let early : IsLegal image form before = IsLegal_begin image form before (entry ∷ rest) legal in
+    let sound = legal_sound image form before admitted early in
+    let typed = legal_typed image form before admitted opens.bytes early in
+    let next = next_from_due image f entry (due_split image form before rest entry legal) in
     let P : ℕ → Type 0 = λ id. id < 2 ^ 32 in
     subst P (sym next.cell)
     (⊎_elim (λ root. subst P (sym root) opens.root) (λ cell. subst P (sym cell.2) (typed.cells cell.0 cell.1).id) (sound.cpus.others entry.cpu))
 
-pub cpu_small : (image : Image) (before rest : List Entry) (entry : Entry) → IsAdmitted image → IsLegal image (before ++ entry ∷ rest) → entry.cpu < 16
-cpu_small image before rest entry admitted legal =
-    let f : Facts = facts image before in
-    let sound = legal_sound image before admitted (IsLegal_begin image before (entry ∷ rest) legal) in
-    board_few image (configs_of f.cells) sound.cells.clean entry.cpu (next_from_due image f entry (due_split image before rest entry legal)).board
+pub cpu_small : (image : Image) (form : Form) (before rest : List Entry) (entry : Entry) → IsAdmitted image → IsLegal image form (before ++ entry ∷ rest) → entry.cpu < 16
+cpu_small image form before rest entry admitted legal =
+    let f : Facts = facts image form before in
+    let sound = legal_sound image form before admitted (IsLegal_begin image form before (entry ∷ rest) legal) in
+    board_few image (configs_of f.cells) sound.cells.clean entry.cpu (next_from_due image f entry (due_split image form before rest entry legal)).board

@@ -15,6 +15,7 @@ use Rattle.jh_ivshmem.specs.Links.{configured, endpoint_at, is_pending, rung, st
 use Rattle.jh_ivshmem.proofs.Public.{raised_spec, taken_spec, register_written_spec, named_cell, named_device}
 use Rattle.jh_vpci.specs.Writes.{written as config_written}
 use Rattle.jh_script.specs.declared.image.Image.{Image}
+use Rattle.jh_history.specs.declared.form.Form.{Form}
 use Rattle.jh_history.specs.declared.access.Access.TheVariants.{Write as ToWrite}
 use Rattle.jh_history.specs.declared.access.Reach.{Reach}
 use Rattle.jh_history.specs.declared.access.Reach.TheVariants.{Memory, Subpage, Config, Window, Nothing}
@@ -113,12 +114,12 @@ entry_now image f entry id n e sound due small there =
     inl (record { endpoint = now.endpoint; there = ap (endpoint_at id n) (after_acted image f entry other) ∙ now.there; become = now.become }))
     (commit_or entry.act)
 
-pub endpoints_behind : (image : Image) (before : List Entry) (entry : Entry) → (facts image (before ++ entry ∷ [])).endpoints ≡ endpoints_after image (facts image before) entry
+pub endpoints_behind : (image : Image) (form : Form) (before : List Entry) (entry : Entry) → (facts image form (before ++ entry ∷ [])).endpoints ≡ endpoints_after image (facts image form before) entry
 unfolding after
-endpoints_behind image before entry = ap (λ (f : Facts). f.endpoints) (facts_push image before entry)
+endpoints_behind image form before entry = ap (λ (f : Facts). f.endpoints) (facts_push image form before entry)
 
-abbrev Kept : Image → List Entry → Entry → ℕ → ℕ → ℕ → Type 0
-Kept image before entry id n v = IsPendingIn (facts image before) id n v × (Drops (facts image before) entry id n v → ⊥)
+abbrev Kept : Image → Form → List Entry → Entry → ℕ → ℕ → ℕ → Type 0
+Kept image form before entry id n v = IsPendingIn (facts image form before) id n v × (Drops (facts image form before) entry id n v → ⊥)
 
 drops_of : (f : Facts) (entry : Entry) (id n v : ℕ) (e : Endpoint) → e.spec.cell ≡ id → e.spec.device ≡ n → IsDropped f entry e v → Drops f entry id n v
 drops_of f entry id n v e cell device drop =
@@ -132,65 +133,65 @@ of_drops f entry id n v e cell device drop =
     let Q : ℕ → Type 0 = λ d. Drops f entry id d v in
     subst P (sym cell) (subst Q (sym device) drop)
 
-pub pending_behind : (image : Image) (before rest : List Entry) (entry : Entry) (id n v : ℕ) → IsAdmitted image → IsLegal image (before ++ entry ∷ rest) → IsPendingIn (facts image (before ++ entry ∷ [])) id n v
-    → Raises image (facts image before) entry id n v ⊎ Kept image before entry id n v
-pending_behind image before rest entry id n v admitted legal pending =
-    let f : Facts = facts image before in
-    let sound = legal_sound image before admitted (IsLegal_begin image before (entry ∷ rest) legal) in
-    let due = due_split image before rest entry legal in
-    let at = endpoint_of_pending (facts image (before ++ entry ∷ [])) id n v pending in
-    let there : endpoint_at id n (endpoints_after image f entry) ≡ Some at.0 = ap (endpoint_at id n) (sym (endpoints_behind image before entry)) ∙ at.1 in
+pub pending_behind : (image : Image) (form : Form) (before rest : List Entry) (entry : Entry) (id n v : ℕ) → IsAdmitted image → IsLegal image form (before ++ entry ∷ rest) → IsPendingIn (facts image form (before ++ entry ∷ [])) id n v
+    → Raises image (facts image form before) entry id n v ⊎ Kept image form before entry id n v
+pending_behind image form before rest entry id n v admitted legal pending =
+    let f : Facts = facts image form before in
+    let sound = legal_sound image form before admitted (IsLegal_begin image form before (entry ∷ rest) legal) in
+    let due = due_split image form before rest entry legal in
+    let at = endpoint_of_pending (facts image form (before ++ entry ∷ [])) id n v pending in
+    let there : endpoint_at id n (endpoints_after image f entry) ≡ Some at.0 = ap (endpoint_at id n) (sym (endpoints_behind image form before entry)) ∙ at.1 in
     before_by (endpoint_at id n f.endpoints) refl sound due at.0 there at.2
   where
-    before_by : (q : Option Endpoint) → endpoint_at id n (facts image before).endpoints ≡ q → IsSound image (facts image before) → due_at image (facts image before) entry.cpu ≡ Some entry → (b : Endpoint) → endpoint_at id n (endpoints_after image (facts image before) entry) ≡ Some b → (vector_at b v).pending ≡ true
-        → Raises image (facts image before) entry id n v ⊎ Kept image before entry id n v
-    before_by None is sound due b there pends = absurd (both_ways (vector_at b v).pending ((none_quiet image (facts image before) entry id n sound due is b there).pending v) pends)
+    before_by : (q : Option Endpoint) → endpoint_at id n (facts image form before).endpoints ≡ q → IsSound image (facts image form before) → due_at image (facts image form before) entry.cpu ≡ Some entry → (b : Endpoint) → endpoint_at id n (endpoints_after image (facts image form before) entry) ≡ Some b → (vector_at b v).pending ≡ true
+        → Raises image (facts image form before) entry id n v ⊎ Kept image form before entry id n v
+    before_by None is sound due b there pends = absurd (both_ways (vector_at b v).pending ((none_quiet image (facts image form before) entry id n sound due is b there).pending v) pends)
     before_by (Some e) is sound due b there pends =
-        let cell = named_cell id n (facts image before).endpoints e is in
-        let device = named_device id n (facts image before).endpoints e is in
+        let cell = named_cell id n (facts image form before).endpoints e is in
+        let device = named_device id n (facts image form before).endpoints e is in
         ⊎_elim
-        (λ (now : IsNow image (facts image before) entry id n e (endpoints_after image (facts image before) entry)).
+        (λ (now : IsNow image (facts image form before) entry id n e (endpoints_after image (facts image form before) entry)).
         let P : Endpoint → Type 0 = λ o. (vector_at o v).pending ≡ true in
         ⊎_elim
-        (λ (called : (is_open e v ≡ true) × Calls image (facts image before) entry e v). inl (record { peer = e; there = is; let_through = called.0; by = called.1 }))
-        (λ (kept : ((vector_at e v).pending ≡ true) × (IsDropped (facts image before) entry e v → ⊥)).
-        inr (pending_of_endpoint (facts image before) id n v e is kept.0, λ drop. kept.1 (of_drops (facts image before) entry id n v e cell device drop)))
+        (λ (called : (is_open e v ≡ true) × Calls image (facts image form before) entry e v). inl (record { peer = e; there = is; let_through = called.0; by = called.1 }))
+        (λ (kept : ((vector_at e v).pending ≡ true) × (IsDropped (facts image form before) entry e v → ⊥)).
+        inr (pending_of_endpoint (facts image form before) id n v e is kept.0, λ drop. kept.1 (of_drops (facts image form before) entry id n v e cell device drop)))
         (now.become.only v (subst P (same_Some b now.endpoint (sym there ∙ now.there)) pends)))
-        (λ (cleared : IsCleared image (facts image before) entry id n e). absurd (both_ways (vector_at b v).pending ((cleared.quiet b there).pending v) pends))
-        (entry_now image (facts image before) entry id n e sound due (small_at image before rest entry admitted legal) is)
+        (λ (cleared : IsCleared image (facts image form before) entry id n e). absurd (both_ways (vector_at b v).pending ((cleared.quiet b there).pending v) pends))
+        (entry_now image (facts image form before) entry id n e sound due (small_at image form before rest entry admitted legal) is)
 
-pending_now : (image : Image) (before : List Entry) (entry : Entry) (id n v : ℕ) (b : Endpoint) → endpoint_at id n (endpoints_after image (facts image before) entry) ≡ Some b → (vector_at b v).pending ≡ true → IsPendingIn (facts image (before ++ entry ∷ [])) id n v
-pending_now image before entry id n v b there pends = pending_of_endpoint (facts image (before ++ entry ∷ [])) id n v b (ap (endpoint_at id n) (endpoints_behind image before entry) ∙ there) pends
+pending_now : (image : Image) (form : Form) (before : List Entry) (entry : Entry) (id n v : ℕ) (b : Endpoint) → endpoint_at id n (endpoints_after image (facts image form before) entry) ≡ Some b → (vector_at b v).pending ≡ true → IsPendingIn (facts image form (before ++ entry ∷ [])) id n v
+pending_now image form before entry id n v b there pends = pending_of_endpoint (facts image form (before ++ entry ∷ [])) id n v b (ap (endpoint_at id n) (endpoints_behind image form before entry) ∙ there) pends
 
-pub raised_behind : (image : Image) (before rest : List Entry) (entry : Entry) (id n v : ℕ) → IsAdmitted image → IsLegal image (before ++ entry ∷ rest) → Raises image (facts image before) entry id n v → IsPendingIn (facts image (before ++ entry ∷ [])) id n v
-raised_behind image before rest entry id n v admitted legal h =
-    let f : Facts = facts image before in
-    let sound = legal_sound image before admitted (IsLegal_begin image before (entry ∷ rest) legal) in
-    let due = due_split image before rest entry legal in
+pub raised_behind : (image : Image) (form : Form) (before rest : List Entry) (entry : Entry) (id n v : ℕ) → IsAdmitted image → IsLegal image form (before ++ entry ∷ rest) → Raises image (facts image form before) entry id n v → IsPendingIn (facts image form (before ++ entry ∷ [])) id n v
+raised_behind image form before rest entry id n v admitted legal h =
+    let f : Facts = facts image form before in
+    let sound = legal_sound image form before admitted (IsLegal_begin image form before (entry ∷ rest) legal) in
+    let due = due_split image form before rest entry legal in
     ⊎_elim
-    (λ (now : IsNow image f entry id n h.peer (endpoints_after image f entry)). pending_now image before entry id n v now.endpoint now.there (now.become.calls v h.let_through h.by))
+    (λ (now : IsNow image f entry id n h.peer (endpoints_after image f entry)). pending_now image form before entry id n v now.endpoint now.there (now.become.calls v h.let_through h.by))
     (λ (cleared : IsCleared image f entry id n h.peer). absurd (cleared.uncalled_is v h.by))
-    (entry_now image f entry id n h.peer sound due (small_at image before rest entry admitted legal) h.there)
+    (entry_now image f entry id n h.peer sound due (small_at image form before rest entry admitted legal) h.there)
 
-pub kept_behind : (image : Image) (before rest : List Entry) (entry : Entry) (id n v : ℕ) → IsAdmitted image → IsLegal image (before ++ entry ∷ rest) → Kept image before entry id n v → IsPendingIn (facts image (before ++ entry ∷ [])) id n v
-kept_behind image before rest entry id n v admitted legal h =
-    let f : Facts = facts image before in
-    let sound = legal_sound image before admitted (IsLegal_begin image before (entry ∷ rest) legal) in
-    let due = due_split image before rest entry legal in
+pub kept_behind : (image : Image) (form : Form) (before rest : List Entry) (entry : Entry) (id n v : ℕ) → IsAdmitted image → IsLegal image form (before ++ entry ∷ rest) → Kept image form before entry id n v → IsPendingIn (facts image form (before ++ entry ∷ [])) id n v
+kept_behind image form before rest entry id n v admitted legal h =
+    let f : Facts = facts image form before in
+    let sound = legal_sound image form before admitted (IsLegal_begin image form before (entry ∷ rest) legal) in
+    let due = due_split image form before rest entry legal in
     let at = endpoint_of_pending f id n v h.0 in
     let e : Endpoint = at.0 in
     let cell = named_cell id n f.endpoints e at.1 in
     let device = named_device id n f.endpoints e at.1 in
     ⊎_elim
-    (λ (now : IsNow image f entry id n e (endpoints_after image f entry)). pending_now image before entry id n v now.endpoint now.there (now.become.keeps v at.2 (λ drop. h.1 (drops_of f entry id n v e cell device drop))))
+    (λ (now : IsNow image f entry id n e (endpoints_after image f entry)). pending_now image form before entry id n v now.endpoint now.there (now.become.keeps v at.2 (λ drop. h.1 (drops_of f entry id n v e cell device drop))))
     (λ (cleared : IsCleared image f entry id n e). absurd (h.1 (drops_of f entry id n v e cell device (inr cleared.clears))))
-    (entry_now image f entry id n e sound due (small_at image before rest entry admitted legal) at.1)
+    (entry_now image f entry id n e sound due (small_at image form before rest entry admitted legal) at.1)
 
 -- at opening
-pub opening_none : (image : Image) (id n v : ℕ) → IsPendingIn (facts image []) id n v → ⊥
-opening_none image id n v pending =
-    let at = endpoint_of_pending (facts image []) id n v pending in
-    let there : endpoint_at id n (endpoints_changed Join (specs_of image.system.root) []) ≡ Some at.0 = ap (λ (f : Facts). endpoint_at id n f.endpoints) (sym (facts_nil image)) ∙ at.1 in
+pub opening_none : (image : Image) (form : Form) (id n v : ℕ) → IsPendingIn (facts image form []) id n v → ⊥
+opening_none image form id n v pending =
+    let at = endpoint_of_pending (facts image form []) id n v pending in
+    let there : endpoint_at id n (endpoints_changed Join (specs_of image.system.root) []) ≡ Some at.0 = ap (λ (f : Facts). endpoint_at id n f.endpoints) (sym (facts_nil image form)) ∙ at.1 in
     both_ways (vector_at at.0 v).pending ((joined_quiet_all (specs_of image.system.root) [] id n (quiet_none id n [] refl) at.0 there).pending v) at.2
 
 -- ---- devices of other cells
@@ -266,15 +267,15 @@ kept_others image f entry e b there unclear foreign become =
           pending_alone b e.spec.cell e.spec.device v (ap (λ (s : EndpointSpec). s.cell) become.spec) (ap (λ (s : EndpointSpec). s.device) become.spec) kept;
     }
 
-pub other_stays : (image : Image) (before rest : List Entry) (entry : Entry) (e : Endpoint) → IsAdmitted image → IsLegal image (before ++ entry ∷ rest) → Contains (facts image before).endpoints e → entry.cell ≢ e.spec.cell → (Clears (facts image before) entry e.spec.cell → ⊥)
-    → (b : Endpoint) × (endpoint_at e.spec.cell e.spec.device (facts image (before ++ entry ∷ [])).endpoints ≡ Some b) × IsKeptByOthers image (facts image before) entry e b
-other_stays image before rest entry e admitted legal held foreign unclear =
-    let f : Facts = facts image before in
-    let sound = legal_sound image before admitted (IsLegal_begin image before (entry ∷ rest) legal) in
-    let due = due_split image before rest entry legal in
+pub other_stays : (image : Image) (form : Form) (before rest : List Entry) (entry : Entry) (e : Endpoint) → IsAdmitted image → IsLegal image form (before ++ entry ∷ rest) → Contains (facts image form before).endpoints e → entry.cell ≢ e.spec.cell → (Clears (facts image form before) entry e.spec.cell → ⊥)
+    → (b : Endpoint) × (endpoint_at e.spec.cell e.spec.device (facts image form (before ++ entry ∷ [])).endpoints ≡ Some b) × IsKeptByOthers image (facts image form before) entry e b
+other_stays image form before rest entry e admitted legal held foreign unclear =
+    let f : Facts = facts image form before in
+    let sound = legal_sound image form before admitted (IsLegal_begin image form before (entry ∷ rest) legal) in
+    let due = due_split image form before rest entry legal in
     let there = endpoint_found image f e sound held in
     ⊎_elim
     (λ (now : IsNow image f entry e.spec.cell e.spec.device e (endpoints_after image f entry)).
-    (now.endpoint, ap (endpoint_at e.spec.cell e.spec.device) (endpoints_behind image before entry) ∙ now.there, kept_others image f entry e now.endpoint there unclear foreign now.become))
+    (now.endpoint, ap (endpoint_at e.spec.cell e.spec.device) (endpoints_behind image form before entry) ∙ now.there, kept_others image f entry e now.endpoint there unclear foreign now.become))
     (λ (cleared : IsCleared image f entry e.spec.cell e.spec.device e). absurd (unclear cleared.clears))
-    (entry_now image f entry e.spec.cell e.spec.device e sound due (small_at image before rest entry admitted legal) there)
+    (entry_now image f entry e.spec.cell e.spec.device e sound due (small_at image form before rest entry admitted legal) there)

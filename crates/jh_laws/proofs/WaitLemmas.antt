@@ -58,8 +58,8 @@ record IsFollowed (m : AdmittedMoment) : Type 0 where
 
 followed : (m : AdmittedMoment) → IsFollowed m
 followed m =
-    let from : IsLegalFrom m.image (facts_before m) (m.entry ∷ m.rest) = IsLegal_rest m.image m.before (m.entry ∷ m.rest) m.legal in
-    record { sound = legal_sound m.image m.before m.admitted (IsLegal_begin m.image m.before (m.entry ∷ m.rest) m.legal); due = from.0; rest = from.1 }
+    let from : IsLegalFrom m.image (facts_before m) (m.entry ∷ m.rest) = IsLegal_rest m.image m.form m.before (m.entry ∷ m.rest) m.legal in
+    record { sound = legal_sound m.image m.form m.before m.admitted (IsLegal_begin m.image m.form m.before (m.entry ∷ m.rest) m.legal); due = from.0; rest = from.1 }
 
 waits_to_end : (m : AdmittedMoment) (call : Call) (phase there : Phase) → RestsBehind m → (after m.image (facts_before m) m.entry).call ≡ Some (record { caller = m.entry.cpu; call = call; phase = phase }) → counted_over call phase m.rest ≡ there → HasCallIn m there
 waits_to_end m call phase there rests is counts =
@@ -69,7 +69,7 @@ waits_to_end m call phase there rests is counts =
     let waits = waits_over m.image m.entry.cpu call phase f1 m.rest (sound_after m.image f0 m.entry at.sound at.due) is at.rest rests in
     record {
       open_call = record { caller = m.entry.cpu; call = call; phase = counted_over call phase m.rest };
-      is = ap (λ (f : Facts). f.call) (facts_append m.image m.before (m.entry ∷ m.rest)) ∙ waits.1;
+      is = ap (λ (f : Facts). f.call) (facts_append m.image m.form m.before (m.entry ∷ m.rest)) ∙ waits.1;
       caller = refl;
       there = counts;
     }
@@ -80,7 +80,7 @@ settle_waits m id asked rests =
     let at = followed m in
     let of = phase_of_due m.image f m.entry at.sound at.due (ap is_phase asked.goes) in
     let call : Call = asked.call in
-    let same : of.o.call ≡ call = same_call m.image m.before of.o call of.opens asked.begun in
+    let same : of.o.call ≡ call = same_call m.image m.form m.before of.o call of.opens asked.begun in
     let made = decided_call m.image f m.entry of.o call of.opens of.caller same asked.goes in
     let phase : after_decide call (coming_by m.image f call) None ≡ ToSettle 0 = asked_phase call id (coming_by m.image f call) asked.about in
     let n : ℕ = count_by (λ (e : Entry). is_named call e.cell) m.rest in

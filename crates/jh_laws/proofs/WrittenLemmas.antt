@@ -15,6 +15,7 @@ use Rattle.jh_ivshmem.specs.declared.spec.EndpointWord.{EndpointWord}
 use Rattle.jh_ivshmem.specs.Links.{endpoint_word_written}
 use Rattle.jh_ivshmem.specs.Specs.{endpoint_word_of}
 use Rattle.jh_script.specs.declared.image.Image.{Image}
+use Rattle.jh_history.specs.declared.form.Form.{Form}
 use Rattle.jh_history.specs.declared.place.Place.{Place}
 use Rattle.jh_history.specs.declared.place.Place.TheVariants.{Physical, Page}
 use Rattle.jh_history.specs.declared.access.Access.{Access}
@@ -265,16 +266,16 @@ paged_by image f entry place byte write is h =
     (same_function (λ k. words (Page write.cell k)) (λ k. f.byte (Page write.cell k)) (λ k. words_page (specs_changing f entry.act) f.byte write.cell k))
     ∙ sym h.is
 
-pub entry_writes : (image : Image) (before rest : List Entry) (entry : Entry) (place : Place) (byte : ℕ) → IsAdmitted image → IsLegal image (before ++ entry ∷ rest) → WritesByte image (facts image before) entry place byte
-    → (facts image (before ++ entry ∷ [])).byte place ≡ byte
-entry_writes image before rest entry place byte admitted legal h =
-    let f : Facts = facts image before in
-    let sound = legal_sound image before admitted (IsLegal_begin image before (entry ∷ rest) legal) in
-    byte_behind image before entry place
+pub entry_writes : (image : Image) (form : Form) (before rest : List Entry) (entry : Entry) (place : Place) (byte : ℕ) → IsAdmitted image → IsLegal image form (before ++ entry ∷ rest) → WritesByte image (facts image form before) entry place byte
+    → (facts image form (before ++ entry ∷ [])).byte place ≡ byte
+entry_writes image form before rest entry place byte admitted legal h =
+    let f : Facts = facts image form before in
+    let sound = legal_sound image form before admitted (IsLegal_begin image form before (entry ∷ rest) legal) in
+    byte_behind image form before entry place
     ∙ ⊎_elim
     (λ (puts : Puts image f.cells entry.cell entry.act place byte). put_by image f entry place byte sound puts)
     (λ more. ⊎_elim
-    (λ (word : IsByteOfWord image f entry place byte). word_by image f entry place byte sound (small_at image before rest entry admitted legal) word)
+    (λ (word : IsByteOfWord image f entry place byte). word_by image f entry place byte sound (small_at image form before rest entry admitted legal) word)
     (λ paged. paged_by image f entry place byte paged.0 paged.1 paged.2)
     more)
     h
@@ -339,26 +340,26 @@ page_keeps byte (Some write) (Page cell offset) none =
 word_there : (image : Image) (f : Facts) (entry : Entry) (place : Place) (spec : EndpointSpec) (value k : ℕ) → WritesWord image f entry spec value → IsByteAt (endpoint_word_of spec value) place k → IsByteOfWord image f entry place (value / 256 ^ k % 256)
 word_there image f entry place spec value k writes there = record { spec = spec; value = value; writes = writes; index = k; within = there.0; there = there.1; is = refl }
 
-pub entry_keeps : (image : Image) (before rest : List Entry) (entry : Entry) (place : Place) → IsAdmitted image → IsLegal image (before ++ entry ∷ rest) → ((byte : ℕ) → WritesByte image (facts image before) entry place byte → ⊥)
-    → (facts image (before ++ entry ∷ [])).byte place ≡ (facts image before).byte place
-entry_keeps image before rest entry place admitted legal none =
-    let f : Facts = facts image before in
-    let sound = legal_sound image before admitted (IsLegal_begin image before (entry ∷ rest) legal) in
+pub entry_keeps : (image : Image) (form : Form) (before rest : List Entry) (entry : Entry) (place : Place) → IsAdmitted image → IsLegal image form (before ++ entry ∷ rest) → ((byte : ℕ) → WritesByte image (facts image form before) entry place byte → ⊥)
+    → (facts image form (before ++ entry ∷ [])).byte place ≡ (facts image form before).byte place
+entry_keeps image form before rest entry place admitted legal none =
+    let f : Facts = facts image form before in
+    let sound = legal_sound image form before admitted (IsLegal_begin image form before (entry ∷ rest) legal) in
     let specs : List EndpointSpec = specs_changing f entry.act in
-    byte_behind image before entry place
+    byte_behind image form before entry place
     ∙ page_keeps (with_words specs (byte_written image f entry.cell entry.act)) (page_write_by image f entry entry.act) place
     (λ w offset is within at. none (page_after w.change (λ k. f.byte (Page w.cell k)) offset) (inr (inr (w, is, record { offset = offset; within = within; there = at; is = refl }))))
     ∙ words_kept specs (byte_written image f entry.cell entry.act) place
     (λ spec held k lt there. none (0 / 256 ^ k % 256) (inr (inl (word_there image f entry place spec 0 k (inr (held, refl)) (lt, there)))))
-    ∙ kept_act image f entry.cell entry.act place sound (small_at image before rest entry admitted legal) (λ byte puts. none byte (inl puts))
+    ∙ kept_act image f entry.cell entry.act place sound (small_at image form before rest entry admitted legal) (λ byte puts. none byte (inl puts))
     (λ value e puts other k lt there. none (value / 256 ^ k % 256) (inr (inl (word_there image f entry place e.spec value k (inl (e, refl, puts, other)) (lt, there)))))
 
 -- over a stretch that doesn't write it
-pub rest_keeps : (image : Image) (before rest : List Entry) (place : Place) → IsAdmitted image → IsLegal image (before ++ rest) → NoneWrites image before rest place → (facts image (before ++ rest)).byte place ≡ (facts image before).byte place
-rest_keeps image before [] place admitted legal none = ap (λ (es : List Entry). (facts image es).byte place) (append-nil before)
-rest_keeps image before (entry ∷ rest) place admitted legal none =
+pub rest_keeps : (image : Image) (form : Form) (before rest : List Entry) (place : Place) → IsAdmitted image → IsLegal image form (before ++ rest) → NoneWrites image form before rest place → (facts image form (before ++ rest)).byte place ≡ (facts image form before).byte place
+rest_keeps image form before [] place admitted legal none = ap (λ (es : List Entry). (facts image form es).byte place) (append-nil before)
+rest_keeps image form before (entry ∷ rest) place admitted legal none =
     let same : (before ++ entry ∷ []) ++ rest ≡ before ++ entry ∷ rest = append_assoc before (entry ∷ []) rest in
-    let P : List Entry → Type 0 = IsLegal image in
-    ap (λ (es : List Entry). (facts image es).byte place) (sym same)
-    ∙ rest_keeps image (before ++ entry ∷ []) rest place admitted (subst P (sym same) legal) none.1
-    ∙ entry_keeps image before rest entry place admitted legal none.0
+    let P : List Entry → Type 0 = IsLegal image form in
+    ap (λ (es : List Entry). (facts image form es).byte place) (sym same)
+    ∙ rest_keeps image form (before ++ entry ∷ []) rest place admitted (subst P (sym same) legal) none.1
+    ∙ entry_keeps image form before rest entry place admitted legal none.0

@@ -1,11 +1,11 @@
 -- What a hypercall is answered at once, by its cause.
-use Rattle.std.specs.Prelude.{◌≡◌, ◌≢◌, ◌≤◌, ◌<◌, ◌+◌, ◌⊎◌, ℕ, ℤ, pos, true, false, Contains, length}
+use Rattle.std.specs.Prelude.{◌≡◌, ◌≢◌, ◌≤◌, ◌<◌, ◌+◌, ◌⊎◌, ℕ, ℤ, pos, negsuc, true, false, Contains, length}
 use Rattle.jh_num.specs.declared.error.TheConstants.{EPERM, ENOENT, EINVAL, ENOSYS}
 use Rattle.jh_cellcfg.specs.declared.config.CellConfig.{CellConfig}
 use Rattle.jh_shape.specs.Pages.{pages_of}
-use Rattle.jh_cpu.specs.declared.cpu.Mode.TheVariants.{Failed}
+use Rattle.jh_cpu.specs.declared.cpu.Mode.TheVariants.{Running, Parked, Failed}
 use Rattle.jh_call.specs.declared.call.Call.{Call}
-use Rattle.jh_call.specs.declared.call.Call.TheVariants.{Create, Start, Loadable, Destroy, Info, State, CpuInfo, Unknown}
+use Rattle.jh_call.specs.declared.call.Call.TheVariants.{Create, Start, Loadable, Destroy, Info, State, CpuInfo, CpuOff, CpuOn, Affinity, Unknown}
 use Rattle.jh_script.specs.declared.image.Image.{Image}
 use Rattle.jh_history.specs.Facts.{Facts}
 use Rattle.jh_history.specs.Lives.{is_on_board}
@@ -45,6 +45,33 @@ pub record IsCpuAnswer (image : Image) (f : Facts) (cell cpu kind : ℕ) (answer
   pub failed : is_on_board image cpu ≡ true → MaySeeCpu image f cell cpu → kind ≡ 0 → (f.cpu cpu).mode ≡ Failed → answer ≡ pos 2
   pub good : is_on_board image cpu ≡ true → MaySeeCpu image f cell cpu → kind ≡ 0 → (f.cpu cpu).mode ≢ Failed → answer ≡ pos 0
 
+-- the cell may not switch the CPU, nor be told of it: the board lacks it, or it is another cell's
+abbrev pub IsNotOwn : Image → Facts → ℕ → ℕ → Type 0
+IsNotOwn image f cell cpu = (is_on_board image cpu ≡ false) ⊎ ((f.cpu cpu).owner ≢ cell)
+
+-- the answer to a request to switch a CPU off: it is granted to a cell besides root, which has no such call
+pub record IsOffAnswer (image : Image) (cell : ℕ) (answer : ℤ) : Type 0 where
+  pub root : cell ≡ image.system.root.id → answer ≡ ENOSYS
+  pub granted : cell ≢ image.system.root.id → answer ≡ pos 0
+
+-- the answer to a request to switch a CPU on: to root ENOSYS; to another cell -2 of a CPU that isn't its own, -4 of one
+-- that runs, -3 of one that has failed, and 0 of one that is parked
+pub record IsOnAnswer (image : Image) (f : Facts) (cell cpu : ℕ) (answer : ℤ) : Type 0 where
+  pub root : cell ≡ image.system.root.id → answer ≡ ENOSYS
+  pub foreign : cell ≢ image.system.root.id → IsNotOwn image f cell cpu → answer ≡ negsuc 1
+  pub running : cell ≢ image.system.root.id → is_on_board image cpu ≡ true → (f.cpu cpu).owner ≡ cell → (f.cpu cpu).mode ≡ Running → answer ≡ negsuc 3
+  pub failed : cell ≢ image.system.root.id → is_on_board image cpu ≡ true → (f.cpu cpu).owner ≡ cell → (f.cpu cpu).mode ≡ Failed → answer ≡ negsuc 2
+  pub parked : cell ≢ image.system.root.id → is_on_board image cpu ≡ true → (f.cpu cpu).owner ≡ cell → (f.cpu cpu).mode ≡ Parked → answer ≡ pos 0
+
+-- the answer to a request whether a CPU is on: to root ENOSYS; to another cell -2 of a CPU that isn't its own, or at a
+-- level other than 0, and else 0 of one that runs and 1 of another
+pub record IsAffinityAnswer (image : Image) (f : Facts) (cell cpu level : ℕ) (answer : ℤ) : Type 0 where
+  pub root : cell ≡ image.system.root.id → answer ≡ ENOSYS
+  pub foreign : cell ≢ image.system.root.id → IsNotOwn image f cell cpu → answer ≡ negsuc 1
+  pub level_is : cell ≢ image.system.root.id → level ≢ 0 → answer ≡ negsuc 1
+  pub running : cell ≢ image.system.root.id → is_on_board image cpu ≡ true → (f.cpu cpu).owner ≡ cell → level ≡ 0 → (f.cpu cpu).mode ≡ Running → answer ≡ pos 0
+  pub down : cell ≢ image.system.root.id → is_on_board image cpu ≡ true → (f.cpu cpu).owner ≡ cell → level ≡ 0 → (f.cpu cpu).mode ≢ Running → answer ≡ pos 1
+
 -- what the cell's call is answered at once: EPERM where it manages cells and the cell isn't root, ENOSYS where the code is
 -- unknown
 abbrev pub IsAnswer : Image → Facts → ℕ → Call → ℤ → Type 0
@@ -55,4 +82,7 @@ IsAnswer image f cell (Destroy id) answer = (cell ≢ image.system.root.id) × (
 IsAnswer image f cell (Info kind) answer = IsInfoAnswer image f kind answer
 IsAnswer image f cell (State id) answer = IsStateAnswer image f cell id answer
 IsAnswer image f cell (CpuInfo cpu kind) answer = IsCpuAnswer image f cell cpu kind answer
+IsAnswer image f cell CpuOff answer = IsOffAnswer image cell answer
+IsAnswer image f cell (CpuOn cpu) answer = IsOnAnswer image f cell cpu answer
+IsAnswer image f cell (Affinity cpu level) answer = IsAffinityAnswer image f cell cpu level answer
 IsAnswer image f cell Unknown answer = answer ≡ ENOSYS

@@ -4,6 +4,7 @@ use Rattle.jh_cellcfg.specs.declared.config.CellConfig.{CellConfig}
 use Rattle.jh_cpu.specs.declared.cpu.Cpu.{Cpu}
 use Rattle.jh_call.specs.declared.call.Call.{Call}
 use Rattle.jh_script.specs.declared.image.Image.{Image}
+use Rattle.jh_history.specs.declared.form.Form.{Form}
 use Rattle.jh_history.specs.declared.call.OpenCall.{OpenCall}
 use Rattle.jh_history.specs.declared.entry.Entry.{Entry}
 use Rattle.jh_history.specs.declared.place.Place.{Place}
@@ -18,62 +19,65 @@ use Rattle.jh_laws.specs.Ways.{is_finish, begun_call}
 -- a legal journal of an image that a board may be opened with
 pub record AdmittedJournal : Type 0 where
   pub image : Image
+  pub form : Form
   pub entries : List Entry
   pub admitted : IsAdmitted image
-  pub legal : IsLegal image entries
+  pub legal : IsLegal image form entries
 
 -- an entry of a legal journal of an admitted image, with the entries before it and the rest behind it
 pub record AdmittedMoment : Type 0 where
   pub image : Image
+  pub form : Form
   pub before : List Entry
   pub entry : Entry
   pub rest : List Entry
   pub admitted : IsAdmitted image
-  pub legal : IsLegal image (before ++ entry ∷ rest)
+  pub legal : IsLegal image form (before ++ entry ∷ rest)
 
 -- two entries of a legal journal of an admitted image, with the entries before the first, those between the two and the
 -- rest behind the last
 pub record AdmittedSpan : Type 0 where
   pub image : Image
+  pub form : Form
   pub before : List Entry
   pub first : Entry
   pub between : List Entry
   pub last : Entry
   pub rest : List Entry
   pub admitted : IsAdmitted image
-  pub legal : IsLegal image (before ++ first ∷ (between ++ last ∷ rest))
+  pub legal : IsLegal image form (before ++ first ∷ (between ++ last ∷ rest))
 
 -- the facts just before the first entry
 abbrev pub facts_before_first : AdmittedSpan → Facts
-facts_before_first s = facts s.image s.before
+facts_before_first s = facts s.image s.form s.before
 
 -- the facts just behind the first entry
 abbrev pub facts_behind_first : AdmittedSpan → Facts
-facts_behind_first s = facts s.image (s.before ++ s.first ∷ [])
+facts_behind_first s = facts s.image s.form (s.before ++ s.first ∷ [])
 
 -- the facts just before the last entry
 abbrev pub facts_before_last : AdmittedSpan → Facts
-facts_before_last s = facts s.image (s.before ++ s.first ∷ s.between)
+facts_before_last s = facts s.image s.form (s.before ++ s.first ∷ s.between)
 
 -- the facts just behind the last entry
 abbrev pub facts_behind_last : AdmittedSpan → Facts
-facts_behind_last s = facts s.image (s.before ++ s.first ∷ (s.between ++ s.last ∷ []))
+facts_behind_last s = facts s.image s.form (s.before ++ s.first ∷ (s.between ++ s.last ∷ []))
 
 -- the facts after the journal
 abbrev pub facts_of : AdmittedJournal → Facts
-facts_of j = facts j.image j.entries
+facts_of j = facts j.image j.form j.entries
 
 -- the facts just before the entry
 abbrev pub facts_before : AdmittedMoment → Facts
-facts_before m = facts m.image m.before
+facts_before m = facts m.image m.form m.before
 
 -- the facts just behind the entry
 abbrev pub facts_behind : AdmittedMoment → Facts
-facts_behind m = facts m.image (m.before ++ m.entry ∷ [])
+facts_behind m = facts m.image m.form (m.before ++ m.entry ∷ [])
 
 -- the facts after the whole journal: the entries before the entry, the entry and the rest
 abbrev pub facts_at_end : AdmittedMoment → Facts
-facts_at_end m = facts m.image (m.before ++ m.entry ∷ m.rest)
+facts_at_end m = facts m.image m.form (m.before ++ m.entry ∷ m.rest)
 
 -- the byte at the place is another just behind the entry than it was just before
 abbrev pub ByteChanges : AdmittedMoment → Place → Type 0

@@ -34,4 +34,4 @@ noted_ids (entry ∷ entries) = with_note entry.act (noted_ids entries)
 
 -- the first entry, with all others behind it
 abbrev pub at_first : AdmittedSpan → AdmittedMoment
-at_first s = record { image = s.image; before = s.before; entry = s.first; rest = s.between ++ s.last ∷ s.rest; admitted = s.admitted; legal = s.legal }
+at_first s = record { image = s.image; form = s.form; before = s.before; entry = s.first; rest = s.between ++ s.last ∷ s.rest; admitted = s.admitted; legal = s.legal }

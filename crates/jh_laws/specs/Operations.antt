@@ -5,6 +5,7 @@ use Rattle.jh_cellcfg.specs.declared.config.CellConfig.{CellConfig}
 use Rattle.jh_cellcfg.specs.Cells.{name_of}
 use Rattle.jh_cpu.specs.declared.cpu.Mode.TheVariants.{Running}
 use Rattle.jh_script.specs.declared.image.Image.{Image}
+use Rattle.jh_history.specs.declared.form.Form.{Form}
 use Rattle.jh_script.specs.declared.op.Op.{Op}
 use Rattle.jh_script.specs.declared.op.Op.TheVariants.{Read as ReadOp, Write as WriteOp, Fetch as FetchOp, Await as AwaitOp, Irq as IrqOp, Hvc as HvcOp}
 use Rattle.jh_history.specs.declared.entry.Entry.{Entry}
@@ -46,26 +47,26 @@ op_before m cell = slice_get (program_in m.image cell m.entry.cpu) (state_before
 
 -- the cell's operation is due after the entries, where root has no ivshmem device and no program a hypercall: there an
 -- interrupt is never due, there is no hypercall, and any other operation is due as it is anywhere
-abbrev pub IsDueOp : Image → List Entry → CellConfig → Op → Type 0
-IsDueOp image entries cell IrqOp = ⊥
-IsDueOp image entries cell (HvcOp code a b) = ⊥
-IsDueOp image entries cell op = IsDueIn image (facts image entries) cell.id op
+abbrev pub IsDueOp : Image → Form → List Entry → CellConfig → Op → Type 0
+IsDueOp image form entries cell IrqOp = ⊥
+IsDueOp image form entries cell (HvcOp code a b) = ⊥
+IsDueOp image form entries cell op = IsDueIn image (facts image form entries) cell.id op
 
 -- the CPU, which is the cell's, is one of the board's, runs, is neither asked to stop nor stopped, and
 -- its program has an operation at its position that is due
-pub record IsReady (image : Image) (entries : List Entry) (cell : CellConfig) (cpu : ℕ) : Type 0 where
+pub record IsReady (image : Image) (form : Form) (entries : List Entry) (cell : CellConfig) (cpu : ℕ) : Type 0 where
   pub board : IsTrue (is_on_board image cpu)
-  pub running : (cpu_at image entries cpu).mode ≡ Running
-  pub asked : (cpu_at image entries cpu).asked ≡ false
-  pub stopped : (cpu_at image entries cpu).stopped ≡ false
+  pub running : (cpu_at image form entries cpu).mode ≡ Running
+  pub asked : (cpu_at image form entries cpu).asked ≡ false
+  pub stopped : (cpu_at image form entries cpu).stopped ≡ false
   pub op : Op
-  pub at : slice_get (program_in image cell cpu) (cpu_at image entries cpu).position ≡ Some op
-  pub due : IsDueOp image entries cell op
+  pub at : slice_get (program_in image cell cpu) (cpu_at image form entries cpu).position ≡ Some op
+  pub due : IsDueOp image form entries cell op
 
 -- the entry is what the CPU, which is the cell's, makes of the operation at its position: it has that
 -- CPU, the id of the CPU's owner, and the operation with its outcome
-pub record IsCpusOwn (image : Image) (entries : List Entry) (cell : CellConfig) (cpu : ℕ) (entry : Entry) : Type 0 where
+pub record IsCpusOwn (image : Image) (form : Form) (entries : List Entry) (cell : CellConfig) (cpu : ℕ) (entry : Entry) : Type 0 where
   pub cpu_is : entry.cpu ≡ cpu
-  pub cell_is : entry.cell ≡ (cpu_at image entries cpu).owner
-  pub operation : op_of_act entry.act ≡ slice_get (program_in image cell cpu) (cpu_at image entries cpu).position
-  pub outcome : HasItsOutcome image entries cell entry.act
+  pub cell_is : entry.cell ≡ (cpu_at image form entries cpu).owner
+  pub operation : op_of_act entry.act ≡ slice_get (program_in image cell cpu) (cpu_at image form entries cpu).position
+  pub outcome : HasItsOutcome image form entries cell entry.act

@@ -5,6 +5,7 @@ use Rattle.jh_cellcfg.specs.declared.live.Live.{Live}
 use Rattle.jh_ivshmem.specs.declared.endpoint.Endpoint.{Endpoint}
 use Rattle.jh_ivshmem.specs.declared.spec.EndpointSpec.{EndpointSpec}
 use Rattle.jh_script.specs.declared.image.Image.{Image}
+use Rattle.jh_history.specs.declared.form.Form.{Form}
 use Rattle.jh_history.specs.declared.place.Place.{Place}
 use Rattle.jh_history.specs.declared.place.Place.TheVariants.{Physical, Page}
 use Rattle.jh_history.specs.declared.access.Access.TheVariants.{Write as ToWrite}
@@ -95,11 +96,11 @@ MayChangeHeld image f entry holder number place = IsOwnOrLinked f.cells holder n
 -- ---- stretches of a journal
 
 -- no entry of the rest writes the place, each taken where those before it have led
-abbrev pub NoneWrites : Image → List Entry → List Entry → Place → Type 0
-NoneWrites image before [] place = Unit {0}
-NoneWrites image before (entry ∷ rest) place =
-    ((byte : ℕ) → WritesByte image (facts image before) entry place byte → ⊥) × NoneWrites image (before ++ entry ∷ []) rest place
+abbrev pub NoneWrites : Image → Form → List Entry → List Entry → Place → Type 0
+NoneWrites image form before [] place = Unit {0}
+NoneWrites image form before (entry ∷ rest) place =
+    ((byte : ℕ) → WritesByte image (facts image form before) entry place byte → ⊥) × NoneWrites image form (before ++ entry ∷ []) rest place
 
 -- no entry behind the entry writes the place
 abbrev pub NoneWritesBehind : AdmittedMoment → Place → Type 0
-NoneWritesBehind m place = NoneWrites m.image (m.before ++ m.entry ∷ []) m.rest place
+NoneWritesBehind m place = NoneWrites m.image m.form (m.before ++ m.entry ∷ []) m.rest place

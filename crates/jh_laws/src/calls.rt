@@ -49,7 +49,7 @@ pub fn suspended_cpus_make_no_entry()
 
 /// While a call is open something is due to some CPU; so a quiet journal has no open call.
 pub fn quiet_journals_have_no_open_call()
-    ensures { (j : AdmittedJournal) → IsQuiet j.image j.entries → open_call_of j ≡ None }
+    ensures { (j : AdmittedJournal) → IsQuiet j.image j.form j.entries → open_call_of j ≡ None }
 {}
 
 /// What a call is refused for at its Decide, by its cause, or that it goes on.

@@ -4,6 +4,7 @@ ghost use Rattle.jh_cellcfg.specs.declared.config.CellConfig.{CellConfig as TheC
 ghost use Rattle.jh_call.specs.declared.call.Call.TheVariants.{Create, Start, Loadable, Destroy};
 ghost use Rattle.jh_shape.specs.Lives.{marked, new_live};
 ghost use Rattle.jh_script.specs.declared.image.Image.{Image as TheImage};
+ghost use Rattle.jh_history.specs.declared.form.Form.{Form as TheForm};
 ghost use Rattle.jh_history.specs.declared.entry.Act.TheVariants.{Decide, Commit};
 ghost use Rattle.jh_history.specs.History.{facts};
 ghost use Rattle.jh_history.specs.Commits.{is_commit, is_other};
@@ -14,7 +15,7 @@ ghost use Rattle.jh_laws.specs.Creations.{IsMadeAsRead};
 /// destroy takes its cell out; that of a set loadable makes its cell loadable, and that of a start makes it not
 /// so. No other entry changes which cells live and which are loadable.
 pub fn cells_live_from_commit_to_commit()
-    ensures opening { (image : TheImage) → (facts image []).cells ≡ [] }
+    ensures opening { (image : TheImage) (form : TheForm) → (facts image form []).cells ≡ [] }
     ensures create { (m : AdmittedMoment) (at : ℕ) → call_before m ≡ Some (Create at) → m.entry.act ≡ Commit →
         (config : TheConfig) × ((facts_behind m).cells ≡ (facts_before m).cells ++ new_live config ∷ []) }
     ensures destroy { (m : AdmittedMoment) (id : ℕ) → call_before m ≡ Some (Destroy id) → m.entry.act ≡ Commit →

@@ -4,6 +4,7 @@ ghost use Rattle.jh_cellcfg.specs.declared.config.CellConfig.{CellConfig as TheC
 ghost use Rattle.jh_ivshmem.specs.declared.endpoint.Endpoint.{Endpoint as TheEndpoint};
 ghost use Rattle.jh_ivshmem.specs.Links.{endpoint_at};
 ghost use Rattle.jh_script.specs.declared.image.Image.{Image as TheImage};
+ghost use Rattle.jh_history.specs.declared.form.Form.{Form as TheForm};
 ghost use Rattle.jh_history.specs.History.{facts};
 ghost use Rattle.jh_laws.specs.Moments.{AdmittedMoment, facts_before, facts_behind};
 ghost use Rattle.jh_laws.specs.Vectors.{endpoint_behind};
@@ -33,8 +34,8 @@ pub fn devices_do_what_their_cells_write()
 
 /// At opening each device of root is fresh, and behind the Commit of a create or a start each device of its cell.
 pub fn devices_begin_fresh()
-    ensures opening { (image : TheImage) (id n : ℕ) (e : TheEndpoint) →
-        endpoint_at id n (facts image []).endpoints ≡ Some e → IsFresh e }
+    ensures opening { (image : TheImage) (form : TheForm) (id n : ℕ) (e : TheEndpoint) →
+        endpoint_at id n (facts image form []).endpoints ≡ Some e → IsFresh e }
     ensures begins { (m : AdmittedMoment) (config : TheConfig) (e : TheEndpoint) → BeginsDevices m config →
         Contains (facts_behind m).endpoints e → e.spec.cell ≡ config.id → IsFresh e }
 {}

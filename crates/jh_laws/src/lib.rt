@@ -60,8 +60,8 @@ pub use root_alone::{
     ready_cpus_of_root_alone_have_an_entry_due, violations_of_root_alone_end_their_cpu,
 };
 pub use states::{
-    calls_change_cpus, cpus_that_are_ready_have_an_entry_due, entries_are_their_cpus_own,
-    entries_change_their_cpu, violations_end_their_cpus,
+    calls_change_cpus, cells_switch_their_own_cpus, cpus_that_are_ready_have_an_entry_due,
+    entries_are_their_cpus_own, entries_change_their_cpu, violations_end_their_cpus,
 };
 pub use typed::numbers_keep_to_their_types;
 pub use vectors::{

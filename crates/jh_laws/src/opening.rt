@@ -2,6 +2,7 @@
 ghost use Rattle.std.specs.Prelude.{◌≡◌, ℕ, [], List, Contains, false};
 ghost use Rattle.jh_cpu.specs.declared.cpu.Mode.TheVariants.{Running as Runs};
 ghost use Rattle.jh_script.specs.declared.image.Image.{Image as TheImage};
+ghost use Rattle.jh_history.specs.declared.form.Form.{Form as TheForm};
 ghost use Rattle.jh_script.specs.declared.image.Program.{Program as TheProgram};
 ghost use Rattle.jh_history.specs.declared.place.Place.TheVariants.{Physical, Page};
 ghost use Rattle.jh_history.specs.Admitted.{IsAdmitted};
@@ -13,22 +14,22 @@ ghost use Rattle.jh_laws.specs.RootAlone.{byte_at, cpu_at};
 /// byte of physical memory is the one that a preload puts there, and 0 where none puts one. Each byte of a
 /// communication page is 0.
 pub fn memory_opens_with_the_preloads()
-    ensures words { (image : TheImage) (place : ℕ) → IsInStateWord image place → byte_at image [] (Physical place) ≡ 0 }
-    ensures put { (image : TheImage) (place byte : ℕ) → IsAdmitted image → (IsInStateWord image place → ⊥) →
-        IsPreloaded image place byte → byte_at image [] (Physical place) ≡ byte }
-    ensures zero { (image : TheImage) (place : ℕ) →
-        ((byte : ℕ) → IsPreloaded image place byte → ⊥) → byte_at image [] (Physical place) ≡ 0 }
-    ensures pages { (image : TheImage) (cell offset : ℕ) → byte_at image [] (Page cell offset) ≡ 0 }
+    ensures words { (image : TheImage) (form : TheForm) (place : ℕ) → IsInStateWord image place → byte_at image form [] (Physical place) ≡ 0 }
+    ensures put { (image : TheImage) (form : TheForm) (place byte : ℕ) → IsAdmitted image → (IsInStateWord image place → ⊥) →
+        IsPreloaded image place byte → byte_at image form [] (Physical place) ≡ byte }
+    ensures zero { (image : TheImage) (form : TheForm) (place : ℕ) →
+        ((byte : ℕ) → IsPreloaded image place byte → ⊥) → byte_at image form [] (Physical place) ≡ 0 }
+    ensures pages { (image : TheImage) (form : TheForm) (cell offset : ℕ) → byte_at image form [] (Page cell offset) ≡ 0 }
 {}
 
 /// At opening each CPU is root's, runs, is neither asked to stop nor stopped, and is at the beginning of
 /// its program.
 pub fn cpus_open_at_their_beginning()
-    ensures owner { (image : TheImage) (cpu : ℕ) → (cpu_at image [] cpu).owner ≡ image.system.root.id }
-    ensures mode { (image : TheImage) (cpu : ℕ) → (cpu_at image [] cpu).mode ≡ Runs }
-    ensures asked { (image : TheImage) (cpu : ℕ) → (cpu_at image [] cpu).asked ≡ false }
-    ensures stopped { (image : TheImage) (cpu : ℕ) → (cpu_at image [] cpu).stopped ≡ false }
-    ensures position { (image : TheImage) (cpu : ℕ) → (cpu_at image [] cpu).position ≡ 0 }
+    ensures owner { (image : TheImage) (form : TheForm) (cpu : ℕ) → (cpu_at image form [] cpu).owner ≡ image.system.root.id }
+    ensures mode { (image : TheImage) (form : TheForm) (cpu : ℕ) → (cpu_at image form [] cpu).mode ≡ Runs }
+    ensures asked { (image : TheImage) (form : TheForm) (cpu : ℕ) → (cpu_at image form [] cpu).asked ≡ false }
+    ensures stopped { (image : TheImage) (form : TheForm) (cpu : ℕ) → (cpu_at image form [] cpu).stopped ≡ false }
+    ensures position { (image : TheImage) (form : TheForm) (cpu : ℕ) → (cpu_at image form [] cpu).position ≡ 0 }
 {}
 
 /// The program of a CPU in the cell of a name is the image's of that name and CPU, and empty where the

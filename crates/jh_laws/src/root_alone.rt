@@ -14,7 +14,7 @@ ghost use Rattle.jh_laws.specs.Operations.{IsReady, IsCpusOwn, operations_by, pr
 /// places, the lowest first, or in configuration space the number whose bits are all set. A violation is
 /// what any other access is.
 pub fn accesses_of_root_alone_go_by_grants()
-    ensures { (m : RootAloneMoment) → HasItsOutcome m.image m.before (own_cell m) m.entry.act }
+    ensures { (m : RootAloneMoment) → HasItsOutcome m.image m.form m.before (own_cell m) m.entry.act }
 {}
 
 /// An entry gives each place that it writes the byte that it writes there, and no other place changes.
@@ -28,9 +28,9 @@ pub fn entries_of_root_alone_write_their_bytes()
 /// Each byte has the value that the last entry which wrote it gave it, and its opening value where none did.
 pub fn bytes_of_root_alone_are_the_last_written()
     ensures last { (m : RootAloneMoment) (place : ThePlace) (byte : ℕ) → WritesByteAlone m.image (own_cell m) m.entry.act place byte →
-        All (WritesNot m.image (own_cell m) place) m.rest → byte_at m.image (entries_of m) place ≡ byte }
+        All (WritesNot m.image (own_cell m) place) m.rest → byte_at m.image m.form (entries_of m) place ≡ byte }
     ensures opening { (j : RootAloneJournal) (place : ThePlace) → All (WritesNot j.image (root_of j) place) j.entries →
-        byte_at j.image j.entries place ≡ byte_at j.image [] place }
+        byte_at j.image j.form j.entries place ≡ byte_at j.image j.form [] place }
 {}
 
 /// An entry moves its CPU's position by one, a violation too; one that is no violation changes nothing
@@ -52,16 +52,16 @@ pub fn violations_of_root_alone_end_their_cpu()
     ensures last { (m : RootAloneMoment) → is_violation m.entry.act ≡ true →
         All (λ (later : TheEntry). later.cpu ≢ m.entry.cpu) m.rest }
     ensures never { (m : RootAloneMoment) → is_violation m.entry.act ≡ true →
-        due m.image (entries_of m) m.entry.cpu ≡ None }
+        due m.image m.form (entries_of m) m.entry.cpu ≡ None }
 {}
 
 /// The entries of a CPU are, as operations, a beginning of its program: as many as its position tells.
 pub fn entries_of_root_alone_follow_the_program()
     ensures operations { (j : RootAloneJournal) (cpu : ℕ) →
         operations_by cpu j.entries ≡
-        take (cpu_at j.image j.entries cpu).position (program_in j.image (root_of j) cpu) }
+        take (cpu_at j.image j.form j.entries cpu).position (program_in j.image (root_of j) cpu) }
     ensures position { (j : RootAloneJournal) (cpu : ℕ) →
-        (cpu_at j.image j.entries cpu).position ≡ length (operations_by cpu j.entries) }
+        (cpu_at j.image j.form j.entries cpu).position ≡ length (operations_by cpu j.entries) }
 {}
 
 /// An entry is due to a CPU exactly where the board has it, it runs, is neither asked to stop nor stopped, and its
@@ -70,17 +70,17 @@ pub fn entries_of_root_alone_follow_the_program()
 /// where no CPU is ready so.
 pub fn ready_cpus_of_root_alone_have_an_entry_due()
     ensures ready { (j : RootAloneJournal) (cpu : ℕ) →
-        IsSome (due j.image j.entries cpu) ↔ IsReady j.image j.entries (root_of j) cpu }
+        IsSome (due j.image j.form j.entries cpu) ↔ IsReady j.image j.form j.entries (root_of j) cpu }
     ensures quiet { (j : RootAloneJournal) →
-        IsQuiet j.image j.entries ↔ ((cpu : ℕ) → IsReady j.image j.entries (root_of j) cpu → ⊥) }
+        IsQuiet j.image j.form j.entries ↔ ((cpu : ℕ) → IsReady j.image j.form j.entries (root_of j) cpu → ⊥) }
 {}
 
 /// The entry due to a CPU has that CPU, its owner's id, and the operation at its position with the outcome
 /// that this has then, and what a ready CPU has so is the entry due to it.
 pub fn due_entries_of_root_alone_are_their_cpus_own()
     ensures own { (j : RootAloneJournal) (cpu : ℕ) (entry : TheEntry) →
-        due j.image j.entries cpu ≡ Some entry → IsCpusOwn j.image j.entries (root_of j) cpu entry }
+        due j.image j.form j.entries cpu ≡ Some entry → IsCpusOwn j.image j.form j.entries (root_of j) cpu entry }
     ensures only { (j : RootAloneJournal) (cpu : ℕ) (entry : TheEntry) →
-        IsReady j.image j.entries (root_of j) cpu → IsCpusOwn j.image j.entries (root_of j) cpu entry →
-        due j.image j.entries cpu ≡ Some entry }
+        IsReady j.image j.form j.entries (root_of j) cpu → IsCpusOwn j.image j.form j.entries (root_of j) cpu entry →
+        due j.image j.form j.entries cpu ≡ Some entry }
 {}

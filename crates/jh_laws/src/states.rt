@@ -1,11 +1,14 @@
 //! What entries do to CPUs.
-ghost use Rattle.std.specs.Prelude.{◌≡◌, ◌≢◌, ◌↔◌, ℕ, ℤ, true, false, Some, IsSome};
+ghost use Rattle.std.specs.Prelude.{◌≡◌, ◌≢◌, ◌↔◌, ℕ, ℤ, pos, negsuc, true, false, Some, IsSome};
 ghost use Rattle.jh_cellcfg.specs.declared.config.CellConfig.{CellConfig as TheConfig};
 ghost use Rattle.jh_cpu.specs.declared.cpu.Mode.TheVariants.{Running as Runs};
 ghost use Rattle.jh_call.specs.declared.call.Call.{Call as TheCall};
+ghost use Rattle.jh_call.specs.declared.call.Call.TheVariants.{CpuOff as SwitchOff, CpuOn as SwitchOn};
+ghost use Rattle.jh_call.specs.Calls.{decoded, is_power};
+ghost use Rattle.jh_history.specs.declared.form.Form.TheVariants.{One as FormOne};
 ghost use Rattle.jh_script.specs.declared.op.Op.{Op as TheOp};
 ghost use Rattle.jh_history.specs.Lives.{is_on_board};
-ghost use Rattle.jh_history.specs.declared.entry.Act.TheVariants.{Begin, Stop, Commit, Finish};
+ghost use Rattle.jh_history.specs.declared.entry.Act.TheVariants.{Hvc, Begin, Stop, Commit, Finish};
 ghost use Rattle.jh_laws.specs.Moments.{AdmittedJournal, AdmittedMoment, AdmittedSpan, facts_of, facts_before, facts_behind, state_before, state_behind, cells_before, cells_behind, call_before, NoneCommitsBetween};
 ghost use Rattle.jh_laws.specs.Ways.{is_undenied_settle};
 ghost use Rattle.jh_history.specs.Due.{due};
@@ -18,13 +21,14 @@ ghost use Rattle.jh_laws.specs.Held.{IsRootOrLive};
 ghost use Rattle.jh_laws.specs.Operations.{op_of_act, op_before};
 ghost use Rattle.jh_laws.specs.Moves.{stepped, ended, halted};
 ghost use Rattle.jh_laws.specs.Outcomes.{is_violation};
-ghost use Rattle.jh_laws.specs.States.{changes_others, changes_none, is_stop_act, HasBegun, HasSettled, HasCommitted, HasFinished};
+ghost use Rattle.jh_laws.specs.States.{switches_off, changes_others, changes_none, is_stop_act, HasBegun, HasSettled, HasCommitted, HasFinished, HasSwitchedOn, HasSwitchedOff};
 
-/// An entry of a program, but the beginning of a call, moves its CPU by one operation, and a violation fails it, too. A
-/// stop stops it. No other CPU changes, unless the entry begins or ends a call, or is a Settle or a Commit.
+/// An entry of a program, but the beginning of a call, moves its CPU by one operation, and a violation fails it, too; a
+/// CPU that it switches off is another matter. A stop stops it. No other CPU changes, unless the entry begins or ends a
+/// call, is a Settle or a Commit, or switches a CPU on.
 pub fn entries_change_their_cpu()
     ensures moved { (m : AdmittedMoment) → is_of_call m.entry.act ≡ false → is_stop_act m.entry.act ≡ false →
-        is_violation m.entry.act ≡ false → state_behind m m.entry.cpu ≡ stepped (state_before m m.entry.cpu) }
+        is_violation m.entry.act ≡ false → switches_off m.entry.act ≡ false → state_behind m m.entry.cpu ≡ stepped (state_before m m.entry.cpu) }
     ensures failed { (m : AdmittedMoment) → is_violation m.entry.act ≡ true →
         state_behind m m.entry.cpu ≡ ended (state_before m m.entry.cpu) }
     ensures stopped { (m : AdmittedMoment) → m.entry.act ≡ Stop →
@@ -34,7 +38,7 @@ pub fn entries_change_their_cpu()
 {}
 
 /// A beginning asks root's other running CPUs to stop, and a Settle that isn't denied those of the cell. A Commit
-/// lends, starts, parks or gives back the cell's CPUs. By the end of a call root's CPUs go on, and the caller has
+/// lends, starts, parks or gives back the cell's CPUs; a start starts each, or by form Two the lowest alone. By the end of a call root's CPUs go on, and the caller has
 /// done its operation. Every other CPU stays as it is. A Decide, a denied Settle, a Note and a Noted change none.
 pub fn calls_change_cpus()
     ensures begin { (m : AdmittedMoment) (code a b cpu : ℕ) → m.entry.act ≡ Begin code a b →
@@ -42,10 +46,23 @@ pub fn calls_change_cpus()
     ensures settle { (m : AdmittedMoment) (call : TheCall) (cpu : ℕ) → call_before m ≡ Some call →
         is_undenied_settle m.entry.act ≡ true → HasSettled call (state_before m cpu) (state_behind m cpu) }
     ensures commit { (m : AdmittedMoment) (call : TheCall) (cpu : ℕ) → call_before m ≡ Some call → m.entry.act ≡ Commit →
-        HasCommitted m.image (cells_before m) (cells_behind m) call cpu (state_before m cpu) (state_behind m cpu) }
+        HasCommitted m.image m.form (state_before m) (cells_before m) (cells_behind m) call cpu (state_before m cpu) (state_behind m cpu) }
     ensures finish { (m : AdmittedMoment) (answer : ℤ) (cpu : ℕ) → m.entry.act ≡ Finish answer →
         HasFinished m.image m.entry.cpu cpu (state_before m cpu) (state_behind m cpu) }
     ensures stay { (m : AdmittedMoment) (cpu : ℕ) → changes_none m.entry.act ≡ true → state_behind m cpu ≡ state_before m cpu }
+{}
+
+/// A cell besides root switches its own CPUs on and off, in a journal of form Two: each CPU that is switched on is another
+/// than the caller and was parked. In form One, and to root in either, each call of the power interface is unknown.
+pub fn cells_switch_their_own_cpus()
+    ensures on { (m : AdmittedMoment) (code a b on : ℕ) → m.entry.act ≡ Hvc code a b (pos 0) → decoded code a b ≡ SwitchOn on →
+        HasSwitchedOn m on }
+    ensures off { (m : AdmittedMoment) (code a b : ℕ) → m.entry.act ≡ Hvc code a b (pos 0) → decoded code a b ≡ SwitchOff →
+        HasSwitchedOff m }
+    ensures one { (m : AdmittedMoment) (code a b : ℕ) (answer : ℤ) → m.entry.act ≡ Hvc code a b answer → is_power (decoded code a b) ≡ true →
+        m.form ≡ FormOne → answer ≡ negsuc 37 }
+    ensures root { (m : AdmittedMoment) (code a b : ℕ) (answer : ℤ) → m.entry.act ≡ Hvc code a b answer → is_power (decoded code a b) ≡ true →
+        m.entry.cell ≡ m.image.system.root.id → answer ≡ negsuc 37 }
 {}
 
 /// An entry is made by a CPU of the board in the name of its cell. But for a stop, the CPU runs, and is neither
@@ -63,7 +80,7 @@ pub fn entries_are_their_cpus_own()
 /// it has no call open, goes on with its program and its operation is due.
 pub fn cpus_that_are_ready_have_an_entry_due()
     ensures { (j : AdmittedJournal) (cpu : ℕ) →
-        IsSome (due j.image j.entries cpu) ↔ IsReadyAt j.image (facts_of j) cpu }
+        IsSome (due j.image j.form j.entries cpu) ↔ IsReadyAt j.image (facts_of j) cpu }
 {}
 
 /// A violation ends its CPU: it makes no entry before a Commit, which may start its cell or give the CPU back to

@@ -2,6 +2,7 @@
 ghost use Rattle.std.specs.Prelude.{◌≡◌, ◌↔◌, ◌⊎◌, ℕ, [], Some, IsSome};
 ghost use Rattle.jh_ivshmem.specs.declared.endpoint.Endpoint.{Endpoint as TheEndpoint};
 ghost use Rattle.jh_script.specs.declared.image.Image.{Image as TheImage};
+ghost use Rattle.jh_history.specs.declared.form.Form.{Form as TheForm};
 ghost use Rattle.jh_history.specs.History.{facts};
 ghost use Rattle.jh_history.specs.declared.entry.Act.TheVariants.{Irq};
 ghost use Rattle.jh_history.specs.Due.{due};
@@ -14,7 +15,7 @@ ghost use Rattle.jh_laws.specs.Vectors.{HasPending, IsPendingIn, IsNextVector, R
 /// that has one pending.
 pub fn interrupts_are_due_where_a_vector_is_pending()
     ensures due { (j : AdmittedJournal) (cpu : ℕ) → IsAtInterrupt j.image (facts_of j) cpu →
-        IsSome (due j.image j.entries cpu) ↔ HasPending (facts_of j) (owner_of j cpu) }
+        IsSome (due j.image j.form j.entries cpu) ↔ HasPending (facts_of j) (owner_of j cpu) }
     ensures next { (m : AdmittedMoment) (n v : ℕ) → m.entry.act ≡ Irq n v →
         IsNextVector (facts_before m) m.entry.cell n v }
 {}
@@ -23,7 +24,7 @@ pub fn interrupts_are_due_where_a_vector_is_pending()
 /// open, or where it was pending before and the entry doesn't drop it: so it stays pending from its raise until it is
 /// taken, or its device is reset or leaves.
 pub fn vectors_are_pending_from_raise_to_drop()
-    ensures opening { (image : TheImage) (id n v : ℕ) → IsPendingIn (facts image []) id n v → ⊥ }
+    ensures opening { (image : TheImage) (form : TheForm) (id n v : ℕ) → IsPendingIn (facts image form []) id n v → ⊥ }
     ensures entries { (m : AdmittedMoment) (id n v : ℕ) → IsPendingIn (facts_behind m) id n v ↔
         (Raises m.image (facts_before m) m.entry id n v ⊎
         (IsPendingIn (facts_before m) id n v × (Drops (facts_before m) m.entry id n v → ⊥))) }

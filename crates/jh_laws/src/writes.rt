@@ -20,6 +20,6 @@ pub fn bytes_are_as_last_written()
     ensures last { (m : AdmittedMoment) (place : ThePlace) (byte : ℕ) →
         WritesByte m.image (facts_before m) m.entry place byte →
         NoneWritesBehind m place → (facts_at_end m).byte place ≡ byte }
-    ensures opening { (j : AdmittedJournal) (place : ThePlace) → NoneWrites j.image [] j.entries place →
+    ensures opening { (j : AdmittedJournal) (place : ThePlace) → NoneWrites j.image j.form [] j.entries place →
         (facts_of j).byte place ≡ opening_byte j.image place }
 {}

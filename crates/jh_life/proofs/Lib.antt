@@ -1,3 +1,4 @@
+pub mod Public
 mod JoinedLemmas
 mod VerdictLemmas
 mod CauseLemmas

@@ -20,7 +20,7 @@ use Rattle.jh_shape.specs.SoundClaims.{AreSoundClaims, IsFit, IsUncut}
 use Rattle.jh_shape.proofs.Public.{cut_there}
 
 -- an element has a number
-number_of : {X : Type 0} (xs : List X) (x : X) → Contains xs x → (k : ℕ) × (slice_get xs k ≡ Some x)
+pub number_of : {X : Type 0} (xs : List X) (x : X) → Contains xs x → (k : ℕ) × (slice_get xs k ≡ Some x)
 number_of xs x (k, below, is) = (k, slice_get-get_or xs k x below ∙ ap Some is)
 
 -- a live cell has a number behind root's

@@ -11,8 +11,9 @@ use Rattle.jh_history.specs.declared.entry.Act.{Act}
 use Rattle.jh_history.specs.declared.entry.Act.TheVariants.{Read, Write, Fetch, Await, Irq, Hvc, Begin, Stop, Decide, Settle, Commit, Note, Noted, Finish}
 use Rattle.jh_text.specs.declared.fault.TheConstants.{MAX_ENTRIES}
 use Rattle.jh_text.specs.Ranges.{is_width, IsReadableAct, IsReadable}
-use Rattle.jh_text.specs.Text.{entry_text, line, journal_text}
-use Rattle.jh_text.specs.Faults.{BeginsWithLine, BeginsWithNoLine, HasAnswer}
+use Rattle.jh_text.specs.Text.{entry_text, line, lines_text}
+use Rattle.jh_text.specs.Faults.{BeginsWithLine, BeginsWithNoLine}
+use Rattle.jh_text.proofs.Bodies.{HasBodyAnswer}
 use Rattle.jh_text.specs.Private.Reading.{front_entry}
 use Rattle.jh_text.proofs.Lines.{no_line, first_entry, all_push, text_push, too_long}
 
@@ -119,18 +120,18 @@ no_nil : (c : ℕ) (cs : List ℕ) → c ∷ cs ≢ []
 no_nil c cs = λ e. let no : ⊥ = omega (arith, ap length e) in no
 
 answer_from : (most : ℕ) (text : List ℕ) (before : List Entry) (rest : List ℕ) → AllByRecursion IsReadable before → length before ≤ MAX_ENTRIES
-    → text ≡ journal_text before ++ rest → length rest ≤ most → HasAnswer text
+    → text ≡ lines_text before ++ rest → length rest ≤ most → HasBodyAnswer text
 answer_from most text before [] all within whole small =
-    inl (before, record { readable = all; within = within; whole = whole ∙ append-nil (journal_text before) })
+    inl (before, record { readable = all; within = within; whole = whole ∙ append-nil (lines_text before) })
 answer_from zero text before (c ∷ cs) all within whole small = absurd (let no : ⊥ = omega arith in no)
-answer_from (suc most) text before (c ∷ cs) all within whole small = elim (first_by (c ∷ cs) (front_entry (c ∷ cs)) refl) as (λ _. HasAnswer text) [
+answer_from (suc most) text before (c ∷ cs) all within whole small = elim (first_by (c ∷ cs) (front_entry (c ∷ cs)) refl) as (λ _. HasBodyAnswer text) [
   | inr none ↦ inr (inl (length before + 1, record { before = before; rest = c ∷ cs; readable = all; within = within; number_is = refl; whole = whole; more = no_nil c cs; bad = none }))
-  | inl first ↦ elim (cases_lt (length before) MAX_ENTRIES) as (λ _. HasAnswer text) [
+  | inl first ↦ elim (cases_lt (length before) MAX_ENTRIES) as (λ _. HasBodyAnswer text) [
     | inl room ↦
         let less = shorter (c ∷ cs) first.rest first.entry first.whole in
         answer_from most text (before ++ first.entry ∷ []) first.rest (all_push before first.entry all first.readable)
         (omega (arith, length-append before (first.entry ∷ [])))
-        (whole ∙ ap (λ t. journal_text before ++ t) first.whole ∙ sym (text_push before first.entry first.rest))
+        (whole ∙ ap (λ t. lines_text before ++ t) first.whole ∙ sym (text_push before first.entry first.rest))
         (omega arith)
     | inr full ↦
         let count : length before ≡ MAX_ENTRIES = omega arith in
@@ -138,5 +139,5 @@ answer_from (suc most) text before (c ∷ cs) all within whole small = elim (fir
   ]
 ]
 
-pub every_text : (text : List ℕ) → HasAnswer text
+pub every_text : (text : List ℕ) → HasBodyAnswer text
 every_text text = answer_from (length text) text [] text tt (omega arith) refl (omega arith)

@@ -1,19 +1,20 @@
 -- What the laws of journals' texts say of all texts, as premises of the lemmas of crates above.
 use Rattle.std.proofs.Common.{◌≡◌, ℕ, List}
 use Rattle.jh_history.specs.declared.entry.Entry.{Entry}
+use Rattle.jh_history.specs.declared.form.Form.{Form}
 use Rattle.jh_text.specs.Faults.{IsJournalText, IsFirstBadLine, IsTooLong}
 
 -- no text is that of two journals
 abbrev pub OneJournal : Type 0
-OneJournal = (text : List ℕ) (a b : List Entry) → IsJournalText text a → IsJournalText text b → a ≡ b
+OneJournal = (text : List ℕ) (form other : Form) (a b : List Entry) → IsJournalText text form a → IsJournalText text other b → a ≡ b
 
 -- no text is a journal's and has a bad line
 abbrev pub NoBadLine : Type 0
-NoBadLine = (text : List ℕ) (entries : List Entry) (number : ℕ) → IsJournalText text entries → IsFirstBadLine text number → ⊥
+NoBadLine = (text : List ℕ) (form : Form) (entries : List Entry) (number : ℕ) → IsJournalText text form entries → IsFirstBadLine text number → ⊥
 
 -- no text is a journal's and too long
 abbrev pub NotLong : Type 0
-NotLong = (text : List ℕ) (entries : List Entry) → IsJournalText text entries → IsTooLong text → ⊥
+NotLong = (text : List ℕ) (form : Form) (entries : List Entry) → IsJournalText text form entries → IsTooLong text → ⊥
 
 -- no text has a bad line and is too long
 abbrev pub NotBoth : Type 0

@@ -1,7 +1,9 @@
 mod Acts
 mod Calls
 mod Digits
+mod Bodies
 mod EveryText
+mod Headers
 mod Lines
 mod Numbers
 mod WrittenDigits

@@ -4,9 +4,10 @@ use Rattle.std.specs.List.{AllByRecursion}
 use Rattle.std.proofs.lemmas.Option.{none-some, same_Some}
 use Rattle.jh_history.specs.declared.entry.Entry.{Entry}
 use Rattle.jh_text.specs.Ranges.{IsReadable}
-use Rattle.jh_text.specs.Text.{line, journal_text}
+use Rattle.jh_text.specs.Text.{line, lines_text}
 use Rattle.jh_text.specs.declared.fault.TheConstants.{MAX_ENTRIES}
-use Rattle.jh_text.specs.Faults.{BeginsWithNoLine, IsTooLong}
+use Rattle.jh_text.specs.Faults.{BeginsWithNoLine}
+use Rattle.jh_text.proofs.Bodies.{IsLongBody}
 use Rattle.jh_text.specs.Private.Reading.{front_entry}
 use Rattle.jh_text.proofs.Acts.{entry_again}
 
@@ -30,17 +31,17 @@ pub all_push : (entries : List Entry) (entry : Entry) → AllByRecursion IsReada
 all_push [] entry all h = (h, tt)
 all_push (first ∷ entries) entry all h = (all.0, all_push entries entry all.1 h)
 
-pub text_push : (entries : List Entry) (entry : Entry) (rest : List ℕ) → journal_text (entries ++ entry ∷ []) ++ rest ≡ journal_text entries ++ (line entry ++ rest)
+pub text_push : (entries : List Entry) (entry : Entry) (rest : List ℕ) → lines_text (entries ++ entry ∷ []) ++ rest ≡ lines_text entries ++ (line entry ++ rest)
 text_push [] entry rest = append_assoc (line entry) [] rest
 text_push (first ∷ entries) entry rest =
-    append_assoc (line first) (journal_text (entries ++ entry ∷ [])) rest ∙ ap (λ t. line first ++ t) (text_push entries entry rest) ∙ sym (append_assoc (line first) (journal_text entries) (line entry ++ rest))
+    append_assoc (line first) (lines_text (entries ++ entry ∷ [])) rest ∙ ap (λ t. line first ++ t) (text_push entries entry rest) ∙ sym (append_assoc (line first) (lines_text entries) (line entry ++ rest))
 
 -- one line more than a journal may have
-pub too_long : (text rest after : List ℕ) (entries : List Entry) (entry : Entry) → AllByRecursion IsReadable entries → IsReadable entry → length entries ≡ MAX_ENTRIES → text ≡ journal_text entries ++ rest → rest ≡ line entry ++ after → IsTooLong text
+pub too_long : (text rest after : List ℕ) (entries : List Entry) (entry : Entry) → AllByRecursion IsReadable entries → IsReadable entry → length entries ≡ MAX_ENTRIES → text ≡ lines_text entries ++ rest → rest ≡ line entry ++ after → IsLongBody text
 too_long text rest after entries entry all h full whole next = record {
   first = entries ++ entry ∷ [];
   rest = after;
   readable = all_push entries entry all h;
   long = omega (arith, length-append entries (entry ∷ []));
-  whole = whole ∙ ap (λ t. journal_text entries ++ t) next ∙ sym (text_push entries entry after);
+  whole = whole ∙ ap (λ t. lines_text entries ++ t) next ∙ sym (text_push entries entry after);
 }

@@ -15,7 +15,7 @@ use Rattle.jh_history.specs.declared.entry.Settled.TheVariants as settled
 use Rattle.jh_history.specs.declared.entry.Heard.{Heard}
 use Rattle.jh_history.specs.declared.entry.Heard.TheVariants as heard
 use Rattle.jh_text.specs.Ranges.{IsTypedAct, IsTyped}
-use Rattle.jh_text.specs.Text.{hexadecimal, got_text, ok_text, decision_text, settled_text, heard_text, act_words, entry_words, entry_text, line, journal_text}
+use Rattle.jh_text.specs.Text.{hexadecimal, got_text, ok_text, decision_text, settled_text, heard_text, act_words, entry_words, entry_text, line, lines_text}
 use Rattle.jh_script.specs.Operations.{◌>>=◌}
 use Rattle.jh_text.specs.Private.Reading.{max_u64, number_until, hexadecimal_until, front_answer, front_got, front_ok, front_decision, front_settled, front_heard, front_outcome}
 use Rattle.jh_text.proofs.Numbers.{Lacks_digits}
@@ -118,10 +118,10 @@ same_words v w (x ∷ vs) (y ∷ ws) l m e =
 -- ---- the act of words
 
 -- what the function reads of the word as the last of a line
-abbrev of_word : {A : Type 0} → (List ℕ → Option (A × List ℕ)) → List ℕ → Option A
+abbrev pub of_word : {A : Type 0} → (List ℕ → Option (A × List ℕ)) → List ℕ → Option A
 of_word reads word = option_map (λ x. x.0) (reads (word ++ 10 ∷ []))
 
-abbrev number : ℕ → List ℕ → Option ℕ
+abbrev pub number : ℕ → List ℕ → Option ℕ
 number most = of_word (number_until 10 10 most)
 
 abbrev address : List ℕ → Option ℕ
@@ -248,20 +248,26 @@ join_lacks [] all = record { none = refl }
 join_lacks (word ∷ []) all = all.0.feed
 join_lacks (word ∷ other ∷ words) all = Lacks_append 10 word _ all.0.feed (Lacks_cons 10 32 _ refl (join_lacks (other ∷ words) all.1))
 
-line_split : (entry : Entry) (rest : List ℕ) → IsTyped entry → split_once 10 (line entry ++ rest) ≡ Some (entry_text entry, rest)
+pub line_split : (entry : Entry) (rest : List ℕ) → IsTyped entry → split_once 10 (line entry ++ rest) ≡ Some (entry_text entry, rest)
 line_split entry rest h =
     ap (split_once 10) (append_assoc (entry_text entry) (10 ∷ []) rest) ∙ split_once_front 10 (entry_text entry) rest (join_lacks (entry_words entry) (words_of entry h))
+
+-- the first word of an entry's text is its CPU
+pub first_word : (entry : Entry) → IsTyped entry → (rest : List ℕ) × (split_once 32 (entry_text entry) ≡ Some (decimal entry.cpu, rest)) × (number 255 (decimal entry.cpu) ≡ Some entry.cpu)
+first_word entry h =
+    let rest : List ℕ = join_with_byte 32 (decimal entry.cell ∷ act_words entry.act) in
+    (rest, split_once_front 32 (decimal entry.cpu) rest (words_of entry h).0.space, byte_again entry.cpu h.cpu)
 
 no_line : (entry : Entry) (rest : List ℕ) → [] ≡ line entry ++ rest → ⊥
 no_line entry rest e = omega (arith, ap length e, length-append (line entry) rest, length-append (entry_text entry) (10 ∷ []))
 
-pub typed_journals : (a b : List Entry) → AllByRecursion IsTyped a → AllByRecursion IsTyped b → journal_text a ≡ journal_text b → a ≡ b
+pub typed_journals : (a b : List Entry) → AllByRecursion IsTyped a → AllByRecursion IsTyped b → lines_text a ≡ lines_text b → a ≡ b
 typed_journals [] [] h k e = refl
-typed_journals [] (y ∷ b) h k e = absurd (no_line y (journal_text b) e)
-typed_journals (x ∷ a) [] h k e = absurd (no_line x (journal_text a) (sym e))
+typed_journals [] (y ∷ b) h k e = absurd (no_line y (lines_text b) e)
+typed_journals (x ∷ a) [] h k e = absurd (no_line x (lines_text a) (sym e))
 typed_journals (x ∷ a) (y ∷ b) h k e =
-    let parts : (entry_text x, journal_text a) ≡ (entry_text y, journal_text b) =
-    same_Some _ _ (sym (line_split x (journal_text a) h.0) ∙ ap (split_once 10) e ∙ line_split y (journal_text b) k.0) in
+    let parts : (entry_text x, lines_text a) ≡ (entry_text y, lines_text b) =
+    same_Some _ _ (sym (line_split x (lines_text a) h.0) ∙ ap (split_once 10) e ∙ line_split y (lines_text b) k.0) in
     let one : x ≡ y = typed_entries x y h.0 k.0 (ap (λ (p : List ℕ × List ℕ). p.0) parts) in
     let rest : a ≡ b = typed_journals a b h.1 k.1 (ap (λ (p : List ℕ × List ℕ). p.1) parts) in
     λ i. one i ∷ rest i

@@ -1,8 +1,11 @@
 -- The text of an entry and of a journal.
-use Rattle.std.specs.Prelude.{ℕ, Bool, true, false, Option, Some, None, ℤ, List, [], ◌∷◌, ◌++◌, codes}
+use Rattle.std.specs.Prelude.{ℕ, Bool, true, false, Option, Some, None, ℤ, List, [], ◌∷◌, ◌++◌, length, take, drop, codes}
 use Rattle.std.specs.List.{join_with_byte, flat_map}
+use Rattle.std.specs.Str.{bytes_eq}
 use Rattle.std.specs.Fmt.{decimal, signed_decimal, digits}
 use Rattle.jh_history.specs.declared.entry.Entry.{Entry}
+use Rattle.jh_history.specs.declared.form.Form.{Form}
+use Rattle.jh_history.specs.declared.form.Form.TheVariants.{One, Two}
 use Rattle.jh_history.specs.declared.entry.Act.{Act}
 use Rattle.jh_history.specs.declared.entry.Act.TheVariants.{Read, Write, Fetch, Await, Irq, Hvc, Begin, Stop, Decide, Settle, Commit, Note, Noted, Finish}
 use Rattle.jh_history.specs.declared.entry.Settled.{Settled}
@@ -83,6 +86,37 @@ words_line words = join_with_byte 32 words ++ 10 ∷ []
 abbrev pub line : Entry → List ℕ
 line entry = words_line (entry_words entry)
 
--- the text of a journal: one line for each entry, in order
-abbrev pub journal_text : List Entry → List ℕ
-journal_text = flat_map line
+-- the lines of entries, in order
+abbrev pub lines_text : List Entry → List ℕ
+lines_text = flat_map line
+
+-- the first line of a journal of form Two; one of form One has none
+abbrev pub header : Form → List ℕ
+header One = []
+header Two = codes "jailhouse journal 2" ++ 10 ∷ []
+
+-- how many lines the header has
+abbrev pub header_lines : Form → ℕ
+header_lines One = 0
+header_lines Two = 1
+
+-- the text of a journal: its header, and one line for each entry, in order
+abbrev pub journal_text : Form → List Entry → List ℕ
+journal_text form entries = header form ++ lines_text entries
+
+-- the text begins with the header of form Two
+abbrev pub has_header : List ℕ → Bool
+has_header text = bytes_eq (take (length (header Two)) text) (header Two)
+
+-- the form of the texts that begin with a header, or don't
+abbrev pub form_by : Bool → Form
+form_by true = Two
+form_by false = One
+
+-- the form of a text, which the text alone tells
+abbrev pub form_of : List ℕ → Form
+form_of text = form_by (has_header text)
+
+-- what stands behind a text's header
+abbrev pub body_of : List ℕ → List ℕ
+body_of text = drop (length (header (form_of text))) text

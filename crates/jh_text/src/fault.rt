@@ -11,7 +11,7 @@ pub const MAX_ENTRIES: usize = 262_144;
 #[derive(Clone, Copy, PartialEq, Eq, Debug)]
 pub enum JournalFault {
     /// The first line that isn't the text of an entry whose numbers are within their ranges, with a line feed
-    /// behind it; the first line has the number 1.
+    /// behind it; the first line of the text, which may be its header, has the number 1.
     Line { number: u32 },
     /// There is a line of an entry behind the last that a journal may have.
     TooLong,

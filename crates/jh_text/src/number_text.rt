@@ -13,7 +13,7 @@ const ROOM: usize = MAX_DIGITS + 2;
 
 /// Puts the decimal digits of the number at the end. Most numbers of a journal have one.
 #[inline(always)]
-pub(crate) fn push_decimal(text: &mut Vec<u8>, n: u64) -> Result<(), NoMemory>
+pub fn push_decimal(text: &mut Vec<u8>, n: u64) -> Result<(), NoMemory>
     ensures { OnOk result (text.new.items ≡ text.old.items ++ decimal n) }
 {
     if n < 10 {
@@ -36,7 +36,7 @@ fn push_digits(text: &mut Vec<u8>, n: u64) -> Result<(), NoMemory>
 }
 
 /// Puts `0x` and the number's digits in base 16 at the end.
-pub(crate) fn push_hexadecimal(text: &mut Vec<u8>, n: u64) -> Result<(), NoMemory>
+pub fn push_hexadecimal(text: &mut Vec<u8>, n: u64) -> Result<(), NoMemory>
     ensures { OnOk result (text.new.items ≡ text.old.items ++ hexadecimal n) }
 {
     let mut room = [0; ROOM];

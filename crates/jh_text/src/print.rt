@@ -4,6 +4,7 @@ ghost use Rattle.jh_text.specs.Text.{act_text, attempt_words, entry_text, journa
 ghost use Rattle.std.specs.Fmt.{decimal};
 ghost use Rattle.std.specs.List.{join_with_byte};
 
+use crate::header::push_header;
 use crate::number_text::{push_decimal, push_hexadecimal, push_signed};
 use crate::outcomes::{heard_word, ok_word, settled_word};
 use jh_history::{Act, Entry, Heard, Journal, Settled};
@@ -19,11 +20,12 @@ pub fn print_entry(alloc: Global, entry: &Entry) -> Result<Vec<u8>, NoMemory>
     Ok(text)
 }
 
-/// The lines of the journal, each ended by a line feed.
+/// The header of the journal's form and the lines of its entries, each ended by a line feed.
 pub fn print_journal(alloc: Global, journal: &Journal) -> Result<Vec<u8>, NoMemory>
-    ensures { IfOk result (λ text. text.items ≡ journal_text journal.now.entries) }
+    ensures { IfOk result (λ text. text.items ≡ journal_text journal.now.form journal.now.entries) }
 {
     let mut text = Vec::new(alloc);
+    push_header(&mut text, journal.form())?;
     for entry in journal.as_slice() {
         push_entry(&mut text, entry)?;
         text.push(b'\n')?;

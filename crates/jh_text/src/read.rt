@@ -1,20 +1,22 @@
 //! From a text to its entries.
 ghost use Rattle.std.specs.Prelude.{◌≡◌, ◌++◌, IfOk, IfErr, IfSome, IfNone};
-ghost use Rattle.jh_text.specs.Text.{line};
+ghost use Rattle.jh_text.specs.Text.{line, form_of, body_of};
 ghost use Rattle.jh_text.specs.Ranges.{IsReadable};
 ghost use Rattle.jh_text.specs.Faults.{BeginsWithNoLine};
 ghost use Rattle.jh_text.specs.Lines.{PassesLine, RefusesLine};
 
 use crate::entries::entry;
 use crate::fault::{JournalFault, MAX_ENTRIES};
+use crate::header::{header_lines, pass_header};
 use crate::reader::Reader;
-use jh_history::Entry;
+use jh_history::{Entry, Form};
 use std::marker::Model;
 
-/// The text of a journal, read from its front line by line. Contracts see how many lines it has read, and what is left
-/// of the text.
+/// The text of a journal, read from its front line by line. Contracts see its form, how many entries are read, and what
+/// is left of the text.
 #[derive(Drop)]
 pub struct JournalLines<'a> {
+    form: Form,
     rest: &'a [u8],
     count: u32,
 }
@@ -26,7 +28,7 @@ impl<'a> Model for JournalLines<'a> {
 
     ghost Value = { LinesView };
 
-    ghost view = { λ s. record { count = s.count; rest = s.rest.now } };
+    ghost view = { λ s. record { form = s.form; count = s.count; rest = s.rest.now } };
 
     ghost invariant = { λ s. s.count ≤ max_entries };
 }
@@ -45,17 +47,27 @@ fn first_line(text: &[u8]) -> Option<(Entry, &[u8])>
 }
 
 impl<'a> JournalLines<'a> {
-    /// No line is read yet.
+    /// No line is read yet but the header, where the text has one.
     pub fn new(text: &'a [u8]) -> Self
-        ensures { result ≡ record { count = 0; rest = text.now } }
+        ensures { result ≡ record { form = form_of text.now; count = 0; rest = body_of text.now } }
     {
+        let mut reader = Reader::new(text);
+        let form = pass_header(&mut reader);
         JournalLines {
-            rest: text,
+            form,
+            rest: reader.rest(),
             count: 0,
         }
     }
 
-    /// How many lines are read, which is the number of the last of them: at most 262,144.
+    /// The form of the text.
+    pub fn form(&self) -> Form
+        ensures { result ≡ self.now.form }
+    {
+        self.form
+    }
+
+    /// How many entries are read: at most 262,144.
     #[inline(always)]
     pub fn count(&self) -> u32
         ensures { result ≡ self.now.count }
@@ -70,7 +82,7 @@ impl<'a> JournalLines<'a> {
     ///
     /// # Errors
     ///
-    /// `Line` with the number of the next line, counted from 1, where it isn't such an entry's with a line feed behind
+    /// `Line` with the number of the next line, counted from 1 and with the header, where it isn't such an entry's with a line feed behind
     /// it; `TooLong` where it is, behind the last that a journal may have. The line stays the next.
     #[inline(always)]
     pub fn next(&mut self) -> Result<Option<Entry>, JournalFault>
@@ -82,7 +94,7 @@ impl<'a> JournalLines<'a> {
         }
         let Some((entry, rest)) = first_line(self.rest) else {
             return Err(JournalFault::Line {
-                number: self.count + 1,
+                number: self.count + 1 + header_lines(self.form),
             });
         };
         if self.count as usize == MAX_ENTRIES {

@@ -1,4 +1,4 @@
--- What the slow plain program keeps of a journal: CPUs, the live cells, the endpoints of their devices, the open call,
+-- What the slow plain program keeps of a journal: its form, CPUs, the live cells, the endpoints of their devices, the open call,
 -- and the bytes that were written.
 use Rattle.std.specs.Prelude.{◌≡◌, ℕ, ◌+◌, ◌^◌, ◌<◌, ◌≤◌, ◌==◌, ◌++◌, List, length, fold, if◌then◌else◌, Option, Some, IfSome}
 use Rattle.jh_num.specs.Memory.{stored}
@@ -12,6 +12,7 @@ use Rattle.jh_history.specs.declared.access.Reach.{Reach}
 use Rattle.jh_history.specs.declared.call.OpenCall.{OpenCall}
 use Rattle.jh_history.specs.declared.entry.Act.{Act}
 use Rattle.jh_history.specs.declared.entry.Entry.{Entry}
+use Rattle.jh_history.specs.declared.form.Form.{Form}
 use Rattle.jh_history.specs.declared.place.Place.{Place}
 use Rattle.jh_history.specs.declared.place.Place.TheVariants.{Physical, Page}
 use Rattle.jh_history.specs.declared.written.WrittenByte.{WrittenByte}
@@ -34,6 +35,7 @@ use Rattle.jh_history.specs.Sound.{AreSoundCells, IsSound}
 -- the image, and what the slow plain program keeps beside it of a journal
 pub record PlainView : Type 0 where
   pub image : Image
+  pub form : Form
   pub cpus : List Cpu
   pub cells : List Live
   pub endpoints : List Endpoint
@@ -67,6 +69,7 @@ pub record HasSoundCells (image : Image) (cells : List Live) : Type 0 where
 -- what is kept stands for these facts of the image
 pub record Represents (plain : PlainView) (image : Image) (facts : Facts) : Type 0 where
   pub same : image ≡ plain.image
+  pub form : facts.form ≡ plain.form
   pub cells : facts.cells ≡ plain.cells
   pub endpoints : facts.endpoints ≡ plain.endpoints
   pub call : facts.call ≡ plain.call
@@ -95,6 +98,7 @@ IsRest old new row value rest =
 -- all but the bytes and the endpoints stay
 pub record IsSameBut (old new : PlainView) : Type 0 where
   pub image : new.image ≡ old.image
+  pub form : new.form ≡ old.form
   pub cpus : new.cpus ≡ old.cpus
   pub cells : new.cells ≡ old.cells
   pub call : new.call ≡ old.call

@@ -1,6 +1,6 @@
 -- How the reader finds the one entry with whose line a text begins, as functions on lists: a reader gives what it
 -- reads, and what stands behind it.
-use Rattle.std.specs.Prelude.{◌≡◌, ℕ, ◌+◌, ◌-◌, ◌*◌, ◌^◌, ◌&&◌, ℤ, pos, ◌-ℤ◌, Bool, true, false, ◌==◌, nat_le, nat_lt, if◌then◌else◌, not, Option, Some, None, option_and_then, option_map, List, [], ◌∷◌, ◌++◌, length, take, drop, codes}
+use Rattle.std.specs.Prelude.{◌≡◌, ℕ, ◌+◌, ◌-◌, ◌*◌, ◌^◌, ◌&&◌, ℤ, pos, ◌-ℤ◌, Bool, true, false, ◌==◌, nat_le, nat_lt, if◌then◌else◌, not, Option, Some, None, option_map, List, [], ◌∷◌, ◌++◌, length, take, drop, codes}
 use Rattle.std.specs.Char.{is_ascii_uppercase, is_digit, digit_value}
 use Rattle.std.specs.Str.{bytes_eq}
 use Rattle.jh_script.specs.Operations.{◌>>=◌}

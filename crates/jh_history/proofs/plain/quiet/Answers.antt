@@ -7,11 +7,11 @@ use Rattle.jh_history.proofs.DueLemmas.{none_found}
 use Rattle.jh_history.proofs.plain.quiet.Goals as goal
 
 pub after-requires-clause-legal : goal.after-requires-clause-legal
-after-requires-clause-legal c = rw c.as_slice.ensures c.requires.legal
+after-requires-clause-legal c = rw (c.as_slice.ensures, c.form.ensures) c.requires.legal
 
 pub returns : goal.returns
 returns c =
-    let legal : IsLegal c.args.image.now c.as_slice.result.now = rw c.as_slice.ensures c.requires.legal in
-    let f = facts c.args.image.now c.as_slice.result.now in
-    let stands : Represents c.in_ok-plain.plain c.args.image.now f × IsSound c.args.image.now f = (c.in_ok-plain.ensures, c.legal_journals_are_sound.ensures.legal c.args.image.now c.as_slice.result.now c.requires.admitted legal) in
-    rw (← c.as_slice.ensures) (none_found c.any_due.result c.is_none.result c.is_none.ensures (c.any_due.ensures.quiet c.args.image.now f stands (c.admitted_roots_are_sound.ensures.cpus c.requires.admitted)))
+    let legal : IsLegal c.args.image.now c.form.result c.as_slice.result.now = rw (c.as_slice.ensures, c.form.ensures) c.requires.legal in
+    let f = facts c.args.image.now c.form.result c.as_slice.result.now in
+    let stands : Represents c.in_ok-plain.plain c.args.image.now f × IsSound c.args.image.now f = (c.in_ok-plain.ensures, c.legal_journals_are_sound.ensures.legal c.args.image.now c.form.result c.as_slice.result.now c.requires.admitted legal) in
+    rw (← c.as_slice.ensures, ← c.form.ensures) (none_found c.any_due.result c.is_none.result c.is_none.ensures (c.any_due.ensures.quiet c.args.image.now f stands (c.admitted_roots_are_sound.ensures.cpus c.requires.admitted)))

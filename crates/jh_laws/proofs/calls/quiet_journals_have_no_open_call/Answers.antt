@@ -3,4 +3,4 @@ use Rattle.jh_laws.proofs.QuietLemmas.{quiet_closed}
 use Rattle.jh_laws.proofs.calls.quiet_journals_have_no_open_call.Goals as goal
 
 pub returns : goal.returns
-returns c = λ j quiet. quiet_closed j.image j.entries j.admitted j.legal quiet
+returns c = λ j quiet. quiet_closed j.image j.form j.entries j.admitted j.legal quiet

@@ -7,11 +7,11 @@ use Rattle.jh_history.proofs.Public.{other_root, legal_sound}
 use Rattle.jh_laws.proofs.cells.cpus_belong_to_live_cells.Goals as goal
 
 pub returns-clause-cells : goal.returns-clause-cells
-returns-clause-cells c = λ j cell cpu held. let has = (legal_sound j.image j.entries j.admitted j.legal).cpus.cells cell held in (has.named cpu, has.owned cpu)
+returns-clause-cells c = λ j cell cpu held. let has = (legal_sound j.image j.form j.entries j.admitted j.legal).cpus.cells cell held in (has.named cpu, has.owned cpu)
 
 pub returns-clause-root : goal.returns-clause-root
 returns-clause-root c = λ j cpu.
-    let sound = legal_sound j.image j.entries j.admitted j.legal in (
+    let sound = legal_sound j.image j.form j.entries j.admitted j.legal in (
       λ is cell held. false_from_ne_true (is_cpu_set cell.cpu_set cpu) (λ set. other_root j.image.system (live_configs j) cell sound.cells held (sym ((sound.cpus.cells cell held).owned cpu set) ∙ is)),
       λ none.
           ⊎_elim
@@ -21,4 +21,4 @@ returns-clause-root c = λ j cpu.
     )
 
 pub returns-clause-board : goal.returns-clause-board
-returns-clause-board c = λ j cell cpu held set. ((legal_sound j.image j.entries j.admitted j.legal).cpus.cells cell held).board cpu set
+returns-clause-board c = λ j cell cpu held set. ((legal_sound j.image j.form j.entries j.admitted j.legal).cpus.cells cell held).board cpu set

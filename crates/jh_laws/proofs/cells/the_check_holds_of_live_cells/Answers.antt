@@ -6,13 +6,13 @@ use Rattle.jh_history.proofs.Public.{legal_sound}
 use Rattle.jh_laws.proofs.cells.the_check_holds_of_live_cells.Goals as goal
 
 pub returns-clause-findings : goal.returns-clause-findings
-returns-clause-findings c = λ j. nothing_from_clean j.image.system (live_configs j) (legal_sound j.image j.entries j.admitted j.legal).cells.clean
+returns-clause-findings c = λ j. nothing_from_clean j.image.system (live_configs j) (legal_sound j.image j.form j.entries j.admitted j.legal).cells.clean
 
 pub returns-clause-pages : goal.returns-clause-pages
-returns-clause-pages c = λ j. (legal_sound j.image j.entries j.admitted j.legal).cells.room
+returns-clause-pages c = λ j. (legal_sound j.image j.form j.entries j.admitted j.legal).cells.room
 
 pub returns-clause-differ : goal.returns-clause-differ
-returns-clause-differ c = λ j. (legal_sound j.image j.entries j.admitted j.legal).cells.differ
+returns-clause-differ c = λ j. (legal_sound j.image j.form j.entries j.admitted j.legal).cells.differ
 
 pub returns-clause-few : goal.returns-clause-few
-returns-clause-few c = λ j bytes. few_cells j.image j.entries j.admitted bytes j.legal
+returns-clause-few c = λ j bytes. few_cells j.image j.form j.entries j.admitted bytes j.legal

@@ -6,5 +6,5 @@ use Rattle.jh_laws.proofs.held.cells_are_granted_their_places.Goals as goal
 
 pub returns : goal.returns
 returns c = λ j id access at place.
-    let sound = legal_sound j.image j.entries j.admitted j.legal in
+    let sound = legal_sound j.image j.form j.entries j.admitted j.legal in
     (to_granted_holds j.image (facts_of j) id access at place sound.cells, granted_to j.image (facts_of j) id access at place sound.cells)

@@ -6,5 +6,5 @@ use Rattle.jh_laws.proofs.states.cpus_that_are_ready_have_an_entry_due.Goals as 
 
 pub returns : goal.returns
 returns c = λ j cpu.
-    let sound = legal_sound j.image j.entries j.admitted j.legal in
+    let sound = legal_sound j.image j.form j.entries j.admitted j.legal in
     (ready_from_due j.image (facts_of j) cpu j.admitted sound, due_from_ready j.image (facts_of j) cpu j.admitted sound)

@@ -7,10 +7,10 @@ use Rattle.jh_laws.proofs.vectors.interrupts_are_due_where_a_vector_is_pending.G
 
 pub returns-clause-due : goal.returns-clause-due
 returns-clause-due c = λ j cpu is.
-    let sound = legal_sound j.image j.entries j.admitted j.legal in (
+    let sound = legal_sound j.image j.form j.entries j.admitted j.legal in (
       λ due. ready_pending j.image (facts_of j) cpu is (ready_from_due j.image (facts_of j) cpu j.admitted sound due),
       λ pending. due_from_ready j.image (facts_of j) cpu j.admitted sound (pending_ready j.image (facts_of j) cpu is pending),
     )
 
 pub returns-clause-next : goal.returns-clause-next
-returns-clause-next c = λ m n v is. interrupt_is m.image m.before m.rest m.entry n v m.admitted m.legal is
+returns-clause-next c = λ m n v is. interrupt_is m.image m.form m.before m.rest m.entry n v m.admitted m.legal is

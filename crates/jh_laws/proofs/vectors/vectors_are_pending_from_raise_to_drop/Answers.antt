@@ -8,9 +8,9 @@ returns-clause-opening c = opening_none
 
 pub returns-clause-entries : goal.returns-clause-entries
 returns-clause-entries c = λ m id n v. (
-  λ pending. pending_behind m.image m.before m.rest m.entry id n v m.admitted m.legal pending,
+  λ pending. pending_behind m.image m.form m.before m.rest m.entry id n v m.admitted m.legal pending,
   λ cause. ⊎_elim
-      (λ raised. raised_behind m.image m.before m.rest m.entry id n v m.admitted m.legal raised)
-      (λ kept. kept_behind m.image m.before m.rest m.entry id n v m.admitted m.legal kept)
+      (λ raised. raised_behind m.image m.form m.before m.rest m.entry id n v m.admitted m.legal raised)
+      (λ kept. kept_behind m.image m.form m.before m.rest m.entry id n v m.admitted m.legal kept)
       cause,
 )

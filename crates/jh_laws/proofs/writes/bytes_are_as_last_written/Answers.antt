@@ -10,11 +10,11 @@ use Rattle.jh_laws.proofs.writes.bytes_are_as_last_written.Goals as goal
 
 pub returns-clause-last : goal.returns-clause-last
 returns-clause-last c = λ m place byte h none.
-    let P : List Entry → Type 0 = IsLegal m.image in
+    let P : List Entry → Type 0 = IsLegal m.image m.form in
     let split : (m.before ++ m.entry ∷ []) ++ m.rest ≡ m.before ++ m.entry ∷ m.rest = append_assoc m.before (m.entry ∷ []) m.rest in
-    ap (λ (entries : List Entry). (facts m.image entries).byte place) (sym split)
-    ∙ rest_keeps m.image (m.before ++ m.entry ∷ []) m.rest place m.admitted (subst P (sym split) m.legal) none
-    ∙ entry_writes m.image m.before m.rest m.entry place byte m.admitted m.legal h
+    ap (λ (entries : List Entry). (facts m.image m.form entries).byte place) (sym split)
+    ∙ rest_keeps m.image m.form (m.before ++ m.entry ∷ []) m.rest place m.admitted (subst P (sym split) m.legal) none
+    ∙ entry_writes m.image m.form m.before m.rest m.entry place byte m.admitted m.legal h
 
 pub returns-clause-opening : goal.returns-clause-opening
-returns-clause-opening c = λ j place none. rest_keeps j.image [] j.entries place j.admitted j.legal none ∙ ap (λ (f : Facts). f.byte place) (facts_nil j.image)
+returns-clause-opening c = λ j place none. rest_keeps j.image j.form [] j.entries place j.admitted j.legal none ∙ ap (λ (f : Facts). f.byte place) (facts_nil j.image j.form)

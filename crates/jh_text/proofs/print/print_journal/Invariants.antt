@@ -1,7 +1,7 @@
--- What is written so far are the lines of the entries so far.
+-- What is written so far is the header, and the lines of the entries so far.
 use Rattle.std.proofs.Common.{◌≡◌, take}
 use Rattle.jh_text.specs.Text.{journal_text}
 use Rattle.jh_text.proofs.print.print_journal.Given as goal
 
 abbrev pub invariant-loop-entry : goal.invariant-loop-entry
-invariant-loop-entry l = l.text.items ≡ journal_text (take l.entry-index l.entry-items)
+invariant-loop-entry l = l.text.items ≡ journal_text l.fn.journal.form (take l.entry-index l.entry-items)

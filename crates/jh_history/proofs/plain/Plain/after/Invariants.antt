@@ -7,6 +7,6 @@ use Rattle.jh_history.proofs.plain.Plain.after.Given as goal
 
 abbrev pub invariant-loop-entry : goal.invariant-loop-entry
 invariant-loop-entry l = record {
-  stands : Represents l.plain l.image (facts l.image (take l.entry-index l.entries));
-  sound : IsSound l.image (facts l.image (take l.entry-index l.entries));
+  stands : Represents l.plain l.image (facts l.image l.fn.form (take l.entry-index l.entries));
+  sound : IsSound l.image (facts l.image l.fn.form (take l.entry-index l.entries));
 }

@@ -26,10 +26,11 @@ returns-clause-cpus c = λ i f h k lt.
     let written = c.in_ok-write.ensures.others in
     let done = c.in_ok-commit_devices.ensures.others in
     let image : c.self.inside.image.now ≡ i = ap (λ (p : PlainView). p.image) c.self.view_is ∙ done.image ∙ written.image ∙ sym h.same in
+    let form : f.form ≡ c.self.inside.form = h.form ∙ sym (ap (λ (p : PlainView). p.form) c.self.view_is ∙ done.form ∙ written.form) in
     let cpus : c.self.inside.cpus ≡ c.args.self.now.cpus = ap (λ (p : PlainView). p.cpus) c.self.view_is ∙ done.cpus ∙ written.cpus in
     let call : f.call ≡ option_copied c.as_ref.result = h.call ∙ sym (c.as_ref.ensures.value ∙ ap (λ (p : PlainView). p.call) c.self.view_is ∙ done.call ∙ written.call) in
     subst (λ (x : Image). slice_get c.cpus_after.new.cpus k ≡ Some (cpu_after x f c.args.entry.now k)) image
-    (c.cpus_after.ensures f call (λ n below. ap (λ (states : List Cpu). slice_get states n) cpus ∙ h.cpus n below) k lt)
+    (c.cpus_after.ensures f form call (λ n below. ap (λ (states : List Cpu). slice_get states n) cpus ∙ h.cpus n below) k lt)
 
 pub returns-clause-bytes : goal.returns-clause-bytes
 returns-clause-bytes c = λ i f h q.
@@ -37,6 +38,7 @@ returns-clause-bytes c = λ i f h q.
     let written = c.in_ok-write.ensures.others in
     let done = c.in_ok-commit_devices.ensures.others in
     let image : c.self.inside.image.now ≡ i = ap (λ (p : PlainView). p.image) c.self.view_is ∙ done.image ∙ written.image ∙ sym h.same in
+    let form : f.form ≡ c.self.inside.form = h.form ∙ sym (ap (λ (p : PlainView). p.form) c.self.view_is ∙ done.form ∙ written.form) in
     let cpus : c.self.inside.cpus ≡ c.args.self.now.cpus = ap (λ (p : PlainView). p.cpus) c.self.view_is ∙ done.cpus ∙ written.cpus in
     let kept = ap (λ (p : PlainView). p.call) c.self.view_is ∙ done.call ∙ written.call in
     let call : f.call ≡ option_copied c.as_ref.result = h.call ∙ sym (c.as_ref.ensures.value ∙ kept) in
@@ -44,7 +46,7 @@ returns-clause-bytes c = λ i f h q.
     let cells : configs_of f.cells ≡ c.configs.result.now =
     sym (c.configs.ensures ∙ ap (λ (lives : List Live). configs_of lives) (ap (λ (p : PlainView). p.cells) c.self.view_is ∙ done.cells ∙ written.cells ∙ sym h.cells)) in
     let page : c.page_write-write.result ≡ page_write_by i f entry entry.act =
-    c.page_write-write.ensures f cells call_too (c.cpus_after.ensures f call (λ n below. ap (λ (states : List Cpu). slice_get states n) cpus ∙ h.cpus n below))
+    c.page_write-write.ensures f cells call_too (c.cpus_after.ensures f form call (λ n below. ap (λ (states : List Cpu). slice_get states n) cpus ∙ h.cpus n below))
     ∙ ap (λ (x : Image). page_write_by x f entry entry.act) image in
     let byte : Place → ℕ = byte_written i f entry.cell entry.act in
     let bytes : (p : Place) → last_byte i c.self.inside.bytes.items p ≡ with_words (specs_changing f entry.act) byte p =

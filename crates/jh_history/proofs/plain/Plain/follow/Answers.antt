@@ -32,6 +32,7 @@ returns c = λ i f h.
     let call : c.change.new.self.call ≡ f.call = c.in_ok-change.ensures.call ∙ sym h.call in
     let cells : c.change.new.self.cells ≡ f.cells = c.in_ok-change.ensures.cells ∙ sym h.cells in
     Stands_after i f entry c.args.self.now c.move_on.new.self h (c.in_ok-move_on.ensures.image ∙ c.in_ok-change.ensures.image)
+    (c.in_ok-move_on.ensures.form ∙ c.in_ok-change.ensures.form)
     (c.in_ok-move_on.ensures.cells
     ∙ ap (λ (k : Option OpenCall). cells_by k c.change.new.self.cells entry.act) call
     ∙ ap (λ (lives : List Live). cells_by f.call lives entry.act) cells)

@@ -21,7 +21,7 @@ returns-clause-cells c =
     let call : c.replace-call.result ≡ c.args.self.now.call = c.replace-call.ensures.value ∙ ap (λ (p : PlainView). p.call) c.self.view_is in
     let cells : c.self.inside.cells ≡ c.args.self.now.cells = ap (λ (p : PlainView). p.cells) c.self.view_is in
     c.in_ok-cells_after.ensures.ok c.replace-call.result
-    (c.call_in-begun.ensures ∙ ap (option_map (λ (o : OpenCall). o.call)) c.as_ref.ensures.value) c.call_after-called.ensures.created
+    (c.begun_call-begun.ensures ∙ ap (option_map (λ (o : OpenCall). o.call)) c.as_ref.ensures.value) c.call_after-called.ensures.created
     ∙ ap (λ (k : Option OpenCall). cells_by k c.self.inside.cells act) call
     ∙ ap (λ (lives : List Live). cells_by c.args.self.now.call lives act) cells
 
@@ -45,7 +45,7 @@ invariant_of-self-2 c =
     let cells : f.cells ≡ c.self.inside.cells = c.requires.cells ∙ sym (ap (λ (p : PlainView). p.cells) c.self.view_is) in
     let is : c.cells_after.new.cells ≡ cells_by f.call f.cells entry.act =
     c.in_ok-cells_after.ensures.ok c.replace-call.result
-    (c.call_in-begun.ensures ∙ ap (option_map (λ (o : OpenCall). o.call)) c.as_ref.ensures.value) c.call_after-called.ensures.created
+    (c.begun_call-begun.ensures ∙ ap (option_map (λ (o : OpenCall). o.call)) c.as_ref.ensures.value) c.call_after-called.ensures.created
     ∙ ap (λ (k : Option OpenCall). cells_by k c.self.inside.cells entry.act) call
     ∙ ap (λ (lives : List Live). cells_by f.call lives entry.act) (sym cells) in
     let sound : IsSound c.self.inside.image.now (after c.self.inside.image.now f entry) =
