@@ -1,0 +1,14 @@
+mod AddressLemmas
+mod ClearLemmas
+mod CpuLemmas
+mod FaultLemmas
+mod ImageLemmas
+mod JoinLemmas
+mod PairLemmas
+mod PlaceLemmas
+mod ProgramLemmas
+mod ReadLemmas
+mod SectionLemmas
+mod SoundLemmas
+mod TwinLemmas
+mod WindowLemmas

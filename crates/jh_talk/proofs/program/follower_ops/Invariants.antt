@@ -1,0 +1,8 @@
+-- The operations so far, with the rounds that are left, are all.
+use Rattle.std.proofs.Common.{◌≡◌, ◌-◌, ◌++◌}
+use Rattle.jh_talk.specs.Programs.{follower_ops, follower_round, round_count, rounds_from}
+use Rattle.jh_talk.proofs.program.follower_ops.Given as goal
+
+abbrev pub invariant-loop-i : goal.invariant-loop-i
+invariant-loop-i l =
+    l.ops ++ rounds_from (follower_round l.side l.messages) l.i (round_count l.messages - l.i) ≡ follower_ops l.side l.messages

@@ -1,0 +1,15 @@
+pub mod Addresses
+pub mod Apart
+pub mod Cpus
+pub mod FaultText
+pub mod Faults
+pub mod Functions
+pub mod Images
+pub mod Limits
+pub mod Messages
+pub mod Pairs
+pub mod Places
+pub mod Private
+pub mod Programs
+pub mod Sections
+pub mod Windows
