@@ -9,7 +9,7 @@ use Rattle.jh_cellcfg.specs.declared.config.CellConfig.{CellConfig}
 use Rattle.jh_pins.specs.declared.pin.Pin.{Pin}
 use Rattle.jh_pins.specs.declared.pin.PinRun.{PinRun}
 use Rattle.jh_pins.specs.declared.pin.Clash.{Clash}
-use Rattle.jh_pins.specs.declared.claim.Claim.{Claim}
+use Rattle.jh_pins.specs.Claims.{Claim}
 use Rattle.jh_pins.specs.TableView.{TableView}
 use Rattle.jh_pins.specs.Holders.{is_held_by}
 use Rattle.jh_pins.specs.Runs.{pin_of, IsIn, IsRunOf, IsInRun, StandsBefore, AreRuns}

@@ -10,6 +10,7 @@ use Rattle.jh_check.specs.Refusals.{AreTwo}
 use Rattle.jh_shape.specs.Lives.{configs_of}
 use Rattle.jh_shape.proofs.Public.{configs_marked}
 use Rattle.jh_script.specs.declared.image.Image.{Image}
+use Rattle.jh_history.specs.declared.form.Form.{Form}
 use Rattle.jh_history.specs.declared.call.OpenCall.{OpenCall}
 use Rattle.jh_history.specs.declared.call.Phase.{Phase}
 use Rattle.jh_history.specs.declared.call.Phase.TheVariants.{ToCreate}
@@ -20,7 +21,7 @@ use Rattle.jh_history.specs.Facts.{Facts}
 use Rattle.jh_history.specs.History.{facts}
 use Rattle.jh_history.specs.Commits.{committed_cells, cells_by, is_other as is_other_live}
 use Rattle.jh_history.proofs.Public.{facts_nil, facts_push, after_cells, configs_joined, configs_others, is_other_config, two_ids}
-use Rattle.jh_pins.specs.declared.claim.Claim.{Claim}
+use Rattle.jh_pins.specs.Claims.{Claim}
 use Rattle.jh_pins.specs.Pins.{claim_of}
 use Rattle.jh_pins.specs.TableView.{TableView, AreTwoCells, HaveOwnIds}
 use Rattle.jh_pins.specs.Holders.{is_other, table_of, with_cell, without}
@@ -58,24 +59,24 @@ of_entry root (Some o) Commit cells = of_committed root o.call o.phase cells
 of_entry root None Commit cells = refl
 of_entry root call act cells = refl
 
-pub one_entry : (image : Image) (before : List Entry) (entry : Entry) → edited_by (facts image before).call entry.act (live_table image before) ≡ live_table image (before ++ entry ∷ [])
-one_entry image before entry =
-    of_entry image.system.root (facts image before).call entry.act (facts image before).cells
-    ∙ ap (λ (l : List Live). table_of image.system.root (configs_of l)) (sym (after_cells image (facts image before) entry))
-    ∙ ap (λ (f : Facts). table_of image.system.root (configs_of f.cells)) (sym (facts_push image before entry))
+pub one_entry : (image : Image) (form : Form) (before : List Entry) (entry : Entry) → edited_by (facts image form before).call entry.act (live_table image form before) ≡ live_table image form (before ++ entry ∷ [])
+one_entry image form before entry =
+    of_entry image.system.root (facts image form before).call entry.act (facts image form before).cells
+    ∙ ap (λ (l : List Live). table_of image.system.root (configs_of l)) (sym (after_cells image (facts image form before) entry))
+    ∙ ap (λ (f : Facts). table_of image.system.root (configs_of f.cells)) (sym (facts_push image form before entry))
 
 -- ---- all of them
 
-behind : (image : Image) (before rest : List Entry) → edited_behind image before rest (live_table image before) ≡ live_table image (before ++ rest)
-behind image before [] = ap (live_table image) (sym (append-nil before))
-behind image before (entry ∷ rest) =
-    ap (edited_behind image (before ++ entry ∷ []) rest) (one_entry image before entry)
-    ∙ behind image (before ++ entry ∷ []) rest
-    ∙ ap (live_table image) (append_assoc before (entry ∷ []) rest)
+behind : (image : Image) (form : Form) (before rest : List Entry) → edited_behind image form before rest (live_table image form before) ≡ live_table image form (before ++ rest)
+behind image form before [] = ap (live_table image form) (sym (append-nil before))
+behind image form before (entry ∷ rest) =
+    ap (edited_behind image form (before ++ entry ∷ []) rest) (one_entry image form before entry)
+    ∙ behind image form (before ++ entry ∷ []) rest
+    ∙ ap (live_table image form) (append_assoc before (entry ∷ []) rest)
 
-pub edited_live : (image : Image) (entries : List Entry) → edited_table image entries ≡ live_table image entries
-edited_live image entries =
-    ap (λ (f : Facts). edited_behind image [] entries (table_of image.system.root (configs_of f.cells))) (sym (facts_nil image)) ∙ behind image [] entries
+pub edited_live : (image : Image) (form : Form) (entries : List Entry) → edited_table image form entries ≡ live_table image form entries
+edited_live image form entries =
+    ap (λ (f : Facts). edited_behind image form [] entries (table_of image.system.root (configs_of f.cells))) (sym (facts_nil image form)) ∙ behind image form [] entries
 
 -- ---- a destroy
 
@@ -89,8 +90,8 @@ own_ids root configs differ i j d lt within =
     let Q : Claim → Type 0 = λ y. AreTwoCells (get_or (map claim_of (root ∷ configs)) i d) y in
     subst Q (at j (omega arith)) (subst P (at i (omega arith)) two)
 
-pub dropped : (image : Image) (before : List Entry) (entry : Entry) (id : ℕ) → (facts image (before ++ entry ∷ [])).cells ≡ filter (is_other_live id) (facts image before).cells → live_table image (before ++ entry ∷ []) ≡ without id (live_table image before)
-dropped image before entry id is =
+pub dropped : (image : Image) (form : Form) (before : List Entry) (entry : Entry) (id : ℕ) → (facts image form (before ++ entry ∷ [])).cells ≡ filter (is_other_live id) (facts image form before).cells → live_table image form (before ++ entry ∷ []) ≡ without id (live_table image form before)
+dropped image form before entry id is =
     ap (λ (l : List Live). table_of image.system.root (configs_of l)) is
-    ∙ ap (table_of image.system.root) (configs_others id (facts image before).cells)
-    ∙ table_without image.system.root (configs_of (facts image before).cells) id
+    ∙ ap (table_of image.system.root) (configs_others id (facts image form before).cells)
+    ∙ table_without image.system.root (configs_of (facts image form before).cells) id

@@ -7,14 +7,15 @@ use Rattle.std.proofs.lemmas.Bool.{and_right, both_ways, cases_lt, eq-eqb, eqb-t
 use Rattle.std.proofs.lemmas.Option.{none-some}
 use Rattle.std.proofs.lemmas.List.{get_or-drop, get_or-take, get_or_default, length-drop, length-take-le}
 use Rattle.std.proofs.lemmas.List.Elements.{All-append, All-cons, All-head, All-nil, All-tail}
-use Rattle.std.proofs.lemmas.List.Folds.{find-append}
+use Rattle.std.proofs.lemmas.List.Folds.{find-append, list_any_more}
 use Rattle.std.proofs.lemmas.List.Quantifiers.{position-Some}
 use Rattle.std.proofs.lemmas.List.Sums.{fails_before_first}
 use Rattle.jh_pins.specs.declared.pin.Pin.{Pin}
-use Rattle.jh_pins.specs.declared.claim.Claim.{Claim}
+use Rattle.jh_pins.specs.Claims.{Claim}
 use Rattle.jh_pins.specs.Pins.{is_named_by}
 use Rattle.jh_pins.specs.TableView.{TableView, AreTwoCells, HaveOwnIds}
 use Rattle.jh_pins.specs.Holders.{id_of, holder, is_held_by, has_id, is_other}
+use Rattle.jh_pins.specs.Private.Pieces.{names, is_left, is_without}
 
 -- ---- the first that passes a test, by its id
 
@@ -112,6 +113,17 @@ pub held_by_none : (table : TableView) (id : ℕ) (pin : Pin) → table.root.id 
 held_by_none table id pin root cells =
     none_by_id id (is_named_by pin) (table.cells ++ table.root ∷ [])
     (All-append (λ (c : Claim). c.id ≢ id) table.cells (table.root ∷ []) cells (All-cons (λ (c : Claim). c.id ≢ id) table.root [] root (All-nil (λ (c : Claim). c.id ≢ id))))
+
+-- what the cell names, and neither those so far nor one more does
+pub one_left_more : (own : Claim) (others : List Claim) (i : ℕ) (other : Claim) (pin : Pin) → i < length others → other ≡ get_or others i other → is_without (is_left own (take i others)) (names other) pin ≡ is_left own (take (i + 1) others) pin
+one_left_more own others i other pin lt is =
+    both_not (is_named_by pin own) (list_any (is_named_by pin) (take i others)) (is_named_by pin other)
+    ∙ ap (λ b. is_named_by pin own && not b) (ap (λ (x : Claim). list_any (is_named_by pin) (take i others) || is_named_by pin x) is ∙ sym (list_any_more (is_named_by pin) others i other lt))
+  where
+    both_not : (a b c : Bool) → ((a && not b) && not c) ≡ (a && not (b || c))
+    both_not true true c = refl
+    both_not true false c = refl
+    both_not false b c = refl
 
 -- ---- the place of an id
 

@@ -11,7 +11,7 @@ use Rattle.jh_num.proofs.Public.{IsFound_from_find, find_None}
 use Rattle.jh_cellcfg.specs.declared.config.Irqchip.{Irqchip}
 use Rattle.jh_pins.specs.declared.pin.Pin.{Pin}
 use Rattle.jh_pins.specs.declared.pin.PinRun.{PinRun}
-use Rattle.jh_pins.specs.declared.claim.Claim.{Claim}
+use Rattle.jh_pins.specs.Claims.{Claim}
 use Rattle.jh_pins.specs.Pins.{is_set, is_given_by, is_named_by, IsPinOf}
 use Rattle.jh_pins.specs.TableView.{TableView, AreTwoCells, HaveOwnIds}
 use Rattle.jh_pins.specs.Holders.{claimants, id_of, holder, is_held_by, has_id, is_other, without}

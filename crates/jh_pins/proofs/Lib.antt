@@ -1,4 +1,6 @@
 mod PinLemmas
+mod WordLemmas
+mod PieceLemmas
 mod RunLemmas
 mod HolderLemmas
 mod ClashLemmas

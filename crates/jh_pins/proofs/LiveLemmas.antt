@@ -9,6 +9,7 @@ use Rattle.std.proofs.lemmas.Option.{none-some, slice_get_within, slice_get-get_
 use Rattle.jh_cellcfg.specs.declared.config.CellConfig.{CellConfig}
 use Rattle.jh_check.specs.Refusals.{AreTwo}
 use Rattle.jh_script.specs.declared.image.Image.{Image}
+use Rattle.jh_history.specs.declared.form.Form.{Form}
 use Rattle.jh_history.specs.declared.entry.Entry.{Entry}
 use Rattle.jh_history.specs.Due.{due}
 use Rattle.jh_history.specs.Items.{Reached, with_due, with_item, items}
@@ -16,7 +17,7 @@ use Rattle.jh_history.proofs.Public.{two_ids}
 use Rattle.jh_laws.specs.Items.{IsCutShort}
 use Rattle.jh_board.specs.BoardView.{BoardView}
 use Rattle.jh_board.specs.Turns.{MakesDue}
-use Rattle.jh_pins.specs.declared.claim.Claim.{Claim}
+use Rattle.jh_pins.specs.Claims.{Claim}
 use Rattle.jh_pins.specs.declared.pin.PinRun.{PinRun}
 use Rattle.jh_pins.specs.Pins.{claim_of}
 use Rattle.jh_pins.specs.TableView.{TableView}
@@ -33,42 +34,43 @@ reached entries full = record { entries = entries; full = full }
 
 -- ---- items
 
-pub items_none : (image : Image) (limit : ℕ) (start : List Entry) → items image limit [] start ≡ reached start false
+pub items_none : (image : Image) (form : Form) (limit : ℕ) (start : List Entry) → items image form limit [] start ≡ reached start false
 unfolding items
-items_none image limit start = refl
+items_none image form limit start = refl
 
-moved : (image other : Image) (limit most : ℕ) (mid new : List Entry) (cpu : ℕ) (full : Bool) → other ≡ image → most ≡ limit → with_item other most (reached mid false) cpu ≡ reached new full → with_item image limit (reached mid false) cpu ≡ reached new full
-moved image other limit most mid new cpu full is_image is_limit h =
-    let P : Image → Type 0 = λ i. with_item i limit (reached mid false) cpu ≡ reached new full in
-    let Q : ℕ → Type 0 = λ n. with_item other n (reached mid false) cpu ≡ reached new full in
-    subst P is_image (subst Q is_limit h)
+moved : (image other : Image) (form had : Form) (limit most : ℕ) (mid new : List Entry) (cpu : ℕ) (full : Bool) → other ≡ image → had ≡ form → most ≡ limit → with_item other had most (reached mid false) cpu ≡ reached new full → with_item image form limit (reached mid false) cpu ≡ reached new full
+moved image other form had limit most mid new cpu full is_image is_form is_limit h =
+    let P : Image → Type 0 = λ i. with_item i form limit (reached mid false) cpu ≡ reached new full in
+    let Q : ℕ → Type 0 = λ n. with_item other form n (reached mid false) cpu ≡ reached new full in
+    let R : Form → Type 0 = λ k. with_item other k most (reached mid false) cpu ≡ reached new full in
+    subst P is_image (subst Q is_limit (subst R is_form h))
 
-pub items_more : (image other : Image) (limit most : ℕ) (cpus : List ℕ) (i : ℕ) (start mid new : List Entry) (full : Bool) → i < length cpus → items image limit (take i cpus) start ≡ reached mid false → other ≡ image → most ≡ limit
-    → with_item other most (reached mid false) (get_or cpus i 0) ≡ reached new full → items image limit (take (i + 1) cpus) start ≡ reached new full
+pub items_more : (image other : Image) (form had : Form) (limit most : ℕ) (cpus : List ℕ) (i : ℕ) (start mid new : List Entry) (full : Bool) → i < length cpus → items image form limit (take i cpus) start ≡ reached mid false → other ≡ image → had ≡ form → most ≡ limit
+    → with_item other had most (reached mid false) (get_or cpus i 0) ≡ reached new full → items image form limit (take (i + 1) cpus) start ≡ reached new full
 unfolding items
-items_more image other limit most cpus i start mid new full lt so_far is_image is_limit h =
-    fold_more (with_item image limit) (reached start false) cpus i 0 lt
-    ∙ ap (λ (r : Reached). with_item image limit r (get_or cpus i 0)) so_far
-    ∙ moved image other limit most mid new (get_or cpus i 0) full is_image is_limit h
+items_more image other form had limit most cpus i start mid new full lt so_far is_image is_form is_limit h =
+    fold_more (with_item image form limit) (reached start false) cpus i 0 lt
+    ∙ ap (λ (r : Reached). with_item image form limit r (get_or cpus i 0)) so_far
+    ∙ moved image other form had limit most mid new (get_or cpus i 0) full is_image is_form is_limit h
 
 -- a stop before the end
-pub items_stopped : (image other : Image) (limit most : ℕ) (cpus : List ℕ) (i : ℕ) (start mid new : List Entry) → i < length cpus → items image limit (take i cpus) start ≡ reached mid false → other ≡ image → most ≡ limit
-    → with_item other most (reached mid false) (get_or cpus i 0) ≡ reached new true → items image limit cpus start ≡ reached new true
+pub items_stopped : (image other : Image) (form had : Form) (limit most : ℕ) (cpus : List ℕ) (i : ℕ) (start mid new : List Entry) → i < length cpus → items image form limit (take i cpus) start ≡ reached mid false → other ≡ image → had ≡ form → most ≡ limit
+    → with_item other had most (reached mid false) (get_or cpus i 0) ≡ reached new true → items image form limit cpus start ≡ reached new true
 unfolding items
-items_stopped image other limit most cpus i start mid new lt so_far is_image is_limit h =
-    sym (fold_stuck (with_item image limit) (reached new true) (λ cpu. refl) (reached start false) cpus i 0 lt
-    (ap (λ (r : Reached). with_item image limit r (get_or cpus i 0)) so_far ∙ moved image other limit most mid new (get_or cpus i 0) true is_image is_limit h))
+items_stopped image other form had limit most cpus i start mid new lt so_far is_image is_form is_limit h =
+    sym (fold_stuck (with_item image form limit) (reached new true) (λ cpu. refl) (reached start false) cpus i 0 lt
+    (ap (λ (r : Reached). with_item image form limit r (get_or cpus i 0)) so_far ∙ moved image other form had limit most mid new (get_or cpus i 0) true is_image is_form is_limit h))
 
 -- ---- the limit
 
 abbrev pub CutLaw : Type 0
-CutLaw = (image : Image) (limit : ℕ) (cpus : List ℕ) (before after : List Entry) → (items image limit cpus before ≡ record { entries = after; full = true }) ↔ IsCutShort image limit cpus before after
+CutLaw = (image : Image) (form : Form) (limit : ℕ) (cpus : List ℕ) (before after : List Entry) → (items image form limit cpus before ≡ record { entries = after; full = true }) ↔ IsCutShort image form limit cpus before after
 
-pub stopped_exactly : CutLaw → (image : Image) (limit : ℕ) (cpus : List ℕ) (entries : List Entry) (whole : Bool) → items image limit cpus [] ≡ reached entries (not whole) → length entries ≤ limit → (whole ≡ false) ↔ IsStoppedAtLimit image limit cpus entries
-stopped_exactly cut image limit cpus entries true are within =
-    (λ e. absurd (false≢true (sym e)), λ at. absurd (false≢true (ap (λ (r : Reached). r.full) (sym are ∙ (cut image limit cpus [] entries).1 at.1))))
-stopped_exactly cut image limit cpus entries false are within =
-    (λ e. let short = (cut image limit cpus [] entries).0 are in let enough : limit ≤ length entries = short.reached in (omega arith, short), λ at. refl)
+pub stopped_exactly : CutLaw → (image : Image) (form : Form) (limit : ℕ) (cpus : List ℕ) (entries : List Entry) (whole : Bool) → items image form limit cpus [] ≡ reached entries (not whole) → length entries ≤ limit → (whole ≡ false) ↔ IsStoppedAtLimit image form limit cpus entries
+stopped_exactly cut image form limit cpus entries true are within =
+    (λ e. absurd (false≢true (sym e)), λ at. absurd (false≢true (ap (λ (r : Reached). r.full) (sym are ∙ (cut image form limit cpus [] entries).1 at.1))))
+stopped_exactly cut image form limit cpus entries false are within =
+    (λ e. let short = (cut image form limit cpus [] entries).0 are in let enough : limit ≤ length entries = short.reached in (omega arith, short), λ at. refl)
 
 -- ---- the cells that live
 

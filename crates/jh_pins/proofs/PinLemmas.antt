@@ -55,16 +55,3 @@ those_of_one {X} has xs i d old mid new lt so_far is n =
     is n ∙ ap (λ b. b || has n (get_or xs i d)) (so_far n)
     ∙ sym (or_assoc (has_byte old n) (list_any (has n) (take i xs)) (has n (get_or xs i d)))
     ∙ ap (λ b. has_byte old n || b) (sym (list_any_more (has n) xs i d lt))
-
--- ---- numbers that are taken out
-
-pub left_more : (rows : List Range) (i : ℕ) (d : Range) (number : ℕ) (had mid new : Bool) → i < length rows → mid ≡ (had && not (has_byte (take i rows) number)) → new ≡ (mid && not (in_range (get_or rows i d) number)) → new ≡ (had && not (has_byte (take (i + 1) rows) number))
-left_more rows i d number had mid new lt so_far is =
-    is ∙ ap (λ b. b && not (in_range (get_or rows i d) number)) so_far
-    ∙ neither had (has_byte (take i rows) number) (in_range (get_or rows i d) number)
-    ∙ ap (λ b. had && not b) (sym (list_any_more (λ (x : Range). in_range x number) rows i d lt))
-  where
-    neither : (a b c : Bool) → ((a && not b) && not c) ≡ (a && not (b || c))
-    neither true true c = refl
-    neither true false c = refl
-    neither false b c = refl

@@ -13,11 +13,9 @@ use Rattle.jh_num.proofs.Public.{above_range, within_range, IsFound_from_list_an
 use Rattle.jh_cellcfg.specs.declared.config.Irqchip.{Irqchip}
 use Rattle.jh_pins.specs.declared.pin.Pin.{Pin}
 use Rattle.jh_pins.specs.declared.pin.PinRun.{PinRun}
-use Rattle.jh_pins.specs.declared.claim.Claim.{Claim}
-use Rattle.jh_pins.specs.declared.runs.Share.{Share}
-use Rattle.jh_pins.specs.Pins.{is_set, is_given_by, is_named_by}
+use Rattle.jh_pins.specs.Pins.{is_set, is_given_by}
 use Rattle.jh_pins.specs.Runs.{pin_of, IsRunOf, IsInRun, StandsBefore, AreRuns}
-use Rattle.jh_pins.specs.Private.Shares.{is_before, is_done, nearer, is_meant, is_shared, run_on, IsNextChip}
+use Rattle.jh_pins.specs.Private.Given.{is_before, is_done, nearer, is_given, run_on, IsNextChip}
 
 -- ---- sets of pins
 
@@ -213,12 +211,12 @@ next_by has last chip rows runs next apart are so_far =
     (λ pin is. inl (done_below last chip pin.chip next.0 (and_parts (is_done last pin.chip) (has pin) is).0))
     so_far)
 
--- ---- the share of a cell's pins
+-- ---- the pins of irqchips
 
 -- a pin that is given is of its irqchip's chip
-named_chip : (pin : Pin) (own : Claim) (P : ℕ → Type 0) → All (λ (irqchip : Irqchip). P irqchip.address) own.irqchips → is_named_by pin own ≡ true → P pin.chip
-named_chip pin own P each named =
-    let found = IsFound_from_list_any (is_given_by pin) own.irqchips named in
+given_chip : (pin : Pin) (irqchips : List Irqchip) (P : ℕ → Type 0) → All (λ (irqchip : Irqchip). P irqchip.address) irqchips → is_given irqchips pin ≡ true → P pin.chip
+given_chip pin irqchips P each given =
+    let found = IsFound_from_list_any (is_given_by pin) irqchips given in
     let irqchip : Irqchip = found.0 in
     let place = found.1.among in
     let Q : Irqchip → Type 0 = λ x. P x.address in
@@ -226,31 +224,26 @@ named_chip pin own P each named =
     let same : irqchip.address ≡ pin.chip = eqb-true irqchip.address pin.chip (and_parts (eqb irqchip.address pin.chip) (leb irqchip.pin_base pin.number && is_set irqchip.pin_bitmap (pin.number - irqchip.pin_base)) found.1.passes).0 in
     subst P same at
 
-pub next_chip : (share : Share) (own : Claim) (others : List Claim) (last : Option ℕ) (chip : ℕ) (rows : List Range) (runs : List PinRun) → IsNextChip own.irqchips last (Some chip) → AreApart rows → AreNumbers chip (is_shared share own others) rows
-    → AreRuns (is_upto last (is_shared share own others)) runs → AreRuns (is_upto (Some chip) (is_shared share own others)) (runs ++ map (run_on chip) rows)
-next_chip share own others last chip rows runs next apart are so_far =
-    next_by (is_shared share own others) last chip rows runs
-    (next.0, λ pin is undone. named_chip pin own (λ c. is_done last c ≡ false → chip ≤ c) next.1 (and_parts (is_named_by pin own) (is_meant share (list_any (is_named_by pin) others)) is).0 undone)
+pub next_chip : (irqchips : List Irqchip) (last : Option ℕ) (chip : ℕ) (rows : List Range) (runs : List PinRun) → IsNextChip irqchips last (Some chip) → AreApart rows → AreNumbers chip (is_given irqchips) rows
+    → AreRuns (is_upto last (is_given irqchips)) runs → AreRuns (is_upto (Some chip) (is_given irqchips)) (runs ++ map (run_on chip) rows)
+next_chip irqchips last chip rows runs next apart are so_far =
+    next_by (is_given irqchips) last chip rows runs
+    (next.0, λ pin is undone. given_chip pin irqchips (λ c. is_done last c ≡ false → chip ≤ c) next.1 is undone)
     apart are so_far
 
-pub all_done : (share : Share) (own : Claim) (others : List Claim) (last : Option ℕ) (runs : List PinRun) → IsNextChip own.irqchips last None → AreRuns (is_upto last (is_shared share own others)) runs → AreRuns (is_shared share own others) runs
-all_done share own others last runs none so_far =
-    same_runs (is_upto last (is_shared share own others)) (is_shared share own others) runs
-    (λ pin. by_named pin (is_named_by pin own) refl)
+pub all_done : (irqchips : List Irqchip) (last : Option ℕ) (runs : List PinRun) → IsNextChip irqchips last None → AreRuns (is_upto last (is_given irqchips)) runs → AreRuns (is_given irqchips) runs
+all_done irqchips last runs none so_far =
+    same_runs (is_upto last (is_given irqchips)) (is_given irqchips) runs
+    (λ pin. by_given pin (is_given irqchips pin) refl)
     so_far
   where
-    meant : Pin → Bool
-    meant pin = is_meant share (list_any (is_named_by pin) others)
-
     done_with : (d m : Bool) → d ≡ true → (d && m) ≡ m
     done_with true m e = refl
     done_with false m e = absurd (false≢true e)
 
-    by_named : (pin : Pin) (named : Bool) → is_named_by pin own ≡ named → is_upto last (is_shared share own others) pin ≡ is_shared share own others pin
-    by_named pin true is = done_with (is_done last pin.chip) (is_shared share own others pin) (named_chip pin own (λ c. is_done last c ≡ true) none is)
-    by_named pin false is =
-        let nothing : is_shared share own others pin ≡ false = and_left (is_named_by pin own) (is_meant share (list_any (is_named_by pin) others)) is in
-        and_right (is_done last pin.chip) (is_shared share own others pin) nothing ∙ sym nothing
+    by_given : (pin : Pin) (given : Bool) → is_given irqchips pin ≡ given → is_upto last (is_given irqchips) pin ≡ is_given irqchips pin
+    by_given pin true is = done_with (is_done last pin.chip) (is_given irqchips pin) (given_chip pin irqchips (λ c. is_done last c ≡ true) none is)
+    by_given pin false is = and_right (is_done last pin.chip) (is_given irqchips pin) is ∙ sym is
 
 -- ---- the least address
 

@@ -3,7 +3,7 @@ use Rattle.std.specs.Prelude.{◌≡◌, Bool, ◌&&◌, List, [], ◌∷◌, �
 use Rattle.jh_pins.specs.declared.pin.Pin.{Pin}
 use Rattle.jh_pins.specs.declared.pin.PinRun.{PinRun}
 use Rattle.jh_pins.specs.declared.pin.Clash.{Clash}
-use Rattle.jh_pins.specs.declared.claim.Claim.{Claim}
+use Rattle.jh_pins.specs.Claims.{Claim}
 use Rattle.jh_pins.specs.Pins.{is_named_by}
 use Rattle.jh_pins.specs.Runs.{AreRuns}
 

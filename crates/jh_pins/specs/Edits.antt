@@ -3,6 +3,7 @@ use Rattle.std.specs.Prelude.{List, [], ◌∷◌, ◌++◌, Option, Some}
 use Rattle.jh_call.specs.declared.call.Call.{Call}
 use Rattle.jh_call.specs.declared.call.Call.TheVariants.{Create, Destroy}
 use Rattle.jh_script.specs.declared.image.Image.{Image}
+use Rattle.jh_history.specs.declared.form.Form.{Form}
 use Rattle.jh_history.specs.declared.call.OpenCall.{OpenCall}
 use Rattle.jh_history.specs.declared.call.Phase.{Phase}
 use Rattle.jh_history.specs.declared.call.Phase.TheVariants.{ToCreate}
@@ -25,10 +26,10 @@ edited_by (Some o) Commit table = committed o.call o.phase table
 edited_by call act table = table
 
 -- the table after the entries behind those before, each of which edits it by the call that is open before it
-abbrev pub edited_behind : Image → List Entry → List Entry → TableView → TableView
-edited_behind image before [] table = table
-edited_behind image before (entry ∷ rest) table = edited_behind image (before ++ entry ∷ []) rest (edited_by (facts image before).call entry.act table)
+abbrev pub edited_behind : Image → Form → List Entry → List Entry → TableView → TableView
+edited_behind image form before [] table = table
+edited_behind image form before (entry ∷ rest) table = edited_behind image form (before ++ entry ∷ []) rest (edited_by (facts image form before).call entry.act table)
 
 -- the table that is root's alone at opening, and is edited at each entry
-abbrev pub edited_table : Image → List Entry → TableView
-edited_table image entries = edited_behind image [] entries (table_of image.system.root [])
+abbrev pub edited_table : Image → Form → List Entry → TableView
+edited_table image form entries = edited_behind image form [] entries (table_of image.system.root [])

@@ -1,3 +1,4 @@
+pub mod Claims
 pub mod Pins
 pub mod TableView
 pub mod Holders

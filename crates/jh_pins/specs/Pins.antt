@@ -5,7 +5,7 @@ use Rattle.jh_num.specs.Bits.{has_bit}
 use Rattle.jh_cellcfg.specs.declared.config.CellConfig.{CellConfig}
 use Rattle.jh_cellcfg.specs.declared.config.Irqchip.{Irqchip}
 use Rattle.jh_pins.specs.declared.pin.Pin.{Pin}
-use Rattle.jh_pins.specs.declared.claim.Claim.{Claim}
+use Rattle.jh_pins.specs.Claims.{Claim}
 
 -- the bit of that index is set in the bitmap of four words: bit b of word w has index 32 w + b
 abbrev pub is_set : List ℕ → ℕ → Bool

@@ -1,6 +1,6 @@
 -- What contracts see of a table of pins.
 use Rattle.std.specs.Prelude.{◌≢◌, List, ◌∷◌, AllPairs}
-use Rattle.jh_pins.specs.declared.claim.Claim.{Claim}
+use Rattle.jh_pins.specs.Claims.{Claim}
 
 -- what root claims, and what each cell besides it claims, in order of creation
 pub record TableView : Type 0 where

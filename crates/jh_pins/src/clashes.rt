@@ -4,8 +4,8 @@ ghost use Rattle.jh_pins.specs.declared.pin.Clash.{Clash as TheClash};
 ghost use Rattle.jh_pins.specs.Clashes.{clash_of, AreClashesOf, AreClashesWith};
 
 use crate::claim::Claim;
+use crate::pieces::common;
 use crate::pin::{Clash, PinRun};
-use crate::runs::{Share, runs_of};
 use jh_num::NoMemory;
 use std::alloc::Global;
 
@@ -20,8 +20,8 @@ fn push_each(
 {
     for run in runs {
         clashes.push(Clash {
-            first: one.id,
-            second: other.id,
+            first: one.id(),
+            second: other.id(),
             run: *run,
         })?;
     }
@@ -37,7 +37,7 @@ fn push_clashes_of(
 ) -> Result<(), NoMemory>
     ensures { OnOk result ((more : List TheClash) × AreClashesOf one.now other.now more × (clashes.new.items ≡ clashes.old.items ++ more)) }
 {
-    let runs = runs_of(alloc, Share::Common, one, std::slice::from_ref(other))?;
+    let runs = common(alloc, one.runs(), other.runs())?;
     push_each(clashes, one, other, runs.as_slice())?;
     Ok(())
 }

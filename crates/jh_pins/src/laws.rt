@@ -3,13 +3,14 @@ ghost use Rattle.std.specs.Prelude.{◌≡◌, ◌≢◌, ◌↔◌, ℕ, ◌++�
 ghost use Rattle.jh_cellcfg.specs.declared.config.Irqchip.{Irqchip as TheIrqchip};
 ghost use Rattle.jh_call.specs.declared.call.Call.TheVariants.{Destroy};
 ghost use Rattle.jh_script.specs.declared.image.Image.{Image as TheImage};
+ghost use Rattle.jh_history.specs.declared.form.Form.{Form as TheForm};
 ghost use Rattle.jh_history.specs.declared.entry.Entry.{Entry as TheEntry};
 ghost use Rattle.jh_history.specs.declared.entry.Act.TheVariants.{Commit};
 ghost use Rattle.jh_laws.specs.Moments.{AdmittedMoment, call_before};
 ghost use Rattle.jh_pins.specs.declared.pin.Pin.{Pin as ThePin};
 ghost use Rattle.jh_pins.specs.declared.pin.PinRun.{PinRun as TheRun};
 ghost use Rattle.jh_pins.specs.declared.pin.Clash.{Clash as TheClash};
-ghost use Rattle.jh_pins.specs.declared.claim.Claim.{Claim as TheClaim};
+ghost use Rattle.jh_pins.specs.Claims.{Claim as TheClaim};
 ghost use Rattle.jh_pins.specs.Pins.{is_given_by, is_named_by, IsPinOf};
 ghost use Rattle.jh_pins.specs.TableView.{TableView, HaveOwnIds};
 ghost use Rattle.jh_pins.specs.Holders.{claimants, id_of, holder, is_held_by, without};
@@ -70,7 +71,7 @@ pub fn runs_and_clashes_are_told_in_one_way()
 /// A table that is root's alone at opening, and to which the Commit of each create adds its cell, and from which that of
 /// each destroy drops it, is after the entries that of the cells that live then.
 pub fn tables_are_edited_at_commits()
-    ensures { (image : TheImage) (entries : List TheEntry) → edited_table image entries ≡ live_table image entries }
+    ensures { (image : TheImage) (form : TheForm) (entries : List TheEntry) → edited_table image form entries ≡ live_table image form entries }
 {}
 
 /// Where a cell is destroyed, a pin that it held goes to the first of the later cells that names it, else to root if root
@@ -89,5 +90,5 @@ pub fn pins_of_a_destroyed_cell_go_to_the_next()
 
 /// The pins of the cells that live after the entries have one text.
 pub fn pins_have_one_text()
-    ensures { (image : TheImage) (entries : List TheEntry) (one other : List ℕ) → IsPinsText image entries one → IsPinsText image entries other → one ≡ other }
+    ensures { (image : TheImage) (form : TheForm) (entries : List TheEntry) (one other : List ℕ) → IsPinsText image form entries one → IsPinsText image form entries other → one ≡ other }
 {}

@@ -5,6 +5,7 @@ mod claim;
 mod clashes;
 mod laws;
 mod live;
+mod pieces;
 mod pin;
 mod runs;
 mod sets;

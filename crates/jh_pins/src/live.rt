@@ -1,5 +1,6 @@
 //! The pins of the cells that live on a board.
 ghost use Rattle.std.specs.Prelude.{◌≡◌, ◌↔◌, [], ◌∷◌, All, IsTrue, IfOk, not, false};
+ghost use Rattle.jh_history.specs.declared.form.Form.TheVariants.{Two};
 ghost use Rattle.jh_history.specs.Admitted.{IsAdmitted};
 ghost use Rattle.jh_history.specs.Due.{IsLegal};
 ghost use Rattle.jh_history.specs.Items.{items, with_item};
@@ -17,7 +18,7 @@ use std::alloc::Global;
 
 /// The table of the cells that live on the board.
 fn table_of_board(alloc: Global, board: &Board) -> Result<PinTable, NoMemory>
-    ensures { IfOk result (λ table. table ≡ live_table board.now.image board.now.entries) }
+    ensures { IfOk result (λ table. table ≡ live_table board.now.image board.now.form board.now.entries) }
 {
     legal_journals_are_sound();
     // for the proof: the entries are legal
@@ -37,10 +38,10 @@ fn table_of_board(alloc: Global, board: &Board) -> Result<PinTable, NoMemory>
     Ok(table)
 }
 
-/// A board of the image, with an empty journal.
+/// A board of the image, with an empty journal of form Two.
 fn opened(alloc: Global, image: Image, limit: u32) -> Result<Board, NoMemory>
     requires { IsAdmitted image }
-    ensures { IfOk result (λ board. board ≡ record { image = image; limit = limit; entries = [] }) }
+    ensures { IfOk result (λ board. board ≡ record { image = image; limit = limit; form = Two; entries = [] }) }
 {
     match Board::open(alloc, image, limit) {
         Ok(board) => Ok(board),
@@ -51,8 +52,9 @@ fn opened(alloc: Global, image: Image, limit: u32) -> Result<Board, NoMemory>
 /// One item of the CPU; tells whether the limit stopped it.
 fn item(board: &mut Board, cpu: u8) -> Result<bool, NoMemory>
     requires { IsTrue (is_on_board board.old.image cpu) }
-    ensures reached { IfOk result (λ full. with_item board.old.image board.old.limit (record { entries = board.old.entries; full = false }) cpu ≡ record { entries = board.new.entries; full = full }) }
+    ensures reached { IfOk result (λ full. with_item board.old.image board.old.form board.old.limit (record { entries = board.old.entries; full = false }) cpu ≡ record { entries = board.new.entries; full = full }) }
     ensures image { board.new.image ≡ board.old.image }
+    ensures form { board.new.form ≡ board.old.form }
     ensures limit { board.new.limit ≡ board.old.limit }
 {
     match board.make_due(cpu) {
@@ -65,8 +67,9 @@ fn item(board: &mut Board, cpu: u8) -> Result<bool, NoMemory>
 /// The items of the schedule, one after another; false where the limit stopped one.
 fn follow(board: &mut Board, schedule: &[u8]) -> Result<bool, NoMemory>
     requires { All (λ cpu. IsTrue (is_on_board board.old.image cpu)) schedule.now }
-    ensures reached { IfOk result (λ whole. items board.old.image board.old.limit schedule.now board.old.entries ≡ record { entries = board.new.entries; full = not whole }) }
+    ensures reached { IfOk result (λ whole. items board.old.image board.old.form board.old.limit schedule.now board.old.entries ≡ record { entries = board.new.entries; full = not whole }) }
     ensures image { board.new.image ≡ board.old.image }
+    ensures form { board.new.form ≡ board.old.form }
     ensures limit { board.new.limit ≡ board.old.limit }
 {
     for cpu in schedule {
@@ -88,11 +91,11 @@ pub fn pins_after(
 ) -> Result<(PinTable, Board, bool), NoMemory>
     requires admitted { IsAdmitted image }
     requires schedule { All (λ cpu. IsTrue (is_on_board image cpu)) schedule.now }
-    ensures table { IfOk result (λ r. r.0 ≡ live_table image r.1.entries) }
-    ensures items { IfOk result (λ r. items image limit schedule.now [] ≡ record { entries = r.1.entries; full = not r.2 }) }
-    ensures board { IfOk result (λ r. r.1 ≡ record { image = image; limit = limit; entries = r.1.entries }) }
-    ensures legal { IfOk result (λ r. IsLegal image r.1.entries) }
-    ensures full { IfOk result (λ r. (r.2 ≡ false) ↔ IsStoppedAtLimit image limit schedule.now r.1.entries) }
+    ensures table { IfOk result (λ r. r.0 ≡ live_table image Two r.1.entries) }
+    ensures items { IfOk result (λ r. items image Two limit schedule.now [] ≡ record { entries = r.1.entries; full = not r.2 }) }
+    ensures board { IfOk result (λ r. r.1 ≡ record { image = image; limit = limit; form = Two; entries = r.1.entries }) }
+    ensures legal { IfOk result (λ r. IsLegal image Two r.1.entries) }
+    ensures full { IfOk result (λ r. (r.2 ≡ false) ↔ IsStoppedAtLimit image Two limit schedule.now r.1.entries) }
 {
     items_run_until_one_is_cut_short();
     let mut board = opened(alloc, image, limit)?;
@@ -105,8 +108,8 @@ pub fn pins_after(
 
 /// The text of what the cells hold that live on the board, by its table, and of their clashes.
 fn print_pins(alloc: Global, table: &PinTable, board: &Board) -> Result<Vec<u8>, NoMemory>
-    requires { table.now ≡ live_table board.now.image board.now.entries }
-    ensures { IfOk result (λ text. IsPinsText board.now.image board.now.entries text.items) }
+    requires { table.now ≡ live_table board.now.image board.now.form board.now.entries }
+    ensures { IfOk result (λ text. IsPinsText board.now.image board.now.form board.now.entries text.items) }
 {
     let mut text = Vec::new(alloc);
     for number in 0..board.count() {
@@ -116,7 +119,7 @@ fn print_pins(alloc: Global, table: &PinTable, board: &Board) -> Result<Vec<u8>,
             None => unreachable!(),
         }
     }
-    push_clashes(alloc, &mut text, table)?;
+    push_clashes(&mut text, table)?;
     Ok(text)
 }
 
@@ -130,7 +133,7 @@ pub fn pins(
 ) -> Result<Option<Seq<u8>>, NoMemory>
     requires admitted { IsAdmitted image }
     requires schedule { All (λ cpu. IsTrue (is_on_board image cpu)) schedule.now }
-    ensures { IfOk result (IsPinsAnswer image limit schedule.now) }
+    ensures { IfOk result (IsPinsAnswer image Two limit schedule.now) }
 {
     let (table, board, whole) = pins_after(alloc, image, schedule, limit)?;
     if !whole {

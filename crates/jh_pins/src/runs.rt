@@ -2,23 +2,13 @@
 ghost use Rattle.std.specs.Prelude.{◌≡◌, ℕ, ◌++◌, map, IfOk, OnOk};
 ghost use Rattle.jh_num.specs.Bytes.{has_byte, AreApart};
 ghost use Rattle.jh_pins.specs.Runs.{pin_of, AreRuns};
-ghost use Rattle.jh_pins.specs.Private.Shares.{is_before, is_done, nearer, is_shared, run_on, IsNextChip};
+ghost use Rattle.jh_pins.specs.Private.Given.{is_before, is_done, nearer, is_given, run_on, IsNextChip};
 
-use crate::claim::Claim;
 use crate::pin::PinRun;
-use crate::sets::{insert_claim, insert_claims, remove_pins};
+use crate::sets::insert_irqchips;
 use jh_cellcfg::Irqchip;
 use jh_num::{ByteSet, NoMemory, Range};
 use std::alloc::Global;
-
-/// Which of the pins that a cell names are meant.
-#[derive(Clone, Copy)]
-pub enum Share {
-    /// Those that one of the others names too.
-    Common,
-    /// Those that none of the others names.
-    Own,
-}
 
 /// Whether the chip is up to the last one that is done with.
 fn is_done(last: Option<u64>, chip: u64) -> bool
@@ -62,28 +52,16 @@ fn next_chip(irqchips: &[Irqchip], last: Option<u64>) -> Option<u64>
     next
 }
 
-/// The numbers of the chip's pins that are in the share.
-fn pins_on(
-    alloc: Global,
-    chip: u64,
-    share: Share,
-    own: &Claim,
-    others: &[Claim],
-) -> Result<ByteSet, NoMemory>
-    ensures pins { IfOk result (λ pins. (number : ℕ) → has_byte pins.ranges number ≡ is_shared share own.now others.now (pin_of chip number)) }
+/// The numbers of the chip's pins that the irqchips give.
+fn pins_on(alloc: Global, irqchips: &[Irqchip], chip: u64) -> Result<ByteSet, NoMemory>
+    ensures pins { IfOk result (λ pins. (number : ℕ) → has_byte pins.ranges number ≡ is_given irqchips.now (pin_of chip number)) }
     ensures apart { IfOk result (λ pins. AreApart pins.ranges) }
 {
     let mut pins = ByteSet::new(alloc);
-    insert_claim(&mut pins, own, chip)?;
-    let mut named = ByteSet::new(alloc);
-    insert_claims(&mut named, others, chip)?;
-    match share {
-        Share::Common => pins.intersect(&named),
-        Share::Own => {
-            remove_pins(&mut pins, &named)?;
-            Ok(pins)
-        }
-    }
+    insert_irqchips(&mut pins, irqchips, chip)?;
+    // for the proof: they are apart
+    let _ = pins.ranges();
+    Ok(pins)
 }
 
 /// Puts a run for each row of numbers at the end.
@@ -101,19 +79,14 @@ fn push_runs(runs: &mut Vec<PinRun>, chip: u64, rows: &[Range]) -> Result<(), No
     Ok(())
 }
 
-/// The runs of the cell's pins that are in the share.
-pub fn runs_of(
-    alloc: Global,
-    share: Share,
-    own: &Claim,
-    others: &[Claim],
-) -> Result<Vec<PinRun>, NoMemory>
-    ensures { IfOk result (λ runs. AreRuns (is_shared share own.now others.now) runs.items) }
+/// The runs of the pins that the irqchips give.
+pub fn runs_of(alloc: Global, irqchips: &[Irqchip]) -> Result<Vec<PinRun>, NoMemory>
+    ensures { IfOk result (λ runs. AreRuns (is_given irqchips.now) runs.items) }
 {
     let mut runs = Vec::new(alloc);
     let mut last = None;
-    while let Some(chip) = next_chip(own.irqchips.as_slice(), last) {
-        let pins = pins_on(alloc, chip, share, own, others)?;
+    while let Some(chip) = next_chip(irqchips, last) {
+        let pins = pins_on(alloc, irqchips, chip)?;
         push_runs(&mut runs, chip, pins.ranges())?;
         last = Some(chip);
     }

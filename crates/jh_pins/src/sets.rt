@@ -1,43 +1,40 @@
 //! Sets of the pins of one chip, by their numbers.
-ghost use Rattle.std.specs.Prelude.{◌≡◌, ◌==◌, ℕ, ◌+◌, ◌<◌, ◌^◌, ◌||◌, ◌&&◌, not, OnOk};
-ghost use Rattle.std.specs.List.{list_any};
+ghost use Rattle.std.specs.Prelude.{◌≡◌, ◌==◌, ℕ, ◌+◌, ◌<◌, ◌^◌, ◌||◌, OnOk};
 ghost use Rattle.jh_num.specs.Bytes.{has_byte};
-ghost use Rattle.jh_pins.specs.Pins.{is_given_by, is_named_by};
+ghost use Rattle.jh_pins.specs.Pins.{is_given_by};
 ghost use Rattle.jh_pins.specs.Runs.{pin_of};
+ghost use Rattle.jh_pins.specs.Private.Given.{is_given};
 ghost use Rattle.jh_pins.specs.Private.Words.{is_in_word};
 
-use crate::claim::{Claim, PINS_PER_WORD};
+use crate::claim::PINS_PER_WORD;
 use jh_cellcfg::Irqchip;
-use jh_num::{ByteSet, NoMemory, Range, has_bit};
+use jh_num::{ByteSet, NoMemory, Range};
 
-/// Puts the pin with the number into the set, if it is given.
-fn insert_pin(pins: &mut ByteSet, given: bool, number: u64) -> Result<(), NoMemory>
+/// Puts the pin with the number into the set.
+fn insert_pin(pins: &mut ByteSet, number: u64) -> Result<(), NoMemory>
     requires { number < 2 ^ 33 }
-    ensures { OnOk result ((other : ℕ) → has_byte pins.new.ranges other ≡ (has_byte pins.old.ranges other || (given && (other == number)))) }
+    ensures { OnOk result ((other : ℕ) → has_byte pins.new.ranges other ≡ (has_byte pins.old.ranges other || (other == number))) }
 {
-    if !given {
-        return Ok(());
-    }
     let end = number + 1;
     pins.insert(Range { start: number, end })
 }
 
-/// Puts the pins of the word's bits that are set into the set; that of bit 0 has this number. Most words have no bit
-/// set, or all.
+/// Puts the pins of the word's bits that are set into the set; that of bit 0 has this number. A word of all bits is put
+/// in as a whole.
 fn insert_word(pins: &mut ByteSet, word: u32, first: u64) -> Result<(), NoMemory>
     requires { first + 32 < 2 ^ 33 }
     ensures { OnOk result ((number : ℕ) → has_byte pins.new.ranges number ≡ (has_byte pins.old.ranges number || is_in_word word first number)) }
 {
-    if word == 0 {
-        return Ok(());
-    }
     if word == u32::MAX {
         let end = first + PINS_PER_WORD;
         pins.insert(Range { start: first, end })?;
         return Ok(());
     }
-    for bit in 0..PINS_PER_WORD {
-        insert_pin(pins, has_bit(word, bit as usize), first + bit)?;
+    let mut left = word;
+    while left != 0 {
+        let bit = left.trailing_zeros();
+        insert_pin(pins, first + u64::from(bit))?;
+        left &= !(1 << bit);
     }
     Ok(())
 }
@@ -64,32 +61,12 @@ fn insert_if_of(pins: &mut ByteSet, irqchip: &Irqchip, chip: u64) -> Result<(), 
     Ok(())
 }
 
-/// Puts the pins of the chip that the cell names into the set.
-pub fn insert_claim(pins: &mut ByteSet, claim: &Claim, chip: u64) -> Result<(), NoMemory>
-    ensures { OnOk result ((number : ℕ) → has_byte pins.new.ranges number ≡ (has_byte pins.old.ranges number || is_named_by (pin_of chip number) claim.now)) }
+/// Puts the pins of the chip that the irqchips give into the set.
+pub fn insert_irqchips(pins: &mut ByteSet, irqchips: &[Irqchip], chip: u64) -> Result<(), NoMemory>
+    ensures { OnOk result ((number : ℕ) → has_byte pins.new.ranges number ≡ (has_byte pins.old.ranges number || is_given irqchips.now (pin_of chip number))) }
 {
-    for irqchip in claim.irqchips.as_slice() {
+    for irqchip in irqchips {
         insert_if_of(pins, irqchip, chip)?;
-    }
-    Ok(())
-}
-
-/// Puts the pins of the chip that one of the cells names into the set.
-pub fn insert_claims(pins: &mut ByteSet, claims: &[Claim], chip: u64) -> Result<(), NoMemory>
-    ensures { OnOk result ((number : ℕ) → has_byte pins.new.ranges number ≡ (has_byte pins.old.ranges number || list_any (is_named_by (pin_of chip number)) claims.now)) }
-{
-    for claim in claims {
-        insert_claim(pins, claim, chip)?;
-    }
-    Ok(())
-}
-
-/// Takes the pins of the other set from the set.
-pub fn remove_pins(pins: &mut ByteSet, other: &ByteSet) -> Result<(), NoMemory>
-    ensures { OnOk result ((number : ℕ) → has_byte pins.new.ranges number ≡ (has_byte pins.old.ranges number && not (has_byte other.now.ranges number))) }
-{
-    for numbers in other.ranges() {
-        pins.remove(*numbers)?;
     }
     Ok(())
 }

@@ -4,11 +4,12 @@ ghost use Rattle.jh_pins.specs.Pins.{is_named_by};
 ghost use Rattle.jh_pins.specs.Holders.{holder, id_of, is_held_by, has_id, with_cell, without, IsNewId, table_of};
 ghost use Rattle.jh_pins.specs.Runs.{AreRuns};
 ghost use Rattle.jh_pins.specs.Clashes.{AreClashes};
+ghost use Rattle.jh_pins.specs.Private.Pieces.{is_left};
 
 use crate::claim::Claim;
 use crate::clashes::push_clashes_with;
+use crate::pieces::without;
 use crate::pin::{Clash, Pin, PinRun};
-use crate::runs::{Share, runs_of};
 use jh_cellcfg::CellConfig;
 use jh_num::{NoMemory, Seq};
 use std::alloc::Global;
@@ -41,10 +42,21 @@ fn first_to_name(claims: &[Claim], pin: Pin) -> Option<u32>
 {
     for claim in claims {
         if claim.names(pin) {
-            return Some(claim.id);
+            return Some(claim.id());
         }
     }
     None
+}
+
+/// The runs of the pins that the cell names and none of the others does.
+fn runs_left(alloc: Global, own: &Claim, others: &[Claim]) -> Result<Vec<PinRun>, NoMemory>
+    ensures { IfOk result (λ runs. AreRuns (is_left own.now others.now) runs.items) }
+{
+    let mut left = Vec::from_slice(alloc, own.runs())?;
+    for other in others {
+        left = without(alloc, left.as_slice(), other.runs())?;
+    }
+    Ok(left)
 }
 
 impl PinTable {
@@ -74,7 +86,7 @@ impl PinTable {
     fn index_of(&self, id: u32) -> Option<usize>
         ensures { result ≡ position (has_id id) self.now.cells }
     {
-        self.cells.iter().position(|claim| claim.id == id)
+        self.cells.iter().position(|claim| claim.id() == id)
     }
 
     /// The cell besides root with the id lives no longer. It takes no memory.
@@ -95,7 +107,7 @@ impl PinTable {
     {
         match first_to_name(self.cells.as_slice(), pin) {
             Some(id) => Some(id),
-            None if self.root.names(pin) => Some(self.root.id),
+            None if self.root.names(pin) => Some(self.root.id()),
             None => None,
         }
     }
@@ -106,13 +118,13 @@ impl PinTable {
     {
         let alloc = *self.cells.allocator();
         let cells = self.cells.as_slice();
-        if id == self.root.id {
-            let runs = runs_of(alloc, Share::Own, &self.root, cells)?;
+        if id == self.root.id() {
+            let runs = runs_left(alloc, &self.root, cells)?;
             return Ok(Seq::from_vec(runs));
         }
         match self.index_of(id) {
             Some(index) => {
-                let runs = runs_of(alloc, Share::Own, &cells[index], &cells[..index])?;
+                let runs = runs_left(alloc, &cells[index], &cells[..index])?;
                 Ok(Seq::from_vec(runs))
             }
             None => Ok(Seq::new(alloc)),

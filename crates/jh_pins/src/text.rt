@@ -1,5 +1,5 @@
 //! The text of pins.
-ghost use Rattle.std.specs.Prelude.{◌≡◌, ◌++◌, List, OnOk, IfOk, string_bytes};
+ghost use Rattle.std.specs.Prelude.{◌≡◌, ◌++◌, List, OnOk};
 ghost use Rattle.std.specs.List.{flat_map};
 ghost use Rattle.jh_text.specs.Maps.{cell_words};
 ghost use Rattle.jh_text.specs.Text.{words_line};
@@ -14,50 +14,57 @@ use crate::pin::{Clash, PinRun};
 use crate::table::PinTable;
 use jh_cellcfg::CellConfig;
 use jh_num::NoMemory;
+use jh_text::{push_decimal, push_hexadecimal};
 use std::alloc::Global;
 
 /// Puts the line of the run at the end.
-fn push_run(text: &mut String, run: &PinRun) -> Result<(), NoMemory>
-    ensures { OnOk result (string_bytes text.new ≡ string_bytes text.old ++ run_line run.now) }
+fn push_run(text: &mut Vec<u8>, run: &PinRun) -> Result<(), NoMemory>
+    ensures { OnOk result (text.new.items ≡ text.old.items ++ run_line run.now) }
 {
-    let PinRun { chip, first, last } = *run;
-    writeln!(text, "chip 0x{chip:x} pins {first}-{last}")?;
+    text.extend_from_slice(b"chip ")?;
+    push_hexadecimal(text, run.chip)?;
+    text.extend_from_slice(b" pins ")?;
+    push_decimal(text, run.first)?;
+    text.push(b'-')?;
+    push_decimal(text, run.last)?;
+    text.push(b'\n')?;
     Ok(())
 }
 
-/// A line for each run.
-fn print_runs(alloc: Global, runs: &[PinRun]) -> Result<String, NoMemory>
-    ensures { IfOk result (λ text. string_bytes text ≡ flat_map run_line runs.now) }
+/// Puts a line for each run at the end.
+fn push_runs(text: &mut Vec<u8>, runs: &[PinRun]) -> Result<(), NoMemory>
+    ensures { OnOk result (text.new.items ≡ text.old.items ++ flat_map run_line runs.now) }
 {
-    let mut text = String::new(alloc);
     for run in runs {
-        push_run(&mut text, run)?;
+        push_run(text, run)?;
     }
-    Ok(text)
+    Ok(())
 }
 
 /// Puts the line of the clash at the end.
-fn push_clash(text: &mut String, clash: &Clash) -> Result<(), NoMemory>
-    ensures { OnOk result (string_bytes text.new ≡ string_bytes text.old ++ clash_line clash.now) }
+fn push_clash(text: &mut Vec<u8>, clash: &Clash) -> Result<(), NoMemory>
+    ensures { OnOk result (text.new.items ≡ text.old.items ++ clash_line clash.now) }
 {
-    let first = clash.first;
-    let second = clash.second;
-    write!(text, "clash {first} {second} ")?;
+    text.extend_from_slice(b"clash ")?;
+    push_decimal(text, u64::from(clash.first))?;
+    text.push(b' ')?;
+    push_decimal(text, u64::from(clash.second))?;
+    text.push(b' ')?;
     push_run(text, &clash.run)?;
     Ok(())
 }
 
-/// A line for each clash, and one with their number.
-fn print_clashes(alloc: Global, clashes: &[Clash]) -> Result<String, NoMemory>
-    ensures { IfOk result (λ text. string_bytes text ≡ clashes_text clashes.now) }
+/// Puts a line for each clash at the end, and one with their number.
+fn push_each_clash(text: &mut Vec<u8>, clashes: &[Clash]) -> Result<(), NoMemory>
+    ensures { OnOk result (text.new.items ≡ text.old.items ++ clashes_text clashes.now) }
 {
-    let mut text = String::new(alloc);
     for clash in clashes {
-        push_clash(&mut text, clash)?;
+        push_clash(text, clash)?;
     }
-    let count = clashes.len();
-    writeln!(&mut text, "clashes {count}")?;
-    Ok(text)
+    text.extend_from_slice(b"clashes ")?;
+    push_decimal(text, clashes.len() as u64)?;
+    text.push(b'\n')?;
+    Ok(())
 }
 
 /// Puts the line of the cell at the end: its name's bytes are written as they are.
@@ -82,18 +89,16 @@ pub fn push_held(
     ensures { OnOk result ((runs : List TheRun) × AreRuns (is_held_by table.now cell.now.id) runs × (text.new.items ≡ text.old.items ++ held_text cell.now runs)) }
 {
     let runs = table.held(cell.id)?;
-    let lines = print_runs(alloc, runs.as_slice())?;
     push_cell(alloc, text, cell)?;
-    text.extend_from_slice(lines.as_bytes())?;
+    push_runs(text, runs.as_slice())?;
     Ok(())
 }
 
 /// Puts the text of the table's clashes at the end.
-pub fn push_clashes(alloc: Global, text: &mut Vec<u8>, table: &PinTable) -> Result<(), NoMemory>
+pub fn push_clashes(text: &mut Vec<u8>, table: &PinTable) -> Result<(), NoMemory>
     ensures { OnOk result ((clashes : List TheClash) × AreClashes table.now.cells clashes × (text.new.items ≡ text.old.items ++ clashes_text clashes)) }
 {
     let clashes = table.clashes()?;
-    let lines = print_clashes(alloc, clashes.as_slice())?;
-    text.extend_from_slice(lines.as_bytes())?;
+    push_each_clash(text, clashes.as_slice())?;
     Ok(())
 }

@@ -1,7 +1,7 @@
 -- One cell more, and all of them.
 use Rattle.std.proofs.Common.{◌≡◌, ℕ, ◌+◌, List, length, sym, subst, arith}
 use Rattle.jh_pins.specs.declared.pin.Clash.{Clash}
-use Rattle.jh_pins.specs.declared.claim.Claim.{Claim}
+use Rattle.jh_pins.specs.Claims.{Claim}
 use Rattle.jh_pins.specs.Clashes.{AreClashesOf}
 use Rattle.jh_pins.proofs.ClashLemmas.{Continues, begins, one_more, ends}
 use Rattle.jh_pins.proofs.clashes.push_clashes_with.Goals as goal

@@ -6,4 +6,4 @@ use Rattle.jh_pins.proofs.AlikeLemmas.{same_text}
 use Rattle.jh_pins.proofs.laws.pins_have_one_text.Goals as goal
 
 pub returns : goal.returns
-returns c image entries = same_text (live_table image entries) (all_cells image.system.root (facts image entries).cells)
+returns c image form entries = same_text (live_table image form entries) (all_cells image.system.root (facts image form entries).cells)

@@ -6,7 +6,7 @@ use Rattle.jh_pins.proofs.LiveLemmas.{reached, items_none, items_more, items_sto
 use Rattle.jh_pins.proofs.live.follow.Goals as goal
 
 pub loop-cpu-init : goal.loop-cpu-init
-loop-cpu-init c = (items_none c.args.board.now.image c.args.board.now.limit c.args.board.now.entries, refl, refl)
+loop-cpu-init c = (items_none c.args.board.now.image c.args.board.now.form c.args.board.now.limit c.args.board.now.entries, refl, refl, refl)
 
 pub loop-cpu-preserved : goal.loop-cpu-preserved
 loop-cpu-preserved c =
@@ -15,9 +15,10 @@ loop-cpu-preserved c =
     let new = c.item.new.board in
     let inv = c.loop-cpu.invariant in
     let step = rw c.if-stopped.false at c.in_ok-stopped.ensures.reached in (
-      items_more old.image mid.image old.limit mid.limit c.args.schedule.now c.loop-cpu.cpu-index old.entries mid.entries new.entries false (omega arith) inv.0 inv.1 inv.2 step,
+      items_more old.image mid.image old.form mid.form old.limit mid.limit c.args.schedule.now c.loop-cpu.cpu-index old.entries mid.entries new.entries false (omega arith) inv.0 inv.1 inv.2 inv.3 step,
       c.in_ok-stopped.ensures.image ∙ inv.1,
-      c.in_ok-stopped.ensures.limit ∙ inv.2,
+      c.in_ok-stopped.ensures.form ∙ inv.2,
+      c.in_ok-stopped.ensures.limit ∙ inv.3,
     )
 
 pub returns-then-stopped : goal.returns-then-stopped
@@ -28,9 +29,10 @@ returns-then-stopped c =
     let inv = c.loop-cpu.invariant in
     let step = rw c.if-stopped.true at c.in_ok-stopped.ensures.reached in
     record {
-      reached = items_stopped old.image mid.image old.limit mid.limit c.args.schedule.now c.loop-cpu.cpu-index old.entries mid.entries new.entries (omega arith) inv.0 inv.1 inv.2 step;
+      reached = items_stopped old.image mid.image old.form mid.form old.limit mid.limit c.args.schedule.now c.loop-cpu.cpu-index old.entries mid.entries new.entries (omega arith) inv.0 inv.1 inv.2 inv.3 step;
       image = c.in_ok-stopped.ensures.image ∙ inv.1;
-      limit = c.in_ok-stopped.ensures.limit ∙ inv.2;
+      form = c.in_ok-stopped.ensures.form ∙ inv.2;
+      limit = c.in_ok-stopped.ensures.limit ∙ inv.3;
     }
 
 pub returns : goal.returns
@@ -40,6 +42,6 @@ returns c =
     let schedule = c.args.schedule.now in
     let inv = c.loop-cpu.invariant in
     let all : c.loop-cpu.cpu-index ≡ length schedule = omega arith in
-    let P : ℕ → Type 0 = λ n. items old.image old.limit (take n schedule) old.entries ≡ reached mid.entries false in
-    let Q : List ℕ → Type 0 = λ l. items old.image old.limit l old.entries ≡ reached mid.entries false in
-    record { reached = subst Q (take_whole schedule) (subst P all inv.0); image = inv.1; limit = inv.2 }
+    let P : ℕ → Type 0 = λ n. items old.image old.form old.limit (take n schedule) old.entries ≡ reached mid.entries false in
+    let Q : List ℕ → Type 0 = λ l. items old.image old.form old.limit l old.entries ≡ reached mid.entries false in
+    record { reached = subst Q (take_whole schedule) (subst P all inv.0); image = inv.1; form = inv.2; limit = inv.3 }

@@ -12,7 +12,7 @@ use Rattle.jh_pins.proofs.live.print_pins.Goals as goal
 pub loop-number-preserved : goal.loop-number-preserved
 loop-number-preserved c =
     let image = c.args.board.now.image in
-    let all = all_cells image.system.root (facts image c.args.board.now.entries).cells in
+    let all = all_cells image.system.root (facts image c.args.board.now.form c.args.board.now.entries).cells in
     let number = c.loop-number.number in
     let cell = c.in-Some.cell.now in
     let at : slice_get all number ≡ Some cell = sym (rw c.in-Some.is at c.cell.ensures) in

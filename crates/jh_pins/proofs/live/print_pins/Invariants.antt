@@ -6,4 +6,4 @@ use Rattle.jh_pins.specs.Texts.{AreHeld}
 use Rattle.jh_pins.proofs.live.print_pins.Given as goal
 
 abbrev pub invariant-loop-number : goal.invariant-loop-number
-invariant-loop-number l = AreHeld l.table (take l.number (all_cells l.board.image.system.root (facts l.board.image l.board.entries).cells)) l.text.items
+invariant-loop-number l = AreHeld l.table (take l.number (all_cells l.board.image.system.root (facts l.board.image l.board.form l.board.entries).cells)) l.text.items

@@ -13,18 +13,18 @@ add-requires c =
     let image = c.args.board.now.image in
     let entries = c.args.board.now.entries in
     let root = image.system.root in
-    let lives = (facts image entries).cells in
+    let lives = (facts image c.args.board.now.form entries).cells in
     let index = c.loop-index.index in
     let cell = c.in-Some-cell.cell.now in
     let at : slice_get (all_cells root lives) (index + 1) ≡ Some cell = sym (rw c.in-Some-cell.is at c.cell-in-loop-index.ensures) in
-    let sound = c.legal_journals_are_sound.ensures.legal image entries c.journal.ensures.admitted c.journal.ensures.legal in
+    let sound = c.legal_journals_are_sound.ensures.legal image c.args.board.now.form entries c.journal.ensures.admitted c.journal.ensures.legal in
     let P : TableView → Type 0 = λ t. IsNewId t cell.id in
     subst P (sym c.loop-index.invariant) (new_id root (configs_of lives) index cell sound.cells.differ (sym (behind_root root (configs_of lives) index) ∙ at))
 
 pub unreachable-requires-in-None : goal.unreachable-requires-in-None
 unreachable-requires-in-None c =
     let image = c.args.board.now.image in
-    let lives = (facts image c.args.board.now.entries).cells in
+    let lives = (facts image c.args.board.now.form c.args.board.now.entries).cells in
     let all = all_cells image.system.root lives in
     let index = c.loop-index.index in
     let none : None ≡ slice_get all (index + 1) = rw c.in-None.is at c.cell-in-loop-index.ensures in
@@ -36,7 +36,7 @@ pub loop-index-preserved : goal.loop-index-preserved
 loop-index-preserved c =
     let image = c.args.board.now.image in
     let root = image.system.root in
-    let lives = (facts image c.args.board.now.entries).cells in
+    let lives = (facts image c.args.board.now.form c.args.board.now.entries).cells in
     let index = c.loop-index.index in
     let cell = c.in-Some-cell.cell.now in
     let at : slice_get (all_cells root lives) (index + 1) ≡ Some cell = sym (rw c.in-Some-cell.is at c.cell-in-loop-index.ensures) in

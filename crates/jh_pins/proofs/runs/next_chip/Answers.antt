@@ -1,6 +1,6 @@
 -- One irqchip more.
 use Rattle.std.proofs.Common.{ℕ, ◌+◌, take, Option, sym, subst, arith}
-use Rattle.jh_pins.specs.Private.Shares.{IsNextChip}
+use Rattle.jh_pins.specs.Private.Given.{IsNextChip}
 use Rattle.jh_pins.proofs.RunLemmas.{nearer_more}
 use Rattle.jh_pins.proofs.runs.next_chip.Goals as goal
 

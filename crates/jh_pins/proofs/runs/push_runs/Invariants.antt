@@ -1,6 +1,6 @@
 -- The runs of the rows so far.
 use Rattle.std.proofs.Common.{◌≡◌, ◌++◌, map, take}
-use Rattle.jh_pins.specs.Private.Shares.{run_on}
+use Rattle.jh_pins.specs.Private.Given.{run_on}
 use Rattle.jh_pins.proofs.runs.push_runs.Given as goal
 
 abbrev pub invariant-loop-numbers : goal.invariant-loop-numbers

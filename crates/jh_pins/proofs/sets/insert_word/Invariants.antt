@@ -1,9 +1,9 @@
--- The pins of the bits so far.
-use Rattle.std.proofs.Common.{◌≡◌, ℕ, ◌||◌}
-use Rattle.jh_num.specs.Bits.{has_bit}
-use Rattle.jh_num.specs.Bytes.{has_byte}
-use Rattle.jh_pins.proofs.PinLemmas.{passes_below}
+-- The pins of the bits that were set and are left out by now; each bit that is left was set.
+use Rattle.jh_pins.proofs.WordLemmas.{PutIn}
 use Rattle.jh_pins.proofs.sets.insert_word.Given as goal
 
-abbrev pub invariant-loop-bit : goal.invariant-loop-bit
-invariant-loop-bit l = (number : ℕ) → has_byte l.pins.ranges number ≡ (has_byte l.fn.pins.ranges number || passes_below (has_bit l.word) l.first l.bit number)
+abbrev pub invariant-loop-left : goal.invariant-loop-left
+invariant-loop-left l = PutIn l.word l.left l.first l.fn.pins.ranges l.pins.ranges
+
+abbrev pub decreases-loop-left : goal.decreases-loop-left
+decreases-loop-left l = l.left

@@ -1,7 +1,7 @@
 -- The next one names it, or doesn't, or there is none.
 use Rattle.std.proofs.Common.{◌≡◌, true, false, length, get_or, drop, Some, sym, ap, ◌∙◌, arith}
 use Rattle.std.specs.Prelude.{find, option_map}
-use Rattle.jh_pins.specs.declared.claim.Claim.{Claim}
+use Rattle.jh_pins.specs.Claims.{Claim}
 use Rattle.jh_pins.specs.Pins.{is_named_by}
 use Rattle.jh_pins.specs.Holders.{id_of}
 use Rattle.jh_pins.proofs.HolderLemmas.{find_next, find_here, find_end}
@@ -13,7 +13,7 @@ returns-then-names c =
     let index = c.loop-claim.claim-index in
     let claim = c.claim-item.result in
     let passes : is_named_by c.args.pin (get_or claims index claim) ≡ true = ap (is_named_by c.args.pin) (sym c.claim-item.is) ∙ sym c.names.ensures ∙ c.if-names.true in
-    ap (λ (x : Claim). Some x.id) c.claim-item.is ∙ sym (ap (option_map id_of) (c.loop-claim.invariant ∙ find_here (is_named_by c.args.pin) claims index claim (omega arith) passes))
+    ap (λ n. Some n) c.id.ensures ∙ ap (λ (x : Claim). Some x.id) c.claim-item.is ∙ sym (ap (option_map id_of) (c.loop-claim.invariant ∙ find_here (is_named_by c.args.pin) claims index claim (omega arith) passes))
 
 pub loop-claim-preserved : goal.loop-claim-preserved
 loop-claim-preserved c =

@@ -1,7 +1,7 @@
 -- The new id is another than those before it.
 use Rattle.std.proofs.Common.{◌≡◌, ◌∷◌, List, sym, ap, subst, ◌∙◌}
 use Rattle.std.proofs.lemmas.List.Quantifiers.{all_pairs_push}
-use Rattle.jh_pins.specs.declared.claim.Claim.{Claim}
+use Rattle.jh_pins.specs.Claims.{Claim}
 use Rattle.jh_pins.specs.TableView.{TableView, AreTwoCells, HaveOwnIds}
 use Rattle.jh_pins.specs.Holders.{IsNewId}
 use Rattle.jh_pins.proofs.table.PinTable.add.Goals as goal

@@ -1,7 +1,7 @@
 -- One cell more, and all of them.
 use Rattle.std.proofs.Common.{◌≡◌, ℕ, ◌+◌, List, length, sym, ap, subst, ◌∙◌, arith, drop}
 use Rattle.jh_pins.specs.declared.pin.Clash.{Clash}
-use Rattle.jh_pins.specs.declared.claim.Claim.{Claim}
+use Rattle.jh_pins.specs.Claims.{Claim}
 use Rattle.jh_pins.specs.TableView.{TableView}
 use Rattle.jh_pins.specs.Clashes.{AreClashesWith, AreClashes}
 use Rattle.jh_pins.proofs.ClashLemmas.{ContinuesAll, begins_all, one_cell_more, all_ends, rest_whole}

@@ -2,7 +2,7 @@
 use Rattle.std.proofs.Common.{◌≡◌, suc, ◌∷◌, List, Some, None, sym, ap, subst, ◌∙◌, arith}
 use Rattle.std.specs.Prelude.{position}
 use Rattle.std.proofs.lemmas.List.Quantifiers.{all_pairs_remove}
-use Rattle.jh_pins.specs.declared.claim.Claim.{Claim}
+use Rattle.jh_pins.specs.Claims.{Claim}
 use Rattle.jh_pins.specs.TableView.{TableView, AreTwoCells, HaveOwnIds}
 use Rattle.jh_pins.specs.Holders.{has_id}
 use Rattle.jh_pins.proofs.HolderLemmas.{dropped, none_other, nowhere, somewhere}

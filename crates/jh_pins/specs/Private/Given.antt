@@ -1,23 +1,15 @@
--- The pins of a cell that others name too, and those that none of them names, chip by chip.
+-- The pins that irqchips give, chip by chip.
 use Rattle.std.specs.Prelude.{◌≡◌, ℕ, ◌-◌, ◌≤◌, Bool, true, false, not, ◌&&◌, nat_le, nat_lt, if◌then◌else◌, List, All, Option, Some, None}
 use Rattle.std.specs.List.{list_any}
 use Rattle.jh_num.specs.declared.range.Range.{Range}
 use Rattle.jh_cellcfg.specs.declared.config.Irqchip.{Irqchip}
 use Rattle.jh_pins.specs.declared.pin.Pin.{Pin}
 use Rattle.jh_pins.specs.declared.pin.PinRun.{PinRun}
-use Rattle.jh_pins.specs.declared.claim.Claim.{Claim}
-use Rattle.jh_pins.specs.declared.runs.Share.{Share}
-use Rattle.jh_pins.specs.declared.runs.Share.TheVariants.{Common, Own}
-use Rattle.jh_pins.specs.Pins.{is_named_by}
+use Rattle.jh_pins.specs.Pins.{is_given_by}
 
--- whether a pin is meant that others name, or don't
-abbrev pub is_meant : Share → Bool → Bool
-is_meant Common named = named
-is_meant Own named = not named
-
--- the pin is the claim's, and in the share
-abbrev pub is_shared : Share → Claim → List Claim → Pin → Bool
-is_shared share own others pin = is_named_by pin own && is_meant share (list_any (is_named_by pin) others)
+-- one of the irqchips gives the pin
+abbrev pub is_given : List Irqchip → Pin → Bool
+is_given irqchips pin = list_any (is_given_by pin) irqchips
 
 -- the run of the chip's pins with these numbers
 abbrev pub run_on : ℕ → Range → PinRun

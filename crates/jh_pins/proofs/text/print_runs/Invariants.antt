@@ -1,8 +1,0 @@
--- What is written so far are the lines of the runs so far.
-use Rattle.std.proofs.Common.{◌≡◌, string_bytes, take}
-use Rattle.std.specs.List.{flat_map}
-use Rattle.jh_pins.specs.Texts.{run_line}
-use Rattle.jh_pins.proofs.text.print_runs.Given as goal
-
-abbrev pub invariant-loop-run : goal.invariant-loop-run
-invariant-loop-run l = string_bytes l.text ≡ flat_map run_line (take l.run-index l.runs)
