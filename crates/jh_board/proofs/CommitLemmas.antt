@@ -32,7 +32,8 @@ use Rattle.jh_history.specs.Places.{places_in_row}
 use Rattle.jh_history.specs.Sound.{IsSound, IsOfDevice}
 use Rattle.jh_board.specs.declared.held.Held.{Held}
 use Rattle.jh_board.specs.Means.{Means, HoldsWordsOf}
-use Rattle.jh_board.specs.Pages.{MemoryView, HoldsPlace, HoldsEndpointWord, HoldsWordOf}
+use Rattle.jh_edit.specs.declared.stage.Stage2.{Stage2}
+use Rattle.jh_board.specs.Pages.{HoldsPlace, HoldsEndpointWord, HoldsWordOf}
 use Rattle.jh_board.specs.Private.Steps.{devices_held, endpoint_word_after, MayPut, MayWriteEndpointWord, MayCommitDevices, MayCommit}
 use Rattle.jh_board.proofs.ActedLemmas.{word_acted}
 use Rattle.jh_board.proofs.AnswerLemmas.{if_some}
@@ -58,7 +59,7 @@ word_held image held f e means sound there =
     let own : IsOfDevice image (configs_of f.cells) e.spec = All-contains (λ (o : Endpoint). IsOfDevice image (configs_of f.cells) o.spec) f.endpoints e sound.endpoints.own there in
     All-contains (HoldsWordOf held.memory) (specs_of own.0) e.spec (words_of_cell image held f own.0 means own.1) own.2
 
-endpoint_word_held : (memory : MemoryView) (word : EndpointWord) (spec : EndpointSpec) → IsInItsLimits spec → word ≡ endpoint_word_of spec word.value → HoldsWordOf memory spec → (word.place + 4 < 2 ^ 64) × HoldsEndpointWord memory word
+endpoint_word_held : (memory : Stage2) (word : EndpointWord) (spec : EndpointSpec) → IsInItsLimits spec → word ≡ endpoint_word_of spec word.value → HoldsWordOf memory spec → (word.place + 4 < 2 ^ 64) × HoldsEndpointWord memory word
 endpoint_word_held memory word spec within is there =
     let place : word.place ≡ spec.table + 4 * spec.id = ap (λ (s : EndpointWord). s.place) is in
     let own = within.id in
@@ -67,7 +68,7 @@ endpoint_word_held memory word spec within is there =
     let P : ℕ → Type 0 = λ p. All (HoldsPlace memory) (places_in_row (Physical p) 4) in
     (omega arith, subst P (sym place) there)
 
-may_put : (image : Image) (held : Held) (memory : MemoryView) (f : Facts) (word : Option EndpointWord) → Means image held f → IsSound image f → KeepsPages held.memory memory → IfSome word (IsWordOf f.endpoints) → MayPut memory word
+may_put : (image : Image) (held : Held) (memory : Stage2) (f : Facts) (word : Option EndpointWord) → Means image held f → IsSound image f → KeepsPages held.memory memory → IfSome word (IsWordOf f.endpoints) → MayPut memory word
 may_put image held memory f None means sound pages h = tt
 may_put image held memory f (Some word) means sound pages h =
     let there : HoldsWordOf held.memory h.endpoint.spec = word_held image held f h.endpoint means sound h.there in

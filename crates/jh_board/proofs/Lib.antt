@@ -1,6 +1,8 @@
 mod ListLemmas
 mod SeatsLemmas
 mod PlaceLemmas
+mod TablesLemmas
+mod SoundLemmas
 mod ChangedLemmas
 mod BytesLemmas
 mod PieceLemmas
@@ -24,3 +26,10 @@ mod DevicesLemmas
 mod ActedLemmas
 mod CommitLemmas
 mod RowLemmas
+mod ClaimLemmas
+mod EditingLemmas
+mod SeatClaimLemmas
+mod StagedLemmas
+mod EditLemmas
+mod PlanLemmas
+mod LeavesLemmas

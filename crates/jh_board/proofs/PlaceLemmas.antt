@@ -1,47 +1,61 @@
 -- What a change of physical memory tells at places, where it is one beside the hypervisor's memory, or one of a communication page.
-use Rattle.std.proofs.Common.{◌≡◌, ◌⊎◌, inl, inr, ℕ, ◌+◌, ◌*◌, ◌<◌, ◌≤◌, Bool, true, false, ◌&&◌, cond, eqb, Option, Some, None, refl, sym, ap, subst, ◌∙◌, arith}
-use Rattle.std.specs.Prelude.{IsSome, filter, nat_le, nat_lt}
+use Rattle.std.proofs.Common.{◌≡◌, ◌⊎◌, inl, inr, ℕ, ◌+◌, ◌<◌, ◌≤◌, length, Bool, true, false, ◌&&◌, cond, eqb, Option, Some, None, refl, sym, ap, subst, ◌∙◌, arith}
+use Rattle.std.specs.Prelude.{nat_le, nat_lt}
 use Rattle.std.proofs.lemmas.Bool.{true≢false, cases_lt, eq-eqb, ne_eqb, eqb-true, ltb-true, lt-ltb}
 use Rattle.jh_num.proofs.Public.{within_both}
-use Rattle.jh_frames.specs.Memory.{FramesView, byte_at, holds}
+use Rattle.jh_frames.specs.Memory.{FramesView, OwnView, byte_at, is_own}
+use Rattle.jh_edit.specs.declared.stage.Stage2.{Stage2}
+use Rattle.jh_edit.specs.Seats.{cell_comm}
 use Rattle.jh_history.specs.declared.comm.PageChange.{PageChange}
 use Rattle.jh_history.specs.declared.comm.PageWrite.{PageWrite}
 use Rattle.jh_history.specs.declared.place.Place.{Place}
 use Rattle.jh_history.specs.declared.place.Place.TheVariants.{Physical, Page}
 use Rattle.jh_history.specs.Pages.{page_after, with_page}
 use Rattle.jh_history.specs.Places.{with_byte}
-use Rattle.jh_pool.specs.Pages.{PoolView}
-use Rattle.jh_board.specs.Pages.{MemoryView, HoldsPlace, byte_in, byte_of, comm_byte}
-use Rattle.jh_board.specs.Seats.{SeatsView, comm_of, is_of_pool, is_other_seat, IsInPool}
-use Rattle.jh_board.specs.Private.Pages.{IsOtherPlace}
-use Rattle.jh_board.proofs.SeatsLemmas.{comm_left}
+use Rattle.jh_board.specs.Pages.{byte_in, byte_of, comm_byte, KeepsTables}
+use Rattle.jh_board.specs.Seats.{comm_of, IsOwnPage}
 
 -- ---- the hypervisor's memory
 
-pub pool_same : (old new : PoolView) (place : ℕ) → new.base ≡ old.base → new.size ≡ old.size → is_of_pool new place ≡ is_of_pool old place
-pool_same old new place base size =
-    ap (λ (b : ℕ). nat_le b place && nat_lt place (b + 4096 * new.size)) base
-    ∙ ap (λ (n : ℕ). nat_le old.base place && nat_lt place (old.base + 4096 * n)) size
+pub own_same : (old new : OwnView) (place : ℕ) → new.base ≡ old.base → length new.bytes ≡ length old.bytes → is_own new place ≡ is_own old place
+own_same old new place base size =
+    ap (λ (b : ℕ). nat_le b place && nat_lt place (b + length new.bytes)) base
+    ∙ ap (λ (n : ℕ). nat_le old.base place && nat_lt place (old.base + n)) size
 
--- the bytes of a page of the pool are the hypervisor's
-pub page_of_pool : (pool : PoolView) (page k : ℕ) → IsInPool pool page → k < 4096 → is_of_pool pool (page + k) ≡ true
-page_of_pool pool page k inside lt =
+-- the bytes of a page of it are its own
+pub page_of_own : (own : OwnView) (page k : ℕ) → IsOwnPage own page → k < 4096 → is_own own (page + k) ≡ true
+page_of_own own page k inside lt =
     let above = inside.above in
     let below = inside.below in
-    within_both pool.base (pool.base + 4096 * pool.size) (page + k) (omega arith) (omega arith)
+    within_both own.base (own.base + length own.bytes) (page + k) (omega arith) (omega arith)
 
--- a place beside the pool is none of the page
-pub beside_page : (pool : PoolView) (page place : ℕ) → IsInPool pool page → is_of_pool pool place ≡ false → (place < page) ⊎ (page + 4096 ≤ place)
-beside_page pool page place inside beside = elim (cases_lt place page) [
+-- a place beside it is none of the page
+pub beside_page : (own : OwnView) (page place : ℕ) → IsOwnPage own page → is_own own place ≡ false → (place < page) ⊎ (page + 4096 ≤ place)
+beside_page own page place inside beside = elim (cases_lt place page) [
   | inl below ↦ inl below
   | inr above ↦ elim (cases_lt place (page + 4096)) [
     | inl within ↦
         let low = inside.above in
         let high = inside.below in
-        absurd (true≢false (sym (within_both pool.base (pool.base + 4096 * pool.size) place (omega arith) (omega arith)) ∙ beside))
+        absurd (true≢false (sym (within_both own.base (own.base + length own.bytes) place (omega arith) (omega arith)) ∙ beside))
     | inr behind ↦ inr behind
   ]
 ]
+
+-- the hypervisor's memory lies where it lay, and the cells have the seats that they had
+pub record KeepsSeats (old new : Stage2) : Type 0 where
+  pub base : new.frames.own.base ≡ old.frames.own.base
+  pub size : length new.frames.own.bytes ≡ length old.frames.own.bytes
+  pub seats : new.seats.items ≡ old.seats.items
+
+pub seats_kept : (old new : Stage2) → KeepsTables old new → KeepsSeats old new
+seats_kept old new kept = record { base = kept.writes.base; size = kept.writes.size; seats = ap (λ s. s.items) kept.seats }
+
+pub own_kept : (old new : Stage2) (place : ℕ) → KeepsSeats old new → is_own new.frames.own place ≡ is_own old.frames.own place
+own_kept old new place kept = own_same old.frames.own new.frames.own place kept.base kept.size
+
+pub comm_same : (old new : Stage2) (id : ℕ) → KeepsSeats old new → comm_of new id ≡ comm_of old id
+comm_same old new id kept = ap (cell_comm id) kept.seats
 
 -- ---- bytes
 
@@ -54,9 +68,9 @@ physical_by : (b : Bool) (old new : ℕ) → (b ≡ false → new ≡ old) → c
 physical_by true old new same = refl
 physical_by false old new same = same refl
 
-pub physical_kept : (pool : PoolView) (old new : FramesView) (page place : ℕ) → IsInPool pool page → KeepsOthers old new page → cond (is_of_pool pool place) 0 (byte_at new place) ≡ cond (is_of_pool pool place) 0 (byte_at old place)
-physical_kept pool old new page place inside kept =
-    physical_by (is_of_pool pool place) (byte_at old place) (byte_at new place) (λ beside. kept place (beside_page pool page place inside beside))
+pub physical_kept : (own : OwnView) (old new : FramesView) (page place : ℕ) → IsOwnPage own page → KeepsOthers old new page → cond (is_own own place) 0 (byte_at new place) ≡ cond (is_own own place) 0 (byte_at old place)
+physical_kept own old new page place inside kept =
+    physical_by (is_own own place) (byte_at old place) (byte_at new place) (λ beside. kept place (beside_page own page place inside beside))
 
 in_by : (b : Bool) (k : ℕ) (old new : ℕ) → nat_lt k 4096 ≡ b → (k < 4096 → new ≡ old) → cond b new 0 ≡ cond b old 0
 in_by true k old new is same = same (ltb-true k 4096 is)
@@ -76,9 +90,9 @@ comm_kept old new page (Some other) k kept apart =
     ])
 
 -- where memory changes at a place beside the hypervisor's alone, pages stay
-pub page_beside : (pool : PoolView) (old new : FramesView) (o : Option ℕ) (k : ℕ) → ((page : ℕ) → o ≡ Some page → IsInPool pool page) → ((q : ℕ) → is_of_pool pool q ≡ true → byte_at new q ≡ byte_at old q) → comm_byte new o k ≡ comm_byte old o k
-page_beside pool old new None k inside kept = refl
-page_beside pool old new (Some page) k inside kept = in_page old new page k (λ lt. kept (page + k) (page_of_pool pool page k (inside page refl) lt))
+pub page_beside : (own : OwnView) (old new : FramesView) (o : Option ℕ) (k : ℕ) → ((page : ℕ) → o ≡ Some page → IsOwnPage own page) → ((q : ℕ) → is_own own q ≡ true → byte_at new q ≡ byte_at old q) → comm_byte new o k ≡ comm_byte old o k
+page_beside own old new None k inside kept = refl
+page_beside own old new (Some page) k inside kept = in_page old new page k (λ lt. kept (page + k) (page_of_own own page k (inside page refl) lt))
 
 -- ---- one byte
 
@@ -98,20 +112,20 @@ comm_put_by true old new o page k offset byte own lt put kept other =
     subst P (sym (own refl)) (byte_by (eqb k offset) old new page k offset byte refl lt put kept)
 comm_put_by false old new o page k offset byte own lt put kept other = other refl
 
-pub comm_put : (old new : MemoryView) (cell page offset byte : ℕ) → new.seats ≡ old.seats → comm_of old.seats cell ≡ Some page → IsInPool old.seats.pool page → offset < 4096
-    → ((id other : ℕ) → (cell ≡ id → ⊥) → comm_of old.seats id ≡ Some other → (page + 4096 ≤ other) ⊎ (other + 4096 ≤ page))
+pub comm_put : (old new : Stage2) (cell page offset byte : ℕ) → KeepsSeats old new → comm_of old cell ≡ Some page → IsOwnPage old.frames.own page → offset < 4096
+    → ((id other : ℕ) → (cell ≡ id → ⊥) → comm_of old id ≡ Some other → (page + 4096 ≤ other) ⊎ (other + 4096 ≤ page))
     → byte_at new.frames (page + offset) ≡ byte → ((q : ℕ) → (q ≡ page + offset → ⊥) → byte_at new.frames q ≡ byte_at old.frames q)
     → (q : Place) → byte_of new q ≡ with_byte (byte_of old) (Page cell offset) byte q
 comm_put old new cell page offset byte seats own inside lt apart put kept (Physical place) =
-    ap (λ (s : SeatsView). cond (is_of_pool s.pool place) 0 (byte_at new.frames place)) seats
-    ∙ physical_kept old.seats.pool old.frames new.frames page place inside (λ q beside. kept q (λ e. elim beside [
+    ap (λ b. cond b 0 (byte_at new.frames place)) (own_kept old new place seats)
+    ∙ physical_kept old.frames.own old.frames new.frames page place inside (λ q beside. kept q (λ e. elim beside [
       | inl below ↦ absurd (omega arith)
       | inr above ↦ absurd (omega arith)
     ]))
 comm_put old new cell page offset byte seats own inside lt apart put kept (Page id k) =
-    ap (λ (s : SeatsView). comm_byte new.frames (comm_of s id) k) seats
-    ∙ comm_put_by (eqb id cell) old.frames new.frames (comm_of old.seats id) page k offset byte (λ same. ap (comm_of old.seats) (eqb-true id cell same) ∙ own) lt put kept
-    (λ differ. comm_kept old.frames new.frames page (comm_of old.seats id) k (λ q beside. kept q (λ e. elim beside [
+    ap (λ (o : Option ℕ). comm_byte new.frames o k) (comm_same old new id seats)
+    ∙ comm_put_by (eqb id cell) old.frames new.frames (comm_of old id) page k offset byte (λ same. ap (comm_of old) (eqb-true id cell same) ∙ own) lt put kept
+    (λ differ. comm_kept old.frames new.frames page (comm_of old id) k (λ q beside. kept q (λ e. elim beside [
       | inl below ↦ absurd (omega arith)
       | inr above ↦ absurd (omega arith)
     ])) (λ other is. apart id other (λ e. true≢false (sym (eq-eqb id cell (sym e)) ∙ differ)) is))
@@ -123,18 +137,18 @@ put_by true false old new byte apart own other = refl
 put_by false true old new byte apart own other = own refl
 put_by false false old new byte apart own other = other refl
 
-pub physical_put : (old new : MemoryView) (address byte : ℕ) → new.seats ≡ old.seats → is_of_pool old.seats.pool address ≡ false → ((id page : ℕ) → comm_of old.seats id ≡ Some page → IsInPool old.seats.pool page)
+pub physical_put : (old new : Stage2) (address byte : ℕ) → KeepsSeats old new → is_own old.frames.own address ≡ false → ((id page : ℕ) → comm_of old id ≡ Some page → IsOwnPage old.frames.own page)
     → byte_at new.frames address ≡ byte → ((q : ℕ) → (q ≡ address → ⊥) → byte_at new.frames q ≡ byte_at old.frames q)
     → (q : Place) → byte_of new q ≡ with_byte (byte_of old) (Physical address) byte q
 physical_put old new address byte seats beside inside put kept (Physical place) =
-    ap (λ (s : SeatsView). cond (is_of_pool s.pool place) 0 (byte_at new.frames place)) seats
-    ∙ put_by (is_of_pool old.seats.pool place) (eqb place address) (byte_at old.frames place) (byte_at new.frames place) byte
-    (λ of_pool. ne_eqb place address (λ e. true≢false (sym of_pool ∙ ap (is_of_pool old.seats.pool) e ∙ beside)))
+    ap (λ b. cond b 0 (byte_at new.frames place)) (own_kept old new place seats)
+    ∙ put_by (is_own old.frames.own place) (eqb place address) (byte_at old.frames place) (byte_at new.frames place) byte
+    (λ own. ne_eqb place address (λ e. true≢false (sym own ∙ ap (is_own old.frames.own) e ∙ beside)))
     (λ same. ap (byte_at new.frames) (eqb-true place address same) ∙ put)
     (λ differ. kept place (λ e. true≢false (sym (eq-eqb place address e) ∙ differ)))
 physical_put old new address byte seats beside inside put kept (Page id k) =
-    ap (λ (s : SeatsView). comm_byte new.frames (comm_of s id) k) seats
-    ∙ page_beside old.seats.pool old.frames new.frames (comm_of old.seats id) k (inside id) (λ q own. kept q (λ e. true≢false (sym own ∙ ap (is_of_pool old.seats.pool) e ∙ beside)))
+    ap (λ (o : Option ℕ). comm_byte new.frames o k) (comm_same old new id seats)
+    ∙ page_beside old.frames.own old.frames new.frames (comm_of old id) k (inside id) (λ q own. kept q (λ e. true≢false (sym own ∙ ap (is_own old.frames.own) e ∙ beside)))
 
 -- ---- a whole page
 
@@ -143,51 +157,36 @@ changed_by : (b : Bool) (new : FramesView) (page k : ℕ) (g : ℕ → ℕ) (bef
 changed_by true new page k g before is put past = put (ltb-true k 4096 is)
 changed_by false new page k g before is put past = sym (past refl)
 
-past_by : (o : Option ℕ) (frames : FramesView) (k : ℕ) → nat_lt k 4096 ≡ false → comm_byte frames o k ≡ 0
+pub past_by : (o : Option ℕ) (frames : FramesView) (k : ℕ) → nat_lt k 4096 ≡ false → comm_byte frames o k ≡ 0
 past_by None frames k past = refl
 past_by (Some page) frames k past = ap (λ b. cond b (byte_at frames (page + k)) 0) past
 
 -- what is known of a page that is changed, which its cell has, or takes and then writes whole
-pub record IsChanged (old new : MemoryView) (cell page : ℕ) (change : PageChange) : Type 0 where
-  pub base : new.seats.pool.base ≡ old.seats.pool.base
-  pub size : new.seats.pool.size ≡ old.seats.pool.size
-  pub inside : IsInPool old.seats.pool page
-  pub own : comm_of new.seats cell ≡ Some page
-  pub others : (id : ℕ) → (id ≡ cell → ⊥) → comm_of new.seats id ≡ comm_of old.seats id
-  pub apart : (id other : ℕ) → (id ≡ cell → ⊥) → comm_of new.seats id ≡ Some other → (page + 4096 ≤ other) ⊎ (other + 4096 ≤ page)
+pub record IsChanged (old new : Stage2) (cell page : ℕ) (change : PageChange) : Type 0 where
+  pub base : new.frames.own.base ≡ old.frames.own.base
+  pub size : length new.frames.own.bytes ≡ length old.frames.own.bytes
+  pub inside : IsOwnPage old.frames.own page
+  pub own : comm_of new cell ≡ Some page
+  pub others : (id : ℕ) → (id ≡ cell → ⊥) → comm_of new id ≡ comm_of old id
+  pub apart : (id other : ℕ) → (id ≡ cell → ⊥) → comm_of new id ≡ Some other → (page + 4096 ≤ other) ⊎ (other + 4096 ≤ page)
   pub put : (k : ℕ) → k < 4096 → byte_at new.frames (page + k) ≡ page_after change (λ j. byte_of old (Page cell j)) k
   pub kept : KeepsOthers old.frames new.frames page
 
-change_by : (b : Bool) (old new : MemoryView) (id cell page k : ℕ) (change : PageChange) → eqb id cell ≡ b → IsChanged old new cell page change
-    → comm_byte new.frames (comm_of new.seats id) k ≡ cond (b && nat_lt k 4096) (page_after change (λ j. byte_of old (Page id j)) k) (comm_byte old.frames (comm_of old.seats id) k)
+change_by : (b : Bool) (old new : Stage2) (id cell page k : ℕ) (change : PageChange) → eqb id cell ≡ b → IsChanged old new cell page change
+    → comm_byte new.frames (comm_of new id) k ≡ cond (b && nat_lt k 4096) (page_after change (λ j. byte_of old (Page id j)) k) (comm_byte old.frames (comm_of old id) k)
 change_by true old new id cell page k change is h =
     let e : cell ≡ id = sym (eqb-true id cell is) in
-    let P : ℕ → Type 0 = λ n. comm_byte new.frames (comm_of new.seats n) k ≡ cond (nat_lt k 4096) (page_after change (λ j. byte_of old (Page n j)) k) (comm_byte old.frames (comm_of old.seats n) k) in
+    let P : ℕ → Type 0 = λ n. comm_byte new.frames (comm_of new n) k ≡ cond (nat_lt k 4096) (page_after change (λ j. byte_of old (Page n j)) k) (comm_byte old.frames (comm_of old n) k) in
     subst P e
     (ap (λ (o : Option ℕ). comm_byte new.frames o k) h.own
-    ∙ changed_by (nat_lt k 4096) new.frames page k (page_after change (λ j. byte_of old (Page cell j))) (comm_byte old.frames (comm_of old.seats cell) k) refl (h.put k) (past_by (comm_of old.seats cell) old.frames k))
+    ∙ changed_by (nat_lt k 4096) new.frames page k (page_after change (λ j. byte_of old (Page cell j))) (comm_byte old.frames (comm_of old cell) k) refl (h.put k) (past_by (comm_of old cell) old.frames k))
 change_by false old new id cell page k change is h =
     let other : id ≡ cell → ⊥ = λ e. true≢false (sym (eq-eqb id cell e) ∙ is) in
-    comm_kept old.frames new.frames page (comm_of new.seats id) k h.kept (λ place there. h.apart id place other there)
+    comm_kept old.frames new.frames page (comm_of new id) k h.kept (λ place there. h.apart id place other there)
     ∙ ap (λ (o : Option ℕ). comm_byte old.frames o k) (h.others id other)
 
-pub page_changed : (old new : MemoryView) (write : PageWrite) (page : ℕ) → IsChanged old new write.cell page write.change → (q : Place) → byte_of new q ≡ with_page write (byte_of old) q
+pub page_changed : (old new : Stage2) (write : PageWrite) (page : ℕ) → IsChanged old new write.cell page write.change → (q : Place) → byte_of new q ≡ with_page write (byte_of old) q
 page_changed old new write page h (Physical place) =
-    ap (λ b. cond b 0 (byte_at new.frames place)) (pool_same old.seats.pool new.seats.pool place h.base h.size)
-    ∙ physical_kept old.seats.pool old.frames new.frames page place h.inside h.kept
+    ap (λ b. cond b 0 (byte_at new.frames place)) (own_same old.frames.own new.frames.own place h.base h.size)
+    ∙ physical_kept old.frames.own old.frames new.frames page place h.inside h.kept
 page_changed old new write page h (Page id k) = change_by (eqb id write.cell) old new id write.cell page k write.change refl h
-
--- ---- a cell that has no page any more
-
-pub left_bytes : (old new : MemoryView) (id : ℕ) → new.frames ≡ old.frames → new.seats.list ≡ filter (is_other_seat id) old.seats.list → new.seats.pool.base ≡ old.seats.pool.base → new.seats.pool.size ≡ old.seats.pool.size
-    → (q : Place) → IsOtherPlace id q → byte_of new q ≡ byte_of old q
-left_bytes old new id frames list base size (Physical a) other =
-    ap (λ (f : FramesView). cond (is_of_pool new.seats.pool a) 0 (byte_at f a)) frames ∙ ap (λ b. cond b 0 (byte_at old.frames a)) (pool_same old.seats.pool new.seats.pool a base size)
-left_bytes old new id frames list base size (Page cell k) other =
-    ap (λ (f : FramesView). comm_byte f (comm_of new.seats cell) k) frames ∙ ap (λ (o : Option ℕ). comm_byte old.frames o k) (comm_left old.seats new.seats id cell other list)
-
-pub left_held : (old new : MemoryView) (id : ℕ) → new.frames ≡ old.frames → new.seats.list ≡ filter (is_other_seat id) old.seats.list → new.seats.pool.base ≡ old.seats.pool.base → new.seats.pool.size ≡ old.seats.pool.size
-    → (q : Place) → IsOtherPlace id q → HoldsPlace old q → HoldsPlace new q
-left_held old new id frames list base size (Physical a) other h = (h.0, ap (λ (f : FramesView). holds f a) frames ∙ h.1, pool_same old.seats.pool new.seats.pool a base size ∙ h.2)
-left_held old new id frames list base size (Page cell k) other h =
-    let P : Option ℕ → Type 0 = λ o. IsSome o × (k < 4096) in subst P (sym (comm_left old.seats new.seats id cell other list)) h

@@ -7,8 +7,9 @@ use Rattle.jh_history.specs.declared.place.Place.{Place}
 use Rattle.jh_history.specs.declared.place.Place.TheVariants.{Page}
 use Rattle.jh_history.specs.Places.{further, places_in_row}
 use Rattle.jh_history.proofs.Public.{further_none, further_next}
-use Rattle.jh_board.specs.Pages.{byte_of, comm_byte, MemoryView}
+use Rattle.jh_board.specs.Pages.{byte_of, comm_byte}
 use Rattle.jh_board.specs.Seats.{comm_of}
+use Rattle.jh_edit.specs.declared.stage.Stage2.{Stage2}
 use Rattle.jh_board.specs.Private.Pages.{bytes_from}
 
 -- ---- one more
@@ -33,7 +34,7 @@ row_none old byte p = sym (append-nil old)
 
 -- ---- a communication page
 
-pub row_of_comm : (memory : MemoryView) (cell page offset n : ℕ) → comm_of memory.seats cell ≡ Some page → offset + n ≤ 4096 → map (byte_of memory) (places_in_row (Page cell offset) n) ≡ bytes_from (byte_at memory.frames) (page + offset) n
+pub row_of_comm : (memory : Stage2) (cell page offset n : ℕ) → comm_of memory cell ≡ Some page → offset + n ≤ 4096 → map (byte_of memory) (places_in_row (Page cell offset) n) ≡ bytes_from (byte_at memory.frames) (page + offset) n
 row_of_comm memory cell page offset zero own within = refl
 row_of_comm memory cell page offset (suc n) own within =
     let lt : offset < 4096 = omega arith in
@@ -44,7 +45,7 @@ row_of_comm memory cell page offset (suc n) own within =
     ∙ ap (λ (bs : List ℕ). byte_at memory.frames (page + offset) ∷ bs)
     (row_of_comm memory cell page (offset + 1) n own (omega arith) ∙ ap (λ (a : ℕ). bytes_from (byte_at memory.frames) a n) next)
 
-pub row_of_none : (memory : MemoryView) (cell offset n : ℕ) → comm_of memory.seats cell ≡ None → map (byte_of memory) (places_in_row (Page cell offset) n) ≡ bytes_from (λ k. 0) offset n
+pub row_of_none : (memory : Stage2) (cell offset n : ℕ) → comm_of memory cell ≡ None → map (byte_of memory) (places_in_row (Page cell offset) n) ≡ bytes_from (λ k. 0) offset n
 row_of_none memory cell offset zero none = refl
 row_of_none memory cell offset (suc n) none =
     ap (λ (b : ℕ). b ∷ map (byte_of memory) (places_in_row (Page cell (offset + 1)) n)) (ap (λ (o : Option ℕ). comm_byte memory.frames o offset) none)

@@ -1,7 +1,9 @@
 pub mod Seats
 pub mod Pages
 pub mod LiveView
+pub mod Tables
 pub mod Means
+pub mod Leaves
 pub mod BoardView
 pub mod Turns
 pub mod SoundBoard

@@ -6,6 +6,7 @@ use Rattle.jh_map.specs.Maps.{IsMap}
 use Rattle.jh_script.specs.declared.image.Image.{Image}
 use Rattle.jh_history.specs.declared.access.Access.{Access}
 use Rattle.jh_history.specs.declared.entry.Entry.{Entry}
+use Rattle.jh_history.specs.declared.form.Form.{Form}
 use Rattle.jh_history.specs.declared.place.Place.{Place}
 use Rattle.jh_history.specs.declared.place.Place.TheVariants.{Physical, Page}
 use Rattle.jh_history.specs.Access.{has_right}
@@ -31,12 +32,13 @@ IsMapOrNone image lives id (Some runs) = IsSome (cell_in image lives id) × IsMa
 -- a legal journal of an admitted image, and the map of the cell with the id after it
 pub record AdmittedMap : Type 0 where
   pub image : Image
+  pub form : Form
   pub entries : List Entry
   pub admitted : IsAdmitted image
-  pub legal : IsLegal image entries
+  pub legal : IsLegal image form entries
   pub id : ℕ
   pub runs : List Run
-  pub is : IsMapIn image (facts image entries).cells id runs
+  pub is : IsMapIn image (facts image form entries).cells id runs
 
 -- ---- what a map tells of grants
 

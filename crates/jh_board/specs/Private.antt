@@ -7,6 +7,8 @@ pub mod JudgedCreate
 pub mod KeptCells
 pub mod Seated
 pub mod Pages
+pub mod Editing
+pub mod HavePages
 pub mod StateView
 pub mod Steps
 pub mod Advances

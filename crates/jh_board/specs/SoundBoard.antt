@@ -10,7 +10,7 @@ use Rattle.jh_board.specs.declared.board.Board.TheInside.{Inside}
 -- CPU that is kept as the last one's is one of 16
 pub record IsSoundBoard (b : Inside) : Type 0 where
   pub admitted : IsAdmitted b.image
-  pub legal : IsLegal b.image b.journal.entries
+  pub legal : IsLegal b.image b.journal.form b.journal.entries
   pub within : length b.journal.entries ≤ b.limit
-  pub means : Means b.image b.held.value (facts b.image b.journal.entries)
+  pub means : Means b.image b.held.value (facts b.image b.journal.form b.journal.entries)
   pub last : b.last < 16

@@ -6,7 +6,8 @@ ghost use Rattle.jh_cellcfg.specs.declared.region.Region.{Region as TheRegion};
 ghost use Rattle.jh_cellcfg.specs.Regions.{has_address, SharesNoAddress, IsInRange, IsEmptyOrInRange, AreInRange};
 ghost use Rattle.jh_mmio.specs.Dispatch.{takes_all, unless_closed};
 ghost use Rattle.jh_check.specs.Refusals.{is_known};
-ghost use Rattle.jh_shape.specs.Pages.{pages_of};
+ghost use Rattle.jh_shape.specs.Claims.{claims_of};
+ghost use Rattle.jh_shape.specs.Pages.{live_root_claims, pages_of};
 ghost use Rattle.jh_mmio.specs.Index.{IsRegionAt};
 ghost use Rattle.jh_shape.specs.Lives.{all_cells, configs_of, marked, new_live};
 ghost use Rattle.jh_history.specs.Commits.{is_other};
@@ -18,8 +19,12 @@ use jh_cellcfg::{CellConfig, Region, SystemConfig};
 use jh_closed::{CellRegions, close_again, close_cell};
 use jh_life::{Cells, a_cell_is_dropped_by_its_id, a_cell_is_marked_by_its_id, live_cells_differ};
 use jh_num::{ByteSet, NoMemory, Range};
+use jh_shape::Target;
 use std::alloc::Global;
 use std::marker::Model;
+
+/// All cells hold what is theirs.
+const ALL: u16 = 0xffff;
 
 /// The cells that live besides root, in order of creation, and what they take from root.
 #[derive(Drop)]
@@ -165,6 +170,29 @@ impl LiveCells {
         ensures { (place : ℕ) → has_byte result.now.ranges place ≡ is_closed_by self.now.lives place }
     {
         &self.closed
+    }
+
+    /// At most 15 cells live besides root.
+    pub fn no_more_than_15_live(&self)
+        ensures { length self.now.lives ≤ 15 }
+    {
+        let _ = self.cells.list();
+    }
+
+    /// What root's tables are made from beside the cells. It takes no memory.
+    pub fn root_target<'a>(&'a self, root: &'a CellConfig) -> Target<'a>
+        ensures claims { claims_of result ≡ live_root_claims root.now.memory_regions self.now.lives }
+        ensures few { length result.cells.now ≤ 15 }
+    {
+        Target {
+            regions: root.memory_regions.as_slice(),
+            root: true,
+            cells: self.cells.list(),
+            held: ALL,
+            loadable: self.cells.loadable(),
+            extra: None,
+            comm: 0,
+        }
     }
 
     /// Makes ready for a new cell: room for it, and what is found once of its regions. No cell changes.

@@ -8,7 +8,7 @@ ghost use Rattle.jh_history.specs.declared.device_change.DeviceChange.TheVariant
 ghost use Rattle.jh_history.specs.Access.{with_endpoint_word_if};
 ghost use Rattle.jh_history.specs.Devices.{specs_of, specs_at};
 ghost use Rattle.jh_history.specs.Endpoints.{endpoints_changed, with_words, HasGoodDevices, MayJoinThem, MayChange};
-ghost use Rattle.jh_board.specs.Pages.{byte_of, HoldsPlace, HoldsEndpointWord, HoldsWordOf};
+ghost use Rattle.jh_board.specs.Pages.{byte_of, HoldsPlace, HoldsEndpointWord, HoldsWordOf, KeepsTables};
 ghost use Rattle.jh_board.specs.Private.Pages.{MayHoldWordOf};
 
 use crate::memory::Memory;
@@ -46,7 +46,7 @@ fn hold_device(memory: &mut Memory, config: &CellConfig, number: usize) -> Resul
     ensures bytes { (q : ThePlace) → byte_of memory.new q ≡ byte_of memory.old q }
     ensures held { OnOk result (All (HoldsWordOf memory.new) (specs_at config.now number)) }
     ensures others { (q : ThePlace) → HoldsPlace memory.old q → HoldsPlace memory.new q }
-    ensures seats { memory.new.seats ≡ memory.old.seats }
+    ensures tables { KeepsTables memory.old memory.new }
 {
     match spec_at(config, number) {
         Some(spec) => memory.hold_endpoint_word(&cleared_word(&spec)),
@@ -70,7 +70,7 @@ pub fn prepare_devices(
     ensures bytes { (q : ThePlace) → byte_of memory.new q ≡ byte_of memory.old q }
     ensures held { OnOk result (All (HoldsWordOf memory.new) (specs_of config.now)) }
     ensures others { (q : ThePlace) → HoldsPlace memory.old q → HoldsPlace memory.new q }
-    ensures seats { memory.new.seats ≡ memory.old.seats }
+    ensures tables { KeepsTables memory.old memory.new }
 {
     endpoints.reserve(config.pci_devices.len())?;
     for number in 0..config.pci_devices.len() {
@@ -98,7 +98,7 @@ fn change_device(
     ensures list { endpoints.new.list ≡ endpoints_changed change (specs_at config.now number) endpoints.old.list }
     ensures spare { endpoints.old.spare ≤ endpoints.new.spare + length (specs_at config.now number) }
     ensures held { (q : ThePlace) → HoldsPlace memory.old q → HoldsPlace memory.new q }
-    ensures seats { memory.new.seats ≡ memory.old.seats }
+    ensures tables { KeepsTables memory.old memory.new }
 {
     let Some(spec) = spec_at(config, number) else {
         return;
@@ -123,7 +123,7 @@ pub fn change_devices(
     ensures bytes { (q : ThePlace) → byte_of memory.new q ≡ with_words (specs_of config.now) (byte_of memory.old) q }
     ensures list { endpoints.new.list ≡ endpoints_changed change (specs_of config.now) endpoints.old.list }
     ensures held { (q : ThePlace) → HoldsPlace memory.old q → HoldsPlace memory.new q }
-    ensures seats { memory.new.seats ≡ memory.old.seats }
+    ensures tables { KeepsTables memory.old memory.new }
 {
     for number in 0..config.pci_devices.len() {
         change_device(memory, endpoints, change, config, number);
@@ -136,7 +136,7 @@ pub fn write_endpoint_word_if(memory: &mut Memory, word: Option<EndpointWord>)
     requires held { IfSome word (HoldsEndpointWord memory.old) }
     ensures bytes { (q : ThePlace) → byte_of memory.new q ≡ with_endpoint_word_if word (byte_of memory.old) q }
     ensures held { (q : ThePlace) → HoldsPlace memory.old q → HoldsPlace memory.new q }
-    ensures seats { memory.new.seats ≡ memory.old.seats }
+    ensures tables { KeepsTables memory.old memory.new }
 {
     if let Some(word) = &word {
         memory.write_endpoint_word(word);

@@ -6,13 +6,14 @@ use crate::memory::Memory;
 use jh_cellcfg::MAX_CPUS;
 use jh_closed::CellRegions;
 use jh_cpu::Cpu;
-use jh_history::OpenCall;
+use jh_history::{Form, OpenCall};
 use jh_ivshmem::Endpoints;
 use std::alloc::Global;
 
-/// Memory, CPUs, live cells, their devices and the open call.
+/// The form of the journal, memory, CPUs, live cells, their devices and the open call.
 #[derive(Drop)]
 pub struct Held {
+    pub form: Form,
     pub memory: Memory,
     pub cpus: [Cpu; MAX_CPUS],
     pub cells: LiveCells,

@@ -11,7 +11,7 @@ use jh_map::maps_tell_each_address;
 /// After a legal journal of an admitted image the map of a cell tells of each address, and of each right, exactly what
 /// the cell is granted there.
 pub fn maps_tell_what_is_granted()
-    ensures { (m : AdmittedMap) (access : TheAccess) (at : ℕ) → grant_of_map m.id m.runs access at ≡ granted m.image (facts m.image m.entries) m.id access at }
+    ensures { (m : AdmittedMap) (access : TheAccess) (at : ℕ) → grant_of_map m.id m.runs access at ≡ granted m.image (facts m.image m.form m.entries) m.id access at }
 {
     legal_journals_are_sound();
     maps_tell_each_address();

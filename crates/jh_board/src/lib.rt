@@ -3,21 +3,25 @@
 
 mod board;
 mod cells;
+mod claims;
 mod creation;
 mod crossing;
 mod devices;
+mod editing;
 mod granted;
 mod held;
 mod indexed;
 mod laws;
+mod leaves;
 mod memory;
 mod overview;
 mod page;
-mod seats;
+mod plans;
 mod state;
 mod steps;
 mod turn;
 
 pub use board::Board;
 pub use laws::maps_tell_what_is_granted;
+pub use leaves::TableLeaf;
 pub use turn::{Turn, TurnFault};

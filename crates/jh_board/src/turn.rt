@@ -8,7 +8,7 @@ use jh_num::NoMemory;
 pub enum Turn {
     /// The entry that was due, now last in the journal.
     Made(Entry),
-    /// Tables were edited, and so many such turns are left. No turn answers this, since a board has no tables yet.
+    /// Tables were edited, and so many such turns are left. No turn answers this yet, since a Commit edits all tables in its own turn.
     Edited { left: u32 },
     /// Nothing is due to this CPU, and an entry to that other one.
     NotNow { due_to: u8 },

@@ -1,6 +1,7 @@
 //! The tables of all cells in one memory, and the edit of a call.
-ghost use Rattle.std.specs.Prelude.{◌≡◌, ◌+◌, ◌*◌, ◌%◌, ◌≤◌, [], ◌∷◌, length, None, Some, IfOk};
+ghost use Rattle.std.specs.Prelude.{◌≡◌, ℕ, ◌+◌, ◌*◌, ◌%◌, ◌≤◌, [], ◌∷◌, length, None, Some, IfOk};
 ghost use Rattle.jh_num.specs.declared.address.TheConstants.{ADDRESS_END};
+ghost use Rattle.jh_num.specs.Pages.{page_at};
 ghost use Rattle.jh_shape.specs.Claims.{claims_of};
 ghost use Rattle.jh_shape.specs.Pages.{tables_of};
 ghost use Rattle.jh_shape.specs.SoundClaims.{AreSoundClaims};
@@ -87,8 +88,9 @@ pub fn left_of(editing: &Editing) -> u64
 }
 
 impl Stage2 {
-    /// Memory of so many pages from `base` on, in which root's tables stand as the target wants them, and root has the id. The pool has a page for
-    /// each of them, and they lead to no place of it. Only opening takes memory for cells: there is room for all.
+    /// Memory of so many pages from `base` on, in which root's tables stand as the target wants them, and root has the id.
+    /// The pool has a page for each of them, and they lead to no place of it. No page of guests is held. Only opening takes
+    /// memory for cells: there is room for all.
     pub fn open(
         alloc: Global,
         base: u64,
@@ -106,6 +108,7 @@ impl Stage2 {
         ensures forest { IfOk result (λ stage. IsForest (λ seat. claims_of root.now) stage) }
         ensures root { IfOk result (IsLoneRoot id) }
         ensures base { IfOk result (λ stage. stage.frames.own.base ≡ base) }
+        ensures guests { IfOk result (λ stage. (number : ℕ) → page_at stage.frames.guest.pages number ≡ None) }
         ensures size { IfOk result (λ stage. stage.pool.size ≡ pages) }
         ensures cpus { IfOk result (λ stage. length stage.cache ≡ cpus) }
     {

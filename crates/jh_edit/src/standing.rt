@@ -39,6 +39,7 @@ pub(crate) fn finish(
     ensures cpus { length c.new ≡ length c.old }
     ensures base { f.new.own.base ≡ f.old.own.base }
     ensures size { length f.new.own.bytes ≡ length f.old.own.bytes }
+    ensures guests { f.new.guest ≡ f.old.guest }
 {
     claims_want_pages_at_the_end();
     a_finished_edit_stands();
@@ -61,6 +62,7 @@ pub(crate) fn root_table(root: &Target, f: &mut Frames, p: &mut Pool, c: &mut Ca
     ensures cpus { length c.new ≡ length c.old }
     ensures base { f.new.own.base ≡ f.old.own.base }
     ensures size { length f.new.own.bytes ≡ length f.old.own.bytes }
+    ensures guests { f.new.guest ≡ f.old.guest }
 {
     tables_are_counted_from_the_top();
     match p.take() {

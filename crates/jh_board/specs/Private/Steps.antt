@@ -39,7 +39,8 @@ use Rattle.jh_board.specs.declared.steps.CellsChange.TheVariants.{Keep, Mark, Re
 use Rattle.jh_board.specs.declared.held.Held.{Held}
 use Rattle.jh_board.specs.LiveView.{LiveView}
 use Rattle.jh_board.specs.Means.{Means, HoldsWordsOf, IsReadyToGoOn, IsReadyFor}
-use Rattle.jh_board.specs.Pages.{MemoryView, HoldsPlace, HoldsEndpointWord}
+use Rattle.jh_edit.specs.declared.stage.Stage2.{Stage2}
+use Rattle.jh_board.specs.Pages.{HoldsPlace, HoldsEndpointWord, KeepsTables}
 use Rattle.jh_board.specs.Private.Pages.{MayHold}
 
 -- the act is a Decide that goes on
@@ -71,7 +72,7 @@ changed_cells (Mark id loadable) cells = map (marked id loadable) cells
 changed_cells (Remove id) cells = filter (is_other id) cells
 
 -- each place that is reached may be written
-abbrev pub MayWrite : MemoryView → Reach → Type 0
+abbrev pub MayWrite : Stage2 → Reach → Type 0
 MayWrite memory (Memory places) = All (MayHold memory) places
 MayWrite memory (Subpage places) = All (MayHold memory) places
 MayWrite memory (Config bytes) = Unit {0}
@@ -79,7 +80,7 @@ MayWrite memory (Window register) = Unit {0}
 MayWrite memory Nothing = Unit {0}
 
 -- where the act is a write, each place that it reaches may be written
-abbrev pub MayWriteOf : MemoryView → Act → Reach → Type 0
+abbrev pub MayWriteOf : Stage2 → Act → Reach → Type 0
 MayWriteOf memory (Write width at value ok) found = MayWrite memory found
 MayWriteOf memory act found = Unit {0}
 
@@ -112,7 +113,7 @@ endpoints_acted_by devices (Irq device vector) found = taken_of devices.cell (pe
 endpoints_acted_by devices act found = devices.endpoints
 
 -- the word of a state table, if there is one to write, ends below 2^64, and its pages are held
-abbrev pub MayPut : MemoryView → Option EndpointWord → Type 0
+abbrev pub MayPut : Stage2 → Option EndpointWord → Type 0
 MayPut memory word = IfSome word (λ (s : EndpointWord). (s.place + 4 < 2 ^ 64) × HoldsEndpointWord memory s)
 
 -- the word of a state table that the cell's act writes, if it writes one, ends below 2^64, and its pages are held
@@ -131,13 +132,14 @@ MayCommit held act = IfSome (changing_by held.cells.lives held.call act) (MayCom
 
 -- all but bytes and endpoints stays, and the pages that are held stay held
 pub record IsSameButDevices (old new : Held) : Type 0 where
+  pub form : new.form ≡ old.form
   pub cpus : new.cpus ≡ old.cpus
   pub cells : new.cells ≡ old.cells
   pub programs : new.programs ≡ old.programs
   pub call : new.call ≡ old.call
   pub coming_regions : new.coming_regions ≡ old.coming_regions
   pub pages : (q : Place) → HoldsPlace old.memory q → HoldsPlace new.memory q
-  pub seats : new.memory.seats ≡ old.memory.seats
+  pub tables : KeepsTables old.memory new.memory
 
 -- ---- the cell that comes
 

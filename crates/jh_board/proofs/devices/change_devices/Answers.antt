@@ -13,6 +13,7 @@ use Rattle.jh_history.specs.Endpoints.{endpoints_changed, with_words, MayJoinThe
 use Rattle.jh_board.specs.Pages.{byte_of, HoldsWordOf}
 use Rattle.jh_board.proofs.DevicesLemmas.{specs_before, specs_more, specs_all, specs_count, all_at, may_join_next, changed_more, words_more}
 use Rattle.jh_board.proofs.KeptLemmas.{words_kept}
+use Rattle.jh_board.proofs.TablesLemmas.{tables_both}
 use Rattle.jh_board.proofs.devices.change_devices.Goals as goal
 
 pub change_device-requires-clause-within : goal.change_device-requires-clause-within
@@ -66,7 +67,7 @@ loop-number-preserved c =
       list = changed_more change before here list c.loop-number.endpoints.list c.change_device.new.endpoints.list known.list c.change_device.ensures.list ∙ ap (λ (specs : List EndpointSpec). endpoints_changed change specs list) (sym more);
       spare = omega arith;
       held = λ q h. c.change_device.ensures.held q (known.held q h);
-      seats = c.change_device.ensures.seats ∙ known.seats;
+      tables = tables_both c.args.memory.now c.loop-number.memory c.change_device.new.memory known.tables c.change_device.ensures.tables;
     }
 
 pub returns-clause-bytes : goal.returns-clause-bytes

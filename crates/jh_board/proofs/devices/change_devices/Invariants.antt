@@ -2,7 +2,7 @@
 use Rattle.std.proofs.Common.{◌≡◌, ◌+◌, ◌≤◌, length}
 use Rattle.jh_history.specs.declared.place.Place.{Place}
 use Rattle.jh_history.specs.Endpoints.{endpoints_changed, with_words}
-use Rattle.jh_board.specs.Pages.{byte_of, HoldsPlace}
+use Rattle.jh_board.specs.Pages.{KeepsTables, byte_of, HoldsPlace}
 use Rattle.jh_board.proofs.DevicesLemmas.{specs_before}
 use Rattle.jh_board.proofs.devices.change_devices.Given as goal
 
@@ -12,5 +12,5 @@ invariant-loop-number l = record {
   list : l.endpoints.list ≡ endpoints_changed l.change (specs_before l.config l.number) l.fn.endpoints.list;
   spare : l.fn.endpoints.spare ≤ l.endpoints.spare + length (specs_before l.config l.number);
   held : (q : Place) → HoldsPlace l.fn.memory q → HoldsPlace l.memory q;
-  seats : l.memory.seats ≡ l.fn.memory.seats;
+  tables : KeepsTables l.fn.memory l.memory;
 }

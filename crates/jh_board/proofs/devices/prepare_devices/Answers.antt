@@ -10,6 +10,7 @@ use Rattle.jh_board.proofs.DevicesLemmas.{specs_before, specs_more, specs_all, s
 use Rattle.jh_history.specs.declared.place.Place.TheVariants.{Physical}
 use Rattle.jh_board.specs.Private.Pages.{MayHoldWordOf}
 use Rattle.jh_board.proofs.KeptLemmas.{may_words_same, words_kept}
+use Rattle.jh_board.proofs.TablesLemmas.{tables_both}
 use Rattle.jh_board.proofs.devices.prepare_devices.Goals as goal
 
 pub hold_device-requires-clause-within : goal.hold_device-requires-clause-within
@@ -20,7 +21,7 @@ pub hold_device-requires-clause-beside : goal.hold_device-requires-clause-beside
 hold_device-requires-clause-beside c =
     let lt : c.loop-number.number < length c.args.config.now.pci_devices = omega arith in
     let old = c.args.memory.now in
-    may_words_same old c.loop-number.memory (specs_at c.args.config.now c.loop-number.number) c.loop-number.invariant.seats (all_at (MayHoldWordOf old) c.args.config.now c.loop-number.number lt c.requires.beside)
+    may_words_same old c.loop-number.memory (specs_at c.args.config.now c.loop-number.number) c.loop-number.invariant.tables (all_at (MayHoldWordOf old) c.args.config.now c.loop-number.number lt c.requires.beside)
 
 pub loop-number-preserved : goal.loop-number-preserved
 loop-number-preserved c =
@@ -35,7 +36,7 @@ loop-number-preserved c =
       held = subst P (sym (specs_more config n lt))
           (All-append (HoldsWordOf new) (specs_before config n) (specs_at config n) (words_kept mid new (specs_before config n) (λ a. c.hold_device.ensures.others (Physical a)) known.held) c.in_ok-hold_device.ensures.held);
       others = λ q h. c.hold_device.ensures.others q (known.others q h);
-      seats = c.hold_device.ensures.seats ∙ known.seats;
+      tables = tables_both c.args.memory.now c.loop-number.memory c.hold_device.new.memory known.tables c.hold_device.ensures.tables;
     }
 
 pub returns-clause-room : goal.returns-clause-room

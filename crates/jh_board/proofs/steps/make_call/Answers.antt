@@ -50,7 +50,7 @@ returns-clause-ready c = λ h.
     let lives = old.cells.lives in
     let entry = c.args.entry.now in
     let act = entry.act in
-    let new : Held = record { memory = old.memory; cpus = old.cpus; cells = c.make_cells.new.cells; programs = old.programs; endpoints = old.endpoints; call = c.call_after-call.result.call; coming_regions = c.make_cells.new.regions; alloc = old.alloc } in
+    let new : Held = record { memory = old.memory; cpus = old.cpus; cells = c.make_cells.new.cells; programs = old.programs; endpoints = old.endpoints; call = c.call_after-call.result.call; coming_regions = c.make_cells.new.regions; alloc = old.alloc; form = old.form } in
     let made : c.call_after-call.result.created ≡ created_by old.call act = c.call_after-call.ensures.created ∙ ap (λ (k : Option OpenCall). created_by k act) c.take-begun.ensures.value in
     let change : c.change_of_cells-change.result ≡ change_of_cells old.call act = c.change_of_cells-change.ensures ∙ ap (λ (k : Option OpenCall). change_of_cells k act) c.as_ref.ensures.value in
     let call : c.call_after-call.result.call ≡ call_by lives c.args.coming old.call entry act =

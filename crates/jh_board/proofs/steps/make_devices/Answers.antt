@@ -7,6 +7,7 @@ use Rattle.jh_history.specs.Access.{with_endpoint_word_if}
 use Rattle.jh_board.specs.Pages.{byte_of}
 use Rattle.jh_board.specs.Private.Steps.{devices_held, endpoint_word_after, endpoints_acted_by}
 use Rattle.jh_board.proofs.ActedLemmas.{other_acts}
+use Rattle.jh_board.proofs.TablesLemmas.{tables_same}
 use Rattle.jh_board.proofs.steps.make_devices.Goals as goal
 
 pub returns-then-not-ok-clause-bytes : goal.returns-then-not-ok-clause-bytes
@@ -47,5 +48,5 @@ returns-in_default c =
       bytes = λ q. ap (λ (word : Option EndpointWord). with_endpoint_word_if word (byte_of held.memory) q) (sym none.0);
       list = sym none.1;
       spare = refl;
-      others = record { cpus = refl; cells = refl; programs = refl; call = refl; coming_regions = refl; pages = λ q h. h; seats = refl };
+      others = record { form = refl; cpus = refl; cells = refl; programs = refl; call = refl; coming_regions = refl; pages = λ q h. h; tables = tables_same held.memory };
     }

@@ -42,6 +42,7 @@ loop-edit-preserved c =
       turn.base ∙ c.loop-edit.invariant.2,
       turn.size ∙ c.loop-edit.invariant.3,
       ⊎_elim (λ gone. ap length gone ∙ length-map c.loop-edit.c (flushed c.args.tag)) (λ kept. ap length kept.0) turn.cache ∙ c.loop-edit.invariant.4,
+      turn.guests ∙ c.loop-edit.invariant.5,
     )
 
 pub returns-clause-stands : goal.returns-clause-stands

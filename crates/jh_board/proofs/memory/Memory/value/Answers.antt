@@ -2,16 +2,17 @@
 use Rattle.std.proofs.Common.{ℕ, ap, sym, subst, ◌∙◌}
 use Rattle.jh_num.specs.Memory.{spelled}
 use Rattle.jh_history.specs.declared.place.Place.TheVariants.{Physical, Page}
-use Rattle.jh_board.specs.Pages.{MemoryView}
+use Rattle.jh_edit.specs.declared.stage.Stage2.{Stage2}
 use Rattle.jh_board.proofs.PieceLemmas.{IsBeside, row_of_memory, fits_in_row}
 use Rattle.jh_board.proofs.memory.Memory.value.Goals as goal
 
 pub returns-then-is_beside-clause-value : goal.returns-then-is_beside-clause-value
 returns-then-is_beside-clause-value c =
-    let memory : MemoryView = record { frames = c.self.inside.frames; seats = c.self.inside.seats } in
+    let memory : Stage2 = c.self.inside.stage in
     let piece = c.in-Some.piece in
-    let P : ℕ → Type 0 = IsBeside memory.seats.pool piece.at in
-    let beside = subst P c.from.ensures (c.is_beside.ensures c.if-is_beside.true) in
+    let P : ℕ → Type 0 = IsBeside memory.frames.own piece.at in
+    let S : Stage2 → Type 0 = λ s. IsBeside s.frames.own piece.at c.from.result in
+    let beside = subst P c.from.ensures (subst S (sym c.self.view_is) (c.is_beside.ensures c.if-is_beside.true)) in
     rw (c.in-Some.ensures.places, ← c.self.view_is) (c.value.ensures.value ∙ ap spelled (sym (row_of_memory memory piece.at piece.count beside)))
 
 pub returns-then-is_beside-clause-fits : goal.returns-then-is_beside-clause-fits

@@ -1,6 +1,8 @@
 -- Root alone has a seat, and its tables are all that is taken.
-use Rattle.std.proofs.Common.{◌≡◌, ◌*◌, ◌++◌, ◌∷◌, [], ap, ◌∙◌, sym, arith, refl, length, None}
+use Rattle.std.proofs.Common.{◌≡◌, ◌*◌, ◌++◌, ◌∷◌, [], ap, subst, ◌∙◌, sym, arith, refl, length, None}
 use Rattle.std.specs.Prelude.{vec_capacity}
+use Rattle.jh_num.specs.Pages.{page_at}
+use Rattle.jh_frames.specs.Memory.{GuestView}
 use Rattle.jh_shape.specs.Claims.{claims_of}
 use Rattle.jh_shape.specs.Shapes.{want_of}
 use Rattle.jh_walk.specs.Walks.{levels}
@@ -40,3 +42,8 @@ returns-clause-forest c =
 
 pub returns-clause-cpus : goal.returns-clause-cpus
 returns-clause-cpus c = c.root_table-table.ensures.cpus ∙ c.in_ok-cache.ensures.cpus
+
+pub returns-clause-guests : goal.returns-clause-guests
+returns-clause-guests c = λ number.
+    let P : GuestView → Type 0 = λ guest. page_at guest.pages number ≡ None in
+    subst P (sym c.root_table-table.ensures.guests) (c.in_ok-frames.ensures.guest number)

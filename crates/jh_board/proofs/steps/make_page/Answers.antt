@@ -1,6 +1,0 @@
--- Where nothing is written, nothing changes.
-use Rattle.std.proofs.Common.{refl}
-use Rattle.jh_board.proofs.steps.make_page.Goals as goal
-
-pub returns-in_default-clause-bytes : goal.returns-in_default-clause-bytes
-returns-in_default-clause-bytes c = λ q. rw c.in_default.is refl
