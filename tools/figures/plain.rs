@@ -31,6 +31,13 @@ const IO_8: u64 = 0x10000;
 
 const PASSIVE_COMMREG: u32 = 0x1;
 
+const CPU_OFF: u64 = 0x8400_0002;
+const CPU_ON: u64 = 0xc400_0003;
+const AFFINITY_INFO: u64 = 0xc400_0004;
+const INVALID_PARAMETERS: i64 = -2;
+const DENIED: i64 = -3;
+const ALREADY_ON: i64 = -4;
+
 // ---------------------------------------------------------------------------------------------------------
 // Configurations
 
@@ -1134,6 +1141,30 @@ fn read_image(board: &str) -> Result<Image, Stop> {
 // ---------------------------------------------------------------------------------------------------------
 // Journals
 
+/// The first line of a journal of form Two.
+const HEADER: &str = "jailhouse journal 2\n";
+
+/// In form One a start runs all CPUs of its cell, and cells can't switch theirs on and off.
+#[derive(Clone, Copy, PartialEq, Debug)]
+enum Form {
+    One,
+    Two,
+}
+
+impl Form {
+    fn header(self) -> &'static str {
+        match self {
+            Form::One => "",
+            Form::Two => HEADER,
+        }
+    }
+
+    /// The line of an entry by its number, both from 1.
+    fn line(self, entry: usize) -> usize {
+        entry + self.header().lines().count()
+    }
+}
+
 #[derive(Clone, Copy, PartialEq, Debug)]
 enum Settled {
     Agreed,
@@ -1217,8 +1248,9 @@ impl Display for Entry {
     }
 }
 
-fn print_journal(entries: &[Entry]) -> String {
-    let mut text = String::with_capacity(32 * entries.len());
+fn print_journal(form: Form, entries: &[Entry]) -> String {
+    let mut text = String::with_capacity(32 * (entries.len() + 1));
+    text.push_str(form.header());
     for entry in entries {
         let _ = writeln!(text, "{entry}");
     }
@@ -1326,10 +1358,14 @@ fn read_act(words: &[&[u8]]) -> Option<Act> {
     })
 }
 
-fn read_journal(text: &[u8]) -> Result<Vec<Entry>, String> {
+fn read_journal(text: &[u8]) -> Result<(Form, Vec<Entry>), String> {
+    let (form, body) = match text.strip_prefix(HEADER.as_bytes()) {
+        Some(body) => (Form::Two, body),
+        None => (Form::One, text),
+    };
     let mut entries = Vec::new();
     let mut words: Vec<&[u8]> = Vec::new();
-    for line in text.split_inclusive(|&byte| byte == b'\n') {
+    for line in body.split_inclusive(|&byte| byte == b'\n') {
         words.clear();
         let entry = line.strip_suffix(b"\n").and_then(|line| {
             words.extend(line.split(|&byte| byte == b' '));
@@ -1337,12 +1373,12 @@ fn read_journal(text: &[u8]) -> Result<Vec<Entry>, String> {
             Some(Entry { cpu: below(cpu, 16)? as u8, cell: id_of(cell)?, act: read_act(act)? })
         });
         match entry {
-            None => return Err(format!("line {}", entries.len() + 1)),
+            None => return Err(format!("line {}", form.line(entries.len() + 1))),
             Some(_) if entries.len() == MAX_ENTRIES => return Err("journal too long".to_string()),
             Some(entry) => entries.push(entry),
         }
     }
-    Ok(entries)
+    Ok((form, entries))
 }
 
 // ---------------------------------------------------------------------------------------------------------
@@ -1672,6 +1708,19 @@ struct Cpu {
     root_failed: bool,
 }
 
+impl Cpu {
+    fn park(&mut self) {
+        self.mode = Mode::Parked;
+        self.stopped = false;
+    }
+
+    fn restart(&mut self) {
+        self.mode = Mode::Running;
+        self.stopped = false;
+        self.position = 0;
+    }
+}
+
 // ---------------------------------------------------------------------------------------------------------
 // The board
 
@@ -1757,11 +1806,12 @@ struct Board {
     closed: Vec<(u64, u64)>,
     cpus: [Option<Cpu>; 16],
     call: Option<Call>,
+    form: Form,
     entries: Vec<Entry>,
 }
 
 impl Board {
-    fn open(image: Image) -> Board {
+    fn open(image: Image, form: Form) -> Board {
         let Image { system, preloads, programs } = image;
         let mut by_cell: HashMap<String, [Option<usize>; 16]> = HashMap::new();
         for (i, program) in programs.iter().enumerate() {
@@ -1777,6 +1827,7 @@ impl Board {
             closed: Vec::new(),
             cpus: [const { None }; 16],
             call: None,
+            form,
             entries: Vec::new(),
             system,
         };
@@ -2129,7 +2180,28 @@ impl Board {
                 Some(cpu) if cpu.mode == Mode::Failed => 2,
                 Some(_) => 0,
             },
+            CPU_OFF | CPU_ON | AFFINITY_INFO if place != 0 && self.form == Form::Two => {
+                self.answer_power(self.cells[place].config.id, code, a, b)
+            }
             _ => ENOSYS,
+        }
+    }
+
+    /// What a cell besides root is told that switches its CPUs.
+    fn answer_power(&self, id: u32, code: u64, a: u64, b: u64) -> i64 {
+        if code == CPU_OFF {
+            return 0;
+        }
+        let named = self.cpus.get(a.min(16) as usize).and_then(Option::as_ref);
+        match named.filter(|cpu| cpu.owner == id) {
+            None => INVALID_PARAMETERS,
+            Some(_) if code == AFFINITY_INFO && b != 0 => INVALID_PARAMETERS,
+            Some(cpu) if code == AFFINITY_INFO => (cpu.mode != Mode::Running) as i64,
+            Some(cpu) => match cpu.mode {
+                Mode::Parked => 0,
+                Mode::Running => ALREADY_ON,
+                Mode::Failed => DENIED,
+            },
         }
     }
 
@@ -2385,6 +2457,8 @@ impl Board {
             | Act::Fetch { got: None, .. }
             | Act::Write { ok: false, .. }
             | Act::Await { ok: false, .. } => self.fail(entry.cpu as usize, place),
+            Act::Hvc { code: CPU_OFF, answer: 0, .. } => self.cpus[entry.cpu as usize].as_mut().unwrap().park(),
+            Act::Hvc { code: CPU_ON, a, answer: 0, .. } => self.cpus[a as usize].as_mut().unwrap().restart(),
             _ => {}
         }
     }
@@ -2497,10 +2571,7 @@ impl Board {
     fn load(&mut self, id: u64) {
         let place = self.place_of(id).unwrap();
         self.cells[place].set_state(SHUT_DOWN);
-        self.cpus_of(id as u32).for_each(|cpu| {
-            cpu.mode = Mode::Parked;
-            cpu.stopped = false;
-        });
+        self.cpus_of(id as u32).for_each(Cpu::park);
         self.set_loadable(place, true);
     }
 
@@ -2509,10 +2580,10 @@ impl Board {
         let ecam_base = self.system.ecam_base;
         self.cells[place].freshen(RUNNING, ecam_base);
         self.reset_devices(place);
-        self.cpus_of(id as u32).for_each(|cpu| {
-            cpu.mode = Mode::Running;
-            cpu.stopped = false;
-            cpu.position = 0;
+        let form = self.form;
+        self.cpus_of(id as u32).enumerate().for_each(|(place, cpu)| match form {
+            Form::Two if place > 0 => cpu.park(),
+            _ => cpu.restart(),
         });
         self.set_loadable(place, false);
     }
@@ -2757,28 +2828,29 @@ fn full(is_full: bool) -> i32 {
 }
 
 fn do_play(board: &str, schedule: &str) -> Result<(String, i32), Stop> {
-    let mut opened = Board::open(read_image(board)?);
+    let mut opened = Board::open(read_image(board)?, Form::Two);
     let text = read_file(schedule, FILE_LIMIT)?;
     let is_cpu = |cpu: u64| cpu < 16 && opened.cpus[cpu as usize].is_some();
     let items = read_schedule(&text, is_cpu).or_else(|fault| refused(schedule, fault))?;
     let is_full = opened.play(&items);
-    Ok((print_journal(&opened.entries), full(is_full)))
+    Ok((print_journal(opened.form, &opened.entries), full(is_full)))
 }
 
 fn do_run(board: &str) -> Result<(String, i32), Stop> {
-    let (board, is_full) = run(Board::open(read_image(board)?));
-    Ok((print_journal(&board.entries), full(is_full)))
+    let (board, is_full) = run(Board::open(read_image(board)?, Form::Two));
+    Ok((print_journal(board.form, &board.entries), full(is_full)))
 }
 
 fn do_audit(board: &str, journal: &str) -> Result<(String, i32), Stop> {
-    let mut opened = Board::open(read_image(board)?);
+    let image = read_image(board)?;
     let text = read_file(journal, JOURNAL_LIMIT)?;
-    let entries = read_journal(&text).or_else(|fault| refused(journal, fault))?;
+    let (form, entries) = read_journal(&text).or_else(|fault| refused(journal, fault))?;
+    let mut opened = Board::open(image, form);
     for (i, entry) in entries.iter().enumerate() {
         match opened.due(entry.cpu) {
             Some(step) if step.entry == *entry => opened.make(step),
-            Some(step) => return Ok((format!("illegal line {}: due {}\n", i + 1, step.entry), 1)),
-            None => return Ok((format!("illegal line {}: nothing due\n", i + 1), 1)),
+            Some(step) => return Ok((format!("illegal line {}: due {}\n", form.line(i + 1), step.entry), 1)),
+            None => return Ok((format!("illegal line {}: nothing due\n", form.line(i + 1)), 1)),
         }
     }
     let how = if opened.is_quiet() { "quiet" } else { "unfinished" };
@@ -2788,7 +2860,7 @@ fn do_audit(board: &str, journal: &str) -> Result<(String, i32), Stop> {
 fn do_soak(word: &str) -> Result<(String, i32), Stop> {
     match decimal(word.as_bytes()) {
         Some(rounds @ 1..=400) => {
-            let (board, is_full) = run(Board::open(soak_image(rounds)));
+            let (board, is_full) = run(Board::open(soak_image(rounds), Form::Two));
             Ok((summary(&board.entries), full(is_full)))
         }
         _ => Ok(("refused: N\n".to_string(), 3)),

@@ -1,8 +1,9 @@
 -- The lines behind the first illegal entry.
-use Rattle.std.proofs.Common.{ℕ, List, [], ◌∷◌, ◌++◌, Some, subst, append_assoc}
+use Rattle.std.proofs.Common.{◌≡◌, ℕ, List, [], ◌∷◌, ◌++◌, Option, Some, None, refl, subst, append_assoc}
 use Rattle.jh_history.specs.declared.entry.Entry.{Entry}
 use Rattle.jh_text.specs.declared.fault.JournalFault.{JournalFault}
-use Rattle.jh_text.specs.Faults.{IsFault}
+use Rattle.jh_text.specs.Faults.{IsFault, IsJournalText}
+use Rattle.jh_text.specs.Text.{form_of}
 use Rattle.jh_text.specs.LinesView.{LinesView}
 use Rattle.jh_text.specs.Lines.{IsReadTo, PassesLine, RefusesLine}
 use Rattle.jh_audit.specs.Private.Rest.{ReadsOn, EndsAtFault}
@@ -14,6 +15,14 @@ GoesOn = (text : List ℕ) (entries : List Entry) (old new : LinesView) (entry :
 
 abbrev pub Refused : Type 0
 Refused = (text : List ℕ) (entries : List Entry) (old new : LinesView) (fault : JournalFault) → IsReadTo text entries old → RefusesLine old fault new → IsFault text fault
+
+abbrev pub Ends : Type 0
+Ends = (text : List ℕ) (entries : List Entry) (old new : LinesView) → IsReadTo text entries old → PassesLine old None new → IsJournalText text (form_of text) entries
+
+-- nothing is left, so the text is that of a journal
+pub ends_text : Ends → (text : List ℕ) (entries : List Entry) (old new : LinesView) (next : Option Entry) → IsReadTo text entries old → PassesLine old next new → ((entry : Entry) → next ≡ Some entry → ⊥) → IsJournalText text (form_of text) entries
+ends_text ends text entries old new None read passes none = ends text entries old new read passes
+ends_text ends text entries old new (Some entry) read passes none = absurd (none entry refl)
 
 -- one line more is read
 pub reads_on : GoesOn → (first old new : LinesView) (entry : Entry) → ReadsOn first old → PassesLine old (Some entry) new → ReadsOn first new

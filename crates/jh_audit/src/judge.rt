@@ -2,7 +2,9 @@
 ghost use Rattle.std.specs.Prelude.{◌≡◌, ◌≢◌, ◌<◌, ◌↔◌, ℕ, List, [], length, Some, IfOk, IfErr, IsOkAnd, OnOk, IsTrue};
 ghost use Rattle.jh_history.specs.Admitted.{IsAdmitted};
 ghost use Rattle.jh_history.specs.declared.entry.Entry.{Entry as TheEntry};
+ghost use Rattle.jh_history.specs.declared.form.Form.{Form as TheForm};
 ghost use Rattle.jh_board.specs.Turns.{MakesDue};
+ghost use Rattle.jh_text.specs.Text.{form_of};
 ghost use Rattle.jh_text.specs.Faults.{IsFault, IsFirstBadLine, IsJournalText, IsTooLong};
 ghost use Rattle.jh_audit.specs.Judges.{Judges, JudgesText};
 ghost use Rattle.jh_audit.specs.Private.Compares.{Compares};
@@ -15,7 +17,8 @@ use jh_history::Entry;
 use jh_num::NoMemory;
 use jh_script::Image;
 use jh_text::{
-    JournalFault, JournalLines, MAX_ENTRIES, lines_tell_the_text, one_answer, texts_go_both_ways,
+    JournalFault, JournalLines, MAX_ENTRIES, form_of, lines_tell_the_text, one_answer,
+    texts_go_both_ways,
 };
 use std::alloc::Global;
 
@@ -66,7 +69,7 @@ fn compare(board: &mut Board, entry: &Entry) -> Result<Compared, NoMemory>
 /// The verdict on the journal of a board, which has made each entry of it, so many.
 fn whole_verdict(board: &Board, count: u32) -> Verdict
     requires counted { count ≡ length board.now.entries }
-    ensures { Judges board.now.image board.now.entries result }
+    ensures { Judges board.now.image board.now.form board.now.entries result }
 {
     // for the proof: the entries so far are legal
     let _ = board.journal();
@@ -93,10 +96,11 @@ fn read_rest(lines: &mut JournalLines<'_>) -> Result<(), JournalFault>
     Ok(())
 }
 
-/// Judges the text on a board that was just opened: makes each entry anew, and compares. Behind the first that differs
-/// no more is made, and the rest of the text is read.
+/// Judges the text on a board that was just opened in the text's form: makes each entry anew, and compares. Behind the
+/// first that differs no more is made, and the rest of the text is read.
 fn judge_text(board: &mut Board, text: &[u8]) -> Result<Verdict, JournalFault>
     requires opened { board.old.entries ≡ [] }
+    requires form { board.old.form ≡ form_of text.now }
     requires limit { board.old.limit ≡ MAX_ENTRIES }
     ensures ok { IfOk result (JudgesText board.old.image text.now) }
     ensures err { IfErr result (IsFault text.now) }
@@ -115,8 +119,8 @@ fn judge_text(board: &mut Board, text: &[u8]) -> Result<Verdict, JournalFault>
     Ok(whole_verdict(board, lines.count()))
 }
 
-/// Judges the journal of this text by the image: whether each entry is the one that was due, else which is the first
-/// that isn't. It makes the entries anew on a board, as it reads them.
+/// Judges the journal of this text by the image, in the form that the text tells: whether each entry is the one that was
+/// due, else which is the first that isn't. It makes the entries anew on a board, as it reads them.
 ///
 /// # Errors
 ///
@@ -127,8 +131,8 @@ pub fn audit(alloc: Global, image: Image, text: &[u8]) -> Result<Verdict, Journa
     // legal exactly where each entry is the one due; else the first that isn't, and what was due there
     ensures ok { IfOk result (JudgesText image text.now) }
     ensures only { result ≢ Err JournalFault.NoMemory
-        → (entries : List TheEntry) → IsJournalText text.now entries
-        → IsOkAnd result (Judges image entries) }
+        → (form : TheForm) (entries : List TheEntry) → IsJournalText text.now form entries
+        → IsOkAnd result (Judges image form entries) }
     ensures line { result ≢ Err JournalFault.NoMemory
         → (number : ℕ) → (result ≡ Err (JournalFault.Line number)) ↔ IsFirstBadLine text.now number }
     ensures too_long { result ≢ Err JournalFault.NoMemory
@@ -137,7 +141,7 @@ pub fn audit(alloc: Global, image: Image, text: &[u8]) -> Result<Verdict, Journa
     // for the proof: a text has one answer
     one_answer();
     texts_go_both_ways();
-    match Board::open(alloc, image, MAX_ENTRIES as u32) {
+    match Board::open_as(alloc, image, MAX_ENTRIES as u32, form_of(text)) {
         Ok(mut board) => judge_text(&mut board, text),
         Err(_) => Err(JournalFault::NoMemory),
     }

@@ -1,7 +1,6 @@
 -- Where a call ends at a board's files.
 use Rattle.std.proofs.Common.{◌≡◌, ◌≢◌, List, ℕ, inr, Result, refl, sym, ◌∙◌, ap, arith}
 use Rattle.jh_script.specs.declared.image.Image.{Image}
-use Rattle.jh_image.specs.declared.fault.ImageCause.TheVariants.{ReadFault}
 use Rattle.jh_image.specs.declared.fault.ImageFault.{ImageFault}
 use Rattle.jh_image.specs.declared.fault.ImageFault.TheVariants.{Refused, NoMemory}
 use Rattle.jh_image.specs.Causes.{IsCauseOf, OnRefused}

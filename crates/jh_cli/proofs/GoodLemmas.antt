@@ -24,7 +24,7 @@ use Rattle.jh_script.specs.Numbers.{decimal_of}
 use Rattle.jh_script.specs.Programs.{unless}
 use Rattle.jh_script.specs.Schedules.{has_cpu, cpu_of, items_of, first_refusal, cpus_of, schedule_of}
 use Rattle.jh_script.specs.Words.{words, schedule_gaps}
-use Rattle.jh_history.specs.declared.entry.Entry.{Entry}
+use Rattle.jh_history.specs.declared.form.Form.TheVariants.{Two}
 use Rattle.jh_history.specs.Items.{items, played}
 use Rattle.jh_text.specs.declared.fault.JournalFault.{JournalFault}
 use Rattle.jh_text.specs.declared.fault.JournalFault.TheVariants as journals
@@ -40,17 +40,17 @@ use Rattle.jh_image.specs.Laws.{AreKnown}
 use Rattle.jh_image.proofs.Public.{OneSpelling, SpellingsAreFaultless}
 use Rattle.jh_pins.specs.After.{IsPinsAnswer}
 use Rattle.jh_run.specs.Maps.{IsMapsAnswer}
+use Rattle.jh_run.specs.Tables.{IsTablesAnswer}
 use Rattle.jh_history.specs.Admitted.{IsAdmittedSystem}
 use Rattle.jh_plan.specs.declared.demand.Demand.{Demand}
 use Rattle.jh_plan.specs.Demands.{demands_of}
-use Rattle.jh_plan.specs.Plans.{IsPlan}
 use Rattle.jh_plan.proofs.Public.{no_fault}
 use Rattle.jh_run.specs.Soak.{soak_image}
 use Rattle.jh_cli.specs.declared.status.Status.{Status}
 use Rattle.jh_cli.specs.declared.status.Status.TheVariants.{Good, Found, ReadFault, WriteFault, NoMemory, Full}
 use Rattle.jh_cli.specs.Limits.{asked_of_a_file, asked_of_a_journal}
 use Rattle.jh_cli.specs.Lines.{exit_number, fault_line}
-use Rattle.jh_cli.specs.Words.{Request, CheckOf, PackOf, PlayOf, RunOf, MapOf, AuditOf, SoakOf, PlanOf, PinsOf}
+use Rattle.jh_cli.specs.Words.{Request, CheckOf, PackOf, PlayOf, RunOf, MapOf, AuditOf, SoakOf, PlanOf, PinsOf, TablesOf}
 use Rattle.jh_image.specs.Files.{Contents}
 use Rattle.jh_cli.specs.Reading.{Reply, FileKind, EndsAt, Reads, IsCountedFault}
 use Rattle.jh_cli.specs.Check.{IsCellFile, CellRefusal, IsSystemFile, SystemRefusal, system_file, EndsAmong, ChecksCells, Checks, checked_status}
@@ -60,9 +60,10 @@ use Rattle.jh_cli.specs.Play.{AreCpus, IsScheduleFile, ScheduleRefusal, schedule
 use Rattle.jh_cli.specs.Run.{Runs}
 use Rattle.jh_cli.specs.Map.{map_reply, IsMapped, MapsBy, Maps}
 use Rattle.jh_cli.specs.Pins.{pins_reply, ArePinsTold, PinsBy, Pins}
+use Rattle.jh_cli.specs.Tables.{tables_reply, AreTablesTold, TablesBy, Tables}
 use Rattle.jh_cli.specs.Soak.{AreRounds, Soaks}
 use Rattle.jh_cli.specs.Plan.{admitted_file, demands_file, AdmittedRefusal, AreDemands, DemandsRefusal, IsAdmittedSystemFile, IsPlanned, IsUnadmitted, Plans, PlansBy}
-use Rattle.jh_cli.specs.Audit.{IsJournalFile, JournalRefusal, journal_file, IsAudited, AuditsBy, Audits, verdict_status}
+use Rattle.jh_cli.specs.Audit.{SpelledJournal, IsJournalFile, JournalRefusal, journal_file, IsAudited, AuditsBy, Audits, verdict_status}
 use Rattle.jh_cli.specs.Outcome.{Outcome, Sent}
 use Rattle.jh_cli.specs.Complete.{IsKnownBoard, FileHolds, HoldCells, AreGoodToCheck, IsGoodToPack, AreGoodToPlay, AreGoodToRun, AreGoodToAudit, AreGoodToPlan, AreGood, MayEndWith}
 use Rattle.jh_cli.proofs.StatusLemmas.{run_ends}
@@ -231,11 +232,11 @@ one_schedule image bytes one other h k = ok_one (schedule_of h.cpus bytes) one o
 
 -- what a play of the items ends with
 abbrev IsPlayOf : Image → List ℕ → Status → Type 0
-IsPlayOf image items status = status ≡ played_status (played image max_entries items).full
+IsPlayOf image items status = status ≡ played_status (played image Two max_entries items).full
 
 played_unrefused : (image : Image) (items other : List ℕ) (reply : Reply) → items ≡ other → IsPlayed image other reply → IsAnswered (IsPlayOf image items) reply
 played_unrefused image items other reply same is =
-    inl (ap (λ (s : Reply). s.status) is.told ∙ ap (λ (xs : List ℕ). played_status (played image max_entries xs).full) (sym same))
+    inl (ap (λ (s : Reply). s.status) is.told ∙ ap (λ (xs : List ℕ). played_status (played image Two max_entries xs).full) (sym same))
 
 plays_unrefused : (contents : Contents) (schedule : List ℕ) (image : Image) (items : List ℕ) (reply : Reply) → FileHolds contents schedule (IsScheduleFile image) items
     → PlaysBy contents schedule image reply → IsAnswered (IsPlayOf image items) reply
@@ -253,34 +254,34 @@ play_unrefused one_image unrefused contents board schedule reply good (inr (imag
 
 -- ---- audit
 
-pub journal_sound : NoBadLine → NotLong → (entries : List Entry) → IsSound JournalRefusal IsJournalFile entries
-journal_sound no_bad not_long entries bytes words form (inl over) = no_more asked_of_a_journal bytes form.within over.0
-journal_sound no_bad not_long entries bytes words form (inr bad) = faultless bad.fault bad.is_of_text bad.first where
+pub journal_sound : NoBadLine → NotLong → (journal : SpelledJournal) → IsSound JournalRefusal IsJournalFile journal
+journal_sound no_bad not_long journal bytes words form (inl over) = no_more asked_of_a_journal bytes form.within over.0
+journal_sound no_bad not_long journal bytes words form (inr bad) = faultless bad.fault bad.is_of_text bad.first where
   faultless : (fault : JournalFault) → fault ≢ journals.NoMemory → IsFault bytes fault → ⊥
-  faultless (journals.Line number) other first = no_bad bytes entries number form.spelled first
-  faultless journals.TooLong other first = not_long bytes entries form.spelled first
+  faultless (journals.Line number) other first = no_bad bytes journal.form journal.entries number form.spelled first
+  faultless journals.TooLong other first = not_long bytes journal.form journal.entries form.spelled first
   faultless journals.NoMemory other first = other refl
 
 verdict_unrefused : (verdict : Verdict) → IsVerdict (verdict_status verdict)
 verdict_unrefused (Legal count quiet) = inl refl
 verdict_unrefused (Illegal line expected) = inr refl
 
-audits_unrefused : NoBadLine → NotLong → (contents : Contents) (journal : List ℕ) (image : Image) (entries : List Entry) (reply : Reply) → FileHolds contents journal IsJournalFile entries
-    → AuditsBy contents journal image reply → IsAnswered IsVerdict reply
-audits_unrefused no_bad not_long contents journal image entries reply held h =
-    reads_unrefused IsVerdict contents journal journal_file (IsAudited image) entries reply (journal_sound no_bad not_long entries) (λ bytes form. form.within) held
+audits_unrefused : NoBadLine → NotLong → (contents : Contents) (name : List ℕ) (image : Image) (journal : SpelledJournal) (reply : Reply) → FileHolds contents name IsJournalFile journal
+    → AuditsBy contents name image reply → IsAnswered IsVerdict reply
+audits_unrefused no_bad not_long contents name image journal reply held h =
+    reads_unrefused IsVerdict contents name journal_file (IsAudited image) journal reply (journal_sound no_bad not_long journal) (λ bytes form. form.within) held
     (λ bytes other form form_other is. of_verdict reply (verdict_status is.verdict) (ap (λ (s : Reply). s.status) is.told) (verdict_unrefused is.verdict)) h
 
 audit_unrefused : BoardsAreUnrefused → NoBadLine → NotLong → (contents : Contents) (board journal : List ℕ) (reply : Reply) → AreGoodToAudit contents board journal → Audits contents board journal reply → IsAnswered IsVerdict reply
 audit_unrefused unrefused no_bad not_long contents board journal reply good (inl ends) = board_unrefused unrefused IsVerdict contents board good.image reply good.known good.is ends
 audit_unrefused unrefused no_bad not_long contents board journal reply good (inr (image, is, admitted, audits)) =
-    audits_unrefused no_bad not_long contents journal image good.entries reply good.spells audits
+    audits_unrefused no_bad not_long contents journal image good.spelled reply good.spells audits
 
 -- ---- map
 
 -- what the maps after the items end with
 abbrev IsMapOf : Image → List ℕ → Status → Type 0
-IsMapOf image cpus status = status ≡ played_status (items image max_entries cpus []).full
+IsMapOf image cpus status = status ≡ played_status (items image Two max_entries cpus []).full
 
 mapped_status : (image : Image) (cpus : List ℕ) (found : Option (List ℕ)) → IsMapsAnswer image max_entries cpus found → IsMapOf image cpus (map_reply found).status
 mapped_status image cpus (Some text) is = ap played_status (sym is.0)
@@ -288,7 +289,7 @@ mapped_status image cpus None is = ap played_status (sym is.0)
 
 mapped_unrefused : (image : Image) (cpus other : List ℕ) (reply : Reply) → cpus ≡ other → IsMapped image other reply → IsAnswered (IsMapOf image cpus) reply
 mapped_unrefused image cpus other reply same (found, is, told) =
-    inl (ap (λ (s : Reply). s.status) told ∙ mapped_status image other found is ∙ ap (λ (xs : List ℕ). played_status (items image max_entries xs []).full) (sym same))
+    inl (ap (λ (s : Reply). s.status) told ∙ mapped_status image other found is ∙ ap (λ (xs : List ℕ). played_status (items image Two max_entries xs []).full) (sym same))
 
 maps_unrefused : (contents : Contents) (schedule : List ℕ) (image : Image) (cpus : List ℕ) (reply : Reply) → FileHolds contents schedule (IsScheduleFile image) cpus
     → MapsBy contents schedule image reply → IsAnswered (IsMapOf image cpus) reply
@@ -308,15 +309,15 @@ map_unrefused one_image unrefused contents board schedule reply good (inr (image
 
 -- what the pins after the items end with
 abbrev ArePinsOfItems : Image → List ℕ → Status → Type 0
-ArePinsOfItems image cpus status = status ≡ played_status (items image max_entries cpus []).full
+ArePinsOfItems image cpus status = status ≡ played_status (items image Two max_entries cpus []).full
 
-pins_status : (image : Image) (cpus : List ℕ) (found : Option (List ℕ)) → IsPinsAnswer image max_entries cpus found → ArePinsOfItems image cpus (pins_reply found).status
+pins_status : (image : Image) (cpus : List ℕ) (found : Option (List ℕ)) → IsPinsAnswer image Two max_entries cpus found → ArePinsOfItems image cpus (pins_reply found).status
 pins_status image cpus (Some text) is = ap played_status (sym is.0)
 pins_status image cpus None is = ap played_status (sym is.0)
 
 told_pins_unrefused : (image : Image) (cpus other : List ℕ) (reply : Reply) → cpus ≡ other → ArePinsTold image other reply → IsAnswered (ArePinsOfItems image cpus) reply
 told_pins_unrefused image cpus other reply same (found, is, told) =
-    inl (ap (λ (s : Reply). s.status) told ∙ pins_status image other found is ∙ ap (λ (xs : List ℕ). played_status (items image max_entries xs []).full) (sym same))
+    inl (ap (λ (s : Reply). s.status) told ∙ pins_status image other found is ∙ ap (λ (xs : List ℕ). played_status (items image Two max_entries xs []).full) (sym same))
 
 pins_by_unrefused : (contents : Contents) (schedule : List ℕ) (image : Image) (cpus : List ℕ) (reply : Reply) → FileHolds contents schedule (IsScheduleFile image) cpus
     → PinsBy contents schedule image reply → IsAnswered (ArePinsOfItems image cpus) reply
@@ -331,6 +332,34 @@ pins_unrefused one_image unrefused contents board schedule reply good (inr (imag
     let same : image ≡ good.image =
     one_image (all_told contents) board image good.image (each_is_told contents) (is_image contents board good.known image is) (is_image contents board good.known good.image good.is) in
     pins_by_unrefused contents schedule good.image good.items reply good.spells (subst (λ (i : Image). PinsBy contents schedule i reply) same pins)
+
+-- ---- tables
+
+-- what the tables after the items end with
+abbrev AreTablesOfItems : Image → List ℕ → Status → Type 0
+AreTablesOfItems image cpus status = status ≡ played_status (items image Two max_entries cpus []).full
+
+tables_status : (image : Image) (cpus : List ℕ) (found : Option (List ℕ)) → IsTablesAnswer image max_entries cpus found → AreTablesOfItems image cpus (tables_reply found).status
+tables_status image cpus (Some text) is = ap played_status (sym is.0)
+tables_status image cpus None is = ap played_status (sym is.0)
+
+told_tables_unrefused : (image : Image) (cpus other : List ℕ) (reply : Reply) → cpus ≡ other → AreTablesTold image other reply → IsAnswered (AreTablesOfItems image cpus) reply
+told_tables_unrefused image cpus other reply same (found, is, told) =
+    inl (ap (λ (s : Reply). s.status) told ∙ tables_status image other found is ∙ ap (λ (xs : List ℕ). played_status (items image Two max_entries xs []).full) (sym same))
+
+tables_by_unrefused : (contents : Contents) (schedule : List ℕ) (image : Image) (cpus : List ℕ) (reply : Reply) → FileHolds contents schedule (IsScheduleFile image) cpus
+    → TablesBy contents schedule image reply → IsAnswered (AreTablesOfItems image cpus) reply
+tables_by_unrefused contents schedule image cpus reply held h =
+    reads_unrefused (AreTablesOfItems image cpus) contents schedule (schedule_file image) (AreTablesTold image) cpus reply (schedule_sound image cpus) (λ bytes form. form.within) held
+    (λ bytes other form form_other is. told_tables_unrefused image cpus other reply (one_schedule image bytes cpus other form form_other) is) h
+
+tables_unrefused : OneImage → BoardsAreUnrefused → (contents : Contents) (board schedule : List ℕ) (reply : Reply) (good : AreGoodToPlay contents board schedule) → Tables contents board schedule reply
+    → IsAnswered (AreTablesOfItems good.image good.items) reply
+tables_unrefused one_image unrefused contents board schedule reply good (inl ends) = board_unrefused unrefused (AreTablesOfItems good.image good.items) contents board good.image reply good.known good.is ends
+tables_unrefused one_image unrefused contents board schedule reply good (inr (image, is, admitted, tables)) =
+    let same : image ≡ good.image =
+    one_image (all_told contents) board image good.image (each_is_told contents) (is_image contents board good.known image is) (is_image contents board good.known good.image good.is) in
+    tables_by_unrefused contents schedule good.image good.items reply good.spells (subst (λ (i : Image). TablesBy contents schedule i reply) same tables)
 
 -- ---- run and soak
 
@@ -403,6 +432,7 @@ good_answered cells systems one_system no_bad not_long one_image unrefused conte
 good_answered cells systems one_system no_bad not_long one_image unrefused contents (Some (SoakOf rounds)) reply good h = soak_unrefused rounds reply good.0 good.1 h
 good_answered cells systems one_system no_bad not_long one_image unrefused contents (Some (PlanOf system demands)) reply good h = plan_unrefused systems one_system contents system demands reply good h
 good_answered cells systems one_system no_bad not_long one_image unrefused contents (Some (PinsOf board schedule)) reply good h = pins_unrefused one_image unrefused contents board schedule reply good h
+good_answered cells systems one_system no_bad not_long one_image unrefused contents (Some (TablesOf board schedule)) reply good h = tables_unrefused one_image unrefused contents board schedule reply good h
 good_answered cells systems one_system no_bad not_long one_image unrefused contents (Some (AuditOf board journal)) reply good h = audit_unrefused unrefused no_bad not_long contents board journal reply good h
 
 -- ---- the status

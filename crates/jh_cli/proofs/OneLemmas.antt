@@ -16,6 +16,7 @@ use Rattle.jh_spec.specs.Specs.{spec_told}
 use Rattle.jh_script.specs.declared.image.Image.{Image}
 use Rattle.jh_script.specs.FaultText.{schedule_fault_text}
 use Rattle.jh_script.specs.Schedules.{schedule_of}
+use Rattle.jh_history.specs.declared.form.Form.{Form}
 use Rattle.jh_history.specs.declared.entry.Entry.{Entry}
 use Rattle.jh_history.specs.Facts.{Facts}
 use Rattle.jh_history.specs.History.{start, after, facts}
@@ -23,7 +24,7 @@ use Rattle.jh_history.specs.Due.{due_at, due, IsLegalFrom, IsLegal, IsQuiet}
 use Rattle.jh_text.specs.declared.fault.JournalFault.{JournalFault}
 use Rattle.jh_text.specs.declared.fault.JournalFault.TheVariants as journals
 use Rattle.jh_text.specs.Faults.{IsFault}
-use Rattle.jh_text.proofs.Public.{NotBoth, OneLine}
+use Rattle.jh_text.proofs.Public.{OneJournal, NotBoth, OneLine}
 use Rattle.jh_text.specs.FaultText.{journal_fault_text}
 use Rattle.jh_audit.specs.declared.verdict.Verdict.{Verdict}
 use Rattle.jh_audit.specs.declared.verdict.Verdict.TheVariants.{Legal, Illegal}
@@ -36,7 +37,7 @@ use Rattle.jh_cli.specs.Reading.{Reply, EndsAt, SpellsAt, Reads}
 use Rattle.jh_cli.specs.Check.{IsCellFile, CellRefusal, SystemRefusal, SpellCells, ChecksCells, checked}
 use Rattle.jh_cli.specs.Pack.{IsSpecFile, SpecRefusal}
 use Rattle.jh_cli.specs.Play.{ScheduleRefusal}
-use Rattle.jh_cli.specs.Audit.{JournalRefusal, IsAudited, verdict_status, verdict_line}
+use Rattle.jh_cli.specs.Audit.{JournalRefusal, SpelledJournal, IsJournalFile, IsAudited, verdict_status, verdict_line}
 use Rattle.jh_cli.specs.Complete.{AreKnownNames}
 use Rattle.jh_cli.proofs.GoodLemmas.{CellsAreFaultless, no_more, cell_sound, same_for_image}
 use Rattle.jh_cli.proofs.StopLemmas.{refusal_reply}
@@ -49,8 +50,8 @@ OneCell = (a b : CellConfig) → IsCell a → IsCell b → IsWithinLimits a → 
 
 -- ---- one file
 
-abbrev verdict_reply : Verdict → Reply
-verdict_reply verdict = record { status = verdict_status verdict; text = verdict_line verdict }
+abbrev verdict_reply : Form → Verdict → Reply
+verdict_reply form verdict = record { status = verdict_status verdict; text = verdict_line form verdict }
 
 abbrev pub IsRead : Reply → Type 0
 IsRead reply = reply.status ≢ ReadFault
@@ -229,6 +230,13 @@ journal_words not_both one_line bytes v w (inr h) (inl k) = absurd (no_more aske
 journal_words not_both one_line bytes v w (inr h) (inr k) =
     h.told ∙ ap journal_fault_text (one_fault not_both one_line bytes h.fault k.fault h.is_of_text k.is_of_text h.first k.first) ∙ sym k.told
 
+-- the bytes of a file spell one journal
+pub one_spelled_journal : OneJournal → (bytes : List ℕ) (a b : SpelledJournal) → IsJournalFile bytes a → IsJournalFile bytes b → a ≡ b
+one_spelled_journal one_journal bytes a b h k =
+    let forms : a.form ≡ b.form = h.spelled.form_is ∙ sym k.spelled.form_is in
+    let entries : a.entries ≡ b.entries = one_journal bytes a.form b.form a.entries b.entries h.spelled k.spelled in
+    λ i. record { form = forms i; entries = entries i }
+
 -- a legal journal's entry is the one due behind those before it
 legal_due : (image : Image) (known : Facts) (before : List Entry) (entry : Entry) (rest : List Entry) → IsLegalFrom image known (before ++ entry ∷ rest) → due_at image (fold (after image) known before) entry.cpu ≡ Some entry
 legal_due image known [] entry rest h = h.0
@@ -258,28 +266,28 @@ same_bool P true false h k = sym (k.1 (h.0 refl))
 same_bool P false true h k = h.1 (k.0 refl)
 same_bool P false false h k = refl
 
-legal_not_illegal : (image : Image) (entries : List Entry) (line : ℕ) (expected : Option Entry) → IsLegal image entries → IsFirstIllegal image entries line expected → ⊥
+legal_not_illegal : (image : Image) (form : Form) (entries : List Entry) (line : ℕ) (expected : Option Entry) → IsLegal image form entries → IsFirstIllegal image form entries line expected → ⊥
 unfolding IsLegal facts
-legal_not_illegal image entries line expected legal h =
-    h.differs (h.was_due ∙ legal_due image (start image) h.before h.entry h.rest (subst (λ (es : List Entry). IsLegalFrom image (start image) es) h.split legal))
+legal_not_illegal image form entries line expected legal h =
+    h.differs (h.was_due ∙ legal_due image (start image form) h.before h.entry h.rest (subst (λ (es : List Entry). IsLegalFrom image (start image form) es) h.split legal))
 
-one_first_illegal : (image : Image) (entries : List Entry) (m n : ℕ) (a b : Option Entry) → IsFirstIllegal image entries m a → IsFirstIllegal image entries n b → (m ≡ n) × (a ≡ b)
+one_first_illegal : (image : Image) (form : Form) (entries : List Entry) (m n : ℕ) (a b : Option Entry) → IsFirstIllegal image form entries m a → IsFirstIllegal image form entries n b → (m ≡ n) × (a ≡ b)
 unfolding IsLegal facts
-one_first_illegal image entries m n a b h k =
-    let both = one_illegal image (start image) h.before h.entry h.rest k.before k.entry k.rest (sym h.split ∙ k.split) h.legal k.legal (λ is. h.differs (h.was_due ∙ is)) (λ is. k.differs (k.was_due ∙ is)) in
-    let due_there : due image h.before h.entry.cpu ≡ due image k.before k.entry.cpu =
-    ap (λ (es : List Entry). due image es h.entry.cpu) both.0 ∙ ap (λ (e : Entry). due image k.before e.cpu) both.1 in
+one_first_illegal image form entries m n a b h k =
+    let both = one_illegal image (start image form) h.before h.entry h.rest k.before k.entry k.rest (sym h.split ∙ k.split) h.legal k.legal (λ is. h.differs (h.was_due ∙ is)) (λ is. k.differs (k.was_due ∙ is)) in
+    let due_there : due image form h.before h.entry.cpu ≡ due image form k.before k.entry.cpu =
+    ap (λ (es : List Entry). due image form es h.entry.cpu) both.0 ∙ ap (λ (e : Entry). due image form k.before e.cpu) both.1 in
     (h.counted ∙ ap (λ (es : List Entry). length es + 1) both.0 ∙ sym k.counted, h.was_due ∙ due_there ∙ sym k.was_due)
 
-one_verdict : (image : Image) (entries : List Entry) (a b : Verdict) → Judges image entries a → Judges image entries b → a ≡ b
-one_verdict image entries (Legal m p) (Legal n q) h k =
-    ap (λ (l : ℕ). Legal l p) (h.1 ∙ sym k.1) ∙ ap (λ (b : Bool). Legal n b) (same_bool (IsQuiet image entries) p q h.2 k.2)
-one_verdict image entries (Legal m p) (Illegal n b) h k = absurd (legal_not_illegal image entries n b h.0 k)
-one_verdict image entries (Illegal m a) (Legal n q) h k = absurd (legal_not_illegal image entries m a k.0 h)
-one_verdict image entries (Illegal m a) (Illegal n b) h k =
-    let both = one_first_illegal image entries m n a b h k in
+one_verdict : (image : Image) (form : Form) (entries : List Entry) (a b : Verdict) → Judges image form entries a → Judges image form entries b → a ≡ b
+one_verdict image form entries (Legal m p) (Legal n q) h k =
+    ap (λ (l : ℕ). Legal l p) (h.1 ∙ sym k.1) ∙ ap (λ (b : Bool). Legal n b) (same_bool (IsQuiet image form entries) p q h.2 k.2)
+one_verdict image form entries (Legal m p) (Illegal n b) h k = absurd (legal_not_illegal image form entries n b h.0 k)
+one_verdict image form entries (Illegal m a) (Legal n q) h k = absurd (legal_not_illegal image form entries m a k.0 h)
+one_verdict image form entries (Illegal m a) (Illegal n b) h k =
+    let both = one_first_illegal image form entries m n a b h k in
     ap (λ (l : ℕ). Illegal l a) both.0 ∙ ap (λ (e : Option Entry). Illegal n e) both.1
 
-pub one_audited : (image : Image) (entries : List Entry) (one other : Reply) → IsAudited image entries one → IsAudited image entries other → one ≡ other
-one_audited image entries one other h k =
-    h.told ∙ ap verdict_reply (one_verdict image entries h.verdict k.verdict h.judged k.judged) ∙ sym k.told
+pub one_audited : (image : Image) (journal : SpelledJournal) (one other : Reply) → IsAudited image journal one → IsAudited image journal other → one ≡ other
+one_audited image journal one other h k =
+    h.told ∙ ap (verdict_reply journal.form) (one_verdict image journal.form journal.entries h.verdict k.verdict h.judged k.judged) ∙ sym k.told

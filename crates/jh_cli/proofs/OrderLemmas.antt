@@ -7,7 +7,7 @@ use Rattle.jh_outside.specs.Trail.{Asks, no_ask, one_more_ask, AsksAll, AsksUpTo
 use Rattle.jh_cellcfg.specs.declared.config.CellConfig.{CellConfig}
 use Rattle.jh_cellcfg.specs.declared.config.SystemConfig.{SystemConfig}
 use Rattle.jh_script.specs.declared.image.Image.{Image}
-use Rattle.jh_history.specs.declared.entry.Entry.{Entry}
+use Rattle.jh_history.specs.declared.form.Form.TheVariants.{Two}
 use Rattle.jh_history.specs.Items.{played}
 use Rattle.jh_check.specs.Lists.{is_any, capped}
 use Rattle.jh_check.specs.Findings.{findings}
@@ -29,18 +29,19 @@ use Rattle.jh_cli.specs.declared.status.Status.TheVariants as status
 use Rattle.jh_image.specs.Files.{Contents}
 use Rattle.jh_cli.specs.Reading.{Reply, FileKind, EndsAt}
 use Rattle.jh_cli.specs.Boards.{stopped}
-use Rattle.jh_cli.specs.Check.{checked, checked_status}
+use Rattle.jh_cli.specs.Check.{checked}
 use Rattle.jh_cli.specs.Play.{schedule_file, IsPlayed, played_status}
 use Rattle.jh_cli.specs.Map.{map_reply, IsMapped}
 use Rattle.jh_cli.specs.Pins.{pins_reply, ArePinsTold}
+use Rattle.jh_cli.specs.Tables.{tables_reply, AreTablesTold}
 use Rattle.jh_cli.specs.Audit.{journal_file, verdict_status}
 use Rattle.jh_cli.specs.Run.{IsToldRun}
 use Rattle.jh_cli.specs.Plan.{IsPlanned}
 use Rattle.jh_cli.specs.Lines.{exit_number}
 use Rattle.jh_plan.specs.declared.demand.Demand.{Demand}
 use Rattle.jh_cli.specs.Private.Endings.{OnEnded, OnEnding}
-use Rattle.jh_cli.specs.Words.{Request, CheckOf, PackOf, PlayOf, RunOf, MapOf, AuditOf, SoakOf, PlanOf, PinsOf}
-use Rattle.jh_cli.specs.Order.{IsNoFileStatus, last_ask, AsksTo, AsksFile, AsksToCell, AsksCells, AsksWhole, AsksCheck, AsksPlan, AsksToCause, AsksBoardAnd, AsksFor}
+use Rattle.jh_cli.specs.Words.{Request, CheckOf, PackOf, PlayOf, RunOf, MapOf, AuditOf, SoakOf, PlanOf, PinsOf, TablesOf}
+use Rattle.jh_cli.specs.Order.{IsNoFileStatus, last_ask, AsksTo, AsksFile, AsksCells, AsksWhole, AsksCheck, AsksPlan, AsksToCause, AsksBoardAnd, AsksFor}
 use Rattle.jh_cli.proofs.StopLemmas.{on_ended, both_ended, on_ending}
 use Rattle.jh_cli.proofs.StatusLemmas.{run_ends}
 use Rattle.jh_cli.proofs.BoardLemmas.{nothing}
@@ -53,7 +54,7 @@ played_is_none false = tt
 
 pub played_at_none : (image : Image) (cpus : List ℕ) (reply : Reply) → IsPlayed image cpus reply → IsNoFileStatus reply.status
 played_at_none image cpus reply is =
-    subst IsNoFileStatus (sym (ap (λ (s : Reply). s.status) is.told)) (played_is_none (played image max_entries cpus).full)
+    subst IsNoFileStatus (sym (ap (λ (s : Reply). s.status) is.told)) (played_is_none (played image Two max_entries cpus).full)
 
 mapped_is_none : (found : Option (List ℕ)) → IsNoFileStatus (map_reply found).status
 mapped_is_none (Some text) = tt
@@ -68,6 +69,13 @@ pins_are_none None = tt
 
 pub pins_at_none : (image : Image) (cpus : List ℕ) (reply : Reply) → ArePinsTold image cpus reply → IsNoFileStatus reply.status
 pins_at_none image cpus reply (found, is, told) = subst IsNoFileStatus (sym (ap (λ (s : Reply). s.status) told)) (pins_are_none found)
+
+tables_are_none : (found : Option (List ℕ)) → IsNoFileStatus (tables_reply found).status
+tables_are_none (Some text) = tt
+tables_are_none None = tt
+
+pub tables_at_none : (image : Image) (cpus : List ℕ) (reply : Reply) → AreTablesTold image cpus reply → IsNoFileStatus reply.status
+tables_at_none image cpus reply (found, is, told) = subst IsNoFileStatus (sym (ap (λ (s : Reply). s.status) told)) (tables_are_none found)
 
 checked_is_none : (any : Bool) → IsNoFileStatus (cond any status.Found status.Good)
 checked_is_none true = tt
@@ -231,6 +239,8 @@ module _ {S : Type 0} (files : Ghosts S) where
   call_keeps contents (Some (SoakOf rounds)) s t reply reads read = keep s t [] reads tt
   call_keeps contents (Some (PlanOf system demands)) s t reply reads read = plan_keeps contents system demands s t reply read reads
   call_keeps contents (Some (PinsOf board schedule)) s t reply reads read =
+      board_keeps contents board (λ image behind. AsksFile files behind t contents schedule (schedule_file image)) s t reply read (λ image behind rest. to_keeps [] schedule behind t reply read rest.0) reads
+  call_keeps contents (Some (TablesOf board schedule)) s t reply reads read =
       board_keeps contents board (λ image behind. AsksFile files behind t contents schedule (schedule_file image)) s t reply read (λ image behind rest. to_keeps [] schedule behind t reply read rest.0) reads
   call_keeps contents (Some (AuditOf board journal)) s t reply reads read =
       board_keeps contents board (λ image behind. AsksFile files behind t contents journal journal_file) s t reply read (λ image behind rest. to_keeps [] journal behind t reply read rest.0) reads

@@ -3,6 +3,8 @@ use Rattle.std.proofs.Common.{◌≡◌, ◌≢◌, ℕ, List, [], Option, None,
 use Rattle.std.proofs.lemmas.Bool.{false≢true}
 use Rattle.jh_spec.specs.declared.spec.Spec.{Spec}
 use Rattle.jh_script.specs.declared.image.Image.{Image}
+use Rattle.jh_history.specs.declared.form.Form.{Form}
+use Rattle.jh_history.specs.declared.form.Form.TheVariants.{Two}
 use Rattle.jh_history.specs.declared.entry.Entry.{Entry}
 use Rattle.jh_history.specs.Items.{items}
 use Rattle.jh_image.specs.declared.fault.ImageCause.{ImageCause}
@@ -11,11 +13,12 @@ use Rattle.jh_image.specs.Laws.{AreKnown, IsCertainCause}
 use Rattle.jh_image.proofs.Public.{OneSpelling, SpellingsAreFaultless}
 use Rattle.jh_pins.specs.After.{IsPinsText, IsPinsAnswer}
 use Rattle.jh_run.specs.Maps.{IsMapsText, IsMapsAnswer}
+use Rattle.jh_run.specs.Tables.{IsTablesAnswer}
 use Rattle.jh_text.specs.Faults.{max_entries}
 use Rattle.jh_text.proofs.Public.{OneJournal, NoBadLine, NotLong, NotBoth, OneLine}
 use Rattle.jh_cli.specs.declared.status.Status.TheVariants.{Good, ReadFault}
 use Rattle.jh_cli.specs.Limits.{asked_of_a_file, asked_of_a_journal}
-use Rattle.jh_cli.specs.Words.{Request, CheckOf, PackOf, PlayOf, RunOf, MapOf, AuditOf, SoakOf, PlanOf, PinsOf, IsSerial}
+use Rattle.jh_cli.specs.Words.{Request, CheckOf, PackOf, PlayOf, RunOf, MapOf, AuditOf, SoakOf, PlanOf, PinsOf, TablesOf, IsSerial}
 use Rattle.jh_image.specs.Files.{Contents}
 use Rattle.jh_cli.specs.Reading.{Reply}
 use Rattle.jh_cli.specs.Check.{IsSystemFile, SystemRefusal, ChecksCells}
@@ -24,12 +27,13 @@ use Rattle.jh_cli.specs.Boards.{stopped, EndsAtBoard, Opens}
 use Rattle.jh_cli.specs.Play.{IsScheduleFile, ScheduleRefusal, IsPlayed, PlaysBy}
 use Rattle.jh_cli.specs.Map.{map_reply, IsMapped, MapsBy}
 use Rattle.jh_cli.specs.Pins.{pins_reply, ArePinsTold, PinsBy}
+use Rattle.jh_cli.specs.Tables.{tables_reply, AreTablesTold, TablesBy}
 use Rattle.jh_cli.specs.Audit.{IsJournalFile, JournalRefusal, IsAudited, AuditsBy}
 use Rattle.jh_cli.specs.Outcome.{Outcome}
 use Rattle.jh_cli.specs.Complete.{IsKnownBoard, AreKnownFiles}
 use Rattle.jh_cli.proofs.GoodLemmas.{CellsAreFaultless, OneImage, BoardsAreUnrefused, IsAnswered, system_sound, system_values, spec_sound, schedule_sound, one_schedule, journal_sound, board_unrefused}
 use Rattle.jh_cli.proofs.KnownLemmas.{all_told, each_is_told, is_image, stops}
-use Rattle.jh_cli.proofs.OneLemmas.{OneCell, IsRead, one_reading, system_words, one_check, spec_words, spec_values, schedule_words, journal_words, one_audited}
+use Rattle.jh_cli.proofs.OneLemmas.{OneCell, IsRead, one_reading, system_words, one_check, spec_words, spec_values, schedule_words, journal_words, one_spelled_journal, one_audited}
 use Rattle.jh_cli.proofs.PlanLemmas.{one_plan_reply}
 
 -- ---- boards
@@ -66,14 +70,14 @@ one_opening one_cause one_image unrefused contents board next one other told res
 -- ---- map
 
 abbrev pub OneMaps : Type 0
-OneMaps = (image : Image) (entries : List Entry) (one other : List ℕ) → IsMapsText image entries one → IsMapsText image entries other → one ≡ other
+OneMaps = (image : Image) (form : Form) (entries : List Entry) (one other : List ℕ) → IsMapsText image form entries one → IsMapsText image form entries other → one ≡ other
 
 -- the limit stops the items or it doesn't
 same_found : OneMaps → (image : Image) (cpus : List ℕ) (one other : Option (List ℕ)) → IsMapsAnswer image max_entries cpus one → IsMapsAnswer image max_entries cpus other → one ≡ other
 same_found one_maps image cpus None None h k = refl
 same_found one_maps image cpus None (Some text) h k = absurd (false≢true (sym k.0 ∙ h.0))
 same_found one_maps image cpus (Some text) None h k = absurd (false≢true (sym h.0 ∙ k.0))
-same_found one_maps image cpus (Some text) (Some more) h k = ap Some (one_maps image (items image max_entries cpus []).entries text more h.2 k.2)
+same_found one_maps image cpus (Some text) (Some more) h k = ap Some (one_maps image Two (items image Two max_entries cpus []).entries text more h.2 k.2)
 
 one_mapped : OneMaps → (image : Image) (cpus : List ℕ) (one other : Reply) → IsMapped image cpus one → IsMapped image cpus other → one ≡ other
 one_mapped one_maps image cpus one other (found, is, told) (more, also, told_also) = told ∙ ap map_reply (same_found one_maps image cpus found more is also) ∙ sym told_also
@@ -81,17 +85,29 @@ one_mapped one_maps image cpus one other (found, is, told) (more, also, told_als
 -- ---- pins
 
 abbrev pub OnePins : Type 0
-OnePins = (image : Image) (entries : List Entry) (one other : List ℕ) → IsPinsText image entries one → IsPinsText image entries other → one ≡ other
+OnePins = (image : Image) (form : Form) (entries : List Entry) (one other : List ℕ) → IsPinsText image form entries one → IsPinsText image form entries other → one ≡ other
 
 -- the limit stops the items or it doesn't
-same_pins : OnePins → (image : Image) (cpus : List ℕ) (one other : Option (List ℕ)) → IsPinsAnswer image max_entries cpus one → IsPinsAnswer image max_entries cpus other → one ≡ other
+same_pins : OnePins → (image : Image) (cpus : List ℕ) (one other : Option (List ℕ)) → IsPinsAnswer image Two max_entries cpus one → IsPinsAnswer image Two max_entries cpus other → one ≡ other
 same_pins one_pins image cpus None None h k = refl
 same_pins one_pins image cpus None (Some text) h k = absurd (false≢true (sym k.0 ∙ h.0))
 same_pins one_pins image cpus (Some text) None h k = absurd (false≢true (sym h.0 ∙ k.0))
-same_pins one_pins image cpus (Some text) (Some more) h k = ap Some (one_pins image (items image max_entries cpus []).entries text more h.2 k.2)
+same_pins one_pins image cpus (Some text) (Some more) h k = ap Some (one_pins image Two (items image Two max_entries cpus []).entries text more h.2 k.2)
 
 one_told_pins : OnePins → (image : Image) (cpus : List ℕ) (one other : Reply) → ArePinsTold image cpus one → ArePinsTold image cpus other → one ≡ other
 one_told_pins one_pins image cpus one other (found, is, told) (more, also, told_also) = told ∙ ap pins_reply (same_pins one_pins image cpus found more is also) ∙ sym told_also
+
+-- ---- tables
+
+-- the limit stops the items or it doesn't
+same_tables : (image : Image) (cpus : List ℕ) (one other : Option (List ℕ)) → IsTablesAnswer image max_entries cpus one → IsTablesAnswer image max_entries cpus other → one ≡ other
+same_tables image cpus None None h k = refl
+same_tables image cpus None (Some text) h k = absurd (false≢true (sym k.0 ∙ h.0))
+same_tables image cpus (Some text) None h k = absurd (false≢true (sym h.0 ∙ k.0))
+same_tables image cpus (Some text) (Some more) h k = ap Some (h.2 ∙ sym k.2)
+
+one_told_tables : (image : Image) (cpus : List ℕ) (one other : Reply) → AreTablesTold image cpus one → AreTablesTold image cpus other → one ≡ other
+one_told_tables image cpus one other (found, is, told) (more, also, told_also) = told ∙ ap tables_reply (same_tables image cpus found more is also) ∙ sym told_also
 
 -- ---- all of them
 
@@ -120,8 +136,12 @@ one_outcome cells systems one_cell one_system no_bad not_long one_journal not_bo
     one_opening one_cause one_image unrefused contents board (PinsBy contents schedule) one other told.0
     (λ image a b. one_reading asked_of_a_file contents schedule told.1.0 (ScheduleRefusal image) (IsScheduleFile image) (schedule_words image) (one_schedule image) (λ bytes s words form why. schedule_sound image s bytes words form why)
     (ArePinsTold image) one other (λ s x y r q. one_told_pins one_pins image s one other x y) a b read also) h k read also
+one_outcome cells systems one_cell one_system no_bad not_long one_journal not_both one_line one_image unrefused one_cause one_maps one_pins contents (Some (TablesOf board schedule)) one other serial told h k read also =
+    one_opening one_cause one_image unrefused contents board (TablesBy contents schedule) one other told.0
+    (λ image a b. one_reading asked_of_a_file contents schedule told.1.0 (ScheduleRefusal image) (IsScheduleFile image) (schedule_words image) (one_schedule image) (λ bytes s words form why. schedule_sound image s bytes words form why)
+    (AreTablesTold image) one other (λ s x y r q. one_told_tables image s one other x y) a b read also) h k read also
 one_outcome cells systems one_cell one_system no_bad not_long one_journal not_both one_line one_image unrefused one_cause one_maps one_pins contents (Some (AuditOf board journal)) one other serial told h k read also =
     one_opening one_cause one_image unrefused contents board (AuditsBy contents journal) one other told.0
-    (λ image a b. one_reading asked_of_a_journal contents journal told.1.0 JournalRefusal IsJournalFile (journal_words not_both one_line) (λ bytes x y f g. one_journal bytes x y f.spelled g.spelled)
+    (λ image a b. one_reading asked_of_a_journal contents journal told.1.0 JournalRefusal IsJournalFile (journal_words not_both one_line) (one_spelled_journal one_journal)
     (λ bytes s words form why. journal_sound no_bad not_long s bytes words form why)
-    (IsAudited image) one other (λ entries x y r q. one_audited image entries one other x y) a b read also) h k read also
+    (IsAudited image) one other (λ spelled x y r q. one_audited image spelled one other x y) a b read also) h k read also

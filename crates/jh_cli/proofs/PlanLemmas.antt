@@ -22,7 +22,6 @@ use Rattle.jh_cli.specs.Boards.{stopped}
 use Rattle.jh_cli.specs.Check.{IsSystemFile}
 use Rattle.jh_cli.specs.Complete.{AreKnownNames}
 use Rattle.jh_cli.specs.Limits.{asked_of_a_file}
-use Rattle.jh_cli.specs.Lines.{refusal_line}
 use Rattle.jh_cli.specs.Plan.{AdmittedRefusal, AreDemands, DemandsRefusal, IsAdmittedSystemFile, IsPlanned, IsUnadmitted, Plans, PlansBy}
 use Rattle.jh_cli.specs.Reading.{Reply, EndsAtFile, Spells}
 use Rattle.jh_cli.specs.Private.Endings.{OnEnded}

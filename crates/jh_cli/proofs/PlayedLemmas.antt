@@ -2,6 +2,7 @@
 use Rattle.std.specs.Prelude.{◌↔◌}
 use Rattle.std.proofs.Common.{◌≡◌, ℕ, List, refl, sym, ◌∙◌, ap, subst}
 use Rattle.jh_script.specs.declared.image.Image.{Image}
+use Rattle.jh_history.specs.declared.form.Form.TheVariants.{Two}
 use Rattle.jh_history.specs.declared.entry.Entry.{Entry}
 use Rattle.jh_history.specs.Due.{IsLegal, IsQuiet}
 use Rattle.jh_history.specs.Items.{Reached, played}
@@ -28,18 +29,18 @@ full_is_full Full h = refl
 
 -- what is told of where the items ended
 abbrev told_of : Reached → Reply
-told_of reached = record { status = played_status reached.full; text = journal_text reached.entries }
+told_of reached = record { status = played_status reached.full; text = journal_text Two reached.entries }
 
 -- the board at the played journal, and how it ended, tell the play
 pub IsPlayed_from : (image : Image) (cpus : List ℕ) (board : BoardView) (ended : Ended) (status : Status) (text : List ℕ)
-    → IsPlayedBoard image max_entries cpus board ended → IsLegal image board.entries → ((ended ≡ Unstopped) ↔ IsQuiet image board.entries) → ((ended ≡ Full) ↔ IsFullAtCpu image max_entries board.entries)
-    → status ≡ played_status (is_full ended) → text ≡ journal_text board.entries
+    → IsPlayedBoard image max_entries cpus board ended → IsLegal image Two board.entries → ((ended ≡ Unstopped) ↔ IsQuiet image Two board.entries) → ((ended ≡ Full) ↔ IsFullAtCpu image max_entries board.entries)
+    → status ≡ played_status (is_full ended) → text ≡ journal_text Two board.entries
     → IsPlayed image cpus (record { status = status; text = text })
 IsPlayed_from image cpus board ended status text plays legal quiet full is_status is_text =
-    let entries : board.entries ≡ (played image max_entries cpus).entries = ap (λ (r : Reached). r.entries) (sym plays.0) in
-    let Legal : List Entry → Type 0 = λ es. IsLegal image es in
+    let entries : board.entries ≡ (played image Two max_entries cpus).entries = ap (λ (r : Reached). r.entries) (sym plays.0) in
+    let Legal : List Entry → Type 0 = λ es. IsLegal image Two es in
     let AtLimit : List Entry → Type 0 = λ es. IsFullAtCpu image max_entries es in
-    let Quieted : List Entry → Type 0 = λ es. IsQuiet image es in
+    let Quieted : List Entry → Type 0 = λ es. IsQuiet image Two es in
     let of_status : Status → Reply = λ (s : Status). record { status = s; text = text } in
     let of_text : List ℕ → Reply = λ (t : List ℕ). record { status = played_status (is_full ended); text = t } in
     record {

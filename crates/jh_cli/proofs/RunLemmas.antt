@@ -1,6 +1,7 @@
 -- What a run that ended so tells.
 use Rattle.std.proofs.Common.{◌≡◌, ◌≤◌, ℕ, List, length, ◌↔◌, ◌⊎◌, refl, sym, ap, subst, ◌∙◌, inl, inr, arith}
 use Rattle.jh_script.specs.declared.image.Image.{Image}
+use Rattle.jh_history.specs.declared.form.Form.TheVariants.{Two}
 use Rattle.jh_history.specs.declared.entry.Entry.{Entry}
 use Rattle.jh_history.specs.Due.{IsLegal, IsQuiet}
 use Rattle.jh_run.specs.Ends.{is_full, IsFullAndBusy}
@@ -17,13 +18,13 @@ use Rattle.jh_cli.specs.Run.{EndsRun, IsMadeByRun, IsToldRun}
 use Rattle.jh_cli.specs.Soak.{Soaks}
 use Rattle.jh_cli.proofs.StatusLemmas.{run_ends}
 
-ends_run : (image : Image) (entries : List Entry) (ended : Ended) → ((ended ≡ Unstopped) ↔ IsQuiet image entries) → ((ended ≡ Full) ↔ IsFullAndBusy image max_entries entries)
+ends_run : (image : Image) (entries : List Entry) (ended : Ended) → ((ended ≡ Unstopped) ↔ IsQuiet image Two entries) → ((ended ≡ Full) ↔ IsFullAndBusy image Two max_entries entries)
     → EndsRun image entries (played_status (is_full ended))
 ends_run image entries Unstopped quiet full = quiet.0 refl
 ends_run image entries Full quiet full = full.0 refl
 
-pub made_by_run : (image : Image) (entries : List Entry) (ended : Ended) (status : Status) → IsLegal image entries → length entries ≤ max_entries → ((ended ≡ Unstopped) ↔ IsQuiet image entries)
-    → ((ended ≡ Full) ↔ IsFullAndBusy image max_entries entries) → status ≡ played_status (is_full ended) → IsMadeByRun image entries status
+pub made_by_run : (image : Image) (entries : List Entry) (ended : Ended) (status : Status) → IsLegal image Two entries → length entries ≤ max_entries → ((ended ≡ Unstopped) ↔ IsQuiet image Two entries)
+    → ((ended ≡ Full) ↔ IsFullAndBusy image Two max_entries entries) → status ≡ played_status (is_full ended) → IsMadeByRun image entries status
 made_by_run image entries ended status legal few quiet full is = record { legal = legal; few = few; ends = subst (EndsRun image entries) (sym is) (ends_run image entries ended quiet full) }
 
 -- a soak reads no file

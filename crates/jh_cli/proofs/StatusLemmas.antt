@@ -2,6 +2,7 @@
 use Rattle.std.proofs.Common.{◌≡◌, ◌≢◌, ℕ, ◌⊎◌, List, Bool, true, false, cond, Option, Some, None, refl, sym, ◌∙◌, ap, arith, inl, inr}
 use Rattle.jh_cellcfg.specs.declared.config.SystemConfig.{SystemConfig}
 use Rattle.jh_script.specs.declared.image.Image.{Image}
+use Rattle.jh_history.specs.declared.form.Form.TheVariants.{Two}
 use Rattle.jh_history.specs.declared.entry.Entry.{Entry}
 use Rattle.jh_history.specs.Items.{played}
 use Rattle.jh_image.specs.declared.fault.ImageCause.{ImageCause}
@@ -17,7 +18,7 @@ use Rattle.jh_text.specs.Faults.{max_entries}
 use Rattle.jh_cli.specs.declared.status.Status.{Status}
 use Rattle.jh_cli.specs.declared.status.Status.TheVariants.{Good, Found, Usage, Refused, ReadFault, WriteFault, NoMemory, Full}
 use Rattle.jh_cli.specs.Lines.{exit_number}
-use Rattle.jh_cli.specs.Words.{Request, CheckOf, PackOf, PlayOf, RunOf, MapOf, AuditOf, SoakOf, PlanOf, PinsOf}
+use Rattle.jh_cli.specs.Words.{Request, CheckOf, PackOf, PlayOf, RunOf, MapOf, AuditOf, SoakOf, PlanOf, PinsOf, TablesOf}
 use Rattle.jh_image.specs.Files.{Contents}
 use Rattle.jh_cli.specs.Reading.{Reply, FileKind, EndsAt, Reads}
 use Rattle.jh_cli.specs.Check.{system_file, CellRefusal, ChecksCells, checked_status}
@@ -27,7 +28,8 @@ use Rattle.jh_cli.specs.Play.{schedule_file, IsPlayed, played_status, PlaysBy}
 use Rattle.jh_cli.specs.Run.{EndsRun, IsToldRun}
 use Rattle.jh_cli.specs.Map.{IsMapped, map_reply, MapsBy}
 use Rattle.jh_cli.specs.Pins.{ArePinsTold, pins_reply, PinsBy}
-use Rattle.jh_cli.specs.Audit.{journal_file, IsAudited, AuditsBy, verdict_status}
+use Rattle.jh_cli.specs.Tables.{tables_reply, AreTablesTold, TablesBy}
+use Rattle.jh_cli.specs.Audit.{journal_file, SpelledJournal, IsAudited, AuditsBy, verdict_status}
 use Rattle.jh_cli.specs.Soak.{Soaks}
 use Rattle.jh_cli.specs.Plan.{admitted_file, demands_file, IsPlanned, PlansBy}
 use Rattle.jh_cli.specs.Limits.{asked_of_a_file}
@@ -64,7 +66,7 @@ cells_other contents names system reply (inr all) =
 
 played_ends_other : (image : Image) (cpus : List ℕ) (reply : Reply) → IsPlayed image cpus reply → IsOther reply
 played_ends_other image cpus reply is =
-    other reply (played_status (played image max_entries cpus).full) (ap (λ (s : Reply). s.status) is.told) (played_other (played image max_entries cpus).full)
+    other reply (played_status (played image Two max_entries cpus).full) (ap (λ (s : Reply). s.status) is.told) (played_other (played image Two max_entries cpus).full)
 
 mapped_other : (found : Option (List ℕ)) → exit_number (map_reply found).status ≢ 5
 mapped_other (Some text) = omega arith
@@ -79,6 +81,13 @@ pins_other None = omega arith
 
 pins_end_other : (image : Image) (cpus : List ℕ) (reply : Reply) → ArePinsTold image cpus reply → IsOther reply
 pins_end_other image cpus reply (found, is, told) = other reply (pins_reply found).status (ap (λ (s : Reply). s.status) told) (pins_other found)
+
+tables_other : (found : Option (List ℕ)) → exit_number (tables_reply found).status ≢ 5
+tables_other (Some text) = omega arith
+tables_other None = omega arith
+
+tables_end_other : (image : Image) (cpus : List ℕ) (reply : Reply) → AreTablesTold image cpus reply → IsOther reply
+tables_end_other image cpus reply (found, is, told) = other reply (tables_reply found).status (ap (λ (s : Reply). s.status) told) (tables_other found)
 
 -- a run ends with one of two statuses
 pub run_ends : (image : Image) (entries : List Entry) (status : Status) → EndsRun image entries status → (status ≡ Good) ⊎ (status ≡ Full)
@@ -103,8 +112,8 @@ audited_other : (verdict : Verdict) → exit_number (verdict_status verdict) ≢
 audited_other (Legal count quiet) = omega arith
 audited_other (Illegal line expected) = omega arith
 
-audit_ends_other : (image : Image) (entries : List Entry) (reply : Reply) → IsAudited image entries reply → IsOther reply
-audit_ends_other image entries reply is = other reply (verdict_status is.verdict) (ap (λ (s : Reply). s.status) is.told) (audited_other is.verdict)
+audit_ends_other : (image : Image) (journal : SpelledJournal) (reply : Reply) → IsAudited image journal reply → IsOther reply
+audit_ends_other image journal reply is = other reply (verdict_status is.verdict) (ap (λ (s : Reply). s.status) is.told) (audited_other is.verdict)
 
 planned_other : (name : List ℕ) (system : SystemConfig) (demands : List Demand) (reply : Reply) → IsPlanned name system demands reply → IsOther reply
 planned_other name system demands reply (inl tells) = other reply Good (ap (λ (s : Reply). s.status) tells.told) (omega arith)
@@ -147,6 +156,9 @@ outcome_other contents (Some (PlanOf system demands)) reply h =
 outcome_other contents (Some (PinsOf board schedule)) reply h =
     opens_other contents board (PinsBy contents schedule) reply
     (λ image reads. reads_other contents schedule (schedule_file image) (ArePinsTold image) reply (λ cpus is. pins_end_other image cpus reply is) reads) h
+outcome_other contents (Some (TablesOf board schedule)) reply h =
+    opens_other contents board (TablesBy contents schedule) reply
+    (λ image reads. reads_other contents schedule (schedule_file image) (AreTablesTold image) reply (λ cpus is. tables_end_other image cpus reply is) reads) h
 outcome_other contents (Some (AuditOf board journal)) reply h =
     opens_other contents board (AuditsBy contents journal) reply
-    (λ image reads. reads_other contents journal journal_file (IsAudited image) reply (λ entries is. audit_ends_other image entries reply is) reads) h
+    (λ image reads. reads_other contents journal journal_file (IsAudited image) reply (λ spelled is. audit_ends_other image spelled reply is) reads) h

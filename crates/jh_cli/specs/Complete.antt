@@ -5,7 +5,7 @@ use Rattle.std.specs.List.{AllByRecursion}
 use Rattle.jh_cellcfg.specs.declared.config.CellConfig.{CellConfig}
 use Rattle.jh_cellcfg.specs.declared.config.SystemConfig.{SystemConfig}
 use Rattle.jh_script.specs.declared.image.Image.{Image}
-use Rattle.jh_history.specs.declared.entry.Entry.{Entry}
+use Rattle.jh_history.specs.declared.form.Form.TheVariants.{Two}
 use Rattle.jh_history.specs.Items.{items, played}
 use Rattle.jh_spec.specs.declared.spec.Spec.{Spec}
 use Rattle.jh_plan.specs.declared.demand.Demand.{Demand}
@@ -16,11 +16,11 @@ use Rattle.jh_image.specs.Files.{Contents, Lists}
 use Rattle.jh_image.specs.Images.{IsImage}
 use Rattle.jh_image.specs.Order.{board_files}
 use Rattle.jh_text.specs.Faults.{max_entries}
-use Rattle.jh_cli.specs.Words.{Request, CheckOf, PackOf, PlayOf, RunOf, MapOf, AuditOf, SoakOf, PlanOf, PinsOf}
+use Rattle.jh_cli.specs.Words.{Request, CheckOf, PackOf, PlayOf, RunOf, MapOf, AuditOf, SoakOf, PlanOf, PinsOf, TablesOf}
 use Rattle.jh_cli.specs.Check.{IsCellFile, IsSystemFile}
 use Rattle.jh_cli.specs.Pack.{IsSpecFile}
 use Rattle.jh_cli.specs.Play.{IsScheduleFile, played_status}
-use Rattle.jh_cli.specs.Audit.{IsJournalFile}
+use Rattle.jh_cli.specs.Audit.{SpelledJournal, IsJournalFile}
 use Rattle.jh_cli.specs.Soak.{AreRounds}
 use Rattle.jh_cli.specs.Plan.{AreDemands, IsAdmittedSystemFile}
 use Rattle.jh_cli.specs.declared.status.Status.{Status}
@@ -60,6 +60,7 @@ AreKnownFiles contents (Some (AuditOf board journal)) = IsKnownBoard contents bo
 AreKnownFiles contents (Some (SoakOf rounds)) = ⊤
 AreKnownFiles contents (Some (PlanOf system demands)) = AreKnownNames contents (system ∷ demands ∷ [])
 AreKnownFiles contents (Some (PinsOf board schedule)) = IsKnownBoard contents board × AreKnownNames contents (schedule ∷ [])
+AreKnownFiles contents (Some (TablesOf board schedule)) = IsKnownBoard contents board × AreKnownNames contents (schedule ∷ [])
 
 -- the first file of a check holds a system and each other one a cell, whatever the check finds in them
 pub record AreGoodToCheck (contents : Contents) (system : List ℕ) (cells : List (List ℕ)) : Type 0 where
@@ -93,8 +94,8 @@ pub record AreGoodToAudit (contents : Contents) (board journal : List ℕ) : Typ
   pub known : IsKnownBoard contents board
   pub image : Image
   pub is : IsImage contents board image
-  pub entries : List Entry
-  pub spells : FileHolds contents journal IsJournalFile entries
+  pub spelled : SpelledJournal
+  pub spells : FileHolds contents journal IsJournalFile spelled
 
 -- the first file of a plan holds a system that a board may have, and the other demands that a plan meets beside it
 pub record AreGoodToPlan (contents : Contents) (system demands : List ℕ) : Type 0 where
@@ -117,19 +118,21 @@ AreGood contents (Some (AuditOf board journal)) = AreGoodToAudit contents board 
 AreGood contents (Some (SoakOf rounds)) = (n : ℕ) × AreRounds rounds n
 AreGood contents (Some (PlanOf system demands)) = AreGoodToPlan contents system demands
 AreGood contents (Some (PinsOf board schedule)) = AreGoodToPlay contents board schedule
+AreGood contents (Some (TablesOf board schedule)) = AreGoodToPlay contents board schedule
 
 -- what a call with good words and files ends with: a check or an audit with `Good` or `Found`, a pack or a plan with
 -- `Good`, a play
--- with whether the journal stopped at its limit, a map or pins with whether that of the schedule's items alone did, a run
+-- with whether the journal stopped at its limit, a map, pins or tables with whether that of the schedule's items alone did, a run
 -- or a soak with `Good` or `Full`; where there are two, it is left to the outcome which of them it is
 abbrev pub MayEndWith : (contents : Contents) (request : Option Request) → AreGood contents request → Status → Type 0
 MayEndWith contents None good status = ⊥
 MayEndWith contents (Some (CheckOf system cells)) good status = (status ≡ Good) ⊎ (status ≡ Found)
 MayEndWith contents (Some (PackOf spec)) good status = status ≡ Good
-MayEndWith contents (Some (PlayOf board schedule)) good status = status ≡ played_status (played good.image max_entries good.items).full
+MayEndWith contents (Some (PlayOf board schedule)) good status = status ≡ played_status (played good.image Two max_entries good.items).full
 MayEndWith contents (Some (RunOf board)) good status = (status ≡ Good) ⊎ (status ≡ Full)
-MayEndWith contents (Some (MapOf board schedule)) good status = status ≡ played_status (items good.image max_entries good.items []).full
+MayEndWith contents (Some (MapOf board schedule)) good status = status ≡ played_status (items good.image Two max_entries good.items []).full
 MayEndWith contents (Some (AuditOf board journal)) good status = (status ≡ Good) ⊎ (status ≡ Found)
 MayEndWith contents (Some (SoakOf rounds)) good status = (status ≡ Good) ⊎ (status ≡ Full)
 MayEndWith contents (Some (PlanOf system demands)) good status = status ≡ Good
-MayEndWith contents (Some (PinsOf board schedule)) good status = status ≡ played_status (items good.image max_entries good.items []).full
+MayEndWith contents (Some (PinsOf board schedule)) good status = status ≡ played_status (items good.image Two max_entries good.items []).full
+MayEndWith contents (Some (TablesOf board schedule)) good status = status ≡ played_status (items good.image Two max_entries good.items []).full

@@ -12,6 +12,7 @@ pub mod Audit
 pub mod Soak
 pub mod Plan
 pub mod Pins
+pub mod Tables
 pub mod Order
 pub mod Outcome
 pub mod Complete

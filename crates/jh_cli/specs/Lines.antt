@@ -14,7 +14,7 @@ exit_number WriteFault = 5
 exit_number NoMemory = 6
 exit_number Full = 7
 
--- the line that tells how the program is used; it names `tables`, which is no command here
+-- the line that tells how the program is used
 abbrev pub usage_line : List ℕ
 usage_line = codes "usage: jailhouse check SYSTEM CELL... | pack SPEC | play BOARD SCHEDULE | run BOARD | map BOARD SCHEDULE | tables BOARD SCHEDULE | audit BOARD JOURNAL | soak N | plan SYSTEM DEMANDS | pins BOARD SCHEDULE" ++ 10 ∷ []
 

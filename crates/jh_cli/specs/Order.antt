@@ -16,7 +16,7 @@ use Rattle.jh_cli.specs.Pack.{spec_file}
 use Rattle.jh_cli.specs.Play.{schedule_file}
 use Rattle.jh_cli.specs.Audit.{journal_file}
 use Rattle.jh_cli.specs.Plan.{AdmittedRefusal, IsAdmittedSystemFile}
-use Rattle.jh_cli.specs.Words.{Request, CheckOf, PackOf, PlayOf, RunOf, MapOf, AuditOf, SoakOf, PlanOf, PinsOf}
+use Rattle.jh_cli.specs.Words.{Request, CheckOf, PackOf, PlayOf, RunOf, MapOf, AuditOf, SoakOf, PlanOf, PinsOf, TablesOf}
 use Rattle.jh_cli.specs.declared.status.Status.{Status}
 use Rattle.jh_cli.specs.declared.status.Status.TheVariants.{Refused, ReadFault}
 
@@ -135,3 +135,4 @@ module _ {S : Type 0} (files : Ghosts S) where
   AsksFor s t contents (Some (SoakOf rounds)) = AsksNone s t
   AsksFor s t contents (Some (PlanOf system demands)) = AsksPlan s t contents system demands
   AsksFor s t contents (Some (PinsOf board schedule)) = AsksWithSchedule s t contents board schedule
+  AsksFor s t contents (Some (TablesOf board schedule)) = AsksWithSchedule s t contents board schedule

@@ -1,7 +1,7 @@
 -- What a call ends with: the status and the text of its request, by what the files hand out.
 use Rattle.std.specs.Prelude.{◌≡◌, ◌≢◌, ℕ, ◌⊎◌, List, Option, Some, None}
 use Rattle.jh_outside.specs.Writes.{Appended, AppendedPart}
-use Rattle.jh_cli.specs.Words.{Request, CheckOf, PackOf, PlayOf, RunOf, MapOf, AuditOf, SoakOf, PlanOf, PinsOf}
+use Rattle.jh_cli.specs.Words.{Request, CheckOf, PackOf, PlayOf, RunOf, MapOf, AuditOf, SoakOf, PlanOf, PinsOf, TablesOf}
 use Rattle.jh_cli.specs.Lines.{usage_line}
 use Rattle.jh_image.specs.Files.{Contents}
 use Rattle.jh_cli.specs.Reading.{Reply}
@@ -14,6 +14,7 @@ use Rattle.jh_cli.specs.Audit.{Audits}
 use Rattle.jh_cli.specs.Soak.{Soaks}
 use Rattle.jh_cli.specs.Plan.{Plans}
 use Rattle.jh_cli.specs.Pins.{Pins}
+use Rattle.jh_cli.specs.Tables.{Tables}
 use Rattle.jh_cli.specs.declared.status.Status.{Status}
 use Rattle.jh_cli.specs.declared.status.Status.TheVariants.{Usage, ReadFault, WriteFault}
 
@@ -29,6 +30,7 @@ Outcome contents (Some (AuditOf board journal)) reply = Audits contents board jo
 Outcome contents (Some (SoakOf rounds)) reply = Soaks rounds reply
 Outcome contents (Some (PlanOf system demands)) reply = Plans contents system demands reply
 Outcome contents (Some (PinsOf board schedule)) reply = Pins contents board schedule reply
+Outcome contents (Some (TablesOf board schedule)) reply = Tables contents board schedule reply
 
 -- the reply is an outcome of the request, and a certain one: it isn't that a file could not be read, so what the files
 -- hold decides it

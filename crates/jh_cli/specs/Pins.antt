@@ -1,6 +1,7 @@
 -- What `pins` ends with.
 use Rattle.std.specs.Prelude.{◌≡◌, ℕ, List, [], Option, Some, None}
 use Rattle.jh_script.specs.declared.image.Image.{Image}
+use Rattle.jh_history.specs.declared.form.Form.TheVariants.{Two}
 use Rattle.jh_pins.specs.After.{IsPinsAnswer}
 use Rattle.jh_image.specs.Files.{Contents}
 use Rattle.jh_text.specs.Faults.{max_entries}
@@ -16,7 +17,7 @@ pins_reply None = record { status = Full; text = [] }
 
 -- the reply that tells the pins of the image's cells after the items alone, or that the limit stopped an item
 abbrev pub ArePinsTold : Image → List ℕ → Reply → Type 0
-ArePinsTold image cpus reply = (found : Option (List ℕ)) × IsPinsAnswer image max_entries cpus found × (reply ≡ pins_reply found)
+ArePinsTold image cpus reply = (found : Option (List ℕ)) × IsPinsAnswer image Two max_entries cpus found × (reply ≡ pins_reply found)
 
 -- what `pins` with the image and the schedule ends with
 abbrev pub PinsBy : Contents → List ℕ → Image → Reply → Type 0

@@ -4,6 +4,7 @@ use Rattle.jh_script.specs.declared.image.Image.{Image}
 use Rattle.jh_script.specs.declared.fault.ScheduleFault.{ScheduleFault}
 use Rattle.jh_script.specs.FaultText.{schedule_fault_text}
 use Rattle.jh_script.specs.Schedules.{has_cpu, schedule_of}
+use Rattle.jh_history.specs.declared.form.Form.TheVariants.{Two}
 use Rattle.jh_history.specs.Lives.{is_on_board}
 use Rattle.jh_history.specs.Due.{IsLegal, IsQuiet}
 use Rattle.jh_history.specs.Items.{played}
@@ -49,13 +50,13 @@ schedule_file image = record { most = asked_of_a_file; Refusal = ScheduleRefusal
 abbrev pub played_status : Bool → Status
 played_status full = if full then Full else Good
 
--- the played journal's text; the journal is legal, and with status `Good` nothing is due after it. The status is
+-- the text of the played journal, which has form Two; the journal is legal, and with status `Good` nothing is due after it. The status is
 -- `Full` exactly where the journal is at its limit and some CPU has an entry due
 pub record IsPlayed (image : Image) (cpus : List ℕ) (reply : Reply) : Type 0 where
-  pub told : reply ≡ record { status = played_status (played image max_entries cpus).full; text = journal_text (played image max_entries cpus).entries }
-  pub legal : IsLegal image (played image max_entries cpus).entries
-  pub quiet : reply.status ≡ Good → IsQuiet image (played image max_entries cpus).entries
-  pub full : (reply.status ≡ Full) ↔ IsFullAtCpu image max_entries (played image max_entries cpus).entries
+  pub told : reply ≡ record { status = played_status (played image Two max_entries cpus).full; text = journal_text Two (played image Two max_entries cpus).entries }
+  pub legal : IsLegal image Two (played image Two max_entries cpus).entries
+  pub quiet : reply.status ≡ Good → IsQuiet image Two (played image Two max_entries cpus).entries
+  pub full : (reply.status ≡ Full) ↔ IsFullAtCpu image max_entries (played image Two max_entries cpus).entries
 
 -- what a play of the image by the schedule ends with
 abbrev pub PlaysBy : Contents → List ℕ → Image → Reply → Type 0

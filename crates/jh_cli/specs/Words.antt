@@ -3,7 +3,7 @@ use Rattle.std.specs.Prelude.{ℕ, Bool, true, not, ◌==◌, nat_le, if◌then�
 use Rattle.std.specs.List.{list_all}
 use Rattle.std.specs.Cmp.Lexicographic.{pointwise}
 use Rattle.jh_cli.specs.declared.command.Command.{Command}
-use Rattle.jh_cli.specs.declared.command.Command.TheVariants.{Check, Pack, Play, Run, Map, Audit, Soak, Plan, Pins}
+use Rattle.jh_cli.specs.declared.command.Command.TheVariants.{Check, Pack, Play, Run, Map, Audit, Soak, Plan, Pins, Tables}
 
 -- a command with its operands: the names of its files, or the word that tells how many rounds are run
 pub data Request : Type 0 where
@@ -16,6 +16,7 @@ pub data Request : Type 0 where
   SoakOf : List ℕ → Request
   PlanOf : List ℕ → List ℕ → Request
   PinsOf : List ℕ → List ℕ → Request
+  TablesOf : List ℕ → List ℕ → Request
 
 -- the word is an operand: it doesn't begin with `-`
 abbrev pub is_operand : List ℕ → Bool
@@ -45,7 +46,7 @@ of_two request (first ∷ second ∷ []) = Some (request first second)
 of_two request (first ∷ second ∷ other ∷ more) = None
 
 -- the command of this word with these operands: `pack` has a SPEC; `play` a board and a schedule; `run` a board; `map`
--- a board and a schedule; `audit` a board and a journal; `soak` a number of rounds; `plan` a system and demands; `pins` a board and a schedule;
+-- a board and a schedule; `audit` a board and a journal; `soak` a number of rounds; `plan` a system and demands; `pins` and `tables` a board and a schedule;
 -- `tables` is none
 abbrev pub command_for : List ℕ → List (List ℕ) → Option Request
 command_for word operands =
@@ -58,7 +59,8 @@ command_for word operands =
     else (if is_word word (codes "soak") then of_one SoakOf operands
     else (if is_word word (codes "plan") then of_two PlanOf operands
     else (if is_word word (codes "pins") then of_two PinsOf operands
-    else None))))))))
+    else (if is_word word (codes "tables") then of_two TablesOf operands
+    else None)))))))))
 
 -- the command of the words: the program's name, the command's word letter for letter, and its operands
 abbrev pub command_of : List (List ℕ) → Option Request
@@ -77,6 +79,7 @@ request_by (Audit board journal) = AuditOf board.now journal.now
 request_by (Soak rounds) = SoakOf rounds.now
 request_by (Plan system demands) = PlanOf system.now demands.now
 request_by (Pins board schedule) = PinsOf board.now schedule.now
+request_by (Tables board schedule) = TablesOf board.now schedule.now
 
 -- the words have no command, or one that starts no thread and waits for none
 abbrev pub IsSerial : Option Request → Type 0

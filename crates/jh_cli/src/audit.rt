@@ -8,7 +8,7 @@ ghost use Rattle.jh_cli.specs.Order.{AsksTo, AsksFile, AsksWithJournal};
 ghost use Rattle.jh_cli.specs.Limits.{asked_of_a_journal};
 ghost use Rattle.jh_cli.specs.Lines.{refusal_line};
 ghost use Rattle.jh_cli.specs.Reading.{EndsAt, IsCountedFault};
-ghost use Rattle.jh_cli.specs.Audit.{JournalRefusal, journal_file, AuditsBy, Audits, due_line, verdict_line, verdict_status};
+ghost use Rattle.jh_cli.specs.Audit.{JournalRefusal, journal_file, AuditsBy, Audits, due_line, nothing_due_line, line_of, verdict_line, verdict_status};
 ghost use Rattle.jh_cli.specs.Private.JournalFiles.{JudgesFile};
 ghost use Rattle.jh_cli.specs.Private.Endings.{reply_of, OnEnded, OnEnding};
 
@@ -17,11 +17,11 @@ use crate::ending::{CallFault, Ending, read_below, refused_for};
 use crate::limits::MAX_JOURNAL_READ;
 use crate::status::Status;
 use jh_audit::{Verdict, audit as audit_journal};
-use jh_history::Entry;
+use jh_history::{Entry, Form};
 use jh_num::NoMemory;
 use jh_outside::Files;
 use jh_script::Image;
-use jh_text::{JournalFault, print_entry};
+use jh_text::{JournalFault, form_of, header_lines, print_entry};
 use std::alloc::Global;
 
 /// The call ends since no journal was read from the file of this name.
@@ -35,13 +35,20 @@ fn unread(alloc: Global, name: &str, fault: &JournalFault) -> CallFault
     }
 }
 
+/// A verdict, and the form of the journal on which it is.
+#[derive(Drop)]
+pub struct Judged {
+    pub form: Form,
+    pub verdict: Verdict,
+}
+
 /// The verdict on the journal in the file of this name, by the image.
 fn judge<F: Files>(
     alloc: Global,
     files: &mut F,
     image: Image,
     name: &str,
-) -> Result<Verdict, CallFault>
+) -> Result<Judged, CallFault>
     requires admitted { IsAdmitted image }
     ensures ok { IfOk result (JudgesFile (F.contents files.old) name.now image) }
     ensures err { IfErr result (λ stop. OnEnded stop (EndsAt asked_of_a_journal (F.contents files.old) name.now JournalRefusal)) }
@@ -51,7 +58,10 @@ fn judge<F: Files>(
 {
     let bytes = read_below(alloc, files, name, MAX_JOURNAL_READ)?;
     match audit_journal(alloc, image, bytes.as_slice()) {
-        Ok(verdict) => Ok(verdict),
+        Ok(verdict) => Ok(Judged {
+            form: form_of(bytes.as_slice()),
+            verdict,
+        }),
         Err(fault) => Err(unread(alloc, name, &fault)),
     }
 }
@@ -66,9 +76,23 @@ fn verdict_status(verdict: &Verdict) -> Status
     }
 }
 
-/// The line that tells the verdict.
-fn verdict_line(alloc: Global, verdict: &Verdict) -> Result<Vec<u8>, NoMemory>
-    ensures { IfOk result (λ text. text.items ≡ verdict_line verdict.now) }
+/// The number of the line in which a journal of the form has the entry of this number, both counted from 1.
+fn line_of(form: Form, number: u32) -> u64
+    ensures { result ≡ line_of form number }
+{
+    u64::from(number) + u64::from(header_lines(form))
+}
+
+/// The line that tells that nothing was due in this line of a journal.
+fn nothing_due_line(alloc: Global, line: u64) -> Result<Vec<u8>, NoMemory>
+    ensures { IfOk result (λ text. text.items ≡ nothing_due_line line) }
+{
+    Ok(format!(in alloc; "illegal line {line}: nothing due\n")?.into_bytes())
+}
+
+/// The line that tells the verdict on a journal of the form.
+fn verdict_line(alloc: Global, form: Form, verdict: &Verdict) -> Result<Vec<u8>, NoMemory>
+    ensures { IfOk result (λ text. text.items ≡ verdict_line form verdict.now) }
 {
     let text = match verdict {
         Verdict::Legal {
@@ -82,17 +106,17 @@ fn verdict_line(alloc: Global, verdict: &Verdict) -> Result<Vec<u8>, NoMemory>
         Verdict::Illegal {
             line,
             expected: None,
-        } => { format!(in alloc; "illegal line {line}: nothing due\n")? }
+        } => return nothing_due_line(alloc, line_of(form, *line)),
         Verdict::Illegal {
             line,
             expected: Some(entry),
-        } => return due_line(alloc, *line, entry),
+        } => return due_line(alloc, line_of(form, *line), entry),
     };
     Ok(text.into_bytes())
 }
 
 /// The line that tells that this entry was due instead of the journal's.
-fn due_line(alloc: Global, line: u32, entry: &Entry) -> Result<Vec<u8>, NoMemory>
+fn due_line(alloc: Global, line: u64, entry: &Entry) -> Result<Vec<u8>, NoMemory>
     ensures { IfOk result (λ text. text.items ≡ due_line line entry.now) }
 {
     let mut text = format!(in alloc; "illegal line {line}: due ")?.into_bytes();
@@ -102,12 +126,12 @@ fn due_line(alloc: Global, line: u32, entry: &Entry) -> Result<Vec<u8>, NoMemory
 }
 
 /// Tells the verdict.
-fn tell_verdict(alloc: Global, verdict: &Verdict) -> Result<Ending, NoMemory>
-    ensures { IfOk result (λ ending. reply_of ending ≡ record { status = verdict_status verdict.now; text = verdict_line verdict.now }) }
+fn tell_verdict(alloc: Global, judged: &Judged) -> Result<Ending, NoMemory>
+    ensures { IfOk result (λ ending. reply_of ending ≡ record { status = verdict_status judged.now.verdict; text = verdict_line judged.now.form judged.now.verdict }) }
 {
     Ok(Ending {
-        status: verdict_status(verdict),
-        text: verdict_line(alloc, verdict)?,
+        status: verdict_status(&judged.verdict),
+        text: verdict_line(alloc, judged.form, &judged.verdict)?,
     })
 }
 
@@ -123,8 +147,8 @@ fn audit_by<F: Files>(
     ensures counted { OnEnding result (IsCountedFault (F.faults files.old) (F.faults files.new) (F.failed files.new)) }
     ensures asked { OnEnding result (AsksFile F.Files files.old files.new (F.contents files.old) name.now journal_file) }
 {
-    let verdict = judge(alloc, files, image, name)?;
-    Ok(tell_verdict(alloc, &verdict)?)
+    let judged = judge(alloc, files, image, name)?;
+    Ok(tell_verdict(alloc, &judged)?)
 }
 
 /// Reads the board and the journal, and judges the one by the other.

@@ -52,6 +52,11 @@ pub enum Command<'a> {
         board: &'a str,
         schedule: &'a str,
     },
+    /// Tells the leaves of the tables of a board's cells after a schedule.
+    Tables {
+        board: &'a str,
+        schedule: &'a str,
+    },
 }
 
 /// Whether the word may be an operand: it doesn't begin with `-`. An empty word may.
@@ -136,6 +141,9 @@ fn command_for<'a>(word: &str, operands: &'a [String]) -> Option<Command<'a>>
     } else if word == "pins" {
         let (board, schedule) = two_operands(operands)?;
         Some(Command::Pins { board, schedule })
+    } else if word == "tables" {
+        let (board, schedule) = two_operands(operands)?;
+        Some(Command::Tables { board, schedule })
     } else {
         None
     }

@@ -20,6 +20,7 @@ mod schedule;
 mod send;
 mod soak;
 mod status;
+mod tables;
 mod top;
 
 pub use command::{Command, command_of};

@@ -5,7 +5,7 @@ ghost use Rattle.jh_cli.specs.Lines.{usage_line, rounds_line, fault_line, refusa
 use jh_num::NoMemory;
 use std::alloc::Global;
 
-/// How the program is used. It names `tables`, which is no command here.
+/// How the program is used.
 pub fn usage_line(alloc: Global) -> Result<Vec<u8>, NoMemory>
     ensures { IfOk result (λ text. text.items ≡ usage_line) }
 {

@@ -17,6 +17,7 @@ use crate::pins::pins;
 use crate::plan::plan;
 use crate::play::play;
 use crate::status::Status;
+use crate::tables::tables;
 use jh_outside::Files;
 use std::alloc::Global;
 
@@ -40,6 +41,7 @@ fn carry_out<F: Files>(
         Command::Audit { board, journal } => audit(alloc, files, board, journal),
         Command::Plan { system, demands } => plan(alloc, files, system, demands),
         Command::Pins { board, schedule } => pins(alloc, files, board, schedule),
+        Command::Tables { board, schedule } => tables(alloc, files, board, schedule),
         // these two have been told apart already
         Command::Run { .. } | Command::Soak { .. } => unreachable!(),
     }

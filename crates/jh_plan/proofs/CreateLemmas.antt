@@ -1,18 +1,16 @@
 -- A create of a cell of a plan is accepted: no cause of a refusal holds of it, beside cells of the plan in whatever order.
-use Rattle.std.proofs.Common.{◌≡◌, ◌≢◌, ℕ, ◌+◌, ◌-◌, ◌<◌, ◌≤◌, Bool, true, false, ◌&&◌, ◌||◌, ◌==◌, not, nat_eq, nat_lt, cond, Option, Some, None, slice_get, List, [], ◌∷◌, ◌++◌, zero, suc, length, get_or, take, map, refl, sym, ap, subst, ◌∙◌, ◌⊎◌, inl, inr, arith}
+use Rattle.std.proofs.Common.{◌≡◌, ◌≢◌, ℕ, ◌+◌, ◌-◌, ◌<◌, ◌≤◌, true, false, ◌&&◌, ◌||◌, ◌==◌, not, nat_eq, Some, slice_get, List, [], ◌∷◌, ◌++◌, zero, suc, length, get_or, refl, sym, ap, subst, ◌∙◌, inl, inr, arith}
 use Rattle.std.specs.List.{All, AllPairs, Contains, list_any}
-use Rattle.std.specs.Prelude.{if◌then◌else◌, ℤ}
+use Rattle.std.specs.Prelude.{if◌then◌else◌}
 use Rattle.std.specs.Cmp.Lexicographic.{pointwise}
-use Rattle.std.proofs.lemmas.Bool.{both_ways, and_parts, and_from, or_parts, or_cases, cases_lt, eq-eqb, eqb-true, false_from_ne_true, not_from_false}
-use Rattle.std.proofs.lemmas.List.Elements.{Contains-push_cases, Contains-push}
+use Rattle.std.proofs.lemmas.Bool.{both_ways, and_from, or_parts, cases_lt, eq-eqb, eqb-true, false_from_ne_true, not_from_false}
+use Rattle.std.proofs.lemmas.List.Elements.{Contains-push_cases}
 use Rattle.std.proofs.lemmas.Option.{same_Some, slice_get-get_or, slice_get_within, get_or_from_slice_get}
 use Rattle.jh_num.specs.Below.{any_below}
-use Rattle.jh_num.proofs.Public.{Contains_head, Contains_tail, Contains_cases, Contains_from_map, Contains_map, list_any_false, list_any_nothing, same_number, same_test}
+use Rattle.jh_num.proofs.Public.{Contains_cases, Contains_from_map, list_any_false, list_any_nothing, same_test}
 use Rattle.jh_num.specs.declared.error.TheConstants.{EPERM}
 use Rattle.jh_cellcfg.specs.declared.config.CellConfig.{CellConfig}
-use Rattle.jh_cellcfg.specs.declared.config.SystemConfig.{SystemConfig}
 use Rattle.jh_cellcfg.specs.declared.live.Live.{Live}
-use Rattle.jh_cellcfg.specs.declared.region.Region.{Region}
 use Rattle.jh_cellcfg.specs.Cells.{name_of, is_cpu_set}
 use Rattle.jh_cellcfg.specs.Limits.{IsWithinLimits}
 use Rattle.jh_cellcfg.specs.Regions.{is_comm}
@@ -20,38 +18,33 @@ use Rattle.jh_cellcfg.specs.Spelling.{spelling}
 use Rattle.jh_cellcfg.specs.Typed.{IsCell}
 use Rattle.jh_cellcfg.proofs.Public.{length_body_bytes}
 use Rattle.jh_check.specs.Clean.{IsClean}
-use Rattle.jh_check.specs.Findings.{findings}
-use Rattle.jh_check.specs.Laws.{EachTwoItems, IsNumbered, SharesNoPlace}
-use Rattle.jh_check.specs.Refusals.{is_known, is_namesake, refusal_of, AreTwo, IsAccepted}
+use Rattle.jh_check.specs.Laws.{EachTwoItems, SharesNoPlace}
+use Rattle.jh_check.specs.Refusals.{is_known, is_namesake, AreTwo, IsAccepted}
 use Rattle.jh_check.specs.Verdicts.{makes_busy, makes_invalid, verdict_by, verdict_of}
 use Rattle.jh_check.specs.declared.finding.Finding.{Finding}
 use Rattle.jh_check.specs.declared.verdict.NewCell.TheVariants.{Clean}
 use Rattle.jh_check.proofs.Public.{accepted_to, clean_from_nothing, nothing_from_clean}
 use Rattle.jh_shape.specs.Lives.{configs_of}
 use Rattle.jh_shape.specs.Pages.{pages_of}
-use Rattle.jh_script.specs.declared.image.Image.{Image}
 use Rattle.jh_history.specs.declared.call.Creation.TheVariants.{Accepted, Refused}
 use Rattle.jh_history.specs.declared.reading.ReadCell.TheVariants.{Reads}
-use Rattle.jh_history.specs.Admitted.{pool_pages, IsAdmitted}
+use Rattle.jh_history.specs.Admitted.{pool_pages}
 use Rattle.jh_history.specs.Configs.{read_at}
-use Rattle.jh_history.specs.Facts.{Facts}
-use Rattle.jh_history.specs.History.{facts}
 use Rattle.jh_history.specs.Lives.{is_on_board}
-use Rattle.jh_history.specs.Phases.{creation_by, creation_of, is_locked, may_give, unless_refused}
-use Rattle.jh_history.specs.Sound.{AreOwned, IsOwner, IsSound}
+use Rattle.jh_history.specs.Phases.{creation_by, creation_of, may_give, unless_refused}
+use Rattle.jh_history.specs.Sound.{IsOwner, IsSound}
 use Rattle.jh_history.proofs.Public.{legal_sound, two_ids}
 use Rattle.jh_plan.specs.declared.demand.Demand.{Demand}
 use Rattle.jh_plan.specs.Demands.{IsDemand}
-use Rattle.jh_plan.specs.Fits.{cell_of, has_taken, padded, Fits}
-use Rattle.jh_plan.specs.Moments.{facts_of, IsCreateOf, IsLowestCpu, IsTypedDemand, PlannedBoard, PlannedImage}
-use Rattle.jh_plan.specs.Plans.{pages_with, ArePlanned, IsPlan}
+use Rattle.jh_plan.specs.Fits.{has_taken}
+use Rattle.jh_plan.specs.Moments.{facts_of, IsCreateOf, IsTypedDemand, PlannedBoard, PlannedImage}
 use Rattle.jh_plan.proofs.AmongLemmas.{own_id_too, pages_among, AreAmong, CountsTables, HaveOwnIds, KeepsTables}
 use Rattle.jh_plan.proofs.CleanLemmas.{clean_cells, no_cpu, no_place, sound_plan, AreApart, AreSound}
 use Rattle.jh_plan.proofs.FitLemmas.{above_lowest, of_root}
 use Rattle.jh_plan.proofs.PlaceLemmas.{free_ends}
 use Rattle.jh_plan.proofs.PlanLemmas.{root_within}
 use Rattle.jh_plan.proofs.ReadBackLemmas.{read_back, IsTold}
-use Rattle.jh_plan.proofs.StandLemmas.{demand_good, stands_at, Stands}
+use Rattle.jh_plan.proofs.StandLemmas.{stands_at, Stands}
 use Rattle.jh_plan.proofs.WrittenLemmas.{limited, name_before, name_parts, typed}
 
 -- ---- a cell of the plan
@@ -232,7 +225,7 @@ live_other board config caller at create cell held =
 -- ---- none of the causes holds
 
 board_sound : (board : PlannedBoard) → IsSound board.of.image (facts_of board)
-board_sound board = legal_sound board.of.image board.entries board.of.admitted board.legal
+board_sound board = legal_sound board.of.image board.form board.entries board.of.admitted board.legal
 
 unknown : (board : PlannedBoard) (config : CellConfig) (caller at : ℕ) → IsCreateOf board config caller at → is_known (board.of.image.system.root ∷ configs_of (facts_of board).cells) config ≡ false
 unknown board config caller at create =

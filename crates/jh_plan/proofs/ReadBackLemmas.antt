@@ -1,14 +1,12 @@
 -- A spelling that root may read is read as its configuration.
-use Rattle.std.proofs.Common.{◌≡◌, ℕ, ◌+◌, ◌<◌, ◌≤◌, Some, None, Option, List, [], ◌∷◌, zero, suc, length, take, map, refl, sym, ap, subst, ◌∙◌, arith}
+use Rattle.std.proofs.Common.{◌≡◌, ℕ, ◌+◌, ◌≤◌, Some, None, Option, List, ◌∷◌, zero, suc, length, take, map, refl, sym, ap, ◌∙◌, arith}
 use Rattle.std.specs.Prelude.{option_map, option_and_then}
 use Rattle.std.proofs.lemmas.Option.{none-some, same_Some}
 use Rattle.std.proofs.lemmas.List.{take-map}
 use Rattle.jh_cellcfg.specs.declared.config.CellConfig.{CellConfig}
 use Rattle.jh_cellcfg.specs.Faults.{header_fault, size_by_header}
-use Rattle.jh_cellcfg.specs.Limits.{IsWithinLimits}
 use Rattle.jh_cellcfg.specs.Reading.{config_of}
 use Rattle.jh_cellcfg.specs.Spelling.{spelling}
-use Rattle.jh_cellcfg.specs.Typed.{IsCell}
 use Rattle.jh_script.specs.declared.image.Image.{Image}
 use Rattle.jh_history.specs.declared.place.Place.{Place}
 use Rattle.jh_history.specs.declared.access.Access.TheVariants.{Read}

@@ -8,6 +8,7 @@ use Rattle.jh_cellcfg.specs.Cells.{is_cpu_set}
 use Rattle.jh_cellcfg.specs.Spelling.{spelling}
 use Rattle.jh_script.specs.declared.image.Image.{Image}
 use Rattle.jh_history.specs.declared.entry.Entry.{Entry}
+use Rattle.jh_history.specs.declared.form.Form.{Form}
 use Rattle.jh_history.specs.Admitted.{IsAdmitted}
 use Rattle.jh_history.specs.Configs.{bytes_at}
 use Rattle.jh_history.specs.Due.{IsLegal}
@@ -32,18 +33,19 @@ pub record PlannedImage : Type 0 where
   pub typed : All IsTypedDemand demands
   pub plan : IsPlan image.system demands planned
 
--- a legal journal of the image, after which cells of the plan live besides root and no other, whichever they are and
--- in whatever order, and none is locked
+-- a legal journal of the image, of either form, after which cells of the plan live besides root and no other, whichever
+-- they are and in whatever order, and none is locked
 pub record PlannedBoard : Type 0 where
   pub of : PlannedImage
+  pub form : Form
   pub entries : List Entry
-  pub legal : IsLegal of.image entries
-  pub live : (live : Live) → Contains (facts of.image entries).cells live → Contains of.planned.cells live.config
-  pub unlocked : list_any (is_locked (facts of.image entries)) (facts of.image entries).cells ≡ false
+  pub legal : IsLegal of.image form entries
+  pub live : (live : Live) → Contains (facts of.image form entries).cells live → Contains of.planned.cells live.config
+  pub unlocked : list_any (is_locked (facts of.image form entries)) (facts of.image form entries).cells ≡ false
 
 -- what holds behind the journal
 abbrev pub facts_of : PlannedBoard → Facts
-facts_of board = facts board.of.image board.entries
+facts_of board = facts board.of.image board.form board.entries
 
 -- the CPU is the cell's lowest
 pub record IsLowestCpu (cell : CellConfig) (cpu : ℕ) : Type 0 where

@@ -10,6 +10,7 @@ use Rattle.jh_script.specs.declared.image.Program.{Program}
 use Rattle.jh_script.specs.declared.op.Op.{Op}
 use Rattle.jh_script.specs.declared.op.Op.TheVariants.{Read as ReadOp, Write as WriteOp, Fetch as FetchOp, Await as AwaitOp, Hvc as HvcOp}
 use Rattle.jh_script.specs.Operations.{IsWellFormed}
+use Rattle.jh_history.specs.declared.form.Form.{Form}
 use Rattle.jh_history.specs.declared.entry.Entry.{Entry}
 use Rattle.jh_history.specs.declared.entry.Act.{Act}
 use Rattle.jh_history.specs.declared.entry.Act.TheVariants.{Read, Write, Fetch, Await, Irq, Hvc, Begin, Stop, Decide, Settle, Commit, Note, Noted, Finish}
@@ -35,6 +36,10 @@ pub record JournalLaws : Type 0 where
   pub told : (m : AdmittedMoment) → IsTypedImage m.image → HasTypedAct m.entry.act
   pub operation : (m : AdmittedMoment) (op : Op) → op_of_act m.entry.act ≡ Some op
       → (cell : CellConfig) × IsRootOrLive m.image (facts_before m).cells cell × (cell.id ≡ m.entry.cell) × (slice_get (program_ops m.image (name_of cell) m.entry.cpu) (state_before m m.entry.cpu).position ≡ Some op)
+
+-- what is printed of readable entries is a text, as it is stated
+abbrev pub PrintedLaw : Type 0
+PrintedLaw = (form : Form) (entries : List Entry) → AllByRecursion IsReadable entries → length entries ≤ max_entries → IsJournalText (journal_text form entries) form entries
 
 -- ---- the operations of programs
 
@@ -82,22 +87,22 @@ readable_entry laws m numbers = record {
   act = readable_act m.entry.act (λ op is. fit_op laws m op numbers is) (laws.told m numbers.image_typed);
 }
 
-readable_from : (laws : JournalLaws) (image : Image) → IsAdmitted image → HasTypedNumbers image → (rest before : List Entry) → IsLegal image (before ++ rest) → AllByRecursion IsReadable rest
-readable_from laws image admitted numbers [] before legal = tt
-readable_from laws image admitted numbers (entry ∷ rest) before legal = (
-  readable_entry laws (record { image = image; before = before; entry = entry; rest = rest; admitted = admitted; legal = legal }) numbers,
-  readable_from laws image admitted numbers rest (before ++ entry ∷ []) (subst (IsLegal image) (sym (append_assoc before (entry ∷ []) rest)) legal),
+readable_from : (laws : JournalLaws) (image : Image) (form : Form) → IsAdmitted image → HasTypedNumbers image → (rest before : List Entry) → IsLegal image form (before ++ rest) → AllByRecursion IsReadable rest
+readable_from laws image form admitted numbers [] before legal = tt
+readable_from laws image form admitted numbers (entry ∷ rest) before legal = (
+  readable_entry laws (record { image = image; form = form; before = before; entry = entry; rest = rest; admitted = admitted; legal = legal }) numbers,
+  readable_from laws image form admitted numbers rest (before ++ entry ∷ []) (subst (IsLegal image form) (sym (append_assoc before (entry ∷ []) rest)) legal),
 )
 
-pub readable : (laws : JournalLaws) (image : Image) → IsAdmitted image → HasTypedNumbers image → (entries : List Entry) → IsLegal image entries → AllByRecursion IsReadable entries
-readable laws image admitted numbers entries legal = readable_from laws image admitted numbers entries [] legal
+pub readable : (laws : JournalLaws) (image : Image) (form : Form) → IsAdmitted image → HasTypedNumbers image → (entries : List Entry) → IsLegal image form entries → AllByRecursion IsReadable entries
+readable laws image form admitted numbers entries legal = readable_from laws image form admitted numbers entries [] legal
 
-pub readable_text : (laws : JournalLaws) (image : Image) → IsAdmitted image → HasTypedNumbers image → (entries : List Entry) → IsLegal image entries → length entries ≤ max_entries → IsJournalText (journal_text entries) entries
-readable_text laws image admitted numbers entries legal within = record { readable = readable laws image admitted numbers entries legal; within = within; whole = refl }
+pub readable_text : (laws : JournalLaws) → PrintedLaw → (image : Image) (form : Form) → IsAdmitted image → HasTypedNumbers image → (entries : List Entry) → IsLegal image form entries → length entries ≤ max_entries → IsJournalText (journal_text form entries) form entries
+readable_text laws texts image form admitted numbers entries legal within = texts form entries (readable laws image form admitted numbers entries legal) within
 
 -- a journal's text has no fault of a text
-pub no_fault : (text : List ℕ) (entries : List Entry) (fault : JournalFault) → ((number : ℕ) → IsJournalText text entries → IsFirstBadLine text number → ⊥) → (IsJournalText text entries → IsTooLong text → ⊥)
-    → IsJournalText text entries → IsFault text fault → fault ≡ NoMemory
-no_fault text entries (Line number) bad long good h = absurd (bad number good h)
-no_fault text entries TooLong bad long good h = absurd (long good h)
-no_fault text entries NoMemory bad long good h = refl
+pub no_fault : (text : List ℕ) (form : Form) (entries : List Entry) (fault : JournalFault) → ((number : ℕ) → IsJournalText text form entries → IsFirstBadLine text number → ⊥) → (IsJournalText text form entries → IsTooLong text → ⊥)
+    → IsJournalText text form entries → IsFault text fault → fault ≡ NoMemory
+no_fault text form entries (Line number) bad long good h = absurd (bad number good h)
+no_fault text form entries TooLong bad long good h = absurd (long good h)
+no_fault text form entries NoMemory bad long good h = refl

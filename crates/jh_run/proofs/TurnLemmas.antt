@@ -3,6 +3,7 @@ use Rattle.std.proofs.Common.{◌≡◌, ℕ, List, Bool, true, false, Option, S
 use Rattle.std.specs.Prelude.{IfSome, IfOk, IfErr, if◌then◌else◌, Result, Ok, Err}
 use Rattle.std.specs.ControlFlow.{break_value}
 use Rattle.std.proofs.lemmas.Option.{none-some}
+use Rattle.jh_history.specs.declared.form.Form.{Form}
 use Rattle.jh_history.specs.declared.entry.Entry.{Entry}
 use Rattle.jh_script.specs.declared.image.Image.{Image}
 use Rattle.jh_history.specs.Lives.{is_on_board}
@@ -22,16 +23,16 @@ use Rattle.jh_board.specs.declared.turn.TurnFault.{TurnFault}
 use Rattle.jh_board.specs.declared.turn.TurnFault.TheVariants.{Full, NoMemory}
 
 abbrev pub board_origin : BoardView → Origin
-board_origin board = record { image = board.image; limit = board.limit }
+board_origin board = record { image = board.image; limit = board.limit; form = board.form }
 
 on_board : (b : Bool) (o : Option Entry) (entry : Entry) → (if b then o else None) ≡ Some entry → o ≡ Some entry
 on_board true o entry h = h
 on_board false o entry h = absurd (none-some entry h)
 
 -- what is due to a CPU is its own
-pub due_own : (image : Image) (before : List Entry) (cpu : ℕ) (entry : Entry) → due image before cpu ≡ Some entry → entry.cpu ≡ cpu
+pub due_own : (image : Image) (form : Form) (before : List Entry) (cpu : ℕ) (entry : Entry) → due image form before cpu ≡ Some entry → entry.cpu ≡ cpu
 unfolding due_at
-due_own image before cpu entry h = by_cpu cpu _ entry _ (on_board (is_on_board image cpu) _ entry h)
+due_own image form before cpu entry h = by_cpu cpu _ entry _ (on_board (is_on_board image cpu) _ entry h)
 
 abbrev entries : BoardView → List Entry
 entries board = board.entries
@@ -43,7 +44,7 @@ takes_so old cpu (Err fault) new ok err = err
 
 -- it leaves the entries, or adds one of the CPU
 pub Takes_grows : (old : BoardView) (cpu : ℕ) (answer : Result Turn TurnFault) (new : BoardView) → Takes old cpu answer new → Grows whose_entry cpu old.entries new.entries
-Takes_grows old cpu (Ok (Made entry)) new h = inr (entry, due_own old.image old.entries cpu entry h.0, ap entries h.2)
+Takes_grows old cpu (Ok (Made entry)) new h = inr (entry, due_own old.image old.form old.entries cpu entry h.0, ap entries h.2)
 Takes_grows old cpu (Ok (Edited left)) new h = absurd h
 Takes_grows old cpu (Ok (NotNow other)) new h = inl (ap entries h.2)
 Takes_grows old cpu (Ok Done) new h = inl (ap entries h.1)
@@ -52,7 +53,7 @@ Takes_grows old cpu (Err NoMemory) new h = inl (ap entries h)
 
 -- what a port has seen after the last answer
 pub done_tells : (origin : Origin) (cpu : ℕ) (before after : List Entry) → IsTurnAnswer origin cpu before after (Ok Done) → ExplainsEnd origin None after
-done_tells origin cpu before after h = let P : List Entry → Type 0 = IsQuiet origin.image in subst P (sym h.1) h.0
+done_tells origin cpu before after h = let P : List Entry → Type 0 = IsQuiet origin.image origin.form in subst P (sym h.1) h.0
 
 pub refused_tells : (origin : Origin) (cpu : ℕ) (before after : List Entry) (fault : TurnFault) → IsTurnAnswer origin cpu before after (Err fault) → ExplainsEnd origin (Some fault) after
 refused_tells origin cpu before after Full h =

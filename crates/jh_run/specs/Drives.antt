@@ -19,8 +19,8 @@ use Rattle.jh_run.specs.Running.{whose_entry, IsTurnAnswer}
 -- what the entries tell by what a turn was refused for: where none was refused, they are quiet; where one was for the
 -- limit, they are at it and not quiet; for want of memory nothing
 abbrev pub ExplainsEnd : Origin → Option TurnFault → List Entry → Type 0
-ExplainsEnd origin None entries = IsQuiet origin.image entries
-ExplainsEnd origin (Some Full) entries = IsFullAndBusy origin.image origin.limit entries
+ExplainsEnd origin None entries = IsQuiet origin.image origin.form entries
+ExplainsEnd origin (Some Full) entries = IsFullAndBusy origin.image origin.form origin.limit entries
 ExplainsEnd origin (Some NoMemory) entries = Unit {0}
 
 -- the entry that a turn with this answer made, if it made one

@@ -1,6 +1,7 @@
 pub mod Ends
 pub mod Maps
 pub mod Plays
+pub mod Tables
 pub mod Origins
 pub mod Turns
 pub mod Running

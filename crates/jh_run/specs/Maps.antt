@@ -4,6 +4,8 @@ use Rattle.jh_cellcfg.specs.declared.config.CellConfig.{CellConfig}
 use Rattle.jh_cellcfg.specs.declared.live.Live.{Live}
 use Rattle.jh_map.specs.declared.run.Run.{Run}
 use Rattle.jh_script.specs.declared.image.Image.{Image}
+use Rattle.jh_history.specs.declared.form.Form.{Form}
+use Rattle.jh_history.specs.declared.form.Form.TheVariants.{Two}
 use Rattle.jh_history.specs.declared.entry.Entry.{Entry}
 use Rattle.jh_history.specs.Due.{IsLegal}
 use Rattle.jh_history.specs.History.{facts}
@@ -20,11 +22,11 @@ AreMaps image lives (cell ∷ cells) text =
     (runs : List Run) × (rest : List ℕ) × IsMapIn image lives cell.id runs × (text ≡ map_text cell runs ++ rest) × AreMaps image lives cells rest
 
 -- the text of the maps of all cells that live after the entries: of root, and then of the others by creation
-abbrev pub IsMapsText : Image → List Entry → List ℕ → Type 0
-IsMapsText image entries = AreMaps image (facts image entries).cells (all_cells image.system.root (facts image entries).cells)
+abbrev pub IsMapsText : Image → Form → List Entry → List ℕ → Type 0
+IsMapsText image form entries = AreMaps image (facts image form entries).cells (all_cells image.system.root (facts image form entries).cells)
 
 -- what is told after the items of the schedule alone: the maps, or nothing where the limit stopped an item
 abbrev pub IsMapsAnswer : Image → ℕ → List ℕ → Option (List ℕ) → Type 0
-IsMapsAnswer image limit schedule None = ((items image limit schedule []).full ≡ true) × IsFullAtItem image limit schedule (items image limit schedule []).entries
+IsMapsAnswer image limit schedule None = ((items image Two limit schedule []).full ≡ true) × IsFullAtItem image limit schedule (items image Two limit schedule []).entries
 IsMapsAnswer image limit schedule (Some text) =
-    ((items image limit schedule []).full ≡ false) × IsLegal image (items image limit schedule []).entries × IsMapsText image (items image limit schedule []).entries text
+    ((items image Two limit schedule []).full ≡ false) × IsLegal image Two (items image Two limit schedule []).entries × IsMapsText image Two (items image Two limit schedule []).entries text

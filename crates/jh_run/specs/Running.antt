@@ -17,7 +17,7 @@ whose_entry entry = entry.cpu
 
 -- what no turn of the running board changes
 abbrev pub origin_of : Running → Origin
-origin_of running = record { image = running.board.image; limit = running.board.limit }
+origin_of running = record { image = running.board.image; limit = running.board.limit; form = running.board.form }
 
 -- the CPU is served: it is one of the board's
 abbrev pub ServesCpu : Origin → ℕ → Type 0
@@ -29,9 +29,9 @@ journal_of running = running.board.entries
 
 -- at these entries a turn of the CPU may answer so, and leave those; no turn edits tables
 abbrev pub IsTurnAnswer : Origin → ℕ → List Entry → List Entry → Result Turn TurnFault → Type 0
-IsTurnAnswer origin cpu before after (Ok (Made entry)) = (due origin.image before cpu ≡ Some entry) × (length before < origin.limit) × (after ≡ before ++ entry ∷ [])
+IsTurnAnswer origin cpu before after (Ok (Made entry)) = (due origin.image origin.form before cpu ≡ Some entry) × (length before < origin.limit) × (after ≡ before ++ entry ∷ [])
 IsTurnAnswer origin cpu before after (Ok (Edited left)) = ⊥
-IsTurnAnswer origin cpu before after (Ok (NotNow other)) = (due origin.image before cpu ≡ None) × IsSome (due origin.image before other) × (after ≡ before)
-IsTurnAnswer origin cpu before after (Ok Done) = IsQuiet origin.image before × (after ≡ before)
-IsTurnAnswer origin cpu before after (Err Full) = IsFullAndBusy origin.image origin.limit before × (after ≡ before)
+IsTurnAnswer origin cpu before after (Ok (NotNow other)) = (due origin.image origin.form before cpu ≡ None) × IsSome (due origin.image origin.form before other) × (after ≡ before)
+IsTurnAnswer origin cpu before after (Ok Done) = IsQuiet origin.image origin.form before × (after ≡ before)
+IsTurnAnswer origin cpu before after (Err Full) = IsFullAndBusy origin.image origin.form origin.limit before × (after ≡ before)
 IsTurnAnswer origin cpu before after (Err NoMemory) = after ≡ before

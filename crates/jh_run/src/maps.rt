@@ -25,8 +25,8 @@ fn push_cell_map(
     cell: &CellConfig,
     text: &mut Vec<u8>,
 ) -> Result<(), NoMemory>
-    requires { Contains (all_cells board.now.image.system.root (facts board.now.image board.now.entries).cells) cell.now }
-    ensures { OnOk result ((runs : List TheRun) × IsMapIn board.now.image (facts board.now.image board.now.entries).cells cell.now.id runs
+    requires { Contains (all_cells board.now.image.system.root (facts board.now.image board.now.form board.now.entries).cells) cell.now }
+    ensures { OnOk result ((runs : List TheRun) × IsMapIn board.now.image (facts board.now.image board.now.form board.now.entries).cells cell.now.id runs
         × (text.new.items ≡ text.old.items ++ map_text cell.now runs)) }
 {
     match board.map_of(cell.id)? {
@@ -38,7 +38,7 @@ fn push_cell_map(
 
 /// The text of the maps of all live cells.
 fn print_maps(alloc: Global, board: &Board) -> Result<Vec<u8>, NoMemory>
-    ensures { IfOk result (λ text. IsMapsText board.now.image board.now.entries text.items) }
+    ensures { IfOk result (λ text. IsMapsText board.now.image board.now.form board.now.entries text.items) }
 {
     let mut text = Vec::new(alloc);
     for number in 0..board.count() {

@@ -10,5 +10,5 @@ use jh_board::{Board, TurnFault};
 pub struct Running {
     pub board: Board,
     pub refused: Option<TurnFault>,
-    ghost full: { refused ≡ Some Full → IsFullAndBusy board.image board.limit board.entries },
+    ghost full: { refused ≡ Some Full → IsFullAndBusy board.image board.form board.limit board.entries },
 }

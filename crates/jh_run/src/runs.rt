@@ -1,5 +1,6 @@
 //! A run of a board, from its opening to its last entry.
 ghost use Rattle.std.specs.Prelude.{◌≡◌, ◌≢◌, ◌<◌, ◌↔◌, length, All, AllPairs, IsTrue, IfOk};
+ghost use Rattle.jh_history.specs.declared.form.Form.TheVariants.{Two};
 ghost use Rattle.jh_history.specs.Admitted.{IsAdmitted};
 ghost use Rattle.jh_history.specs.Due.{IsLegal, IsQuiet};
 ghost use Rattle.jh_history.specs.Items.{cpus_of};
@@ -49,7 +50,7 @@ fn open_run(
     limit: u32,
 ) -> Result<(Shared<Running>, Vec<Port<Running>>), NoMemory>
     requires admitted { IsAdmitted image }
-    ensures origin { IfOk result (λ r. origin_of (opened_value r.0) ≡ record { image = image; limit = limit }) }
+    ensures origin { IfOk result (λ r. origin_of (opened_value r.0) ≡ record { image = image; limit = limit; form = Two }) }
     ensures ports { IfOk result (λ r. AreAllPorts r.0 r.1.items) }
     ensures some { IfOk result (λ r. 0 < length r.1.items) }
 {
@@ -81,10 +82,10 @@ fn ended_by(refused: Option<TurnFault>) -> Result<Ended, NoMemory>
 fn end_run(shared: Shared<Running>, driven: Driven) -> Result<(Board, Ended), NoMemory>
     requires ports { AreAllPorts shared driven.ports.items }
     requires shows { SomeShows (origin_of (opened_value shared)) driven.refused driven.ports.items }
-    ensures board { IfOk result (λ r. IsBoardOf (origin_of (opened_value shared)).image (origin_of (opened_value shared)).limit r.0) }
-    ensures legal { IfOk result (λ r. IsLegal (origin_of (opened_value shared)).image r.0.entries) }
-    ensures quiet { IfOk result (λ r. (r.1 ≡ Ended.Unstopped) ↔ IsQuiet (origin_of (opened_value shared)).image r.0.entries) }
-    ensures full { IfOk result (λ r. (r.1 ≡ Ended.Full) ↔ IsFullAndBusy (origin_of (opened_value shared)).image (origin_of (opened_value shared)).limit r.0.entries) }
+    ensures board { IfOk result (λ r. IsBoardOf (origin_of (opened_value shared)).image (origin_of (opened_value shared)).form (origin_of (opened_value shared)).limit r.0) }
+    ensures legal { IfOk result (λ r. IsLegal (origin_of (opened_value shared)).image (origin_of (opened_value shared)).form r.0.entries) }
+    ensures quiet { IfOk result (λ r. (r.1 ≡ Ended.Unstopped) ↔ IsQuiet (origin_of (opened_value shared)).image (origin_of (opened_value shared)).form r.0.entries) }
+    ensures full { IfOk result (λ r. (r.1 ≡ Ended.Full) ↔ IsFullAndBusy (origin_of (opened_value shared)).image (origin_of (opened_value shared)).form (origin_of (opened_value shared)).limit r.0.entries) }
 {
     nothing_extends_a_quiet_journal();
     let Driven { ports, refused } = driven;
@@ -107,10 +108,10 @@ pub fn run<R: Threads + Wait + Sync, G: Gate + Sync>(
     limit: u32,
 ) -> Result<(Board, Ended), NoMemory>
     requires admitted { IsAdmitted image }
-    ensures board { IfOk result (λ r. IsBoardOf image limit r.0) }
-    ensures legal { IfOk result (λ r. IsLegal image r.0.entries) }
-    ensures quiet { IfOk result (λ r. (r.1 ≡ Ended.Unstopped) ↔ IsQuiet image r.0.entries) }
-    ensures full { IfOk result (λ r. (r.1 ≡ Ended.Full) ↔ IsFullAndBusy image limit r.0.entries) }
+    ensures board { IfOk result (λ r. IsBoardOf image Two limit r.0) }
+    ensures legal { IfOk result (λ r. IsLegal image Two r.0.entries) }
+    ensures quiet { IfOk result (λ r. (r.1 ≡ Ended.Unstopped) ↔ IsQuiet image Two r.0.entries) }
+    ensures full { IfOk result (λ r. (r.1 ≡ Ended.Full) ↔ IsFullAndBusy image Two limit r.0.entries) }
 {
     let (shared, ports) = open_run(alloc, image, limit)?;
     let driven = drive_all(rt, alloc, &shared, ports, gate)?;

@@ -1,5 +1,6 @@
 //! Schedules on one board.
 ghost use Rattle.std.specs.Prelude.{◌≡◌, ◌+◌, ◌↔◌, [], ◌∷◌, ◌++◌, All, IsTrue, IfOk, OnErr};
+ghost use Rattle.jh_history.specs.declared.form.Form.TheVariants.{Two};
 ghost use Rattle.jh_history.specs.Due.{IsLegal, IsQuiet};
 ghost use Rattle.jh_history.specs.Items.{rounds, cpus_of};
 ghost use Rattle.jh_history.specs.Lives.{is_on_board};
@@ -31,10 +32,10 @@ pub fn cpus_of(alloc: Global, image: &Image) -> Result<Vec<u8>, NoMemory>
     Ok(cpus)
 }
 
-/// A board of the image, with an empty journal.
+/// A board of the image, with an empty journal of form Two.
 pub fn opened(alloc: Global, image: Image, limit: u32) -> Result<Board, NoMemory>
     requires admitted { IsAdmitted image }
-    ensures { IfOk result (λ board. board ≡ record { image = image; limit = limit; entries = [] }) }
+    ensures { IfOk result (λ board. board ≡ record { image = image; limit = limit; form = Two; entries = [] }) }
 {
     match Board::open(alloc, image, limit) {
         Ok(board) => Ok(board),
@@ -100,7 +101,7 @@ fn play_on(board: &mut Board, schedule: &[u8], cpus: &[u8], limit: u32) -> Resul
     Ok(full)
 }
 
-/// Makes the items of the schedule alone, on a board of the image.
+/// Makes the items of the schedule alone, on a board of the image with a journal of form Two.
 pub fn follow(
     alloc: Global,
     image: Image,
@@ -110,7 +111,7 @@ pub fn follow(
     requires admitted { IsAdmitted image }
     requires schedule { All (λ cpu. IsTrue (is_on_board image cpu)) schedule.now }
     ensures followed { IfOk result (λ r. Follows image limit schedule.now r.0 r.1) }
-    ensures legal { IfOk result (λ r. IsLegal image r.0.entries) }
+    ensures legal { IfOk result (λ r. IsLegal image Two r.0.entries) }
     ensures full { IfOk result (λ r. (r.1 ≡ Ended.Full) ↔ IsFullAtItem image limit schedule.now r.0.entries) }
 {
     items_run_until_one_is_cut_short();
@@ -121,7 +122,8 @@ pub fn follow(
     Ok((board, how_ended(full)))
 }
 
-/// Plays the schedule on a board of the image, and then rounds of all CPUs, until nothing is due or the limit stops it.
+/// Plays the schedule on a board of the image with a journal of form Two, and then rounds of all CPUs, until nothing is
+/// due or the limit stops it.
 pub fn play(
     alloc: Global,
     image: Image,
@@ -131,8 +133,8 @@ pub fn play(
     requires admitted { IsAdmitted image }
     requires schedule { All (λ cpu. IsTrue (is_on_board image cpu)) schedule.now }
     ensures played { IfOk result (λ r. IsPlayedBoard image limit schedule.now r.0 r.1) }
-    ensures legal { IfOk result (λ r. IsLegal image r.0.entries) }
-    ensures quiet { IfOk result (λ r. (r.1 ≡ Ended.Unstopped) ↔ IsQuiet image r.0.entries) }
+    ensures legal { IfOk result (λ r. IsLegal image Two r.0.entries) }
+    ensures quiet { IfOk result (λ r. (r.1 ≡ Ended.Unstopped) ↔ IsQuiet image Two r.0.entries) }
     ensures full { IfOk result (λ r. (r.1 ≡ Ended.Full) ↔ IsFullAtCpu image limit r.0.entries) }
 {
     items_run_until_one_is_cut_short();

@@ -14,7 +14,7 @@ use std::thread::Threads;
 const BOARD: &str =
     "{\"system\":\"s.sys\",\"preloads\":[{\"file\":\"d\",\"at\":0}],\"programs\":[{\"cell\":\"root\",\"cpu\":0,\"file\":\"p.txt\"}]}";
 
-const JOURNAL: &str = "0 0 read 4 0x40000000 = 0x0\n";
+const JOURNAL: &str = "jailhouse journal 2\n0 0 read 4 0x40000000 = 0x0\n";
 
 /// A system whose root has memory from 0x40000000 to 0x7fc00000, and CPUs 0 and 1: bytes, and how many zeros follow
 /// them.

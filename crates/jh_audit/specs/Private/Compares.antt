@@ -9,5 +9,5 @@ use Rattle.jh_audit.specs.declared.compared.Compared.TheVariants.{Same, Differs}
 -- from `old` the entry is the one due to its CPU, and is made; or it isn't, behind legal entries, and what was due is
 -- told
 abbrev pub Compares : BoardView → Entry → Compared → BoardView → Type 0
-Compares old entry Same new = (due old.image old.entries entry.cpu ≡ Some entry) × (new ≡ record old { entries = old.entries ++ entry ∷ [] })
-Compares old entry (Differs expected) new = IsLegal old.image old.entries × (due old.image old.entries entry.cpu ≡ expected) × (expected ≢ Some entry)
+Compares old entry Same new = (due old.image old.form old.entries entry.cpu ≡ Some entry) × (new ≡ record old { entries = old.entries ++ entry ∷ [] })
+Compares old entry (Differs expected) new = IsLegal old.image old.form old.entries × (due old.image old.form old.entries entry.cpu ≡ expected) × (expected ≢ Some entry)

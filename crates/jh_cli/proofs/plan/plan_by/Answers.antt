@@ -1,6 +1,4 @@
 -- The demands' file is the last that is read.
-use Rattle.std.proofs.Common.{[]}
-use Rattle.jh_cli.specs.Order.{AsksTo}
 use Rattle.jh_cli.specs.Private.Endings.{reply_of}
 use Rattle.jh_cli.proofs.OrderLemmas.{planned_was_read, read_last}
 use Rattle.jh_cli.proofs.plan.plan_by.Goals as goal

@@ -42,3 +42,9 @@ returns-in-Pins-clause-ends g c = rw c.in-Pins.is c.pins.ensures.ends
 
 pub returns-in-Pins-clause-asked : goal.returns-in-Pins-clause-asked
 returns-in-Pins-clause-asked g c = rw c.in-Pins.is c.pins.ensures.asked
+
+pub returns-in-Tables-clause-ends : goal.returns-in-Tables-clause-ends
+returns-in-Tables-clause-ends g c = rw c.in-Tables.is c.tables.ensures.ends
+
+pub returns-in-Tables-clause-asked : goal.returns-in-Tables-clause-asked
+returns-in-Tables-clause-asked g c = rw c.in-Tables.is c.tables.ensures.asked

@@ -12,19 +12,21 @@ laws_of c = record {
 }
 
 pub returns-clause-entries : goal.returns-clause-entries
-returns-clause-entries c = λ admitted entries legal. readable (laws_of c) c.args.image.now admitted c.numbers_are_typed.ensures entries legal
+returns-clause-entries c = λ admitted form entries legal. readable (laws_of c) c.args.image.now form admitted c.numbers_are_typed.ensures entries legal
 
 pub returns-clause-text : goal.returns-clause-text
-returns-clause-text c = λ admitted entries legal within. readable_text (laws_of c) c.args.image.now admitted c.numbers_are_typed.ensures entries legal within
+returns-clause-text c = λ admitted form entries legal within. readable_text (laws_of c) c.texts_go_both_ways.ensures.printed c.args.image.now form admitted c.numbers_are_typed.ensures entries legal within
 
 pub returns-clause-read : goal.returns-clause-read
-returns-clause-read c = λ admitted entries legal within found other.
-    c.texts_go_both_ways.ensures.one (journal_text entries) found entries other (readable_text (laws_of c) c.args.image.now admitted c.numbers_are_typed.ensures entries legal within)
+returns-clause-read c = λ admitted form entries legal within other found is.
+    let text = journal_text form entries in
+    let own = readable_text (laws_of c) c.texts_go_both_ways.ensures.printed c.args.image.now form admitted c.numbers_are_typed.ensures entries legal within in
+    let texts = c.texts_go_both_ways.ensures in (texts.form text other form found entries is own, texts.one text other form found entries is own)
 
 pub returns-clause-faultless : goal.returns-clause-faultless
-returns-clause-faultless c = λ admitted entries legal within fault is.
-    no_fault (journal_text entries) entries fault
-    (λ number good bad. c.one_answer.ensures.good_or_bad (journal_text entries) entries number good bad)
-    (λ good long. c.one_answer.ensures.good_or_long (journal_text entries) entries good long)
-    (readable_text (laws_of c) c.args.image.now admitted c.numbers_are_typed.ensures entries legal within)
+returns-clause-faultless c = λ admitted form entries legal within fault is.
+    no_fault (journal_text form entries) form entries fault
+    (λ number good bad. c.one_answer.ensures.good_or_bad (journal_text form entries) form entries number good bad)
+    (λ good long. c.one_answer.ensures.good_or_long (journal_text form entries) form entries good long)
+    (readable_text (laws_of c) c.texts_go_both_ways.ensures.printed c.args.image.now form admitted c.numbers_are_typed.ensures entries legal within)
     is

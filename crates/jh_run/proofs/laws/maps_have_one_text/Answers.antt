@@ -5,4 +5,4 @@ use Rattle.jh_run.proofs.MapsLemmas.{one_text}
 use Rattle.jh_run.proofs.laws.maps_have_one_text.Goals as goal
 
 pub returns : goal.returns
-returns c image entries one other is is_other = one_text c.maps_of_one_cell_are_equal.ensures image (facts image entries).cells (all_cells image.system.root (facts image entries).cells) one other is is_other
+returns c image form entries one other is is_other = one_text c.maps_of_one_cell_are_equal.ensures image (facts image form entries).cells (all_cells image.system.root (facts image form entries).cells) one other is is_other

@@ -12,7 +12,7 @@ use Rattle.jh_run.proofs.maps.print_maps.Goals as goal
 pub loop-number-preserved : goal.loop-number-preserved
 loop-number-preserved c =
     let image = c.args.board.now.image in
-    let lives = (facts image c.args.board.now.entries).cells in
+    let lives = (facts image c.args.board.now.form c.args.board.now.entries).cells in
     let all = all_cells image.system.root lives in
     let number = c.loop-number.number in
     let cell = c.in-Some.cell.now in

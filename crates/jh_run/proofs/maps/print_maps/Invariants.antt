@@ -7,4 +7,4 @@ use Rattle.jh_run.proofs.maps.print_maps.Given as goal
 
 abbrev pub invariant-loop-number : goal.invariant-loop-number
 invariant-loop-number l =
-    AreMaps l.board.image (facts l.board.image l.board.entries).cells (take l.number (all_cells l.board.image.system.root (facts l.board.image l.board.entries).cells)) l.text.items
+    AreMaps l.board.image (facts l.board.image l.board.form l.board.entries).cells (take l.number (all_cells l.board.image.system.root (facts l.board.image l.board.form l.board.entries).cells)) l.text.items

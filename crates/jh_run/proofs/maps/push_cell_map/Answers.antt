@@ -7,4 +7,4 @@ pub unreachable-requires : goal.unreachable-requires
 unreachable-requires c =
     let image = c.args.board.now.image in
     let none = rw c.in-None.is at c.in_ok-runs.ensures in
-    lives_on image (facts image c.args.board.now.entries).cells c.args.cell.now c.requires none
+    lives_on image (facts image c.args.board.now.form c.args.board.now.entries).cells c.args.cell.now c.requires none
